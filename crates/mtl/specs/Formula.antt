@@ -1,0 +1,32 @@
+-- The formulas of document 002, section 2, with an interval as its two ends, low and high, in seconds.
+-- A high of 4,294,967,295 is document 01's "no upper end": no gap between 32-bit times lies above it.
+use Prim.Native.Nat.{ℕ, _+_, max}
+use mathlib.Core.Bool.{Bool, true, false, _||_}
+
+pub data Formula : Type 0 where
+  letter : ℕ → Formula
+  not : Formula → Formula
+  or : (left right : Formula) → Formula
+  previous next : (low high : ℕ) → Formula → Formula
+  since until : (low high : ℕ) (left right : Formula) → Formula
+
+-- whether a next stands anywhere in the formula
+unfoldable pub has-next : Formula → Bool
+has-next (letter k) = false
+has-next (not φ) = has-next φ
+has-next (or φ ψ) = has-next φ || has-next ψ
+has-next (previous low high φ) = has-next φ
+has-next (next low high φ) = true
+has-next (since low high φ ψ) = has-next φ || has-next ψ
+has-next (until low high φ ψ) = has-next φ || has-next ψ
+
+-- "Reach: letter 0; not and previous as the operand; or and since the larger; until high plus the larger."
+-- A formula with next has none; what stands here for next is used by nothing (see `has-next`).
+unfoldable pub reach : Formula → ℕ
+reach (letter k) = 0
+reach (not φ) = reach φ
+reach (or φ ψ) = max (reach φ) (reach ψ)
+reach (previous low high φ) = reach φ
+reach (next low high φ) = reach φ
+reach (since low high φ ψ) = max (reach φ) (reach ψ)
+reach (until low high φ ψ) = high + max (reach φ) (reach ψ)

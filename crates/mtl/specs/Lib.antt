@@ -1,0 +1,6 @@
+-- Metric temporal logic on finite logs. Read Formula, Log, Satisfaction, Progress, then Reading; Examples has the sources' worked examples.
+pub mod Formula
+pub mod Log
+pub mod Satisfaction
+pub mod Progress
+pub mod Reading

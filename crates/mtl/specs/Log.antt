@@ -1,0 +1,41 @@
+-- Logs and streams: times and letters by position. "Every record is a position, counted from 0."
+use Prim.Native.Nat.{ℕ, _≤_, _<_}
+use mathlib.Core.Bool.{Bool}
+use mathlib.Core.Path.{_≡_}
+
+-- a finite log: how many records, the time of each, and whether letter k stands in the record at position i
+pub record Log : Type 0 where
+  pub size : ℕ
+  pub time : ℕ → ℕ
+  pub letters : (i k : ℕ) → Bool
+
+-- document 002's stream, an infinite sequence of events
+pub record Stream : Type 0 where
+  pub time : ℕ → ℕ
+  pub letters : (i k : ℕ) → Bool
+
+-- no record's time lies below that of a record before it
+abbrev pub NeverFalls : Log → Type 0
+NeverFalls L = (i j : ℕ) → i ≤ j → j < L .size → L .time i ≤ L .time j
+
+abbrev pub StreamNeverFalls : Stream → Type 0
+StreamNeverFalls σ = (i j : ℕ) → i ≤ j → σ .time i ≤ σ .time j
+
+-- two logs have the same record at a position
+pub record SameAt (K L : Log) (i : ℕ) : Type 0 where
+  pub time : K .time i ≡ L .time i
+  pub letters : (k : ℕ) → K .letters i k ≡ L .letters i k
+
+-- from position a up to, and without, position b two logs have the same records
+abbrev pub Agree : Log → Log → ℕ → ℕ → Type 0
+Agree K L a b = (i : ℕ) → a ≤ i → i < b → SameAt K L i
+
+-- L is K, lengthened by any number of records
+pub record Continues (K L : Log) : Type 0 where
+  pub longer : K .size ≤ L .size
+  pub same : Agree K L 0 (K .size)
+
+-- the stream begins with the log's records
+pub record Begins (σ : Stream) (L : Log) : Type 0 where
+  pub time : (i : ℕ) → i < L .size → σ .time i ≡ L .time i
+  pub letters : (i : ℕ) → i < L .size → (k : ℕ) → σ .letters i k ≡ L .letters i k

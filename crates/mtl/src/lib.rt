@@ -1,0 +1,1 @@
+// The logic alone: its definitions stand in specs/, its theorems in proofs/. No code.
