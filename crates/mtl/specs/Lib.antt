@@ -4,3 +4,4 @@ pub mod Log
 pub mod Satisfaction
 pub mod Progress
 pub mod Reading
+pub mod Examples

@@ -1,0 +1,119 @@
+-- Worked examples: one table of formulas and small logs with their progress and verdicts, proved by computation.
+use Prim.Native.Nat.{ℕ, zero, suc, _/_, _%_, _^_}
+use mathlib.Core.Bool.{Bool, true, false, cond, _&&_, Bool·beq}
+use mathlib.Core.List.{List, [], _∷_}
+use mathlib.Core.Path.{_≡_, refl}
+use lib.Dec.{eqb}
+use lib.ListN.{length, getD}
+use Rattle.mtl.specs.Formula.{Formula}
+use Rattle.mtl.specs.Formula.Formula.{letter, not, or, previous, next, since, until}
+use Rattle.mtl.specs.Log.{Log}
+use Rattle.mtl.specs.Satisfaction.{any, all, sat}
+use Rattle.mtl.specs.Progress.{run, progress}
+
+-- "time in seconds (32 bits), event set (32 bits, letter k is the bit worth 2 to the k)", from position 0 on
+abbrev pub Records : Type 0
+Records = List (ℕ × ℕ)
+
+-- what a look past the end finds: the latest time and every letter, so that a definition that looks there breaks a row
+abbrev pub past-end : ℕ × ℕ
+past-end = (4_294_967_295, 4_294_967_295)
+
+abbrev pub log-of-list : Records → Log
+log-of-list rs = record {
+  size = length rs;
+  time = λ (i : ℕ). getD rs i past-end .0;
+  letters = λ (i k : ℕ). eqb (getD rs i past-end .1 / 2 ^ k % 2) 1;
+}
+
+-- a formula and a log, how many positions are answered, and the verdict at each of these
+pub record Row : Type 0 where
+  pub formula : Formula
+  pub records : Records
+  pub answered : ℕ
+  pub verdicts : List Bool
+
+-- the verdicts are those of p from position i on
+unfoldable pub matches : (ℕ → Bool) → ℕ → List Bool → Bool
+matches p i [] = true
+matches p i (v ∷ vs) = Bool·beq (p i) v && matches p (suc i) vs
+
+-- the row has the progress and the verdicts that the definitions give
+unfoldable pub computes : Row → Bool
+computes r =
+    let L = log-of-list (r .records) in
+    eqb (progress (r .formula) L) (r .answered) && (eqb (length (r .verdicts)) (r .answered) && matches (sat (r .formula) L) 0 (r .verdicts))
+
+-- the numbers of the rows that do not compute, the first of the list having number n
+unfoldable pub wrong : ℕ → List Row → List ℕ
+wrong n [] = []
+wrong n (r ∷ rs) = cond (computes r) (wrong (suc n) rs) (n ∷ wrong (suc n) rs)
+
+-- letters 0 to 3; in an event set a is worth 1, b 2, c 4, d 8
+abbrev a : Formula
+a = letter 0
+
+abbrev b : Formula
+b = letter 1
+
+abbrev c : Formula
+c = letter 2
+
+abbrev d : Formula
+d = letter 3
+
+-- high of a since without upper end
+abbrev no-end : ℕ
+no-end = 4_294_967_295
+
+-- the log of document 002's figure 5
+abbrev figure-5 : Records
+figure-5 = (0, 1) ∷ (0, 1) ∷ (2, 1) ∷ (4, 3) ∷ (5, 1) ∷ (10, 2) ∷ []
+
+unfoldable pub rows : List Row
+rows =
+    -- 1: figure 1 of document 000. At 3 b stands without a: until does not test left at j itself.
+    record {
+      formula = until 0 1 a b;
+      records = (1, 1) ∷ (2, 1) ∷ (2, 1) ∷ (3, 2) ∷ (4, 3) ∷ [];
+      answered = 5;
+      verdicts = false ∷ true ∷ true ∷ true ∷ true ∷ [];
+    }
+    -- 2: figure 5 of document 002, its left half. At 5 b stands without a: since does not test left at j itself.
+    ∷ record { formula = since 0 4 a b; records = figure-5; answered = 6; verdicts = false ∷ false ∷ false ∷ true ∷ true ∷ true ∷ [] }
+    -- 3: figure 5 of document 002, its right half
+    ∷ record { formula = until 0 4 a b; records = figure-5; answered = 6; verdicts = true ∷ true ∷ true ∷ true ∷ false ∷ true ∷ [] }
+    -- 4: the or of the two, whose monitor document 002 follows over figure 5
+    ∷ record {
+      formula = or (since 0 4 a b) (until 0 4 a b);
+      records = figure-5;
+      answered = 6;
+      verdicts = true ∷ true ∷ true ∷ true ∷ true ∷ true ∷ [];
+    }
+    -- 5: under a not, too, "not yet" is no answer
+    ∷ record { formula = not (until 0 2 a b); records = (10, 1) ∷ []; answered = 0; verdicts = [] }
+    -- 6: a gap that equals high does not end the wait, nor does what lies past the end of the log
+    ∷ record { formula = until 0 2 a b; records = (10, 1) ∷ (12, 1) ∷ []; answered = 0; verdicts = [] }
+    -- 7: records of one second are positions of their own: the until at 1 does not look back at the b at 0
+    ∷ record { formula = until 0 0 a b; records = (5, 2) ∷ (5, 1) ∷ (6, 0) ∷ []; answered = 3; verdicts = true ∷ false ∷ false ∷ [] }
+    -- 8: so too in since: left is tested at 1, though 1 has the time of the witness at 0
+    ∷ record { formula = since 0 4 a b; records = (5, 2) ∷ (5, 0) ∷ []; answered = 2; verdicts = true ∷ false ∷ [] }
+    -- 9: without upper end the oldest witness stays: at 1 the b at 0 lies far enough back, the b at 1 does not
+    ∷ record { formula = since 1 no-end a b; records = (0, 2) ∷ (4000, 3) ∷ (9000, 1) ∷ []; answered = 3; verdicts = false ∷ true ∷ true ∷ [] }
+    -- 10: the inner until answers one position, so m is 1; the time of position 1 alone settles the outer until at 0
+    ∷ record { formula = until 0 5 a (until 0 5 c d); records = (0, 5) ∷ (11, 4) ∷ []; answered = 1; verdicts = false ∷ [] }
+    -- 11: m is 1 again, but only position 2 lies more than high after 0, and a record (10, d) would still make the answer yes
+    ∷ record { formula = until 0 8 a (until 0 5 c d); records = (0, 5) ∷ (6, 5) ∷ (9, 5) ∷ []; answered = 0; verdicts = [] }
+    -- 12 and 13: since waits for its right operand, and for its left one
+    ∷ record { formula = since 0 4 a (until 0 2 c d); records = (0, 5) ∷ (3, 5) ∷ []; answered = 1; verdicts = false ∷ [] }
+    ∷ record { formula = since 0 4 (until 0 2 c d) a; records = (0, 5) ∷ (3, 5) ∷ []; answered = 1; verdicts = true ∷ [] }
+    -- 14: next answers one position fewer than there are records
+    ∷ record { formula = next 1 1 a; records = (5, 0) ∷ (6, 1) ∷ (8, 1) ∷ []; answered = 2; verdicts = true ∷ false ∷ [] }
+    -- 15: previous answers every position, 0 with no
+    ∷ record { formula = previous 0 0 a; records = (5, 1) ∷ (5, 0) ∷ (6, 1) ∷ []; answered = 3; verdicts = false ∷ true ∷ false ∷ [] }
+    ∷ []
+
+-- every row computes; an edit of the definitions that breaks rows has their numbers in its error
+pub every-row : wrong 1 rows ≡ []
+unfolding wrong rows computes matches progress run sat any all
+every-row = refl
