@@ -1,6 +1,6 @@
 -- Each test of specs/ and the statement it decides: the laws by which proofs cross from Bool to Type and back.
 use Prim.Native.Nat.{ℕ, zero, suc, _-_, _≤_, _<_}
-use mathlib.Core.Bool.{Bool, true, false, cond, _&&_, _||_, true≢false, false≢true}
+use mathlib.Core.Bool.{Bool, true, false, cond, _&&_, _||_, and-true, true≢false, false≢true}
 use mathlib.Core.Bool.{not as negate}
 use mathlib.Core.Logic.{_⊎_, inl, inr, ⊎-elim, _↔_}
 use mathlib.Core.Path.{_≡_, refl, sym, _∙_, ap}
@@ -61,6 +61,10 @@ within-iff low high earlier later =
       λ e. (leb-true low (later - earlier) (both .0 e .0), leb-true (later - earlier) high (both .0 e .1)),
       λ w. both .1 (le-leb low (later - earlier) (w .0), le-leb (later - earlier) high (w .1)),
     )
+
+-- "High 4,294,967,295 means no upper end": between 32-bit times it never binds
+pub within-no-upper-end : (low earlier later : ℕ) → later ≤ 4294967295 → within low 4294967295 earlier later ≡ leb low (later - earlier)
+within-no-upper-end low earlier later h = rw (le-leb (later - earlier) 4294967295 (omega arith)) (and-true (leb low (later - earlier)))
 
 -- any and all
 
