@@ -2,3 +2,4 @@
 pub mod Bounded
 pub mod Printed
 pub mod Until
+pub mod Streams

@@ -184,58 +184,58 @@ module _ (low high : ℕ) (time : ℕ → ℕ) (left right : ℕ → Bool) (size
       λ s. run-iff m (settled low high time left right size m) i h .1 (λ k l. settled-before k i l h s),
     )
 
--- THEOREMS, on logs whose times never fall. m is the smaller of the operands' numbers.
+-- THEOREMS, on logs whose times never fall: until.
+
+-- "m is the smaller of the operands' numbers."
+abbrev pub answered-operands : (φ ψ : Formula) (L : Log) → ℕ
+answered-operands φ ψ L = min (progress φ L) (progress ψ L)
+
+pub answered-fits : (φ ψ : Formula) (L : Log) → answered-operands φ ψ L ≤ L .size
+answered-fits φ ψ L = let p = progress-le-size φ L in omega arith
 
 module _ (low high : ℕ) (φ ψ : Formula) (L : Log) where
-  -- "m is the smaller of the operands' numbers."
-  abbrev pub answered-operands : ℕ
-  answered-operands = min (progress φ L) (progress ψ L)
-
-  fits : answered-operands ≤ L .size
-  fits = let p = progress-le-size φ L in omega arith
-
   -- "Position i < m is settled yes if the until's condition is met by some j < m."
   abbrev pub UntilSettledYes : ℕ → Type 0
-  UntilSettledYes = SettledYes low high (L .time) (sat φ L) (sat ψ L) (L .size) answered-operands
+  UntilSettledYes = SettledYes low high (L .time) (sat φ L) (sat ψ L) (L .size) (answered-operands φ ψ L)
 
   -- "It is settled no if no such j exists and either left is answered no at some k with i ≤ k < m, or some position of
   -- the log from i up to and including m lies more than high after i."
   abbrev pub UntilSettledNo : ℕ → Type 0
-  UntilSettledNo = SettledNo low high (L .time) (sat φ L) (sat ψ L) (L .size) answered-operands
+  UntilSettledNo = SettledNo low high (L .time) (sat φ L) (sat ψ L) (L .size) (answered-operands φ ψ L)
 
   -- "The answered run is the longest from 0 in which all are settled."
-  pub until-longest : Run answered-operands (settled low high (L .time) (sat φ L) (sat ψ L) (L .size) answered-operands) (progress (until low high φ ψ) L)
+  pub until-longest : Run (answered-operands φ ψ L) (settled low high (L .time) (sat φ L) (sat ψ L) (L .size) (answered-operands φ ψ L)) (progress (until low high φ ψ) L)
   unfolding progress
-  until-longest = run-is answered-operands (settled low high (L .time) (sat φ L) (sat ψ L) (L .size) answered-operands)
+  until-longest = run-is (answered-operands φ ψ L) (settled low high (L .time) (sat φ L) (sat ψ L) (L .size) (answered-operands φ ψ L))
 
-  pub until-answered : NeverFalls L → (i : ℕ) → (i < progress (until low high φ ψ) L) ↔ ((i < answered-operands) × (UntilSettledYes i ⊎ UntilSettledNo i))
+  pub until-answered : NeverFalls L → (i : ℕ) → (i < progress (until low high φ ψ) L) ↔ ((i < answered-operands φ ψ L) × (UntilSettledYes i ⊎ UntilSettledNo i))
   unfolding progress
   until-answered falls i = (
-    λ l. let s = run-holds answered-operands test i l in let b = run-le answered-operands test in (omega arith, iff .0 s),
-    λ w. settled-in-run low high (L .time) (sat φ L) (sat ψ L) (L .size) answered-operands fits falls i (w .0) .1 (iff .1 (w .1)),
+    λ l. let s = run-holds (answered-operands φ ψ L) test i l in let b = run-le (answered-operands φ ψ L) test in (omega arith, iff .0 s),
+    λ w. settled-in-run low high (L .time) (sat φ L) (sat ψ L) (L .size) (answered-operands φ ψ L) (answered-fits φ ψ L) falls i (w .0) .1 (iff .1 (w .1)),
   )
     where
       test : ℕ → Bool
-      test = settled low high (L .time) (sat φ L) (sat ψ L) (L .size) answered-operands
+      test = settled low high (L .time) (sat φ L) (sat ψ L) (L .size) (answered-operands φ ψ L)
 
-      iff : (settled low high (L .time) (sat φ L) (sat ψ L) (L .size) answered-operands i ≡ true) ↔ (UntilSettledYes i ⊎ UntilSettledNo i)
-      iff = settled-iff low high (L .time) (sat φ L) (sat ψ L) (L .size) answered-operands i
+      iff : (settled low high (L .time) (sat φ L) (sat ψ L) (L .size) (answered-operands φ ψ L) i ≡ true) ↔ (UntilSettledYes i ⊎ UntilSettledNo i)
+      iff = settled-iff low high (L .time) (sat φ L) (sat ψ L) (L .size) (answered-operands φ ψ L) i
 
   -- its verdict is the plain reading's
   pub until-verdict : NeverFalls L → (i : ℕ) → i < progress (until low high φ ψ) L →
-      sat (until low high φ ψ) L i ≡ settled-yes low high (L .time) (sat φ L) (sat ψ L) (L .size) answered-operands i
+      sat (until low high φ ψ) L i ≡ settled-yes low high (L .time) (sat φ L) (sat ψ L) (L .size) (answered-operands φ ψ L) i
   unfolding progress sat
   until-verdict falls i l =
-      let b = run-le answered-operands (settled low high (L .time) (sat φ L) (sat ψ L) (L .size) answered-operands) in
-      settled-verdict low high (L .time) (sat φ L) (sat ψ L) (L .size) answered-operands fits falls i (omega arith) (until-longest .holds i l)
+      let b = run-le (answered-operands φ ψ L) (settled low high (L .time) (sat φ L) (sat ψ L) (L .size) (answered-operands φ ψ L)) in
+      settled-verdict low high (L .time) (sat φ L) (sat ψ L) (L .size) (answered-operands φ ψ L) (answered-fits φ ψ L) falls i (omega arith) (until-longest .holds i l)
 
-  pub until-yes : NeverFalls L → (i : ℕ) → i < answered-operands → UntilSettledYes i → sat (until low high φ ψ) L i ≡ true
+  pub until-yes : NeverFalls L → (i : ℕ) → i < answered-operands φ ψ L → UntilSettledYes i → sat (until low high φ ψ) L i ≡ true
   until-yes falls i h y =
-      until-verdict falls i (until-answered falls i .1 (h, inl y)) ∙ settled-yes-iff low high (L .time) (sat φ L) (sat ψ L) (L .size) answered-operands i .1 y
+      until-verdict falls i (until-answered falls i .1 (h, inl y)) ∙ settled-yes-iff low high (L .time) (sat φ L) (sat ψ L) (L .size) (answered-operands φ ψ L) i .1 y
 
-  pub until-no : NeverFalls L → (i : ℕ) → i < answered-operands → UntilSettledNo i → sat (until low high φ ψ) L i ≡ false
+  pub until-no : NeverFalls L → (i : ℕ) → i < answered-operands φ ψ L → UntilSettledNo i → sat (until low high φ ψ) L i ≡ false
   until-no falls i h n =
-      until-verdict falls i (until-answered falls i .1 (h, inr n)) ∙ false-iff _ .1 (λ y. n .0 (settled-yes-iff low high (L .time) (sat φ L) (sat ψ L) (L .size) answered-operands i .0 y))
+      until-verdict falls i (until-answered falls i .1 (h, inr n)) ∙ false-iff _ .1 (λ y. n .0 (settled-yes-iff low high (L .time) (sat φ L) (sat ψ L) (L .size) (answered-operands φ ψ L) i .0 y))
 
 -- THEOREMS, on all logs: the numbers of the other operators.
 
