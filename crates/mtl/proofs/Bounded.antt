@@ -185,6 +185,13 @@ run-iff m p i h = (λ l k g. run-holds m p k (omega arith), λ f. let n : run m 
     past : ((k : ℕ) → k ≤ i → p k ≡ true) → run m p ≤ i → ⊥
     past f l = true-and-false (f (run m p) l) (run-stops m p (omega arith))
 
+-- a run reaches as far as p holds
+pub run-least : (m : ℕ) (p : ℕ → Bool) (r : ℕ) → r ≤ m → ((i : ℕ) → i < r → p i ≡ true) → r ≤ run m p
+run-least m p r most holds = let n : run m p < r → ⊥ = past in omega arith
+  where
+    past : run m p < r → ⊥
+    past h = true-and-false (holds (run m p) h) (run-stops m p (omega arith))
+
 -- the operators' conditions
 
 pub held-after-iff : (left : ℕ → Bool) (j i : ℕ) →

@@ -3,3 +3,4 @@ pub mod Bounded
 pub mod Printed
 pub mod Until
 pub mod Streams
+pub mod Lengthening
