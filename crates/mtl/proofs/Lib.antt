@@ -4,3 +4,4 @@ pub mod Printed
 pub mod Until
 pub mod Streams
 pub mod Lengthening
+pub mod Reach
