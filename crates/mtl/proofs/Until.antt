@@ -1,35 +1,35 @@
 -- Progress is document 01's answered number: exact for until, and an equation for every other operator.
 use Prim.Native.Nat.{ℕ, suc, _-_, _≤_, _<_, min}
 use mathlib.Core.Bool.{Bool, true, false, _||_}
-use mathlib.Core.Logic.{_⊎_, inl, inr, ⊎-elim, _↔_, Iff·rfl}
-use mathlib.Core.Path.{_≡_, refl, sym, _∙_}
+use mathlib.Core.Logic.{_⊎_, inl, inr, ⊎-elim, ⊎-map, _↔_, Iff·rfl, Iff·trans}
+use mathlib.Core.Path.{_≡_, refl, _∙_}
 use native.Mathlib.Omega.{arith}
 use Rattle.mtl.specs.Formula.{Formula}
 use Rattle.mtl.specs.Formula.Formula.{letter, not, or, previous, next, since, until}
 use Rattle.mtl.specs.Log.{Log, NeverFalls}
 use Rattle.mtl.specs.Satisfaction.{any, until-at, sat}
-use Rattle.mtl.specs.Progress.{fails-from, over, settled-yes, settled-no, settled, run, until-progress, progress}
+use Rattle.mtl.specs.Progress.{fails-from, over, settled-yes, settled-no, settled, until-progress, progress}
 use Rattle.mtl.specs.Reading.{Within}
-use Rattle.mtl.proofs.Printed.{until-by-agrees}
 use Rattle.mtl.proofs.Bounded.{
   true-or-false,
   true-and-false,
   false-iff,
+  same-test,
   and-iff,
   or-iff,
   not-iff,
   le-or-lt,
   UntilBy,
   until-at-iff,
-  same-test,
-  Run,
-  run-is,
   fails-from-iff,
   over-iff,
+  Run,
+  run-is,
   run-le,
   run-holds,
   run-iff,
 }
+use Rattle.mtl.proofs.Printed.{or-agrees, until-by-agrees}
 
 -- no more positions are answered than the log has
 pub progress-le-size : (φ : Formula) (L : Log) → progress φ L ≤ L .size
@@ -46,6 +46,8 @@ progress-le-size (until low high φ ψ) L =
     let r = run-le m (settled low high (L .time) (sat φ L) (sat ψ L) (L .size) m) in
     omega arith
 
+-- The settling of until as statements, over an operator's operands as specs/Progress has them.
+
 module _ (low high : ℕ) (time : ℕ → ℕ) (left right : ℕ → Bool) (size m : ℕ) where
   -- "Position i < m is settled yes if the until's condition is met by some j < m."
   abbrev pub SettledYes : ℕ → Type 0
@@ -58,20 +60,22 @@ module _ (low high : ℕ) (time : ℕ → ℕ) (left right : ℕ → Bool) (size
       ((k : ℕ) × (i ≤ k) × (k < m) × (left k ≡ false)) ⊎
       ((q : ℕ) × (i ≤ q) × (q ≤ m) × (q < size) × (high < time q - time i))
 
-  -- "It is settled no if no such j exists and" it has ended
+  -- "It is settled no if no such j exists and either .. or .."
   abbrev pub SettledNo : ℕ → Type 0
   SettledNo i = (SettledYes i → ⊥) × Ended i
+
+  -- by the test of specs/Progress
+  abbrev pub Settled : ℕ → Type 0
+  Settled i = settled low high time left right size m i ≡ true
 
   pub settled-yes-iff : (i : ℕ) → (settled-yes low high time left right size m i ≡ true) ↔ SettledYes i
   settled-yes-iff i = until-at-iff low high time left right i m
 
   pub ended-iff : (i : ℕ) → (any m (fails-from left i) || any (min (suc m) size) (over high time i) ≡ true) ↔ Ended i
   ended-iff i =
-      let either = or-iff (any m (fails-from left i)) (any (min (suc m) size) (over high time i)) in
-      let fail = fails-from-iff left i m in
-      let late = over-iff high time i (min (suc m) size) in (
-        λ e. ⊎-elim (λ f. inl (fail .0 f)) (λ o. let (q, g, h, v) = late .0 o in inr (q, g, omega arith, omega arith, v)) (either .0 e),
-        λ w. either .1 (⊎-elim (λ f. inl (fail .1 f)) (λ o. let (q, g, h, h′, v) = o in inr (late .1 (q, g, omega arith, v))) w),
+      or-agrees (any m (fails-from left i)) (any (min (suc m) size) (over high time i)) (fails-from-iff left i m) (
+        λ o. let (q, g, h, v) = over-iff high time i (min (suc m) size) .0 o in (q, g, omega arith, omega arith, v),
+        λ w. let (q, g, h, h′, v) = w in over-iff high time i (min (suc m) size) .1 (q, g, omega arith, v),
       )
 
   pub settled-no-iff : (i : ℕ) → (settled-no low high time left right size m i ≡ true) ↔ SettledNo i
@@ -82,109 +86,113 @@ module _ (low high : ℕ) (time : ℕ → ℕ) (left right : ℕ → Bool) (size
         λ w. both .1 (unmet .1 (λ y. w .0 (settled-yes-iff i .0 y)), ended-iff i .1 (w .1)),
       )
 
-  pub settled-iff : (i : ℕ) → (settled low high time left right size m i ≡ true) ↔ (SettledYes i ⊎ SettledNo i)
+  pub settled-iff : (i : ℕ) → Settled i ↔ (SettledYes i ⊎ SettledNo i)
   settled-iff i =
-      let either = or-iff (settled-yes low high time left right size m i) (settled-no low high time left right size m i) in (
-        λ e. ⊎-elim (λ y. inl (settled-yes-iff i .0 y)) (λ n. inr (settled-no-iff i .0 n)) (either .0 e),
-        λ w. either .1 (⊎-elim (λ y. inl (settled-yes-iff i .1 y)) (λ n. inr (settled-no-iff i .1 n)) w),
-      )
+      or-agrees (settled-yes low high time left right size m i) (settled-no low high time left right size m i) (settled-yes-iff i) (settled-no-iff i)
 
   -- what has ended is settled, one way or the other
-  pub ended-settled : (i : ℕ) → Ended i → settled low high time left right size m i ≡ true
-  ended-settled i d = by (true-or-false (settled-yes low high time left right size m i))
-    where
-      by : (settled-yes low high time left right size m i ≡ true) ⊎ (settled-yes low high time left right size m i ≡ false) → settled low high time left right size m i ≡ true
-      by (inl y) = settled-iff i .1 (inl (settled-yes-iff i .0 y))
-      by (inr n) = settled-iff i .1 (inr (λ y. true-and-false (settled-yes-iff i .1 y) n, d))
+  pub ended-settled : (i : ℕ) → Ended i → Settled i
+  ended-settled i d =
+      settled-iff i .1
+      (⊎-elim
+      (λ y. inl (settled-yes-iff i .0 y))
+      (λ n. inr (λ y. true-and-false (settled-yes-iff i .1 y) n, d))
+      (true-or-false (settled-yes low high time left right size m i)))
 
-module _ (low high : ℕ) (time : ℕ → ℕ) (left right : ℕ → Bool) (size m : ℕ) (fits : m ≤ size) where
-  -- A settled verdict holds in every other reading that has the log's times, answers the operands alike below m, and
-  -- whose times never fall: a j from m on would have left hold up to m, and lie past the position that is over.
-  module _ (Position : ℕ → Type 0) (time′ : ℕ → ℕ) (Left Right : ℕ → Type 0)
-      (positions : (j : ℕ) → j < m → Position j)
-      (times : (k : ℕ) → k < size → time k ≡ time′ k)
-      (lefts : (k : ℕ) → k < m → (left k ≡ true) ↔ Left k)
-      (rights : (k : ℕ) → k < m → (right k ≡ true) ↔ Right k)
-      (falls : (i j : ℕ) → i ≤ j → Position j → time′ i ≤ time′ j)
-      (i : ℕ) where
-    abbrev UntilHolds : Type 0
-    UntilHolds =
-        (j : ℕ) × (i ≤ j) × Position j × Within low high (time′ i) (time′ j) × Right j × ((k : ℕ) → i ≤ k → k < j → Left k)
+  module _ (fits : m ≤ size) where
+    -- A settled verdict holds in every other reading that has the log's times, answers the operands alike below m, and
+    -- whose times never fall: a j from m on would have left hold up to m, and lie no sooner than the position that is over.
+    module _ (Position : ℕ → Type 0) (time′ : ℕ → ℕ) (Left Right : ℕ → Type 0)
+        (positions : (j : ℕ) → j < m → Position j)
+        (times : (k : ℕ) → k < size → time k ≡ time′ k)
+        (lefts : (k : ℕ) → k < m → (left k ≡ true) ↔ Left k)
+        (rights : (k : ℕ) → k < m → (right k ≡ true) ↔ Right k)
+        (falls : (i j : ℕ) → i ≤ j → Position j → time′ i ≤ time′ j)
+        (i : ℕ) (h : i < m) where
+      -- until at i, as specs/Reading prints it
+      abbrev UntilHolds : Type 0
+      UntilHolds =
+          (j : ℕ) × (i ≤ j) × Position j × Within low high (time′ i) (time′ j) × Right j × ((k : ℕ) → i ≤ k → k < j → Left k)
 
-    by : (j : ℕ) → j < m → UntilBy low high time left right i j ↔ ((i ≤ j) × Within low high (time′ i) (time′ j) × Right j × ((k : ℕ) → i ≤ k → k < j → Left k))
-    by j h =
-        until-by-agrees low high time time′ left right Left Right i j (λ k g. times k (omega arith)) (λ k g. lefts k (omega arith)) (λ k g. rights k (omega arith))
+      met-iff : (j : ℕ) → j < m → UntilBy low high time left right i j ↔
+          ((i ≤ j) × Within low high (time′ i) (time′ j) × Right j × ((k : ℕ) → i ≤ k → k < j → Left k))
+      met-iff j b =
+          until-by-agrees low high time time′ left right Left Right i j
+          (λ k g. times k (omega arith))
+          (λ k g. lefts k (omega arith))
+          (λ k g. rights k (omega arith))
 
-    -- no j from m on meets the condition, once it has ended
-    none-behind : i < m → Ended low high time left right size m i → (j : ℕ) → i ≤ j → m ≤ j → Position j → Within low high (time′ i) (time′ j) → ((k : ℕ) → i ≤ k → k < j → Left k) → ⊥
-    none-behind h (inl (k, a, b, f)) j g behind p w l = true-and-false (lefts k b .1 (l k a (omega arith))) f
-    none-behind h (inr (q, a, b, c, v)) j g behind p w l =
-        let e = times q c in
-        let e′ = times i (omega arith) in
-        let f = falls q j (omega arith) p in
-        omega arith
+      none-from-m : Ended i → (w : UntilHolds) → m ≤ w .0 → ⊥
+      none-from-m (inl (k, a, b, f)) (j, g, p, v, r, l) from = true-and-false (lefts k b .1 (l k a (omega arith))) f
+      none-from-m (inr (q, a, b, c, late)) (j, g, p, v, r, l) from =
+          let e = times q c in
+          let e′ = times i (omega arith) in
+          let f = falls q j (omega arith) p in
+          omega arith
 
-    pub settled-agrees : i < m → settled low high time left right size m i ≡ true → (settled-yes low high time left right size m i ≡ true) ↔ UntilHolds
-    settled-agrees h s =
-        let yes-iff = settled-yes-iff low high time left right size m i in (
-          λ e. let (j, g, u) = yes-iff .0 e in let (a, w, r, l) = by j g .0 u in (j, a, positions j g, w, r, l),
-          λ w. yes-iff .1 (back w (settled-iff low high time left right size m i .0 s)),
-        )
-      where
-        back : UntilHolds → SettledYes low high time left right size m i ⊎ SettledNo low high time left right size m i → SettledYes low high time left right size m i
-        back w (inl y) = y
-        back w (inr (n, d)) =
-            let (j, g, p, v, r, l) = w in
-            ⊎-elim (λ b. absurd (none-behind h d j g b p v l)) (λ b. (j, b, by j b .1 (g, v, r, l))) (le-or-lt m j)
+      met-below-m : UntilHolds → SettledYes i ⊎ SettledNo i → SettledYes i
+      met-below-m w (inl y) = y
+      met-below-m w (inr (n, d)) =
+          let (j, g, p, v, r, l) = w in
+          ⊎-elim (λ from. absurd (none-from-m d w from)) (λ b. (j, b, met-iff j b .1 (g, v, r, l))) (le-or-lt m j)
 
-  module _ (falls : (i j : ℕ) → i ≤ j → j < size → time i ≤ time j) where
-    -- the plain reading looks at every j of the log; of a settled position those below m decide
-    pub settled-verdict : (i : ℕ) → i < m → settled low high time left right size m i ≡ true →
-        until-at low high time left right size i ≡ settled-yes low high time left right size m i
-    settled-verdict i h s =
-        let whole = until-at-iff low high time left right i size in
-        let below =
-        settled-agrees (λ j. j < size) time (λ k. left k ≡ true) (λ k. right k ≡ true) (λ j g. omega arith) (λ k g. refl) (λ k g. Iff·rfl) (λ k g. Iff·rfl) falls i h s in
-        same-test (until-at low high time left right size i) (settled-yes low high time left right size m i) (
-          λ e. let (j, b, (g, w, r, l)) = whole .0 e in below .1 (j, g, b, w, r, l),
-          λ e. let (j, g, b, w, r, l) = below .0 e in whole .1 (j, b, (g, w, r, l)),
-        )
+      pub settled-agrees : Settled i → (settled-yes low high time left right size m i ≡ true) ↔ UntilHolds
+      settled-agrees s =
+          Iff·trans
+          (settled-yes-iff i) (
+            λ y. let (j, b, u) = y in let (g, v, r, l) = met-iff j b .0 u in (j, g, positions j b, v, r, l),
+            λ w. met-below-m w (settled-iff i .0 s),
+          )
 
-    ended-before : (i j : ℕ) → i ≤ j → j < m → Ended low high time left right size m j → Ended low high time left right size m i
-    ended-before i j g h (inl (k, a, b, f)) = inl (k, omega arith, b, f)
-    ended-before i j g h (inr (q, a, b, c, v)) = let f = falls i j g (omega arith) in inr (q, omega arith, b, c, omega arith)
+    module _ (falls : (i j : ℕ) → i ≤ j → j < size → time i ≤ time j) where
+      -- the plain reading looks at every j of the log; of a settled position those below m decide
+      pub settled-verdict : (i : ℕ) → i < m → Settled i → until-at low high time left right size i ≡ settled-yes low high time left right size m i
+      settled-verdict i h s =
+          let whole = until-at-iff low high time left right i size in
+          let below =
+          settled-agrees (λ j. j < size) time (λ k. left k ≡ true) (λ k. right k ≡ true)
+          (λ j b. omega arith) (λ k b. refl) (λ k b. Iff·rfl) (λ k b. Iff·rfl) falls i h s in
+          same-test (until-at low high time left right size i) (settled-yes low high time left right size m i) (
+            λ e. let (j, b, (g, w, r, l)) = whole .0 e in below .1 (j, g, b, w, r, l),
+            λ e. let (j, g, b, w, r, l) = below .0 e in whole .1 (j, b, (g, w, r, l)),
+          )
 
-    -- before it has ended, a j for a later position is one for an earlier position too
-    met-before : (i j : ℕ) → i ≤ j → j < m → (Ended low high time left right size m i → ⊥) → SettledYes low high time left right size m j → SettledYes low high time left right size m i
-    met-before i j g h n (t, b, (a, w, r, l)) =
-        let near : high < time t - time i → ⊥ = λ v. n (inr (t, omega arith, omega arith, omega arith, v)) in
-        let f = falls i j g (omega arith) in
-        (t, b, (omega arith, omega arith, r, λ k c d. held k c (omega arith)))
-      where
-        held : (k : ℕ) → i ≤ k → k < m → left k ≡ true
-        held k c d = ⊎-elim (λ v. v) (λ v. absurd (n (inl (k, c, d, v)))) (true-or-false (left k))
+      -- a later position of the log below m: i ≤ j
+      module _ (i j : ℕ) (g : i ≤ j) (h : j < m) where
+        ended-before : Ended j → Ended i
+        ended-before (inl (k, a, b, f)) = inl (k, omega arith, b, f)
+        ended-before (inr (q, a, b, c, v)) = let f = falls i j g (omega arith) in inr (q, omega arith, b, c, omega arith)
 
-    -- an open position has no settled one behind it below m
-    pub settled-before : (i j : ℕ) → i ≤ j → j < m → settled low high time left right size m j ≡ true → settled low high time left right size m i ≡ true
-    settled-before i j g h s = by (true-or-false (any m (fails-from left i) || any (min (suc m) size) (over high time i))) (iff j .0 s)
-      where
-        iff : (i : ℕ) → (settled low high time left right size m i ≡ true) ↔ (SettledYes low high time left right size m i ⊎ SettledNo low high time left right size m i)
-        iff = settled-iff low high time left right size m
+        -- while i has not ended, what meets the condition for j meets it for i
+        met-before : (Ended i → ⊥) → SettledYes j → SettledYes i
+        met-before n (t, b, (a, w, r, l)) =
+            let near : high < time t - time i → ⊥ = λ v. n (inr (t, omega arith, omega arith, omega arith, v)) in
+            let f = falls i j g (omega arith) in
+            (t, b, (omega arith, omega arith, r, λ k c d. held k c (omega arith)))
+          where
+            held : (k : ℕ) → i ≤ k → k < m → left k ≡ true
+            held k c d = ⊎-elim (λ v. v) (λ v. absurd (n (inl (k, c, d, v)))) (true-or-false (left k))
 
-        by : (any m (fails-from left i) || any (min (suc m) size) (over high time i) ≡ true) ⊎ (any m (fails-from left i) || any (min (suc m) size) (over high time i) ≡ false) →
-            SettledYes low high time left right size m j ⊎ SettledNo low high time left right size m j → settled low high time left right size m i ≡ true
-        by (inl d) y = ended-settled low high time left right size m i (ended-iff low high time left right size m i .0 d)
-        by (inr d) (inl y) = iff i .1 (inl (met-before i j g h (λ e. true-and-false (ended-iff low high time left right size m i .1 e) d) y))
-        by (inr d) (inr n) = ended-settled low high time left right size m i (ended-before i j g h (n .1))
+        -- an open position has no settled one behind it below m
+        pub settled-before : Settled j → Settled i
+        settled-before s =
+            ⊎-elim
+            (λ d. ended-settled i (ended-iff i .0 d))
+            (λ d.
+            ⊎-elim
+            (λ y. settled-iff i .1 (inl (met-before (λ e. true-and-false (ended-iff i .1 e) d) y)))
+            (λ n. ended-settled i (ended-before (n .1)))
+            (settled-iff j .0 s))
+            (true-or-false (any m (fails-from left i) || any (min (suc m) size) (over high time i)))
 
-    -- so the answered run holds every settled position
-    pub settled-in-run : (i : ℕ) → i < m → (i < until-progress low high time left right size m) ↔ (settled low high time left right size m i ≡ true)
-    settled-in-run i h = (
-      λ l. run-holds m (settled low high time left right size m) i l,
-      λ s. run-iff m (settled low high time left right size m) i h .1 (λ k l. settled-before k i l h s),
-    )
+      -- so the answered run holds every settled position below m
+      pub settled-in-run : (i : ℕ) → i < m → (i < until-progress low high time left right size m) ↔ Settled i
+      settled-in-run i h = (
+        λ l. run-holds m (settled low high time left right size m) i l,
+        λ s. run-iff m (settled low high time left right size m) i h .1 (λ k l. settled-before k i l h s),
+      )
 
--- THEOREMS, on logs whose times never fall: until.
+-- The same of a formula on a log.
 
 -- "m is the smaller of the operands' numbers."
 abbrev pub answered-operands : (φ ψ : Formula) (L : Log) → ℕ
@@ -194,50 +202,57 @@ pub answered-fits : (φ ψ : Formula) (L : Log) → answered-operands φ ψ L �
 answered-fits φ ψ L = let p = progress-le-size φ L in omega arith
 
 module _ (low high : ℕ) (φ ψ : Formula) (L : Log) where
-  -- "Position i < m is settled yes if the until's condition is met by some j < m."
+  abbrev pub until-settled : ℕ → Bool
+  until-settled = settled low high (L .time) (sat φ L) (sat ψ L) (L .size) (answered-operands φ ψ L)
+
   abbrev pub UntilSettledYes : ℕ → Type 0
   UntilSettledYes = SettledYes low high (L .time) (sat φ L) (sat ψ L) (L .size) (answered-operands φ ψ L)
 
-  -- "It is settled no if no such j exists and either left is answered no at some k with i ≤ k < m, or some position of
-  -- the log from i up to and including m lies more than high after i."
   abbrev pub UntilSettledNo : ℕ → Type 0
   UntilSettledNo = SettledNo low high (L .time) (sat φ L) (sat ψ L) (L .size) (answered-operands φ ψ L)
 
-  -- "The answered run is the longest from 0 in which all are settled."
-  pub until-longest : Run (answered-operands φ ψ L) (settled low high (L .time) (sat φ L) (sat ψ L) (L .size) (answered-operands φ ψ L)) (progress (until low high φ ψ) L)
+  pub until-yes-iff : (i : ℕ) →
+      (settled-yes low high (L .time) (sat φ L) (sat ψ L) (L .size) (answered-operands φ ψ L) i ≡ true) ↔ UntilSettledYes i
+  until-yes-iff = settled-yes-iff low high (L .time) (sat φ L) (sat ψ L) (L .size) (answered-operands φ ψ L)
+
+  pub until-settled-iff : (i : ℕ) → (until-settled i ≡ true) ↔ (UntilSettledYes i ⊎ UntilSettledNo i)
+  until-settled-iff = settled-iff low high (L .time) (sat φ L) (sat ψ L) (L .size) (answered-operands φ ψ L)
+
+  -- THEOREM, on all logs. "The answered run is the longest from 0 in which all are settled."
+  pub until-longest : Run (answered-operands φ ψ L) until-settled (progress (until low high φ ψ) L)
   unfolding progress
-  until-longest = run-is (answered-operands φ ψ L) (settled low high (L .time) (sat φ L) (sat ψ L) (L .size) (answered-operands φ ψ L))
+  until-longest = run-is (answered-operands φ ψ L) until-settled
 
-  pub until-answered : NeverFalls L → (i : ℕ) → (i < progress (until low high φ ψ) L) ↔ ((i < answered-operands φ ψ L) × (UntilSettledYes i ⊎ UntilSettledNo i))
-  unfolding progress
-  until-answered falls i = (
-    λ l. let s = run-holds (answered-operands φ ψ L) test i l in let b = run-le (answered-operands φ ψ L) test in (omega arith, iff .0 s),
-    λ w. settled-in-run low high (L .time) (sat φ L) (sat ψ L) (L .size) (answered-operands φ ψ L) (answered-fits φ ψ L) falls i (w .0) .1 (iff .1 (w .1)),
-  )
-    where
-      test : ℕ → Bool
-      test = settled low high (L .time) (sat φ L) (sat ψ L) (L .size) (answered-operands φ ψ L)
+  module _ (falls : NeverFalls L) (i : ℕ) where
+    -- THEOREM, on logs whose times never fall. No position behind an open one is settled, so that the answered positions are
+    -- just the settled ones: "Position i < m is settled yes if the until's condition is met by some j < m. It is settled no
+    -- if no such j exists and either left is answered no at some k with i ≤ k < m, or some position of the log from i up to
+    -- and including m lies more than high after i."
+    pub until-answered : (i < progress (until low high φ ψ) L) ↔ ((i < answered-operands φ ψ L) × (UntilSettledYes i ⊎ UntilSettledNo i))
+    unfolding progress
+    until-answered =
+        let m = answered-operands φ ψ L in
+        let b = run-le m until-settled in (
+          λ l. (omega arith, until-settled-iff i .0 (run-holds m until-settled i l)),
+          λ w. settled-in-run low high (L .time) (sat φ L) (sat ψ L) (L .size) m (answered-fits φ ψ L) falls i (w .0) .1 (until-settled-iff i .1 (w .1)),
+        )
 
-      iff : (settled low high (L .time) (sat φ L) (sat ψ L) (L .size) (answered-operands φ ψ L) i ≡ true) ↔ (UntilSettledYes i ⊎ UntilSettledNo i)
-      iff = settled-iff low high (L .time) (sat φ L) (sat ψ L) (L .size) (answered-operands φ ψ L) i
+    -- An answered position's plain reading on the whole log is decided by the j below m ..
+    pub until-verdict : i < progress (until low high φ ψ) L →
+        sat (until low high φ ψ) L i ≡ settled-yes low high (L .time) (sat φ L) (sat ψ L) (L .size) (answered-operands φ ψ L) i
+    unfolding sat
+    until-verdict l =
+        let (h, s) = until-answered .0 l in
+        settled-verdict low high (L .time) (sat φ L) (sat ψ L) (L .size) (answered-operands φ ψ L) (answered-fits φ ψ L) falls i h (until-settled-iff i .1 s)
 
-  -- its verdict is the plain reading's
-  pub until-verdict : NeverFalls L → (i : ℕ) → i < progress (until low high φ ψ) L →
-      sat (until low high φ ψ) L i ≡ settled-yes low high (L .time) (sat φ L) (sat ψ L) (L .size) (answered-operands φ ψ L) i
-  unfolding progress sat
-  until-verdict falls i l =
-      let b = run-le (answered-operands φ ψ L) (settled low high (L .time) (sat φ L) (sat ψ L) (L .size) (answered-operands φ ψ L)) in
-      settled-verdict low high (L .time) (sat φ L) (sat ψ L) (L .size) (answered-operands φ ψ L) (answered-fits φ ψ L) falls i (omega arith) (until-longest .holds i l)
+    -- THEOREMS, on logs whose times never fall: .. so that it holds where the position is settled yes, and not where it is settled no.
+    pub until-yes : i < answered-operands φ ψ L → UntilSettledYes i → sat (until low high φ ψ) L i ≡ true
+    until-yes h y = until-verdict (until-answered .1 (h, inl y)) ∙ until-yes-iff i .1 y
 
-  pub until-yes : NeverFalls L → (i : ℕ) → i < answered-operands φ ψ L → UntilSettledYes i → sat (until low high φ ψ) L i ≡ true
-  until-yes falls i h y =
-      until-verdict falls i (until-answered falls i .1 (h, inl y)) ∙ settled-yes-iff low high (L .time) (sat φ L) (sat ψ L) (L .size) (answered-operands φ ψ L) i .1 y
+    pub until-no : i < answered-operands φ ψ L → UntilSettledNo i → sat (until low high φ ψ) L i ≡ false
+    until-no h n = until-verdict (until-answered .1 (h, inr n)) ∙ false-iff _ .1 (λ y. n .0 (until-yes-iff i .0 y))
 
-  pub until-no : NeverFalls L → (i : ℕ) → i < answered-operands φ ψ L → UntilSettledNo i → sat (until low high φ ψ) L i ≡ false
-  until-no falls i h n =
-      until-verdict falls i (until-answered falls i .1 (h, inr n)) ∙ false-iff _ .1 (λ y. n .0 (settled-yes-iff low high (L .time) (sat φ L) (sat ψ L) (L .size) (answered-operands φ ψ L) i .0 y))
-
--- THEOREMS, on all logs: the numbers of the other operators.
+-- THEOREMS, on all logs: the other operators' numbers.
 
 module _ (L : Log) where
   -- "Letter: all N."
