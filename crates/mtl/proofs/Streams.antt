@@ -40,7 +40,7 @@ stream-iff (previous low high φ) σ L falls begins i h =
 stream-iff (next low high φ) σ L falls begins i h =
     let p = progress-le-size φ L in
     next-agrees low high (L .time) (σ .time) (sat φ L) (HoldsOn σ φ) (λ j. Unit {0}) (L .size) i
-    (λ k g l. sym (begins .time k l))
+    (λ k l. sym (begins .time k l))
     (λ l. stream-iff φ σ L falls begins (i + 1) (omega arith))
     (λ l. tt, λ u. omega arith)
 stream-iff (since low high φ ψ) σ L falls begins i h =
