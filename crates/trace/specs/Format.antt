@@ -27,17 +27,17 @@ letter-at s i k = eqb (events-at s i / 2 ^ k % 2) 1
 abbrev pub records-of : List ℕ → List ℕ
 records-of log = drop 8 log
 
--- "A log opens with KLG (4B 4C 47), a 16-bit version, 1, and three zero bytes.": what is wrong with each
+-- "A log opens with KLG (4B 4C 47), a 16-bit version, 1, and three zero bytes.": whether each is wrong
 abbrev pub wrong-mark : List ℕ → Bool
 wrong-mark log = not (eqb (getD log 0 0) 0x4B) || (not (eqb (getD log 1 0) 0x4C) || not (eqb (getD log 2 0) 0x47))
 
-abbrev pub wrong-version : List ℕ → Bool
-wrong-version log = not (eqb (getD log 3 0 * 256 + getD log 4 0) 1)
+abbrev pub version-of : List ℕ → ℕ
+version-of log = getD log 3 0 * 256 + getD log 4 0
 
 abbrev pub wrong-spare : List ℕ → Bool
 wrong-spare log = not (eqb (getD log 5 0) 0) || (not (eqb (getD log 6 0) 0) || not (eqb (getD log 7 0) 0))
 
--- "At most 1,000,000 records."
+-- "its length less 8 is no multiple of 8, or it has too many records": "At most 1,000,000 records."
 abbrev pub wrong-length : List ℕ → Bool
 wrong-length log = not (eqb ((length log - 8) % 8) 0) || ltb 1000000 ((length log - 8) / 8)
 
@@ -45,4 +45,4 @@ wrong-length log = not (eqb ((length log - 8) % 8) 0) || ltb 1000000 ((length lo
 -- multiple of 8, or it has too many records."
 abbrev pub malformed : List ℕ → Bool
 malformed log =
-    ltb (length log) 8 || (wrong-mark log || (wrong-version log || (wrong-spare log || wrong-length log)))
+    ltb (length log) 8 || (wrong-mark log || (not (eqb (version-of log) 1) || (wrong-spare log || wrong-length log)))

@@ -1,8 +1,8 @@
 // The log format of document 01: its header, its records, and checks 12 and 14, as functions on the log's bytes.
 ghost use mathlib.Core.Path.{_≡_};
-ghost use Prim.Native.Nat.{_+_, _*_, _<_, _≤_};
+ghost use Prim.Native.Nat.{_+_, _<_, _≤_};
 ghost use lib.ListN.{length};
-ghost use Rattle.trace.specs.Format.{word-at, record-count, time-at, letter-at, records-of, wrong-mark, malformed};
+ghost use Rattle.trace.specs.Format.{word-at, record-count, time-at, letter-at, records-of, wrong-mark, version-of, wrong-spare, malformed};
 ghost use Rattle.trace.specs.Log.{LetterRun};
 ghost use Rattle.trace.specs.Order.{falls, starts-below, disordered, last-time};
 
@@ -20,13 +20,26 @@ fn word(bytes: &[u8], at: usize) -> u64
     wide(bytes[at]) * 16777216 + wide(bytes[at + 1]) * 65536 + wide(bytes[at + 2]) * 256 + wide(bytes[at + 3])
 }
 
-// Whether the log lacks its mark.
-fn lacks_mark(log: &[u8]) -> bool
+fn has_wrong_mark(log: &[u8]) -> bool
     requires { ⌜ 8 ≤ length (now log) ⌝ }
     ensures { λ r. ⌜ r ≡ wrong-mark (now (log .entry)) ⌝ }
 {
     let mark = b"KLG";
     (log[0] != mark[0]) | ((log[1] != mark[1]) | (log[2] != mark[2]))
+}
+
+fn version(log: &[u8]) -> u64
+    requires { ⌜ 8 ≤ length (now log) ⌝ }
+    ensures { λ r. ⌜ r ≡ version-of (now (log .entry)) ⌝ }
+{
+    wide(log[3]) * 256 + wide(log[4])
+}
+
+fn has_wrong_spare(log: &[u8]) -> bool
+    requires { ⌜ 8 ≤ length (now log) ⌝ }
+    ensures { λ r. ⌜ r ≡ wrong-spare (now (log .entry)) ⌝ }
+{
+    (log[5] != 0) | ((log[6] != 0) | (log[7] != 0))
 }
 
 // Check 12.
@@ -37,9 +50,7 @@ pub fn is_malformed(log: &[u8]) -> bool
         return true;
     }
     let size = log.len() - 8;
-    lacks_mark(log)
-        | ((wide(log[3]) * 256 + wide(log[4]) != 1)
-            | (((log[5] != 0) | ((log[6] != 0) | (log[7] != 0))) | ((size % 8 != 0) | (1000000 < size / 8))))
+    has_wrong_mark(log) | ((version(log) != 1) | (has_wrong_spare(log) | ((size % 8 != 0) | (1000000 < size / 8))))
 }
 
 // The part of the log behind its header; nothing of a log shorter than that.
