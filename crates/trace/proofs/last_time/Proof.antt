@@ -15,7 +15,7 @@ time-requires : tie.Need-time-requires
 time-requires c κs = search needs
 
 returns : tie.Need-returns
-returns c = simp (lt-ltb _ _ (rw (c .before .before .count .ensures) at (c .before .if1 .taken)), c .time .ensures .0)
+returns c = simp (lt-ltb _ _ (rw (c .before .before .count .ensures) at (c .before .if1 .taken)), c .time .ensures .0, c .before .before .count .ensures)
 
 returns-2 : tie.Need-returns-2
 returns-2 c = simp (le-ltb _ _ (rw (c .before .count .ensures) at (c .if1 .left)))
