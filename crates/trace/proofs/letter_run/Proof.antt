@@ -12,10 +12,6 @@ use Rattle.trace.specs.Format.{record-count, letter-at}
 use Rattle.trace.specs.Log.{LetterRun}
 use Rattle.trace.proofs.letter_run.Statement.{statement}
 use Rattle.trace.proofs.letter_run.Tie as tie
-use Rattle.trace.proofs.letter_run.Reads as reads
-use Rattle.trace.proofs.letter_run.Lts as lts
-use Rattle.trace.proofs.count.Reads as count-reads
-use Rattle.trace.proofs.has_letter.Reads as has-letter-reads
 
 tests-differ : (a b : Bool) → not (Bool·beq a b) ≡ true → a ≡ not b
 tests-differ true true e = absurd (false≢true e)
@@ -55,33 +51,26 @@ Inv-loop records from letter end first i₀ i =
 abbrev μ-loop : tie.MeasureT-loop
 μ-loop records from letter end first i₀ i = end - i
 
--- src/lib.rt:83:9
 count-requires : tie.Need-count-requires Inv-loop μ-loop
 count-requires c κs = search needs
 
--- src/lib.rt:84:9
 has-letter-requires : tie.Need-has-letter-requires Inv-loop μ-loop
 has-letter-requires c κs = search needs
 
--- src/lib.rt:85:17
 add-i : tie.Need-add-i Inv-loop μ-loop
 add-i c = search needs
 
--- src/lib.rt:86:5
 loop-holds : tie.Need-loop-holds Inv-loop μ-loop
 loop-holds c =
     let a = c .before .before .before .args in
     (omega arith, omega arith, λ j lo hi. ap (λ (n : ℕ). letter-at (a .records .now) n (a .letter)) (omega arith))
 
--- src/lib.rt:87:12
 has-letter-requires-2 : tie.Need-has-letter-requires-2 Inv-loop μ-loop
 has-letter-requires-2 c κs = search needs
 
--- src/lib.rt:88:20
 sub-result : tie.Need-sub-result Inv-loop μ-loop
 sub-result c = search needs
 
--- src/lib.rt:88:13
 returns : tie.Need-returns Inv-loop μ-loop
 returns c =
     let a = c .before .before .before .before .before .before .before .args in
@@ -91,15 +80,12 @@ returns c =
     run-to (a .records .now) (a .from) (a .letter) (c .before .before .before .loop .i) l (omega arith) same
     (λ in-log. sym (here .ensures) ∙ tests-differ (here .result) (first .result) (c .if1 .taken) ∙ ap not (first .ensures))
 
--- src/lib.rt:90:9
 add-i-2 : tie.Need-add-i-2 Inv-loop μ-loop
 add-i-2 c = search needs
 
--- src/lib.rt:86:5
 loop-less : tie.Need-loop-less Inv-loop μ-loop
 loop-less c = search needs
 
--- src/lib.rt:86:5
 loop-again : tie.Need-loop-again Inv-loop μ-loop
 loop-again c =
     let a = c .before .before .before .before .before .before .before .args in
@@ -107,15 +93,16 @@ loop-again c =
     let i = c .before .before .before .loop .i in
     let (l, h, same) = c .before .before .before .loop .inv in
     let first = c .before .before .before .before .has-letter in
-    let here = c .before .has-letter2 in
-    (omega arith, omega arith, more s (a .from) (a .letter) i same
-    (sym (here .ensures) ∙ tests-agree (here .result) (first .result) (c .if1 .left) ∙ first .ensures))
+    let here = c .before .has-letter2 in (
+      omega arith,
+      omega arith,
+      more s (a .from) (a .letter) i same
+          (sym (here .ensures) ∙ tests-agree (here .result) (first .result) (c .if1 .left) ∙ first .ensures),
+    )
 
--- src/lib.rt:92:5
 sub-result-2 : tie.Need-sub-result-2 Inv-loop μ-loop
 sub-result-2 c = search needs
 
--- src/lib.rt:79:1
 returns-2 : tie.Need-returns-2 Inv-loop μ-loop
 returns-2 c =
     let a = c .before .before .before .before .before .args in

@@ -15,10 +15,6 @@ use Rattle.trace.specs.Format.{record-count, time-at}
 use Rattle.trace.specs.Order.{falls, falls-at}
 use Rattle.trace.proofs.times_fall.Statement.{statement}
 use Rattle.trace.proofs.times_fall.Tie as tie
-use Rattle.trace.proofs.times_fall.Reads as reads
-use Rattle.trace.proofs.times_fall.Lts as lts
-use Rattle.trace.proofs.count.Reads as count-reads
-use Rattle.trace.proofs.time.Reads as time-reads
 
 module _ (s : List ℕ) (after : ℕ) where
   -- up to and with `after` no record counts
@@ -39,35 +35,28 @@ Inv-loop records after end last₀ i₀ last i =
 abbrev μ-loop : tie.MeasureT-loop
 μ-loop records after end last₀ i₀ last i = end - i
 
--- src/lib.rt:99:9
 count-requires : tie.Need-count-requires Inv-loop μ-loop
 count-requires c κs = search needs
 
--- src/lib.rt:101:9
 returns : tie.Need-returns Inv-loop μ-loop
 returns c =
     let a = c .before .before .before .args in sym (none-yet (a .records .now) (a .after) (record-count (a .records .now)) (omega arith))
 
--- src/lib.rt:103:9
 time-requires : tie.Need-time-requires Inv-loop μ-loop
 time-requires c κs = search needs
 
--- src/lib.rt:104:17
 add-i : tie.Need-add-i Inv-loop μ-loop
 add-i c = search needs
 
--- src/lib.rt:105:5
 loop-holds : tie.Need-loop-holds Inv-loop μ-loop
 loop-holds c =
     let a = c .before .before .before .before .args in
     let s = a .records .now in
     (omega arith, omega arith, c .time .ensures .0 ∙ ap (time-at s) (omega arith), none-yet s (a .after) (a .after + 1) (omega arith))
 
--- src/lib.rt:106:13
 time-requires-2 : tie.Need-time-requires-2 Inv-loop μ-loop
 time-requires-2 c κs = search needs
 
--- src/lib.rt:108:13
 returns-2 : tie.Need-returns-2 Inv-loop μ-loop
 returns-2 c =
     let a = c .before .before .before .before .before .before .before .before .args in
@@ -75,15 +64,12 @@ returns-2 c =
     let below = c .before .time2 .ensures .0 in
     sym (found (a .records .now) (a .after) (c .before .before .before .loop .i) (omega arith) (omega arith) (omega arith))
 
--- src/lib.rt:111:9
 add-i-2 : tie.Need-add-i-2 Inv-loop μ-loop
 add-i-2 c = search needs
 
--- src/lib.rt:105:5
 loop-less : tie.Need-loop-less Inv-loop μ-loop
 loop-less c = search needs
 
--- src/lib.rt:105:5
 loop-again : tie.Need-loop-again Inv-loop μ-loop
 loop-again c =
     let a = c .before .before .before .before .before .before .before .before .args in
@@ -93,7 +79,6 @@ loop-again c =
     let now = c .before .time2 .ensures .0 in
     (omega arith, omega arith, now ∙ ap (time-at s) (omega arith), none-more s (a .after) i (omega arith) (inv .3))
 
--- src/lib.rt:96:1
 returns-3 : tie.Need-returns-3 Inv-loop μ-loop
 returns-3 c =
     let s = c .before .before .before .before .before .before .args .records .now in
