@@ -1,0 +1,2 @@
+-- The theorems on the definitions of specs/: Bounded serves the others; the rest end in the theorems that document 01 asks for.
+pub mod Bounded

@@ -1,0 +1,155 @@
+// The log format of document 01: its header, its records, and checks 12 and 14, as functions on the log's bytes.
+ghost use mathlib.Core.Path.{_≡_};
+ghost use Prim.Native.Nat.{_+_, _<_, _≤_};
+ghost use lib.ListN.{length};
+ghost use Rattle.trace.specs.Format.{word-at, record-count, time-at, letter-at, records-of, wrong-mark, version-of, wrong-spare, malformed};
+ghost use Rattle.trace.specs.Log.{LetterRun};
+ghost use Rattle.trace.specs.Order.{falls, starts-below, disordered, last-time};
+
+fn wide(x: u8) -> u64
+    ensures { λ r. ⌜ (r ≡ x) × (r < 256) ⌝ }
+{
+    x as u64
+}
+
+// The big-endian number in the four bytes from `at` on.
+fn word(bytes: &[u8], at: usize) -> u64
+    requires { ⌜ at + 4 ≤ length (now bytes) ⌝ }
+    ensures { λ r. ⌜ (r ≡ word-at (now (bytes .entry)) at) × (r < 4294967296) ⌝ }
+{
+    wide(bytes[at]) * 16777216 + wide(bytes[at + 1]) * 65536 + wide(bytes[at + 2]) * 256 + wide(bytes[at + 3])
+}
+
+fn has_wrong_mark(log: &[u8]) -> bool
+    requires { ⌜ 8 ≤ length (now log) ⌝ }
+    ensures { λ r. ⌜ r ≡ wrong-mark (now (log .entry)) ⌝ }
+{
+    let mark = b"KLG";
+    (log[0] != mark[0]) | ((log[1] != mark[1]) | (log[2] != mark[2]))
+}
+
+fn version(log: &[u8]) -> u64
+    requires { ⌜ 8 ≤ length (now log) ⌝ }
+    ensures { λ r. ⌜ r ≡ version-of (now (log .entry)) ⌝ }
+{
+    wide(log[3]) * 256 + wide(log[4])
+}
+
+fn has_wrong_spare(log: &[u8]) -> bool
+    requires { ⌜ 8 ≤ length (now log) ⌝ }
+    ensures { λ r. ⌜ r ≡ wrong-spare (now (log .entry)) ⌝ }
+{
+    (log[5] != 0) | ((log[6] != 0) | (log[7] != 0))
+}
+
+// Check 12.
+pub fn is_malformed(log: &[u8]) -> bool
+    ensures { λ r. ⌜ r ≡ malformed (now (log .entry)) ⌝ }
+{
+    if log.len() < 8 {
+        return true;
+    }
+    let size = log.len() - 8;
+    has_wrong_mark(log) | ((version(log) != 1) | (has_wrong_spare(log) | ((size % 8 != 0) | (1000000 < size / 8))))
+}
+
+// The part of the log behind its header; nothing of a log shorter than that.
+pub fn records(log: &[u8]) -> &[u8]
+    ensures { λ r. ⌜ now r ≡ records-of (now (log .entry)) ⌝ }
+{
+    if log.len() < 8 {
+        &log[..0]
+    } else {
+        &log[8..]
+    }
+}
+
+pub fn count(records: &[u8]) -> usize
+    ensures { λ r. ⌜ r ≡ record-count (now (records .entry)) ⌝ }
+{
+    records.len() / 8
+}
+
+// The time of record i.
+pub fn time(records: &[u8], i: usize) -> u64
+    requires { ⌜ i < record-count (now records) ⌝ }
+    ensures { λ r. ⌜ (r ≡ time-at (now (records .entry)) i) × (r < 4294967296) ⌝ }
+{
+    word(records, i * 8)
+}
+
+// Whether the letter stands in the event set of record i.
+pub fn has_letter(records: &[u8], i: usize, letter: u64) -> bool
+    requires { ⌜ (i < record-count (now records)) × (letter < 32) ⌝ }
+    ensures { λ r. ⌜ r ≡ letter-at (now (records .entry)) i letter ⌝ }
+{
+    (word(records, i * 8 + 4) >> letter) % 2 == 1
+}
+
+// For how many positions from `from` on the letter stands in each record, or in none.
+pub fn letter_run(records: &[u8], from: usize, letter: u64) -> usize
+    requires { ⌜ (from < record-count (now records)) × (letter < 32) ⌝ }
+    ensures { λ r. ⌜ LetterRun (now (records .entry)) from letter r ⌝ }
+{
+    let end = count(records);
+    let first = has_letter(records, from, letter);
+    let mut i = from + 1;
+    while i < end {
+        if has_letter(records, i, letter) != first {
+            return i - from;
+        }
+        i += 1;
+    }
+    i - from
+}
+
+// Whether some record after position `after` has a time below that of the record before it.
+pub fn times_fall(records: &[u8], after: usize) -> bool
+    ensures { λ r. ⌜ r ≡ falls (now (records .entry)) after ⌝ }
+{
+    let end = count(records);
+    if end <= after {
+        return false;
+    }
+    let mut last = time(records, after);
+    let mut i = after + 1;
+    while i < end {
+        let next = time(records, i);
+        if next < last {
+            return true;
+        }
+        last = next;
+        i += 1;
+    }
+    false
+}
+
+// Whether the first new record's time is below the last time seen.
+fn begins_below(records: &[u8], seen: usize, last: u64) -> bool
+    ensures { λ r. ⌜ r ≡ starts-below (now (records .entry)) seen last ⌝ }
+{
+    if seen < count(records) {
+        time(records, seen) < last
+    } else {
+        false
+    }
+}
+
+// Check 14, where `given` positions have verdicts.
+pub fn is_disordered(records: &[u8], given: usize, seen: usize, last: u64) -> bool
+    ensures { λ r. ⌜ r ≡ disordered (now (records .entry)) given seen last ⌝ }
+{
+    times_fall(records, given) | begins_below(records, seen, last)
+}
+
+// The last time seen after a call that brought these records, `seen` and `last` being what was seen before it.
+pub fn last_time(records: &[u8], seen: usize, last: u64) -> u64
+    ensures { λ r. ⌜ r ≡ last-time (now (records .entry)) seen last ⌝ }
+{
+    let end = count(records);
+    if seen < end {
+        time(records, end - 1)
+    } else {
+        last
+    }
+}
