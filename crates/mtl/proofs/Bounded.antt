@@ -1,13 +1,13 @@
 -- Each test of specs/ and the statement it decides: the laws by which proofs cross from Bool to Type and back.
 use Prim.Native.Nat.{ℕ, zero, suc, _-_, _≤_, _<_}
-use mathlib.Core.Bool.{Bool, true, false, cond, _&&_, _||_, true≢false, false≢true}
+use mathlib.Core.Bool.{Bool, true, false, cond, _&&_, _||_, and-true, true≢false, false≢true}
 use mathlib.Core.Bool.{not as negate}
 use mathlib.Core.Logic.{_⊎_, inl, inr, ⊎-elim, _↔_}
 use mathlib.Core.Path.{_≡_, refl, sym, _∙_, ap}
 use native.Mathlib.Nat.{eq-or-lt-of-le}
 use native.Mathlib.Omega.{arith}
 use lib.Dec.{leb, ltb, eqb}
-use borrow.Author.Tests.{leb-true, leb-false, ltb-true, ltb-false, le-leb, lt-ltb, eqb-true, eq-eqb}
+use borrow.Author.Tests.{leb-true, leb-false, ltb-true, ltb-false, le-leb, lt-leb, lt-ltb, le-ltb, eqb-true, eq-eqb, not-true}
 use Rattle.mtl.specs.Satisfaction.{any, all, within, held-after, held-from, since-by, until-by, since-at, until-at}
 use Rattle.mtl.specs.Progress.{fails-from, over, run}
 use Rattle.mtl.specs.Reading.{Within}
@@ -62,6 +62,10 @@ within-iff low high earlier later =
       λ w. both .1 (le-leb low (later - earlier) (w .0), le-leb (later - earlier) high (w .1)),
     )
 
+-- "High 4,294,967,295 means no upper end": between 32-bit times it never binds
+pub within-no-upper-end : (low earlier later : ℕ) → later ≤ 4294967295 → within low 4294967295 earlier later ≡ leb low (later - earlier)
+within-no-upper-end low earlier later h = rw (le-leb (later - earlier) 4294967295 (omega arith)) (and-true (leb low (later - earlier)))
+
 -- any and all
 
 pub any-iff : (n : ℕ) (p : ℕ → Bool) → (any n p ≡ true) ↔ ((i : ℕ) × (i < n) × (p i ≡ true))
@@ -98,7 +102,11 @@ pub all-false-iff : (n : ℕ) (p : ℕ → Bool) → (all n p ≡ false) ↔ ((i
 unfolding all
 all-false-iff zero p = (λ e. absurd (true≢false e), λ w. absurd (let h = w .1 in omega arith))
 all-false-iff (suc n) p = (
-  λ e. ⊎-elim (λ v. let (i, h, u) = all-false-iff n p .0 (before e v) in (i, omega arith, u)) (λ u. (n, omega arith, u)) (true-or-false (p n)),
+  λ e.
+      ⊎-elim
+      (λ v. let (i, h, u) = all-false-iff n p .0 (before e v) in (i, omega arith, u))
+      (λ u. (n, omega arith, u))
+      (true-or-false (p n)),
   λ w. false-iff (all n p && p n) .1 (λ e. true-and-false (all-iff (suc n) p .0 e (w .0) (w .1)) (w .2)),
 )
   where
@@ -181,29 +189,37 @@ run-iff m p i h = (λ l k g. run-holds m p k (omega arith), λ f. let n : run m 
     past : ((k : ℕ) → k ≤ i → p k ≡ true) → run m p ≤ i → ⊥
     past f l = true-and-false (f (run m p) l) (run-stops m p (omega arith))
 
+-- a run reaches as far as p holds
+pub run-least : (m : ℕ) (p : ℕ → Bool) (r : ℕ) → r ≤ m → ((i : ℕ) → i < r → p i ≡ true) → r ≤ run m p
+run-least m p r most holds = let n : run m p < r → ⊥ = past in omega arith
+  where
+    past : run m p < r → ⊥
+    past h = true-and-false (holds (run m p) h) (run-stops m p (omega arith))
+
 -- the operators' conditions
 
-pub held-after-iff : (left : ℕ → Bool) (j i : ℕ) →
-    (all (suc i) (held-after left j) ≡ true) ↔ ((k : ℕ) → j < k → k ≤ i → left k ≡ true)
-held-after-iff left j i = (
-  λ e k g h. ⊎-elim (λ l. absurd (let n = leb-true k j l in omega arith)) (λ v. v) (or-iff (leb k j) (left k) .0 (all-iff (suc i) (held-after left j) .0 e k (omega arith))),
-  λ f. all-iff (suc i) (held-after left j) .1 (λ k h. or-iff (leb k j) (left k) .1 (at f k (omega arith) (true-or-false (leb k j)))),
-)
-  where
-    at : ((k : ℕ) → j < k → k ≤ i → left k ≡ true) → (k : ℕ) → k ≤ i → (leb k j ≡ true) ⊎ (leb k j ≡ false) → (leb k j ≡ true) ⊎ (left k ≡ true)
-    at f k h (inl l) = inl l
-    at f k h (inr g) = inr (f k (leb-false k j g) h)
+-- a test that is needed only where another fails
+unless-iff : {A : Type 0} (a b : Bool) → (a ≡ false) ↔ A → (a || b ≡ true) ↔ (A → b ≡ true)
+unless-iff true b h = (λ e x. absurd (true≢false (h .1 x)), λ f. refl)
+unless-iff false b h = (λ e x. e, λ f. f (h .0 refl))
 
-pub held-from-iff : (left : ℕ → Bool) (i j : ℕ) →
-    (all j (held-from left i) ≡ true) ↔ ((k : ℕ) → i ≤ k → k < j → left k ≡ true)
-held-from-iff left i j = (
-  λ e k g h. ⊎-elim (λ l. absurd (let n = ltb-true k i l in omega arith)) (λ v. v) (or-iff (ltb k i) (left k) .0 (all-iff j (held-from left i) .0 e k h)),
-  λ f. all-iff j (held-from left i) .1 (λ k h. or-iff (ltb k i) (left k) .1 (at f k h (true-or-false (ltb k i)))),
+pub held-after-iff : (left : ℕ → Bool) (j i : ℕ) → (all (suc i) (held-after left j) ≡ true) ↔ ((k : ℕ) → j < k → k ≤ i → left k ≡ true)
+held-after-iff left j i = (
+  λ e k g h. at k .0 (all-iff (suc i) (held-after left j) .0 e k (omega arith)) g,
+  λ f. all-iff (suc i) (held-after left j) .1 (λ k h. at k .1 (λ g. f k g (omega arith))),
 )
   where
-    at : ((k : ℕ) → i ≤ k → k < j → left k ≡ true) → (k : ℕ) → k < j → (ltb k i ≡ true) ⊎ (ltb k i ≡ false) → (ltb k i ≡ true) ⊎ (left k ≡ true)
-    at f k h (inl l) = inl l
-    at f k h (inr g) = inr (f k (ltb-false k i g) h)
+    at : (k : ℕ) → (held-after left j k ≡ true) ↔ (j < k → left k ≡ true)
+    at k = unless-iff (leb k j) (left k) (leb-false k j, lt-leb k j)
+
+pub held-from-iff : (left : ℕ → Bool) (i j : ℕ) → (all j (held-from left i) ≡ true) ↔ ((k : ℕ) → i ≤ k → k < j → left k ≡ true)
+held-from-iff left i j = (
+  λ e k g h. at k .0 (all-iff j (held-from left i) .0 e k h) g,
+  λ f. all-iff j (held-from left i) .1 (λ k h. at k .1 (λ g. f k g h)),
+)
+  where
+    at : (k : ℕ) → (held-from left i k ≡ true) ↔ (i ≤ k → left k ≡ true)
+    at k = unless-iff (ltb k i) (left k) (ltb-false k i, le-ltb k i)
 
 module _ (low high : ℕ) (time : ℕ → ℕ) (left right : ℕ → Bool) (i : ℕ) where
   -- j meets the condition of since at i
@@ -231,7 +247,10 @@ module _ (low high : ℕ) (time : ℕ → ℕ) (left right : ℕ → Bool) (i : 
       let inner = and-iff (right j) (all j (held-from left i)) in
       let gap = within-iff low high (time i) (time j) in
       let held = held-from-iff left i j in (
-        λ e. let o = outer .0 (behind .0 e .1) in let n = inner .0 (o .1) in (leb-true i j (behind .0 e .0), gap .0 (o .0), n .0, held .0 (n .1)),
+        λ e.
+            let o = outer .0 (behind .0 e .1) in
+            let n = inner .0 (o .1) in
+            (leb-true i j (behind .0 e .0), gap .0 (o .0), n .0, held .0 (n .1)),
         λ u. behind .1 (le-leb i j (u .0), outer .1 (gap .1 (u .1), inner .1 (u .2, held .1 (u .3)))),
       )
 
@@ -251,14 +270,24 @@ module _ (low high : ℕ) (time : ℕ → ℕ) (left right : ℕ → Bool) (i : 
         λ w. let (j, h, u) = w in some .1 (j, h, until-by-iff j .1 u),
       )
 
-pub fails-from-iff : (left : ℕ → Bool) (i m : ℕ) → (any m (fails-from left i) ≡ true) ↔ ((k : ℕ) × (i ≤ k) × (k < m) × (left k ≡ false))
-fails-from-iff left i m = (
-  λ e. let (k, h, v) = any-iff m (fails-from left i) .0 e in let b = and-iff (leb i k) (negate (left k)) .0 v in (k, leb-true i k (b .0), h, false-iff (left k) .1 (not-iff (left k) .0 (b .1))),
-  λ w. let (k, g, h, v) = w in any-iff m (fails-from left i) .1 (k, h, and-iff (leb i k) (negate (left k)) .1 (le-leb i k g, not-iff (left k) .1 (false-iff (left k) .0 v))),
+any-from-iff : (i n : ℕ) (p : ℕ → Bool) → (any n (λ k. leb i k && p k) ≡ true) ↔ ((k : ℕ) × (i ≤ k) × (k < n) × (p k ≡ true))
+any-from-iff i n p = (
+  λ e. let (k, h, v) = any-iff n (λ k. leb i k && p k) .0 e in let b = and-iff (leb i k) (p k) .0 v in (k, leb-true i k (b .0), h, b .1),
+  λ w. let (k, g, h, v) = w in any-iff n (λ k. leb i k && p k) .1 (k, h, and-iff (leb i k) (p k) .1 (le-leb i k g, v)),
 )
 
-pub over-iff : (high : ℕ) (time : ℕ → ℕ) (i n : ℕ) → (any n (over high time i) ≡ true) ↔ ((q : ℕ) × (i ≤ q) × (q < n) × (high < time q - time i))
-over-iff high time i n = (
-  λ e. let (q, h, v) = any-iff n (over high time i) .0 e in let b = and-iff (leb i q) (ltb high (time q - time i)) .0 v in (q, leb-true i q (b .0), h, ltb-true high (time q - time i) (b .1)),
-  λ w. let (q, g, h, v) = w in any-iff n (over high time i) .1 (q, h, and-iff (leb i q) (ltb high (time q - time i)) .1 (le-leb i q g, lt-ltb high (time q - time i) v)),
-)
+pub fails-from-iff : (left : ℕ → Bool) (i m : ℕ) →
+    (any m (fails-from left i) ≡ true) ↔ ((k : ℕ) × (i ≤ k) × (k < m) × (left k ≡ false))
+fails-from-iff left i m =
+    let some = any-from-iff i m (λ k. negate (left k)) in (
+      λ e. let (k, g, h, v) = some .0 e in (k, g, h, not-true (left k) v),
+      λ w. let (k, g, h, v) = w in some .1 (k, g, h, ap negate v),
+    )
+
+pub over-iff : (high : ℕ) (time : ℕ → ℕ) (i n : ℕ) →
+    (any n (over high time i) ≡ true) ↔ ((q : ℕ) × (i ≤ q) × (q < n) × (high < time q - time i))
+over-iff high time i n =
+    let some = any-from-iff i n (λ q. ltb high (time q - time i)) in (
+      λ e. let (q, g, h, v) = some .0 e in (q, g, h, ltb-true high (time q - time i) v),
+      λ w. let (q, g, h, v) = w in some .1 (q, g, h, lt-ltb high (time q - time i) v),
+    )

@@ -1,7 +1,8 @@
 -- The bytes of a log: header, records, and check 12. `log` is the whole of it; `s` is the records, the part behind the header.
-use Prim.Native.Nat.{ℕ, _+_, _-_, _*_, _/_, _%_, _^_}
+use Prim.Native.Nat.{ℕ, _+_, _-_, _*_, _/_, _%_, _^_, _≤_}
 use mathlib.Core.Bool.{Bool, _||_, not}
 use mathlib.Core.List.{List}
+use mathlib.Core.Path.{_≡_}
 use lib.Dec.{ltb, eqb}
 use lib.ListN.{length, getD, drop}
 
@@ -13,6 +14,11 @@ word-at s at =
 -- "Records of 8 bytes follow: time in seconds (32 bits), event set (32 bits, letter k is the bit worth 2 to the k)."
 abbrev pub record-count : List ℕ → ℕ
 record-count s = length s / 8
+
+-- whole records, at most 1,000,000 of them
+pub record Records (s : List ℕ) : Type 0 where
+  pub whole : length s ≡ record-count s * 8
+  pub few : record-count s ≤ 1000000
 
 abbrev pub time-at : List ℕ → ℕ → ℕ
 time-at s i = word-at s (i * 8)
@@ -37,6 +43,10 @@ version-of log = getD log 3 0 * 256 + getD log 4 0
 abbrev pub wrong-spare : List ℕ → Bool
 wrong-spare log = not (eqb (getD log 5 0) 0) || (not (eqb (getD log 6 0) 0) || not (eqb (getD log 7 0) 0))
 
+-- "its mark, version or spare bytes are wrong"
+abbrev pub wrong-header : List ℕ → Bool
+wrong-header log = wrong-mark log || (not (eqb (version-of log) 1) || wrong-spare log)
+
 -- "its length less 8 is no multiple of 8, or it has too many records": "At most 1,000,000 records."
 abbrev pub wrong-length : List ℕ → Bool
 wrong-length log = not (eqb ((length log - 8) % 8) 0) || ltb 1000000 ((length log - 8) / 8)
@@ -44,5 +54,4 @@ wrong-length log = not (eqb ((length log - 8) % 8) 0) || ltb 1000000 ((length lo
 -- check 12: "The log is shorter than 8 bytes, its mark, version or spare bytes are wrong, its length less 8 is no
 -- multiple of 8, or it has too many records."
 abbrev pub malformed : List ℕ → Bool
-malformed log =
-    ltb (length log) 8 || (wrong-mark log || (not (eqb (version-of log) 1) || (wrong-spare log || wrong-length log)))
+malformed log = ltb (length log) 8 || (wrong-header log || wrong-length log)

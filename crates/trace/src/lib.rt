@@ -17,7 +17,10 @@ fn word(bytes: &[u8], at: usize) -> u64
     requires { ⌜ at + 4 ≤ length (now bytes) ⌝ }
     ensures { λ r. ⌜ (r ≡ word-at (now (bytes .entry)) at) × (r < 4294967296) ⌝ }
 {
-    wide(bytes[at]) * 16777216 + wide(bytes[at + 1]) * 65536 + wide(bytes[at + 2]) * 256 + wide(bytes[at + 3])
+    wide(bytes[at]) * 16777216
+        + wide(bytes[at + 1]) * 65536
+        + wide(bytes[at + 2]) * 256
+        + wide(bytes[at + 3])
 }
 
 fn has_wrong_mark(log: &[u8]) -> bool
@@ -50,18 +53,15 @@ pub fn is_malformed(log: &[u8]) -> bool
         return true;
     }
     let size = log.len() - 8;
-    has_wrong_mark(log) | ((version(log) != 1) | (has_wrong_spare(log) | ((size % 8 != 0) | (1000000 < size / 8))))
+    (has_wrong_mark(log) | ((version(log) != 1) | has_wrong_spare(log)))
+        | ((size % 8 != 0) | (1000000 < size / 8))
 }
 
 // The part of the log behind its header; nothing of a log shorter than that.
 pub fn records(log: &[u8]) -> &[u8]
     ensures { λ r. ⌜ now r ≡ records-of (now (log .entry)) ⌝ }
 {
-    if log.len() < 8 {
-        &log[..0]
-    } else {
-        &log[8..]
-    }
+    if log.len() < 8 { &log[..0] } else { &log[8..] }
 }
 
 pub fn count(records: &[u8]) -> usize

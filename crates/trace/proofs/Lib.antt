@@ -1,0 +1,2 @@
+-- Laws on the records of a log that the layers above cite.
+pub mod Laws
