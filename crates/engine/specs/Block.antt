@@ -97,8 +97,12 @@ pub record Copied (kind letter low high : ℕ) (b : List ℕ) : Type 0 where
   pub head : word b 14 ≡ kind * 256 + letter
   pub ends : word b 15 ≡ low * 2 ^ 32 + high
 
--- the ranges of a block's words, for a log of so many records (refusal 11)
-pub record InRange (size : ℕ) (b : List ℕ) : Type 0 where
+-- the cells of an entry's ring: a since has one, the other kinds none
+abbrev pub cells-of : (kind high : ℕ) → ℕ
+cells-of kind high = cond (eqb kind 5) (ring-words high) 0
+
+-- the ranges of a block's words, for a log of so many records and a ring of so many cells (refusal 11)
+pub record InRange (size cells : ℕ) (b : List ℕ) : Type 0 where
   pub left-count : taken b + left-count b ≤ size
   pub left-answer : left-answer b ≤ 1
   pub right-count : taken b + right-count b ≤ size
@@ -107,8 +111,8 @@ pub record InRange (size : ℕ) (b : List ℕ) : Type 0 where
   pub last-left : last-left b ≤ 1
   pub last-right : last-right b ≤ 1
   pub last-time : last-time b < 2 ^ 32
-  pub start : word b 9 ≤ 3600
-  pub count : word b 10 ≤ 3601
+  pub start : word b 9 ≤ cells
+  pub count : word b 10 ≤ cells
 
 -- previous: of the position before, the operand's answer and the time
 pub record Remembers (time : ℕ → ℕ) (truth : ℕ → Bool) (g : ℕ) (b : List ℕ) : Type 0 where
@@ -148,7 +152,7 @@ Own (until low high φ ψ) L g b =
 -- an operator's own block stands at g
 pub record Core (φ : Formula) (L : Log) (g : ℕ) (b : List ℕ) : Type 0 where
   pub reached : g ≤ progress φ L
-  pub range : InRange (L .size) b
+  pub range : InRange (L .size) (cells-of (kind-of φ) (high-of φ)) b
   pub copy : Copied (kind-of φ) (letter-of φ) (low-of φ) (high-of φ) b
   pub own : Own φ L g b
 
