@@ -1,0 +1,5 @@
+-- STUB: to be replaced by the proof.
+use Rattle.engine.proofs.blocks.store.Statement.{statement}
+
+pub store-spec : {M : Type 1} → statement M
+store-spec = ?

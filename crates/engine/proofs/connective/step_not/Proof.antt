@@ -1,0 +1,5 @@
+-- STUB: to be replaced by the proof.
+use Rattle.engine.proofs.connective.step_not.Statement.{statement}
+
+pub step-not-spec : {M : Type 1} → statement M
+step-not-spec = ?

@@ -1,0 +1,5 @@
+-- STUB: to be replaced by the proof.
+use Rattle.engine.proofs.neighbour.step_previous.Statement.{statement}
+
+pub step-previous-spec : {M : Type 1} → statement M
+step-previous-spec = ?

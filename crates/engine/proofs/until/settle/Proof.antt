@@ -1,0 +1,5 @@
+-- STUB: to be replaced by the proof.
+use Rattle.engine.proofs.until.settle.Statement.{statement}
+
+pub settle-spec : {M : Type 1} → statement M
+settle-spec = ?

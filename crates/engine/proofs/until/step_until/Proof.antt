@@ -1,0 +1,5 @@
+-- STUB: to be replaced by the proof.
+use Rattle.engine.proofs.until.step_until.Statement.{statement}
+
+pub step-until-spec : {M : Type 1} → statement M
+step-until-spec = ?
