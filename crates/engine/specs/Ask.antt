@@ -31,11 +31,11 @@ abbrev pub Filled : List ℕ → List ℕ → ℕ → (from to slot : ℕ) → L
 Filled t s o from to slot ws true ws′ ys =
     (holds : Bool) × (count : ℕ) × (1 ≤ count) × (ws′ ≡ stored (back from to ys ws) slot holds count) ×
     ((φ : Formula) (L : Log) (q : ℕ) → Has φ t o → NeverFalls L → Agrees s L q → State φ L q (part from to ws) →
-        Runs φ L q holds count × State φ L (q + count) ys)
+    Runs φ L q holds count × State φ L (q + count) ys)
 Filled t s o from to slot ws false ws′ ys =
     (ws′ ≡ back from to ys ws) ×
     ((φ : Formula) (L : Log) (q : ℕ) → Has φ t o → NeverFalls L → Agrees s L q → State φ L q (part from to ws) →
-        (progress φ L ≡ q) × State φ L q ys)
+    (progress φ L ≡ q) × State φ L q ys)
 
 abbrev pub Asks : List ℕ → List ℕ → ℕ → (from to slot : ℕ) → List ℕ → Bool → List ℕ → Type 0
 Asks t s o from to slot ws r ws′ = (ys : List ℕ) × (length ys ≡ to - from) × Filled t s o from to slot ws r ws′ ys

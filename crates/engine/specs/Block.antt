@@ -103,9 +103,10 @@ cells-of kind high = cond (eqb kind 5) (ring-words high) 0
 
 -- the ranges of a block's words, for a log of so many records and a ring of so many cells (refusal 11)
 pub record InRange (size cells : ℕ) (b : List ℕ) : Type 0 where
-  pub left-count : taken b + left-count b ≤ size
+  pub at : taken b ≤ size
+  pub left-count : left-count b ≤ size
   pub left-answer : left-answer b ≤ 1
-  pub right-count : taken b + right-count b ≤ size
+  pub right-count : right-count b ≤ size
   pub right-answer : right-answer b ≤ 1
   pub answered : answered b ≤ taken b
   pub last-left : last-left b ≤ 1

@@ -1,6 +1,6 @@
 -- The ring of a since: the times of the witnesses still alive, oldest first, in the cells behind the block's 16 words.
-use Prim.Native.Nat.{ℕ, suc, _+_, _-_, _≤_, _<_}
-use mathlib.Core.Bool.{Bool, true, false, cond, _&&_}
+use Prim.Native.Nat.{ℕ, _+_, _-_, _≤_, _<_}
+use mathlib.Core.Bool.{Bool, true, cond, _&&_}
 use mathlib.Core.Bool.{not as negate}
 use mathlib.Core.Path.{_≡_}
 use mathlib.Core.List.{List, [], _∷_, _++_}
@@ -29,7 +29,7 @@ pub record Witness (left right : ℕ → Bool) (g j : ℕ) : Type 0 where
 -- the times, oldest first, of the witnesses at g that lie at most high before the last position taken;
 -- without upper end the oldest alone is enough
 pub record Witnesses (high : ℕ) (time : ℕ → ℕ) (left right : ℕ → Bool) (g : ℕ) (times : List ℕ) : Type 0 where
-  pub rising : (i : ℕ) → suc i < length times → getD times i 0 < getD times (suc i) 0
+  pub rising : (i j : ℕ) → i < j → j < length times → getD times i 0 < getD times j 0
   pub sound : (i : ℕ) → i < length times →
       (j : ℕ) × Witness left right g j × (time j ≡ getD times i 0) × (time (g - 1) - getD times i 0 ≤ high)
   pub complete : (j : ℕ) → Witness left right g j → time (g - 1) - time j ≤ high →

@@ -1,5 +1,5 @@
 -- until's two halves: what settles the next position to answer, and a position taken from both operands.
-use Prim.Native.Nat.{ℕ, _+_, _-_, _≤_, _<_}
+use Prim.Native.Nat.{ℕ, _+_, _-_, _≤_, _<_, _^_}
 use mathlib.Core.Bool.{Bool, true, false, _&&_, _||_}
 use mathlib.Core.Bool.{not as negate}
 use mathlib.Core.Path.{_≡_}
@@ -17,12 +17,21 @@ abbrev pub pick : Bool → Settled → Settled → Settled
 pick true a b = a
 pick false a b = b
 
--- yes: right holds at the last position taken, at least low after the start; no: left fails there, or the next
--- position lies more than high after the start
+-- right holds at the last position taken, at least low after the start
+abbrev pub is-met : (low start right last : ℕ) → Bool
+is-met low start right last = eqb right 1 && leb low (last - start)
+
+-- the next position lies more than high after the start
+abbrev pub is-late : (high start next : ℕ) → Bool
+is-late high start next = ltb high (next - start)
+
+-- left fails at the last position taken, or the next one is late
+abbrev pub is-over : (high start left next : ℕ) → Bool
+is-over high start left next = negate (eqb left 1) || is-late high start next
+
 abbrev pub settle-spec : (low high start left right last next : ℕ) → Settled
 settle-spec low high start left right last next =
-    pick (eqb right 1 && leb low (last - start)) Yes
-    (pick (negate (eqb left 1) || ltb high (next - start)) No Unknown)
+    pick (is-met low start right last) Yes (pick (is-over high start left next) No Unknown)
 
 -- position `taken` out of both buffers
 abbrev pub took : List ℕ → List ℕ → List ℕ
@@ -40,4 +49,5 @@ taken-both s b (Run holds count) b′ = ⊥
 taken-both s b Left b′ = (b′ ≡ b) × (left-count b ≡ 0)
 taken-both s b Right b′ = (b′ ≡ b) × (0 < left-count b) × (right-count b ≡ 0)
 taken-both s b Open b′ = (b′ ≡ b) × (record-count s ≤ taken b) × (0 < left-count b) × (0 < right-count b)
-taken-both s b Again b′ = (b′ ≡ took s b) × (taken b < record-count s) × (0 < left-count b) × (0 < right-count b)
+taken-both s b Again b′ =
+    (b′ ≡ took s b) × (taken b < record-count s) × (0 < left-count b) × (0 < right-count b) × (time-at s (taken b) < 2 ^ 32)

@@ -13,7 +13,11 @@ use super::operator::Step;
 fn has_room(at: u64, count: u64, total: u64) -> bool
     ensures { λ r. ⌜ r ≡ (leb count total && leb at (total - count)) ⌝ }
 {
-    if count <= total { at <= total - count } else { false }
+    if count <= total {
+        at <= total - count
+    } else {
+        false
+    }
 }
 
 pub fn step_not(records: &[u8], block: &mut [u64]) -> Step

@@ -8,13 +8,13 @@ ghost use Rattle.engine.specs.Ask.{Asks};
 ghost use Rattle.engine.specs.Table.{RowsOk, column};
 
 mod blocks;
-mod letter;
 mod connective;
+mod letter;
 mod neighbour;
 mod operator;
 mod ring;
 mod since;
-
+mod table;
 mod time;
 mod until;
 
@@ -31,14 +31,13 @@ pub fn answer(table: &[u64; 1024], records: &[u8], k: usize, words: &mut [u64]) 
     requires { ⌜ (k < 128) × RowsOk (now table) k × (length (now words) ≡ column 7 (now table) k) ⌝ }
     ensures { λ r. ⌜ Answers (now (table .entry)) (now (records .entry)) k (now (words .entry)) r (now (words .exit)) ⌝ }
 {
-    let row = k * 8;
-    let kind = table[row];
-    let letter = table[row + 1];
-    let low = table[row + 2];
-    let high = table[row + 3];
-    let left = table[row + 4] as usize;
-    let middle = table[row + 5] as usize;
-    let own = middle + table[row + 6] as usize;
+    let kind = table::field(table, k, 0);
+    let letter = table::field(table, k, 1);
+    let low = table::field(table, k, 2);
+    let high = table::field(table, k, 3);
+    let left = table::field(table, k, 4) as usize;
+    let middle = table::field(table, k, 5) as usize;
+    let own = middle + table::field(table, k, 6) as usize;
     let end = words.len();
     loop {
         let step = operator::advance(kind, letter, low, high, records, &mut words[own..end]);
@@ -67,7 +66,7 @@ pub fn answer(table: &[u64; 1024], records: &[u8], k: usize, words: &mut [u64]) 
 }
 
 // Fills an operand's buffer at `slot` by asking it; false where the operand is open.
-fn ask(
+pub fn ask(
     table: &[u64; 1024],
     records: &[u8],
     operand: usize,
@@ -76,7 +75,7 @@ fn ask(
     slot: usize,
     words: &mut [u64],
 ) -> bool
-    requires { ⌜ (operand < 128) × RowsOk (now table) operand × (from + column 7 (now table) operand ≡ to) × (to ≤ slot) × (slot + 1 < length (now words)) ⌝ }
+    requires { ⌜ (operand < 128) × RowsOk (now table) operand × (from + column 7 (now table) operand ≡ to) × (to ≤ length (now words)) × (slot + 1 < length (now words)) ⌝ }
     ensures { λ r. ⌜ Asks (now (table .entry)) (now (records .entry)) operand from to slot (now (words .entry)) r (now (words .exit)) ⌝ }
 {
     let reply = answer(table, records, operand, &mut words[from..to]);

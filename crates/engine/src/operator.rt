@@ -20,7 +20,14 @@ pub enum Step {
     Open,
 }
 
-pub fn advance(kind: u64, letter: u64, low: u64, high: u64, records: &[u8], block: &mut [u64]) -> Step
+pub fn advance(
+    kind: u64,
+    letter: u64,
+    low: u64,
+    high: u64,
+    records: &[u8],
+    block: &mut [u64],
+) -> Step
     requires { ⌜ (kind ≤ 6) × (letter < 32) × (high < 2 ^ 32) × (own-words kind high ≤ length (now block)) ⌝ }
     ensures { λ r. ⌜ Ends (takes-left kind) (takes-right kind) (now (records .entry)) (now (block .entry)) r (now (block .exit)) ⌝ }
     ensures { λ r. ⌜ ((φ : Formula) → Fields φ kind letter low high → Steps φ (now (records .entry)) (now (block .entry)) r (now (block .exit))) ⌝ }

@@ -90,7 +90,15 @@ fn reaches_back(cells: u64, low: u64, at: u64, block: &[u64]) -> bool
 
 // One position's turn: the times more than high before it are dropped, all of them where left fails, and its own is
 // added where right holds. True if the oldest left lies at least low before it.
-pub fn turn(cells: u64, low: u64, high: u64, left: bool, right: bool, at: u64, block: &mut [u64]) -> bool
+pub fn turn(
+    cells: u64,
+    low: u64,
+    high: u64,
+    left: bool,
+    right: bool,
+    at: u64,
+    block: &mut [u64],
+) -> bool
     requires { ⌜ (0 < cells) × (cells < 2 ^ 32) × (16 + cells ≤ length (now block)) ⌝ }
     ensures { λ _. ⌜ Rings cells (turned cells high left right at) (now (block .entry)) (now (block .exit)) ⌝ }
     ensures { λ r. ⌜ ((qs : List ℕ) → Ring cells (now (block .entry)) qs → r ≡ reaches low at (turned cells high left right at qs)) ⌝ }

@@ -73,16 +73,26 @@ pub fn step_until(low: u64, high: u64, records: &[u8], block: &mut [u64]) -> Ste
     }
     let start = trace::time(records, g as usize);
     let last = block[8];
-    let next = if at < total { trace::time(records, at as usize) } else { last };
+    let next = if at < total {
+        trace::time(records, at as usize)
+    } else {
+        last
+    };
     let settled = settle(low, high, start, block[6], block[7], last, next);
     match settled {
         Settled::Yes => {
             block[5] = g + 1;
-            Step::Run { holds: true, count: 1 }
+            Step::Run {
+                holds: true,
+                count: 1,
+            }
         }
         Settled::No => {
             block[5] = g + 1;
-            Step::Run { holds: false, count: 1 }
+            Step::Run {
+                holds: false,
+                count: 1,
+            }
         }
         Settled::Unknown => take_both(records, block),
     }
