@@ -1,0 +1,37 @@
+-- What the crate's own functions answer, between the bytes and the answer of `measure`.
+use Prim.Native.Nat.{ℕ, _+_, max}
+use mathlib.Core.Bool.{Bool, true, false, cond, _&&_, _||_, not}
+use mathlib.Core.List.{List, [], _∷_}
+use lib.Dec.{eqb}
+use lib.ListN.{getD}
+use Rattle.mtl.specs.Satisfaction.{any}
+use Rattle.rule.specs.declared.Entry.{Entry}
+use Rattle.rule.specs.declared.Totals.{Totals}
+use Rattle.rule.specs.Entries.{entry}
+use Rattle.rule.specs.Words.{own, offset}
+use Rattle.rule.specs.Refusal.{misshapen, misplaced, misshapen-at, misplaced-at}
+
+-- the list does not begin with the mark
+abbrev pub lacks : List ℕ → List ℕ → Bool
+lacks s m = not (eqb (getD s 0 0) (getD m 0 0) && (eqb (getD s 1 0) (getD m 1 0) && eqb (getD s 2 0) (getD m 2 0)))
+
+-- the column of operands in the table of kinds; for a kind that is not in it, more than any stack holds
+abbrev pub operands : ℕ → ℕ
+operands kind = getD (0 ∷ 1 ∷ 2 ∷ 1 ∷ 1 ∷ 2 ∷ 2 ∷ []) kind 200
+
+-- the reach of an entry's formula from the reaches of its operands; both are the same where there is one operand
+abbrev pub joined-reach : Entry → ℕ → ℕ → ℕ
+joined-reach e left right = cond (eqb (e .kind) 0) 0 (cond (eqb (e .kind) 6) (e .high + max left right) (max left right))
+
+abbrev pub next-at : List Entry → ℕ → Bool
+next-at t k = eqb (entry t k .kind) 4
+
+-- the sums over the first n entries
+abbrev pub totals : List Entry → ℕ → Totals
+totals t n =
+    record { misshapen = any n (misshapen-at t); misplaced = any n (misplaced-at t); next = any n (next-at t); words = offset t n }
+
+-- the sums with one entry more
+abbrev pub with-entry : Totals → Entry → Totals
+with-entry sums e =
+    record { misshapen = sums .misshapen || misshapen e; misplaced = sums .misplaced || misplaced e; next = sums .next || eqb (e .kind) 4; words = sums .words + own e }

@@ -1,0 +1,8 @@
+-- The rule format of document 01 and what weighing a rule gives. Read Bytes, Entries, Words, Postfix, Refusal, Measure; then Operands and Accepted, on which the layers above rely.
+pub mod Bytes
+pub mod Entries
+pub mod Words
+pub mod Postfix
+pub mod Refusal
+pub mod Measure
+pub mod Code

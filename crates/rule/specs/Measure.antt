@@ -1,0 +1,66 @@
+-- What the call `measure` (document 01's weigh) answers.
+use Prim.Native.Nat.{ℕ}
+use mathlib.Core.Bool.{Bool, true, false, cond}
+use mathlib.Core.List.{List}
+use mathlib.Core.Option.{Option, none, some}
+use lib.Dec.{eqb}
+use Rattle.mtl.specs.Formula.{Formula, has-next}
+use Rattle.mtl.specs.Formula.{reach as formula-reach}
+use Rattle.rule.specs.declared.Measured.{Measured}
+use Rattle.rule.specs.declared.Measured.the-variants.{Words, Refused}
+use Rattle.rule.specs.declared.Header.{Header}
+use Rattle.rule.specs.declared.Header.the-variants.{Count, Stopped}
+use Rattle.rule.specs.declared.Reading.{Reading}
+use Rattle.rule.specs.declared.Reading.the-variants.{Reach, Faulty}
+use Rattle.rule.specs.Entries.{count, decoded}
+use Rattle.rule.specs.Words.{unbounded, words}
+use Rattle.rule.specs.Postfix.{formula}
+use Rattle.rule.specs.Refusal.{refusal, header-refusal}
+
+-- "Weigh reads a rule and gives the words that a saved point needs, and the rule's reach", or a refusal's number
+pub record Answer : Type 0 where
+  pub number : ℕ
+  pub words : ℕ
+  pub reach : ℕ
+
+-- the paper's number and values for each case of the enum
+abbrev pub answer : Measured → Answer
+answer (Words w r) = record { number = 0; words = w; reach = r }
+answer (Refused n) = record { number = n; words = 0; reach = 0 }
+
+-- "A rule with next has reach 4,294,967,295, meaning none."
+abbrev pub reach-of : Option Formula → ℕ
+reach-of none = 0
+reach-of (some φ) = cond (has-next φ) unbounded (formula-reach φ)
+
+abbrev pub reach : List ℕ → ℕ
+reach s = reach-of (formula (decoded s) (count s))
+
+abbrev pub pick : Bool → Answer → Answer → Answer
+pick true a b = a
+pick false a b = b
+
+-- "Every refusal returns its number only"
+abbrev pub measured : List ℕ → Answer
+measured s =
+    pick (eqb (refusal s) 0)
+    (record { number = 0; words = words (decoded s) (count s); reach = reach s })
+    (record { number = refusal s; words = 0; reach = 0 })
+
+-- what the check of the header answers: a refusal's number or 0, and the entry count
+abbrev pub header-number : Header → ℕ
+header-number (Count n) = 0
+header-number (Stopped n) = n
+
+-- the entry count, where the header is accepted
+abbrev pub accepted-count : List ℕ → ℕ
+accepted-count s = cond (eqb (header-refusal s) 0) (count s) 0
+
+abbrev pub header-count : Header → ℕ
+header-count (Count n) = n
+header-count (Stopped n) = 0
+
+-- what reading the entries answers: the reach of the formula, if there is one
+abbrev pub reading : Option Formula → Reading
+reading none = Faulty
+reading (some φ) = Reach (formula-reach φ)
