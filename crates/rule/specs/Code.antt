@@ -13,7 +13,7 @@ use Rattle.rule.specs.Refusal.{misshapen, misplaced, misshapen-at, mispl
 
 -- the list does not begin with the mark
 abbrev pub lacks : List ℕ → List ℕ → Bool
-lacks s m = not (eqb (getD s 0 0) (getD m 0 0) && (eqb (getD s 1 0) (getD m 1 0) && eqb (getD s 2 0) (getD m 2 0)))
+lacks s m = not (eqb (getD s 0 0) (getD m 0 0) && eqb (getD s 1 0) (getD m 1 0) && eqb (getD s 2 0) (getD m 2 0))
 
 -- the column of operands in the table of kinds; for a kind that is not in it, more than any stack holds
 abbrev pub operands : ℕ → ℕ

@@ -47,18 +47,17 @@ measured s =
     (record { number = 0; words = words (decoded s) (count s); reach = reach s })
     (record { number = refusal s; words = 0; reach = 0 })
 
--- what the check of the header answers: a refusal's number or 0, and the entry count
+-- the number that the header's answer stands for: 0, or the refusal's
 abbrev pub header-number : Header → ℕ
 header-number (Count n) = 0
 header-number (Stopped n) = n
 
--- the entry count, where the header is accepted
-abbrev pub accepted-count : List ℕ → ℕ
-accepted-count s = cond (eqb (header-refusal s) 0) (count s) 0
+abbrev pub pick-header : Bool → Header → Header → Header
+pick-header true a b = a
+pick-header false a b = b
 
-abbrev pub header-count : Header → ℕ
-header-count (Count n) = n
-header-count (Stopped n) = 0
+abbrev pub header : List ℕ → Header
+header s = pick-header (eqb (header-refusal s) 0) (Count (count s)) (Stopped (header-refusal s))
 
 -- what reading the entries answers: the reach of the formula, if there is one
 abbrev pub reading : Option Formula → Reading

@@ -16,7 +16,7 @@ use Rattle.rule.specs.Postfix.{formula}
 
 -- KRL (hexadecimal 4B 52 4C)
 abbrev pub marked : List ℕ → Bool
-marked s = eqb (byte s 0) 0x4B && (eqb (byte s 1) 0x52 && eqb (byte s 2) 0x4C)
+marked s = eqb (byte s 0) 0x4B && eqb (byte s 1) 0x52 && eqb (byte s 2) 0x4C
 
 -- 1. "The rule is shorter than 8 bytes or lacks its mark."
 abbrev pub unmarked : List ℕ → Bool
@@ -32,22 +32,22 @@ empty s = eqb (count s) 0
 
 -- 4. "The count is above 128, a spare byte is not zero, or the length is not 8 + 10 × count."
 abbrev pub malformed : List ℕ → Bool
-malformed s = ltb 128 (count s) || (not (eqb (byte s 6) 0) || (not (eqb (byte s 7) 0) || not (eqb (length s) (8 + count s * 10))))
+malformed s = ltb 128 (count s) || not (eqb (byte s 6) 0) || not (eqb (byte s 7) 0) || not (eqb (length s) (8 + count s * 10))
 
 -- 5. "Some kind is above 6, some letter above 31, or some unused field not zero." Kind 0 uses the letter, kinds 3 to 6 low and high.
 abbrev pub misshapen : Entry → Bool
 misshapen e =
-    ltb 6 (e .kind)
-    || (ltb 31 (e .letter)
-    || ((ltb 0 (e .kind) && ltb 0 (e .letter)) || (ltb (e .kind) 3 && (ltb 0 (e .low) || ltb 0 (e .high)))))
+    ltb 6 (e .kind) || ltb 31 (e .letter)
+    || (ltb 0 (e .kind) && ltb 0 (e .letter))
+    || (ltb (e .kind) 3 && (ltb 0 (e .low) || ltb 0 (e .high)))
 
 -- 6. "Some low or finite high is above 3,600, some low is above its high, or next or until has no upper end." Where the kind
 -- uses no interval, low and high are zero by then, which meets none of these.
 abbrev pub misplaced : Entry → Bool
 misplaced e =
-    ltb 3600 (e .low)
-    || (ltb (e .high) (e .low)
-    || ((ltb 3600 (e .high) && not (eqb (e .high) unbounded)) || (eqb (e .high) unbounded && (eqb (e .kind) 4 || eqb (e .kind) 6))))
+    ltb 3600 (e .low) || ltb (e .high) (e .low)
+    || (ltb 3600 (e .high) && not (eqb (e .high) unbounded))
+    || (eqb (e .high) unbounded && (eqb (e .kind) 4 || eqb (e .kind) 6))
 
 abbrev pub misshapen-at : List Entry → ℕ → Bool
 misshapen-at t k = misshapen (entry t k)

@@ -8,7 +8,7 @@ ghost use Rattle.rule.specs.Entries.{count, entry-of, decoded};
 ghost use Rattle.rule.specs.Words.{own};
 ghost use Rattle.rule.specs.Postfix.{formula};
 ghost use Rattle.rule.specs.Refusal.{first, misshapen, misplaced, header-refusal};
-ghost use Rattle.rule.specs.Measure.{answer, measured, header-number, header-count, accepted-count, reading};
+ghost use Rattle.rule.specs.Measure.{answer, measured, header-number, header, reading};
 ghost use Rattle.rule.specs.Code.{lacks, operands, joined-reach, totals, with-entry};
 
 // "kind (8 bits), letter (8 bits), low (32 bits), high (32 bits)"
@@ -137,24 +137,23 @@ impl Header {
     }
 }
 
-// Refusals 1 to 4, and the entry count.
-fn check_header(rule: &[u8]) -> Header
-    ensures { λ r. ⌜ (header-number r ≡ header-refusal (now (rule .entry))) × (header-count r ≡ accepted-count (now (rule .entry))) ⌝ }
+// Refusals 1 to 4, the last test first: each wraps the ones after it.
+fn header_reason(rule: &[u8]) -> u32
+    ensures { λ r. ⌜ r ≡ header-refusal (now (rule .entry)) ⌝ }
 {
     let n = entry_count(rule);
     let unmarked = (rule.len() < 8) | lacks_mark(rule, b"KRL");
     let version = wide(byte_at(rule, 3)) * 256 + wide(byte_at(rule, 4)) != 1;
-    let malformed = (n > 128)
-        | (byte_at(rule, 6) != 0)
-        | (byte_at(rule, 7) != 0)
-        | (rule.len() != 8 + n * 10);
-    let reason = refuse(
-        1,
-        unmarked,
-        refuse(2, version, refuse(3, n == 0, refuse(4, malformed, 0))),
-    );
+    let malformed = (n > 128) | (byte_at(rule, 6) != 0) | (byte_at(rule, 7) != 0) | (rule.len() != 8 + n * 10);
+    refuse(1, unmarked, refuse(2, version, refuse(3, n == 0, refuse(4, malformed, 0))))
+}
+
+fn check_header(rule: &[u8]) -> Header
+    ensures { λ r. ⌜ r ≡ header (now (rule .entry)) ⌝ }
+{
+    let reason = header_reason(rule);
     if reason == 0 {
-        Header::Count(n)
+        Header::Count(entry_count(rule))
     } else {
         Header::Stopped(reason)
     }
@@ -187,7 +186,7 @@ fn own_words(e: Entry) -> u64
 {
     let high = e.high as u64;
     if e.kind == 5 {
-        if e.high == UNBOUNDED { 17 } else { high + 17 }
+        if e.high == UNBOUNDED { 17 } else { 16 + (high + 1) }
     } else if e.kind == 6 {
         16 + 2 * (high + 1)
     } else {
@@ -198,7 +197,7 @@ fn own_words(e: Entry) -> u64
 impl Totals {
     fn with(self, e: Entry) -> Totals
         requires { ⌜ self .words < 1125899906842624 ⌝ }
-        ensures { λ r. ⌜ r ≡ with-entry self e ⌝ }
+        ensures { λ r. ⌜ (r ≡ with-entry self e) × (r .words ≤ self .words + 8589934610) ⌝ }
     {
         Totals {
             misshapen: self.misshapen | is_misshapen(e),

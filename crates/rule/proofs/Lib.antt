@@ -1,0 +1,2 @@
+-- Laws of the rule format that the functions' proofs and the layers above cite.
+pub mod Laws
