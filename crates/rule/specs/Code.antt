@@ -1,7 +1,7 @@
 -- What the crate's own functions answer, between the bytes and the answer of `measure`.
 use Prim.Native.Nat.{ℕ, _+_, max}
 use mathlib.Core.Bool.{Bool, true, false, cond, _&&_, _||_, not}
-use mathlib.Core.List.{List, [], _∷_}
+use mathlib.Core.List.{List}
 use lib.Dec.{eqb}
 use lib.ListN.{getD}
 use Rattle.mtl.specs.Satisfaction.{any}
@@ -14,10 +14,6 @@ use Rattle.rule.specs.Refusal.{misshapen, misplaced, misshapen-at, mispl
 -- the list does not begin with the mark
 abbrev pub lacks : List ℕ → List ℕ → Bool
 lacks s m = not (eqb (getD s 0 0) (getD m 0 0) && eqb (getD s 1 0) (getD m 1 0) && eqb (getD s 2 0) (getD m 2 0))
-
--- the column of operands in the table of kinds; for a kind that is not in it, more than any stack holds
-abbrev pub operands : ℕ → ℕ
-operands kind = getD (0 ∷ 1 ∷ 2 ∷ 1 ∷ 1 ∷ 2 ∷ 2 ∷ []) kind 200
 
 -- the reach of an entry's formula from the reaches of its operands; both are the same where there is one operand
 abbrev pub joined-reach : Entry → ℕ → ℕ → ℕ

@@ -6,3 +6,5 @@ pub mod Postfix
 pub mod Refusal
 pub mod Measure
 pub mod Code
+pub mod Operands
+pub mod Accepted

@@ -52,12 +52,22 @@ sole (some (φ ∷ (ψ ∷ rest))) = none
 abbrev pub formula : List Entry → ℕ → Option Formula
 formula t n = sole (stack-after t n)
 
--- the other way: a formula's entries in postfix order, "an unused field is zero"
+-- the entry of a formula's outermost operator: "an unused field is zero"
+abbrev pub root : Formula → Entry
+root (letter k) = record { kind = 0; letter = k; low = 0; high = 0 }
+root (not φ) = record { kind = 1; letter = 0; low = 0; high = 0 }
+root (or φ ψ) = record { kind = 2; letter = 0; low = 0; high = 0 }
+root (previous low high φ) = record { kind = 3; letter = 0; low = low; high = high }
+root (next low high φ) = record { kind = 4; letter = 0; low = low; high = high }
+root (since low high φ ψ) = record { kind = 5; letter = 0; low = low; high = high }
+root (until low high φ ψ) = record { kind = 6; letter = 0; low = low; high = high }
+
+-- the other way: a formula's entries in postfix order
 unfoldable pub postfix : Formula → List Entry
-postfix (letter k) = record { kind = 0; letter = k; low = 0; high = 0 } ∷ []
-postfix (not φ) = postfix φ ++ (record { kind = 1; letter = 0; low = 0; high = 0 } ∷ [])
-postfix (or φ ψ) = postfix φ ++ postfix ψ ++ (record { kind = 2; letter = 0; low = 0; high = 0 } ∷ [])
-postfix (previous low high φ) = postfix φ ++ (record { kind = 3; letter = 0; low = low; high = high } ∷ [])
-postfix (next low high φ) = postfix φ ++ (record { kind = 4; letter = 0; low = low; high = high } ∷ [])
-postfix (since low high φ ψ) = postfix φ ++ postfix ψ ++ (record { kind = 5; letter = 0; low = low; high = high } ∷ [])
-postfix (until low high φ ψ) = postfix φ ++ postfix ψ ++ (record { kind = 6; letter = 0; low = low; high = high } ∷ [])
+postfix (letter k) = root (letter k) ∷ []
+postfix (not φ) = postfix φ ++ (root (not φ) ∷ [])
+postfix (or φ ψ) = postfix φ ++ postfix ψ ++ (root (or φ ψ) ∷ [])
+postfix (previous low high φ) = postfix φ ++ (root (previous low high φ) ∷ [])
+postfix (next low high φ) = postfix φ ++ (root (next low high φ) ∷ [])
+postfix (since low high φ ψ) = postfix φ ++ postfix ψ ++ (root (since low high φ ψ) ∷ [])
+postfix (until low high φ ψ) = postfix φ ++ postfix ψ ++ (root (until low high φ ψ) ∷ [])

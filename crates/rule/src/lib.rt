@@ -9,7 +9,8 @@ ghost use Rattle.rule.specs.Words.{own};
 ghost use Rattle.rule.specs.Postfix.{formula};
 ghost use Rattle.rule.specs.Refusal.{first, misshapen, misplaced, header-refusal};
 ghost use Rattle.rule.specs.Measure.{answer, measured, header-number, header, reading};
-ghost use Rattle.rule.specs.Code.{lacks, operands, joined-reach, totals, with-entry};
+ghost use Rattle.rule.specs.Code.{lacks, joined-reach, totals, with-entry};
+ghost use Rattle.rule.specs.Operands.{operands};
 
 // "kind (8 bits), letter (8 bits), low (32 bits), high (32 bits)"
 pub struct Entry {
@@ -144,8 +145,15 @@ fn header_reason(rule: &[u8]) -> u32
     let n = entry_count(rule);
     let unmarked = (rule.len() < 8) | lacks_mark(rule, b"KRL");
     let version = wide(byte_at(rule, 3)) * 256 + wide(byte_at(rule, 4)) != 1;
-    let malformed = (n > 128) | (byte_at(rule, 6) != 0) | (byte_at(rule, 7) != 0) | (rule.len() != 8 + n * 10);
-    refuse(1, unmarked, refuse(2, version, refuse(3, n == 0, refuse(4, malformed, 0))))
+    let malformed = (n > 128)
+        | (byte_at(rule, 6) != 0)
+        | (byte_at(rule, 7) != 0)
+        | (rule.len() != 8 + n * 10);
+    refuse(
+        1,
+        unmarked,
+        refuse(2, version, refuse(3, n == 0, refuse(4, malformed, 0))),
+    )
 }
 
 fn check_header(rule: &[u8]) -> Header
@@ -186,7 +194,11 @@ fn own_words(e: Entry) -> u64
 {
     let high = e.high as u64;
     if e.kind == 5 {
-        if e.high == UNBOUNDED { 17 } else { 16 + (high + 1) }
+        if e.high == UNBOUNDED {
+            17
+        } else {
+            16 + (high + 1)
+        }
     } else if e.kind == 6 {
         16 + 2 * (high + 1)
     } else {
