@@ -1,2 +1,4 @@
 -- Laws of the rule format that the functions' proofs and the layers above cite.
 pub mod Laws
+pub mod Stacks
+pub mod Run

@@ -255,7 +255,7 @@ fn larger(a: u64, b: u64) -> u64
 // The reach of an entry's formula from those of its operands.
 fn joined(e: Entry, left: u64, right: u64) -> u64
     requires { ⌜ (left < 1125899906842624) × (right < 1125899906842624) ⌝ }
-    ensures { λ r. ⌜ r ≡ joined-reach e left right ⌝ }
+    ensures { λ r. ⌜ (r ≡ joined-reach e left right) × (r ≤ max left right + 4294967295) ⌝ }
 {
     let most = larger(left, right);
     let high = e.high as u64;

@@ -1,3 +1,4 @@
+use native.Mathlib.Omega.{arith}
 use borrow.Author.Tests.{eq-eqb, ne-eqb}
 use borrow.Author.Needs.{needs}
 use Rattle.rule.proofs.joined.Statement.{statement}
@@ -24,8 +25,11 @@ returns c = search (needs, eq-eqb, ne-eqb)
 
 -- src/lib.rt:245:1
 returns-2 : tie.Need-returns-2
-returns-2 c =
-    simp (ne-eqb _ _ (c .before .before .if1 .left), eq-eqb _ _ (c .if2 .taken), c .before .before .before .before .before .larger .ensures)
+returns-2 c = (
+  simp
+      (ne-eqb _ _ (c .before .before .if1 .left), eq-eqb _ _ (c .if2 .taken), c .before .before .before .before .before .larger .ensures),
+  omega (arith, c .before .before .before .before .before .larger .ensures),
+)
 
 -- src/lib.rt:245:1
 returns-3 : tie.Need-returns-3
