@@ -2,3 +2,6 @@
 pub mod Laws
 pub mod Stacks
 pub mod Run
+pub mod Nexts
+pub mod Answers
+pub mod Headers

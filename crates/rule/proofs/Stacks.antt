@@ -1,7 +1,8 @@
 -- Reading entries one after the other: the stack after one entry more, and that a fault stays.
 use Prim.Native.Nat.{ℕ, zero, suc, _+_, _-_, _≤_, _<_}
 use native.Mathlib.Nat.{add-sub-of-le}
-use mathlib.Core.Path.{_≡_, refl, sym, ap, _∙_}
+use native.Mathlib.Omega.{arith}
+use mathlib.Core.Path.{_≡_, refl, sym, ap, subst, _∙_}
 use mathlib.Core.List.{List, [], _∷_, _++_}
 use mathlib.Core.Option.{Option, none, some}
 use lib.ListN.{length, take, drop}
@@ -9,7 +10,7 @@ use lib.Seq.{take-suc, take-add}
 use Rattle.mtl.specs.Formula.{Formula}
 use Rattle.rule.specs.declared.Entry.{Entry}
 use Rattle.rule.specs.Entries.{entry, blank}
-use Rattle.rule.specs.Postfix.{push, read, stack-after}
+use Rattle.rule.specs.Postfix.{push-kind, push, read, stack-after}
 
 pub read-append : (xs ys : List Entry) (stack : Option (List Formula)) → read (xs ++ ys) stack ≡ read ys (read xs stack)
 unfolding read
@@ -36,3 +37,32 @@ stack-on t k n h =
 -- once an operand was lacking, there is no stack
 pub stays-none : (t : List Entry) (k n : ℕ) → k ≤ n → stack-after t k ≡ none → stack-after t n ≡ none
 stays-none t k n h e = stack-on t k n h ∙ rw e (read-none (take (n - k) (drop k t)))
+
+-- P holds of the stack, if there is one
+abbrev pub Each : (List Formula → Type 0) → Option (List Formula) → Type 0
+Each P none = Unit {0}
+Each P (some stack) = P stack
+
+no-stack : {stack : List Formula} {A : Type 0} → none ≡ some stack → A
+no-stack e = let z : _≡_ {A = ℕ} 0 1 = cc in absurd (omega arith)
+
+same-stack : {xs ys : List Formula} → some xs ≡ some ys → xs ≡ ys
+same-stack e = cc
+
+-- What holds of the empty stack, and stays true as each of the first n entries is pushed, holds of each stack on the way.
+module _
+    (Q : ℕ → List Formula → Type 0)
+    (t : List Entry)
+    (n : ℕ)
+    (fits : n ≤ length t)
+    (base : Q 0 [])
+    (grows : (k : ℕ) (fs : List Formula) → k < n → Q k fs → Each (Q (suc k)) (push-kind (entry t k .kind) (entry t k) fs))
+  where
+    pub along : (k : ℕ) → k ≤ n → (fs : List Formula) → stack-after t k ≡ some fs → Q k fs
+    unfolding read
+    along zero h fs e = subst (Q 0) (same-stack e) base
+    along (suc k) h fs e = go (stack-after t k) (along k (omega arith)) (sym (stack-more t k (omega arith)) ∙ e)
+      where
+        go : (o : Option (List Formula)) → ((gs : List Formula) → o ≡ some gs → Q k gs) → push (entry t k) o ≡ some fs → Q (suc k) fs
+        go none ih p = no-stack p
+        go (some gs) ih p = subst (Each (Q (suc k))) p (grows k gs h (ih gs refl))

@@ -8,7 +8,7 @@ ghost use Rattle.rule.specs.Entries.{count, entry-of, decoded};
 ghost use Rattle.rule.specs.Words.{own};
 ghost use Rattle.rule.specs.Postfix.{formula};
 ghost use Rattle.rule.specs.Refusal.{first, misshapen, misplaced, header-refusal};
-ghost use Rattle.rule.specs.Measure.{answer, measured, header-number, header, reading};
+ghost use Rattle.rule.specs.Measure.{answer, measured, measured-entries, header-number, header, reading};
 ghost use Rattle.rule.specs.Code.{lacks, joined-reach, totals, with-entry};
 ghost use Rattle.rule.specs.Operands.{operands};
 
@@ -223,7 +223,7 @@ impl Totals {
 // Refusals 5 and 6 over all entries, whether there is a next, and the words.
 fn add_up(table: [Entry; 128], count: usize) -> Totals
     requires { ⌜ count ≤ 128 ⌝ }
-    ensures { λ r. ⌜ r ≡ totals table count ⌝ }
+    ensures { λ r. ⌜ (r ≡ totals table count) × (r .words ≤ 1099511630080) ⌝ }
 {
     let mut sums = Totals {
         misshapen: false,
@@ -294,15 +294,11 @@ fn read(table: [Entry; 128], count: usize) -> Reading
     }
 }
 
-// Weigh: refusals 1 to 8, or the words that a checkpoint needs and the rule's reach.
-pub fn measure(rule: &[u8]) -> Measured
-    ensures { λ r. ⌜ answer r ≡ measured (now (rule .entry)) ⌝ }
+// Refusals 5 to 8, or the words and the reach.
+fn measure_entries(table: [Entry; 128], count: usize) -> Measured
+    requires { ⌜ count ≤ 128 ⌝ }
+    ensures { λ r. ⌜ answer r ≡ measured-entries table count ⌝ }
 {
-    let header = check_header(rule);
-    let Header::Count(count) = header else {
-        return Measured::Refused(header.number());
-    };
-    let table = entries(rule);
     let sums = add_up(table, count);
     if sums.misshapen {
         return Measured::Refused(5);
@@ -313,13 +309,29 @@ pub fn measure(rule: &[u8]) -> Measured
     let Reading::Reach(reach) = read(table, count) else {
         return Measured::Refused(7);
     };
-    let words = sums.words + 16;
+    let words = 16 + sums.words;
     if words > 8192 {
         return Measured::Refused(8);
     }
-    let far = if sums.next { 4294967295 } else { reach };
+    if sums.next {
+        return Measured::Words {
+            words: words as usize,
+            reach: UNBOUNDED as u64,
+        };
+    }
     Measured::Words {
         words: words as usize,
-        reach: far,
+        reach,
     }
+}
+
+// Weigh: refusals 1 to 8, or the words that a checkpoint needs and the rule's reach.
+pub fn measure(rule: &[u8]) -> Measured
+    ensures { λ r. ⌜ answer r ≡ measured (now (rule .entry)) ⌝ }
+{
+    let header = check_header(rule);
+    let Header::Count(count) = header else {
+        return Measured::Refused(header.number());
+    };
+    measure_entries(entries(rule), count)
 }

@@ -61,7 +61,7 @@ returns : tie.Need-returns Inv-loop μ-loop
 returns c =
     let i = c .before .loop in
     let e : i .k ≡ c .before .before .args .count = omega arith in
-    rw e at (i .inv .1)
+    (rw e at (i .inv .1), omega arith)
 
 pub add-up-spec : {M : Type 1} → statement M
 add-up-spec =
