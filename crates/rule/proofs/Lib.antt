@@ -5,3 +5,7 @@ pub mod Run
 pub mod Nexts
 pub mod Answers
 pub mod Headers
+pub mod Spans
+pub mod Subformulas
+pub mod Ranges
+pub mod Flat
