@@ -57,7 +57,7 @@ module _ (t : List Entry) where
       take-suc t k blank l
       ∙ ap (λ (x : Entry). take k t ++ (x ∷ [])) e
       ∙ ap (λ (xs : List Entry). xs ++ (root χ ∷ []))
-        (ap (λ (n : ℕ). take n t) (sym i) ∙ ih ∙ ap (λ (n : ℕ). take n t ++ postfix φ) j)
+      (ap (λ (n : ℕ). take n t) (sym i) ∙ ih ∙ ap (λ (n : ℕ). take n t ++ postfix φ) j)
       ∙ append-assoc (take (suc k - span t k) t) (postfix φ) (root χ ∷ [])
 
   two : (φ ψ χ : Formula) (k : ℕ) → k < length t → entry t k ≡ root χ → operands (entry t k .kind) ≡ 2 → span t (k - 1) < k
@@ -71,10 +71,10 @@ module _ (t : List Entry) where
       take-suc t k blank l
       ∙ ap (λ (x : Entry). take k t ++ (x ∷ [])) e
       ∙ ap (λ (xs : List Entry). xs ++ (root χ ∷ []))
-        (ap (λ (n : ℕ). take n t) (sym i)
-        ∙ ihψ
-        ∙ ap (λ (n : ℕ). take n t ++ postfix ψ) j
-        ∙ ap (λ (xs : List Entry). xs ++ postfix ψ) (ihφ ∙ ap (λ (n : ℕ). take n t ++ postfix φ) m))
+      (ap (λ (n : ℕ). take n t) (sym i)
+      ∙ ihψ
+      ∙ ap (λ (n : ℕ). take n t ++ postfix ψ) j
+      ∙ ap (λ (xs : List Entry). xs ++ postfix ψ) (ihφ ∙ ap (λ (n : ℕ). take n t ++ postfix φ) m))
       ∙ simp append-assoc
 
   pub ends : (φ : Formula) (k : ℕ) → k < length t → FormulaAt t k φ → Ends k (postfix φ)

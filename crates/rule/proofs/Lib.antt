@@ -9,3 +9,5 @@ pub mod Spans
 pub mod Subformulas
 pub mod Ranges
 pub mod Flat
+pub mod Decoded
+pub mod Acceptance

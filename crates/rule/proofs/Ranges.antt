@@ -68,6 +68,7 @@ module _ (e : Entry) (s : misshapen e ≡ false) (p : misplaced e ≡ false) whe
     where
       z : eqb (e .kind) 4 || eqb (e .kind) 6 ≡ false
       z = and-right (eqb (e .high) unbounded) (eqb (e .kind) 4 || eqb (e .kind) 6) (place .3) b
+
       go : (c : Bool) → eqb (e .kind) 3 ≡ c → (e .kind ≡ 3) ⊎ (e .kind ≡ 5)
       go true q = inl (eqb-true (e .kind) 3 q)
       go false q =
@@ -95,5 +96,5 @@ module _ (e : Entry) (s : misshapen e ≡ false) (p : misplaced e ≡ false) whe
         order = ltb-false (e .high) (e .low) (place .1);
         high = high-is;
         no-letter = letter-free;
-        no-interval = interval-free
+        no-interval = interval-free;
       }

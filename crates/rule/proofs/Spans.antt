@@ -26,6 +26,7 @@ spans-at t (suc n) k h = ⊎-elim last (before (spans-at t n k)) (eq-or-lt-of-le
   where
     last : k ≡ n → getD (spans t (suc n)) k 0 ≡ span t k
     last e = rw e refl
+
     before : (k < n → getD (spans t n) k 0 ≡ span t k) → k < n → getD (spans t (suc n)) k 0 ≡ span t k
     before ih l = List·getD-append (spans t n) _ 0 k (rw length-spans l) ∙ ih l
 
@@ -84,8 +85,8 @@ module _ (t : List Entry) (k : ℕ) where
         below = h;
         span-is = s;
         part-is =
-          omega
-          (arith, offset-suc t k, ap (offset t) i, ap (offset t) j, offset-mono t (suc (k - 1) - span t (k - 1)) (suc (k - 1)) (omega arith))
+            omega
+            (arith, offset-suc t k, ap (offset t) i, ap (offset t) j, offset-mono t (suc (k - 1) - span t (k - 1)) (suc (k - 1)) (omega arith));
       }
 
   pub binary-of : operands (entry t k .kind) ≡ 2 → span t (k - 1) < k → span t (left t k) ≤ suc (left t k) → Binary t k
@@ -98,12 +99,13 @@ module _ (t : List Entry) (k : ℕ) where
         below = h;
         span-is = s;
         part-is =
-          omega
-          (arith,
-          offset-suc t k,
-          ap (offset t) i,
-          ap (offset t) j,
-          ap (offset t) m,
-          offset-mono t (suc (left t k) - span t (left t k)) (suc (left t k)) (omega arith),
-          offset-mono t (suc (left t k)) (suc (k - 1)) (omega arith))
+            omega (
+              arith,
+              offset-suc t k,
+              ap (offset t) i,
+              ap (offset t) j,
+              ap (offset t) m,
+              offset-mono t (suc (left t k) - span t (left t k)) (suc (left t k)) (omega arith),
+              offset-mono t (suc (left t k)) (suc (k - 1)) (omega arith),
+            );
       }

@@ -100,11 +100,12 @@ module _ (t : List Entry) where
       let h : span t (k - 1) < k = omega arith in
       let i′ : left t k ≡ j′ = omega arith in
       let s′ : span t (left t k) ≡ span t j′ = ap (span t) i′ in
-      let m : suc j′ - span t j′ ≡ suc k - span t k = omega (arith, span-binary t k e h) in
-      (k,
-      refl,
-      make φ ψ h (subst (λ (n : ℕ). FormulaAt t n φ) (sym i′) a′) (subst (λ (n : ℕ). FormulaAt t n ψ) (sym i) a),
-      subst (λ (n : ℕ). Stacked n fs) m r)
+      let m : suc j′ - span t j′ ≡ suc k - span t k = omega (arith, span-binary t k e h) in (
+        k,
+        refl,
+        make φ ψ h (subst (λ (n : ℕ). FormulaAt t n φ) (sym i′) a′) (subst (λ (n : ℕ). FormulaAt t n ψ) (sym i) a),
+        subst (λ (n : ℕ). Stacked n fs) m r,
+      )
 
   -- an entry that is in its ranges, pushed
   pushed : (kind l low high : ℕ) (k : ℕ) (fs : List Formula)
