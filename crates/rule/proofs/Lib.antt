@@ -11,3 +11,4 @@ pub mod Ranges
 pub mod Flat
 pub mod Decoded
 pub mod Acceptance
+pub mod Cases
