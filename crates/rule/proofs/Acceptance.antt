@@ -1,5 +1,5 @@
 -- A rule that weighing accepts has exactly one formula, and all that the layers above rely on.
-use Prim.Native.Nat.{ℕ, zero, suc, _+_, _-_, _≤_, _<_}
+use Prim.Native.Nat.{ℕ, suc, _+_, _-_, _≤_, _<_}
 use native.Mathlib.Nat.{suc-inj}
 use native.Mathlib.Omega.{arith}
 use borrow.Author.Tests.{ltb-true, ltb-false}
@@ -12,16 +12,16 @@ use lib.ListN.{length, take}
 use Rattle.mtl.specs.Formula.{Formula}
 use Rattle.mtl.specs.Satisfaction.{any}
 use Rattle.rule.specs.declared.Entry.{Entry}
-use Rattle.rule.specs.Entries.{count, decoded, entries, entry}
+use Rattle.rule.specs.Entries.{count, decoded, entry}
 use Rattle.rule.specs.Words.{offset, words, limit}
 use Rattle.rule.specs.Postfix.{read, stack-after, sole, formula, postfix}
 use Rattle.rule.specs.Refusal.{first, before, misshapen-at, misplaced-at, lacking, over-limit, header-refusal, entries-refusal, refusal}
-use Rattle.rule.specs.Operands.{operands, span, part, FormulaAt}
+use Rattle.rule.specs.Operands.{span, part, FormulaAt}
 use Rattle.rule.specs.Accepted.{InRange, WellFormed, Accepted}
 use Rattle.rule.proofs.Stacks.{stays-none}
 use Rattle.rule.proofs.Headers.{first-zero, headed}
 use Rattle.rule.proofs.Spans.{leaf-of}
-use Rattle.rule.proofs.Subformulas.{span-fits, unary-at, binary-at, Stacked, stacked}
+use Rattle.rule.proofs.Subformulas.{span-fits, unary-at, binary-at, stacked}
 use Rattle.rule.proofs.Ranges.{none-below, in-range}
 use Rattle.rule.proofs.Flat.{read-postfix, ends}
 use Rattle.rule.proofs.Decoded.{length-decoded}

@@ -2,12 +2,11 @@
 use Prim.Native.Nat.{ℕ, zero, suc, _+_, _<_}
 use native.Mathlib.Nat.{eq-or-lt-of-le, le-of-suc-le-suc, not-suc-le-zero}
 use native.Mathlib.Numerals.{add-one}
-use mathlib.Core.Path.{_≡_, refl, sym, ap, _∙_}
+use mathlib.Core.Path.{_≡_, refl, ap, _∙_}
 use mathlib.Core.Logic.{⊎-elim}
-use mathlib.Core.List.{List, [], _∷_}
-use lib.ListN.{length, getD, length-append, List·getD-append}
+use mathlib.Core.List.{List, []}
+use lib.ListN.{length, length-append, List·getD-append}
 use lib.Seq.{getD-at}
-use Rattle.rule.specs.declared.Entry.{Entry}
 use Rattle.rule.specs.Entries.{entry-of, first-entries, decoded, blank, entry}
 
 length-first : (s : List ℕ) (n : ℕ) → length (first-entries s n) ≡ n

@@ -1,5 +1,5 @@
 -- The rule's formula has next exactly where some entry is one.
-use Prim.Native.Nat.{ℕ, zero, suc, _≤_, _<_}
+use Prim.Native.Nat.{ℕ, zero, suc, _≤_}
 use native.Mathlib.Omega.{arith}
 use mathlib.Core.Path.{_≡_, refl, sym, ap, _∙_}
 use mathlib.Core.Bool.{Bool, true, false, _||_, or-false, or-true}
@@ -8,7 +8,7 @@ use mathlib.Core.Option.{Option, none, some}
 use lib.Dec.{eqb}
 use lib.ListN.{length}
 use Rattle.mtl.specs.Formula.{Formula, has-next}
-use Rattle.mtl.specs.Formula.Formula.{letter, not, or, previous, next, since, until}
+use Rattle.mtl.specs.Formula.Formula.{not, or, previous, next, since, until}
 use Rattle.mtl.specs.Satisfaction.{any}
 use Rattle.rule.specs.declared.Entry.{Entry}
 use Rattle.rule.specs.Entries.{entry}

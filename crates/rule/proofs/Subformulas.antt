@@ -1,15 +1,15 @@
 -- Each entry of a rule that can be read ends a subformula, whose operands stand where `left` and `k - 1` say.
-use Prim.Native.Nat.{ℕ, zero, suc, _+_, _-_, _≤_, _<_}
+use Prim.Native.Nat.{ℕ, zero, suc, _-_, _≤_, _<_}
 use native.Mathlib.Omega.{arith}
 use mathlib.Core.Path.{_≡_, refl, sym, ap, subst, _∙_}
 use mathlib.Core.List.{List, [], _∷_}
-use mathlib.Core.Option.{Option, none, some}
+use mathlib.Core.Option.{some}
 use lib.ListN.{length}
 use Rattle.mtl.specs.Formula.{Formula}
 use Rattle.mtl.specs.Formula.Formula.{letter, not, or, previous, next, since, until}
 use Rattle.rule.specs.declared.Entry.{Entry}
 use Rattle.rule.specs.Entries.{entry}
-use Rattle.rule.specs.Postfix.{unary, binary, push-kind, stack-after, root}
+use Rattle.rule.specs.Postfix.{unary, binary, push-kind, stack-after}
 use Rattle.rule.specs.Operands.{operands, span, left, FormulaAt, Unary, Binary}
 use Rattle.rule.specs.Accepted.{InRange}
 use Rattle.rule.proofs.Stacks.{Each, along}

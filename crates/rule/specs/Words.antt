@@ -1,6 +1,6 @@
 -- The words that a checkpoint (document 01's point) needs for a rule.
 use Prim.Native.Nat.{ℕ, zero, suc, _+_, _*_}
-use mathlib.Core.Bool.{Bool, true, false, cond}
+use mathlib.Core.Bool.{cond}
 use mathlib.Core.List.{List}
 use lib.Dec.{eqb}
 use Rattle.rule.specs.declared.Entry.{Entry}

@@ -27,27 +27,33 @@ pub enum Measured {
 }
 
 // What the check of the header answers.
-pub enum Header {
+enum Header {
     Count(usize),
     Stopped(u32),
 }
 
 // What reading the entries in postfix order answers: the reach of the formula, if there is one.
-pub enum Reading {
+enum Reading {
     Reach(u64),
     Faulty,
 }
 
 // What one pass over the entries adds up.
-pub struct Totals {
-    pub misshapen: bool,
-    pub misplaced: bool,
-    pub next: bool,
-    pub words: u64,
+struct Totals {
+    misshapen: bool,
+    misplaced: bool,
+    next: bool,
+    words: u64,
 }
 
 // "High 4,294,967,295 means no upper end"
 const UNBOUNDED: u32 = 4294967295;
+
+// the largest low and finite high, in seconds
+const LONGEST: u32 = 3600;
+
+// the most words that a checkpoint may need
+const LIMIT: u64 = 8192;
 
 // the operands of the kinds 0 to 6
 const OPERANDS: [usize; 7] = [0, 1, 2, 1, 1, 2, 2];
@@ -182,9 +188,9 @@ fn is_misplaced(e: Entry) -> bool
     ensures { λ r. ⌜ r ≡ misplaced e ⌝ }
 {
     let unbounded = e.high == UNBOUNDED;
-    (e.low > 3600)
+    (e.low > LONGEST)
         | (e.low > e.high)
-        | ((e.high > 3600) & !unbounded)
+        | ((e.high > LONGEST) & !unbounded)
         | (unbounded & ((e.kind == 4) | (e.kind == 6)))
 }
 
@@ -195,7 +201,7 @@ fn own_words(e: Entry) -> u64
     let high = e.high as u64;
     if e.kind == 5 {
         if e.high == UNBOUNDED {
-            17
+            16 + 1
         } else {
             16 + (high + 1)
         }
@@ -310,7 +316,7 @@ fn measure_entries(table: [Entry; 128], count: usize) -> Measured
         return Measured::Refused(7);
     };
     let words = 16 + sums.words;
-    if words > 8192 {
+    if words > LIMIT {
         return Measured::Refused(8);
     }
     if sums.next {

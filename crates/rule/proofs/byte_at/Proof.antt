@@ -1,8 +1,8 @@
 -- `rule::byte_at` meets its contract: past the end `getD` gives its default.
 use borrow.Author.Needs.{needs}
+use denote.Ref.{now}
 use mathlib.Core.Path.{sym}
 use lib.ListN.{List·getD-eq-default}
-use denote.Ref.{now}
 use Rattle.rule.proofs.byte_at.Statement.{statement}
 use Rattle.rule.proofs.byte_at.Tie as tie
 

@@ -1,25 +1,18 @@
+-- `rule::check_header` meets its contract: the test on the reason is the one that `header` makes.
 use borrow.Author.Tests.{eq-eqb, ne-eqb}
 use borrow.Author.Needs.{needs}
 use Rattle.rule.proofs.check_header.Statement.{statement}
 use Rattle.rule.proofs.check_header.Tie as tie
-use Rattle.rule.proofs.check_header.Reads as reads
-use Rattle.rule.proofs.check_header.Lts as lts
-use Rattle.rule.proofs.entry_count.Reads as entry-count-reads
-use Rattle.rule.proofs.header_reason.Reads as header-reason-reads
 
--- src/lib.rt:154:9
 header-reason-requires : tie.Need-header-reason-requires
 header-reason-requires c κs = search needs
 
--- src/lib.rt:156:23
 entry-count-requires : tie.Need-entry-count-requires
 entry-count-requires c κs = search needs
 
--- src/lib.rt:151:1
 returns : tie.Need-returns
 returns c = simp (c .entry-count .ensures .0, ← c .before .before .header-reason .ensures, eq-eqb _ _ (c .before .if1 .taken))
 
--- src/lib.rt:151:1
 returns-2 : tie.Need-returns-2
 returns-2 c = simp (← c .before .header-reason .ensures, ne-eqb _ _ (c .if1 .left))
 

@@ -1,19 +1,14 @@
-use Prim.Native.Nat.{ℕ, _<_, zero-le}
+-- `rule::entries` meets its contract. The loop's invariant: the first k entries of the table are those in the bytes.
+use Prim.Native.Nat.{_<_, zero-le, _≤_, _-_}
 use native.Mathlib.Numerals.{add-one}
 use native.Mathlib.Omega.{arith}
-use mathlib.Core.Path.{refl, sym, _∙_}
-use lib.ListN.{length-set}
-use lib.Seq.{take-suc-set, take-all}
-use Prim.Native.Nat.{_≤_, _-_}
-use mathlib.Core.Path.{_≡_}
-use lib.ListN.{length, take}
 use borrow.Author.Needs.{needs}
+use mathlib.Core.Path.{refl, sym, _∙_, _≡_}
+use lib.ListN.{length-set, length, take}
+use lib.Seq.{take-suc-set, take-all}
 use Rattle.rule.specs.Entries.{first-entries}
 use Rattle.rule.proofs.entries.Statement.{statement}
 use Rattle.rule.proofs.entries.Tie as tie
-use Rattle.rule.proofs.entries.Reads as reads
-use Rattle.rule.proofs.entries.Lts as lts
-use Rattle.rule.proofs.entry_at.Reads as entry-at-reads
 
 abbrev Inv-loop : tie.InvT-loop
 Inv-loop rule table₀ k₀ table k = (k ≤ 128) × (length table ≡ 128) × (take k table ≡ first-entries rule k)
@@ -21,32 +16,25 @@ Inv-loop rule table₀ k₀ table k = (k ≤ 128) × (length table ≡ 128) × (
 abbrev μ-loop : tie.MeasureT-loop
 μ-loop rule table₀ k₀ table k = 128 - k
 
--- src/lib.rt:101:5
 loop-holds : tie.Need-loop-holds Inv-loop μ-loop
 unfolding first-entries
 loop-holds c = (zero-le, refl, refl)
 
--- src/lib.rt:102:20
 entry-at-requires : tie.Need-entry-at-requires Inv-loop μ-loop
 entry-at-requires c κs = search needs
 
--- src/lib.rt:102:9
 mul-table : tie.Need-mul-table Inv-loop μ-loop
 mul-table c = search needs
 
--- src/lib.rt:102:9
 array-set-from-table : tie.Need-array-set-from-table Inv-loop μ-loop
 array-set-from-table c = search needs
 
--- src/lib.rt:103:9
 add-k : tie.Need-add-k Inv-loop μ-loop
 add-k c = search needs
 
--- src/lib.rt:101:5
 loop-less : tie.Need-loop-less Inv-loop μ-loop
 loop-less c = search needs
 
--- src/lib.rt:101:5
 loop-again : tie.Need-loop-again Inv-loop μ-loop
 unfolding first-entries
 loop-again c =
@@ -54,7 +42,6 @@ loop-again c =
     let h : i .k < length (i .table) = omega arith in
     (omega arith, simp length-set (i .inv .1), rw (add-one, take-suc-set, i .inv .2, c .entry-at .ensures))
 
--- src/lib.rt:91:1
 returns : tie.Need-returns Inv-loop μ-loop
 returns c =
     let i = c .before .loop in

@@ -1,29 +1,22 @@
+-- `rule::joined` meets its contract: the tests on the kind are those of `joined-reach`.
 use native.Mathlib.Omega.{arith}
 use borrow.Author.Tests.{eq-eqb, ne-eqb}
 use borrow.Author.Needs.{needs}
 use Rattle.rule.proofs.joined.Statement.{statement}
 use Rattle.rule.proofs.joined.Tie as tie
-use Rattle.rule.proofs.joined.Reads as reads
-use Rattle.rule.proofs.joined.Lts as lts
-use Rattle.rule.proofs.larger.Reads as larger-reads
 
--- src/lib.rt:249:9
 larger-requires : tie.Need-larger-requires
 larger-requires c κs = search needs
 
--- src/lib.rt:250:16
 cast-high : tie.Need-cast-high
 cast-high c = search needs
 
--- src/lib.rt:254:9
 add-result : tie.Need-add-result
 add-result c = search needs
 
--- src/lib.rt:245:1
 returns : tie.Need-returns
 returns c = search (needs, eq-eqb, ne-eqb)
 
--- src/lib.rt:245:1
 returns-2 : tie.Need-returns-2
 returns-2 c = (
   simp
@@ -31,7 +24,6 @@ returns-2 c = (
   omega (arith, c .before .before .before .before .before .larger .ensures),
 )
 
--- src/lib.rt:245:1
 returns-3 : tie.Need-returns-3
 returns-3 c = search (needs, eq-eqb, ne-eqb)
 

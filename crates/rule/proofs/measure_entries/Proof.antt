@@ -1,46 +1,36 @@
+-- `rule::measure_entries` meets its contract: one law for each way out.
+use native.Mathlib.Omega.{arith}
+use borrow.Author.Needs.{needs}
 use mathlib.Core.Path.{sym, _∙_}
 use mathlib.Core.Bool.{true, false}
 use Rattle.rule.proofs.Answers.{stop5, stop6, stop7, stop8, passes}
-use native.Mathlib.Omega.{arith}
-use borrow.Author.Needs.{needs}
 use Rattle.rule.proofs.measure_entries.Statement.{statement}
 use Rattle.rule.proofs.measure_entries.Tie as tie
-use Rattle.rule.proofs.measure_entries.Reads as reads
-use Rattle.rule.proofs.measure_entries.Lts as lts
-use Rattle.rule.proofs.add_up.Reads as add-up-reads
-use Rattle.rule.proofs.read.Reads as read-reads
 
--- src/lib.rt:302:9
 add-up-requires : tie.Need-add-up-requires
 add-up-requires c κs = search needs
 
--- src/lib.rt:304:9
 returns : tie.Need-returns
 returns c =
     let a = c .before .before .args in
     let r = c .before .add-up in
     stop5 (a .table) (a .count) (r .result) (r .ensures .0) (c .if1 .taken)
 
--- src/lib.rt:307:9
 returns-2 : tie.Need-returns-2
 returns-2 c =
     let a = c .before .before .before .args in
     let r = c .before .before .add-up in
     stop6 (a .table) (a .count) (r .result) (r .ensures .0) (c .before .if1 .left) (c .if2 .taken)
 
--- src/lib.rt:309:33
 read-requires : tie.Need-read-requires
 read-requires c κs = search needs
 
--- src/lib.rt:309:24
 enum-known-reach : tie.Need-enum-known-reach
 enum-known-reach c = search needs
 
--- src/lib.rt:310:9
 enum-told : tie.Need-enum-told
 enum-told c = search needs
 
--- src/lib.rt:310:9
 returns-3 : tie.Need-returns-3
 returns-3 c =
     let a = c .before .before .before .before .before .before .args in
@@ -48,11 +38,9 @@ returns-3 c =
     stop7 (a .table) (a .count) (r .result) (r .ensures .0) (c .before .before .before .before .if1 .left) (c .before .before .before .if2 .left)
     (sym (c .before .before .read .ensures) ∙ c .enum-told .given .1)
 
--- src/lib.rt:312:17
 add-words : tie.Need-add-words
 add-words c = omega arith
 
--- src/lib.rt:314:9
 returns-4 : tie.Need-returns-4
 returns-4 c =
     let a = c .before .before .before .before .before .before .before .before .before .args in
@@ -60,11 +48,9 @@ returns-4 c =
     stop8 (a .table) (a .count) (r .result) (r .ensures .0) _ (c .before .before .before .before .before .before .before .if1 .left) (c .before .before .before .before .before .before .if2 .left)
     (sym (c .before .before .before .before .before .read .ensures) ∙ c .before .before .before .reach .given .1) (c .if3 .taken)
 
--- src/lib.rt:317:64
 cast-t9 : tie.Need-cast-t9
 cast-t9 c = search needs
 
--- src/lib.rt:317:9
 returns-5 : tie.Need-returns-5
 returns-5 c =
     let a = c .before .before .before .before .before .before .before .before .before .before .args in
@@ -72,7 +58,6 @@ returns-5 c =
     passes (a .table) (a .count) (r .result) (r .ensures .0) _ true (omega arith) (c .before .before .before .before .before .before .before .before .if1 .left) (c .before .before .before .before .before .before .before .if2 .left)
     (sym (c .before .before .before .before .before .before .read .ensures) ∙ c .before .before .before .before .reach .given .1) (c .before .if3 .left) (c .if4 .taken)
 
--- src/lib.rt:298:1
 returns-6 : tie.Need-returns-6
 returns-6 c =
     let a = c .before .before .before .before .before .before .before .before .before .before .args in

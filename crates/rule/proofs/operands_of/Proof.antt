@@ -1,27 +1,21 @@
 -- `rule::operands_of` meets its contract: below 7 the array has the column's number, and from 7 on the column has its default.
+use borrow.Author.Needs.{needs}
 use mathlib.Core.List.{[], _∷_}
 use mathlib.Core.Path.{sym}
 use lib.ListN.{List·getD-eq-default}
 use Rattle.rule.proofs.Laws.{getD-default}
-use borrow.Author.Needs.{needs}
 use Rattle.rule.proofs.operands_of.Statement.{statement}
 use Rattle.rule.proofs.operands_of.Tie as tie
-use Rattle.rule.proofs.operands_of.Reads as reads
-use Rattle.rule.proofs.operands_of.Lts as lts
 
--- src/lib.rt:235:16
 mul-result : tie.Need-mul-result
 mul-result c = search needs
 
--- src/lib.rt:235:16
 array-read-result : tie.Need-array-read-result
 array-read-result c = search needs
 
--- src/lib.rt:231:1
 returns : tie.Need-returns
 returns c = getD-default (0 ∷ 1 ∷ 2 ∷ 1 ∷ 1 ∷ 2 ∷ 2 ∷ []) (c .before .args .kind) 0 200 (search needs)
 
--- src/lib.rt:231:1
 returns-2 : tie.Need-returns-2
 returns-2 c = sym (List·getD-eq-default (0 ∷ 1 ∷ 2 ∷ 1 ∷ 1 ∷ 2 ∷ 2 ∷ []) 200 {n = c .before .args .kind} (search needs))
 

@@ -1,17 +1,13 @@
-use Prim.Native.Nat.{_<_}
+-- `rule::read` meets its contract. The loop's invariant: the array holds the reaches of the formulas on the stack after k entries.
+use Prim.Native.Nat.{_<_, zero-le, _+_, _-_, _≤_}
+use native.Mathlib.Omega.{arith}
+use borrow.Author.Needs.{needs}
 use mathlib.Core.Path.{_≡_, sym}
 use Rattle.rule.specs.Entries.{entry}
 use Rattle.rule.specs.Operands.{operands}
-use Prim.Native.Nat.{zero-le, _+_, _-_, _≤_}
-use native.Mathlib.Omega.{arith}
-use borrow.Author.Needs.{needs}
 use Rattle.rule.proofs.Run.{Running, none-read, one-more, lacks-operand, one-formula, other-than-one}
 use Rattle.rule.proofs.read.Statement.{statement}
 use Rattle.rule.proofs.read.Tie as tie
-use Rattle.rule.proofs.read.Reads as reads
-use Rattle.rule.proofs.read.Lts as lts
-use Rattle.rule.proofs.joined.Reads as joined-reads
-use Rattle.rule.proofs.operands_of.Reads as operands-of-reads
 
 abbrev Inv-loop : tie.InvT-loop
 Inv-loop count table stack₀ depth₀ k₀ stack depth k = (k ≤ count) × Running table stack depth k
@@ -19,23 +15,18 @@ Inv-loop count table stack₀ depth₀ k₀ stack depth k = (k ≤ count) × Run
 abbrev μ-loop : tie.MeasureT-loop
 μ-loop count table stack₀ depth₀ k₀ stack depth k = count - k
 
--- src/lib.rt:267:5
 loop-holds : tie.Need-loop-holds Inv-loop μ-loop
 loop-holds c = (zero-le, none-read (c .args .t1))
 
--- src/lib.rt:268:17
 mul-e : tie.Need-mul-e Inv-loop μ-loop
 mul-e c = search needs
 
--- src/lib.rt:268:17
 array-copy-out-e : tie.Need-array-copy-out-e Inv-loop μ-loop
 array-copy-out-e c = search needs
 
--- src/lib.rt:269:13
 operands-of-requires : tie.Need-operands-of-requires Inv-loop μ-loop
 operands-of-requires c κs = search needs
 
--- src/lib.rt:271:13
 returns : tie.Need-returns Inv-loop μ-loop
 returns c =
     let i = c .before .before .before .before .loop in
@@ -43,53 +34,41 @@ returns c =
     let l : i .depth < operands (entry (a .t1) (i .k) .kind) = omega (arith, c .before .operands-of .ensures) in
     sym (lacks-operand (a .t1) (i .stack) (i .depth) (i .k) (a .count) (i .inv .1) (omega arith) (omega arith) l)
 
--- src/lib.rt:273:18
 add-at : tie.Need-add-at Inv-loop μ-loop
 add-at c = search needs
 
--- src/lib.rt:273:18
 sub-at : tie.Need-sub-at Inv-loop μ-loop
 sub-at c = search needs
 
--- src/lib.rt:274:31
 mul-joined : tie.Need-mul-joined Inv-loop μ-loop
 mul-joined c = search needs
 
--- src/lib.rt:274:31
 array-read-joined : tie.Need-array-read-joined Inv-loop μ-loop
 array-read-joined c = search needs
 
--- src/lib.rt:274:42
 mul-joined-2 : tie.Need-mul-joined-2 Inv-loop μ-loop
 mul-joined-2 c = search needs
 
--- src/lib.rt:274:42
 array-read-joined-2 : tie.Need-array-read-joined-2 Inv-loop μ-loop
 array-read-joined-2 c = search needs
 
--- src/lib.rt:274:21
 joined-requires : tie.Need-joined-requires Inv-loop μ-loop
 joined-requires c κs =
     let i = c .before .before .before .before .loop in
     omega (arith, i .inv .1 .bound (i .depth + 1 - c .before .operands-of .result), i .inv .1 .bound (i .depth))
 
--- src/lib.rt:274:9
 mul-stack : tie.Need-mul-stack Inv-loop μ-loop
 mul-stack c = search needs
 
--- src/lib.rt:274:9
 array-write-stack : tie.Need-array-write-stack Inv-loop μ-loop
 array-write-stack c = search needs
 
--- src/lib.rt:276:9
 add-k : tie.Need-add-k Inv-loop μ-loop
 add-k c = search needs
 
--- src/lib.rt:267:5
 loop-less : tie.Need-loop-less Inv-loop μ-loop
 loop-less c = search needs
 
--- src/lib.rt:267:5
 loop-again : tie.Need-loop-again Inv-loop μ-loop
 loop-again c =
     let i = c .before .before .before .before .before .loop in
@@ -102,11 +81,9 @@ loop-again c =
           (rw e at (c .joined .ensures .0)) (rw e at (c .joined .ensures .1))),
     )
 
--- src/lib.rt:279:24
 array-read-t30 : tie.Need-array-read-t30 Inv-loop μ-loop
 array-read-t30 c = search needs
 
--- src/lib.rt:260:1
 returns-2 : tie.Need-returns-2 Inv-loop μ-loop
 returns-2 c =
     let i = c .before .before .loop in
@@ -115,7 +92,6 @@ returns-2 c =
     let r : Running (a .t1) (i .stack) 1 (a .count) = rw (e, c .if2 .taken) at (i .inv .1) in
     sym (one-formula (a .t1) (i .stack) (a .count) r)
 
--- src/lib.rt:260:1
 returns-3 : tie.Need-returns-3 Inv-loop μ-loop
 returns-3 c =
     let i = c .before .before .loop in
