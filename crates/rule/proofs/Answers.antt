@@ -16,8 +16,8 @@ use Rattle.rule.specs.declared.Totals.{Totals}
 use Rattle.rule.specs.Words.{words, limit, unbounded}
 use Rattle.rule.specs.Postfix.{formula}
 use Rattle.rule.specs.Refusal.{misshapen-at, misplaced-at, lacking, over-limit, entries-refusal}
-use Rattle.rule.specs.Measure.{Answer, refused, reach-of, measured-entries, reading}
-use Rattle.rule.specs.Code.{totals, next-at}
+use Rattle.rule.specs.Measure.{Answer, refused, reach-of}
+use Rattle.rule.specs.Code.{totals, next-at, measured-entries, reading}
 use Rattle.rule.proofs.Nexts.{next-is}
 
 none-of : (o : Option Formula) → reading o ≡ Faulty → lacking o ≡ true

@@ -11,7 +11,8 @@ use Rattle.rule.specs.declared.Header.the-variants.{Count, Stopped}
 use Rattle.rule.specs.Bytes.{byte}
 use Rattle.rule.specs.Entries.{count, decoded}
 use Rattle.rule.specs.Refusal.{first, before, unmarked, other-version, empty, malformed, header-refusal, entries-refusal, refusal}
-use Rattle.rule.specs.Measure.{refused, measured, measured-entries, header}
+use Rattle.rule.specs.Measure.{refused, measured}
+use Rattle.rule.specs.Code.{measured-entries, header}
 
 -- no refusal: neither this one nor a later one
 pub first-zero : (n : ℕ) (b : Bool) (other : ℕ) → first (suc n) b other ≡ 0 → (b ≡ false) × (other ≡ 0)

@@ -11,4 +11,5 @@ pub mod Ranges
 pub mod Flat
 pub mod Decoded
 pub mod Acceptance
+pub mod Outcome
 pub mod Cases

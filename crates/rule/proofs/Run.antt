@@ -15,8 +15,7 @@ use Rattle.rule.specs.declared.Reading.the-variants.{Reach, Faulty}
 use Rattle.rule.specs.Entries.{entry}
 use Rattle.rule.specs.Postfix.{unary, binary, push-kind, push, read, stack-after, sole, formula}
 use Rattle.rule.specs.Operands.{operands}
-use Rattle.rule.specs.Code.{joined-reach}
-use Rattle.rule.specs.Measure.{reading}
+use Rattle.rule.specs.Code.{joined-reach, reading}
 use Rattle.rule.proofs.Stacks.{stack-more, stays-none}
 
 -- what an array holds from position d down to position 1

@@ -8,8 +8,8 @@ ghost use Rattle.rule.specs.Entries.{count, entry-of, decoded};
 ghost use Rattle.rule.specs.Words.{own};
 ghost use Rattle.rule.specs.Postfix.{formula};
 ghost use Rattle.rule.specs.Refusal.{first, misshapen, misplaced, header-refusal};
-ghost use Rattle.rule.specs.Measure.{answer, measured, measured-entries, header-number, header, reading};
-ghost use Rattle.rule.specs.Code.{lacks, joined-reach, totals, with-entry};
+ghost use Rattle.rule.specs.Measure.{answer, measured};
+ghost use Rattle.rule.specs.Code.{lacks, joined-reach, totals, with-entry, header, header-number, reading, measured-entries};
 ghost use Rattle.rule.specs.Operands.{operands};
 
 // "kind (8 bits), letter (8 bits), low (32 bits), high (32 bits)"

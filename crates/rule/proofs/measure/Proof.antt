@@ -2,7 +2,8 @@
 use native.Mathlib.Omega.{arith}
 use borrow.Author.Needs.{needs}
 use mathlib.Core.Path.{sym, ap, ap₂, _∙_}
-use Rattle.rule.specs.Measure.{refused, measured-entries, header-number}
+use Rattle.rule.specs.Measure.{refused}
+use Rattle.rule.specs.Code.{measured-entries, header-number}
 use Rattle.rule.proofs.Headers.{stopped, counted, headed}
 use Rattle.rule.proofs.measure.Statement.{statement}
 use Rattle.rule.proofs.measure.Tie as tie

@@ -46,7 +46,7 @@ returns-4 c =
     let a = c .before .before .before .before .before .before .before .before .before .args in
     let r = c .before .before .before .before .before .before .before .before .add-up in
     stop8 (a .table) (a .count) (r .result) (r .ensures .0) _ (c .before .before .before .before .before .before .before .if1 .left) (c .before .before .before .before .before .before .if2 .left)
-    (sym (c .before .before .before .before .before .read .ensures) ∙ c .before .before .before .reach .given .1) (c .if3 .taken)
+    (sym (c .before .before .before .before .before .read .ensures) ∙ c .before .before .before .reach .given .1) (omega arith)
 
 cast-t9 : tie.Need-cast-t9
 cast-t9 c = search needs
@@ -56,14 +56,14 @@ returns-5 c =
     let a = c .before .before .before .before .before .before .before .before .before .before .args in
     let r = c .before .before .before .before .before .before .before .before .before .add-up in
     passes (a .table) (a .count) (r .result) (r .ensures .0) _ true (omega arith) (c .before .before .before .before .before .before .before .before .if1 .left) (c .before .before .before .before .before .before .before .if2 .left)
-    (sym (c .before .before .before .before .before .before .read .ensures) ∙ c .before .before .before .before .reach .given .1) (c .before .if3 .left) (c .if4 .taken)
+    (sym (c .before .before .before .before .before .before .read .ensures) ∙ c .before .before .before .before .reach .given .1) (omega arith) (c .if4 .taken)
 
 returns-6 : tie.Need-returns-6
 returns-6 c =
     let a = c .before .before .before .before .before .before .before .before .before .before .args in
     let r = c .before .before .before .before .before .before .before .before .before .add-up in
     passes (a .table) (a .count) (r .result) (r .ensures .0) _ false (omega arith) (c .before .before .before .before .before .before .before .before .if1 .left) (c .before .before .before .before .before .before .before .if2 .left)
-    (sym (c .before .before .before .before .before .before .read .ensures) ∙ c .before .before .before .before .reach .given .1) (c .before .if3 .left) (c .if4 .left)
+    (sym (c .before .before .before .before .before .before .read .ensures) ∙ c .before .before .before .before .reach .given .1) (omega arith) (c .if4 .left)
 
 pub measure-entries-spec : {M : Type 1} → statement M
 measure-entries-spec =

@@ -26,7 +26,7 @@ add-result-5 : tie.Need-add-result-5
 add-result-5 c = search needs
 
 returns : tie.Need-returns
-returns c = search (needs, eq-eqb, ne-eqb)
+returns c = search (needs, eq-eqb)
 
 returns-2 : tie.Need-returns-2
 returns-2 c = search (needs, eq-eqb, ne-eqb)
@@ -35,7 +35,7 @@ returns-3 : tie.Need-returns-3
 returns-3 c = search (needs, eq-eqb, ne-eqb)
 
 returns-4 : tie.Need-returns-4
-returns-4 c = search (needs, eq-eqb, ne-eqb)
+returns-4 c = search (needs, ne-eqb)
 
 pub own-words-spec : {M : Type 1} → statement M
 own-words-spec =
