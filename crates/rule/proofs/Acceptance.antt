@@ -102,14 +102,17 @@ module _ (t : List Entry) (n : ℕ) (long : n ≤ length t) (p : Passed t n) whe
   some-there : 0 < n
   some-there = let (j, q, a, r) = last in omega arith
 
+  -- its first entry is entry 0
+  from-zero : suc (n - 1) - span t (n - 1) ≡ 0
+  from-zero = omega (arith, some-there, all-spanned)
+
+  to-end : suc (n - 1) ≡ n
+  to-end = omega (arith, some-there)
+
   words-are : words t n ≡ 16 + part t (n - 1)
   unfolding offset
   words-are =
-      let h = some-there in
-      let s = all-spanned in
-      let i : suc (n - 1) ≡ n = omega arith in
-      let j : suc (n - 1) - span t (n - 1) ≡ 0 = omega arith in
-      omega (arith, ap (offset t) i, ap (offset t) j)
+      omega (arith, ap (offset t) to-end, ap (offset t) from-zero)
 
   pub well-formed : WellFormed t n
   well-formed =
@@ -126,10 +129,7 @@ module _ (t : List Entry) (n : ℕ) (long : n ≤ length t) (p : Passed t n) whe
   back : postfix φ₀ ≡ take n t
   back =
       let h = some-there in
-      let s = all-spanned in
-      let i : suc (n - 1) ≡ n = omega arith in
-      let j : suc (n - 1) - span t (n - 1) ≡ 0 = omega arith in
-      sym (sym (ap (λ (m : ℕ). take m t) i) ∙ ends t φ₀ (n - 1) (omega arith) last-at ∙ ap (λ (m : ℕ). take m t ++ postfix φ₀) j)
+      sym (sym (ap (λ (m : ℕ). take m t) to-end) ∙ ends t φ₀ (n - 1) (omega arith) last-at ∙ ap (λ (m : ℕ). take m t ++ postfix φ₀) from-zero)
 
   only-one : (ψ : Formula) → postfix ψ ≡ take n t → ψ ≡ φ₀
   only-one ψ e =

@@ -1,38 +1,26 @@
 -- The spans of subformulas, and the words that go with them, from those of the operands.
 use Prim.Native.Nat.{ℕ, zero, suc, _+_, _-_, _≤_, _<_}
-use native.Mathlib.Nat.{eq-or-lt-of-le, le-of-suc-le-suc, not-suc-le-zero}
-use native.Mathlib.Numerals.{add-one}
 use native.Mathlib.Omega.{arith}
-use mathlib.Core.Path.{_≡_, refl, ap, subst, _∙_}
-use mathlib.Core.Logic.{⊎-elim}
-use mathlib.Core.List.{List, []}
-use lib.ListN.{length, getD, length-append, List·getD-append}
-use lib.Seq.{getD-at}
+use mathlib.Core.Path.{_≡_, refl, sym, ap, subst, _∙_}
+use mathlib.Core.List.{List}
+use lib.ListN.{getD}
 use Rattle.rule.specs.declared.Entry.{Entry}
 use Rattle.rule.specs.Entries.{entry}
 use Rattle.rule.specs.Words.{own, offset}
 use Rattle.rule.specs.Operands.{operands, next-span, spans, span, left, Leaf, Unary, Binary}
+use Rattle.rule.proofs.Laws.{grown-at}
 
-length-spans : (t : List Entry) (n : ℕ) → length (spans t n) ≡ n
+spans-have : (t : List Entry) (n k : ℕ) → k < n → getD (spans t n) k 0 ≡ next-span (operands (entry t k .kind)) (spans t k) k
 unfolding spans
-length-spans t zero = refl
-length-spans t (suc n) = length-append (spans t n) _ ∙ ap (λ (m : ℕ). m + 1) (length-spans t n) ∙ add-one n
+spans-have t n k h =
+    grown-at 0 (spans t) (λ (m : ℕ). next-span (operands (entry t m .kind)) (spans t m) m) refl (λ m. refl) n k h
+
+span-is : (t : List Entry) (k : ℕ) → span t k ≡ next-span (operands (entry t k .kind)) (spans t k) k
+span-is t k = spans-have t (suc k) k (omega arith)
 
 -- the spans of the first n entries are the entries' own
 spans-at : (t : List Entry) (n k : ℕ) → k < n → getD (spans t n) k 0 ≡ span t k
-unfolding spans
-spans-at t zero k h = absurd (not-suc-le-zero h)
-spans-at t (suc n) k h = ⊎-elim last (before (spans-at t n k)) (eq-or-lt-of-le (le-of-suc-le-suc h))
-  where
-    last : k ≡ n → getD (spans t (suc n)) k 0 ≡ span t k
-    last e = rw e refl
-
-    before : (k < n → getD (spans t n) k 0 ≡ span t k) → k < n → getD (spans t (suc n)) k 0 ≡ span t k
-    before ih l = List·getD-append (spans t n) _ 0 k (rw length-spans l) ∙ ih l
-
-span-is : (t : List Entry) (k : ℕ) → span t k ≡ next-span (operands (entry t k .kind)) (spans t k) k
-unfolding spans
-span-is t k = getD-at (spans t k) (next-span (operands (entry t k .kind)) (spans t k) k) [] 0 k (length-spans t k)
+spans-at t n k h = spans-have t n k h ∙ sym (span-is t k)
 
 module _ (t : List Entry) (k : ℕ) where
   pub span-leaf : operands (entry t k .kind) ≡ 0 → span t k ≡ 1
