@@ -97,6 +97,11 @@ pub record Copied (kind letter low high : ℕ) (b : List ℕ) : Type 0 where
   pub head : word b 14 ≡ kind * 256 + letter
   pub ends : word b 15 ≡ low * 2 ^ 32 + high
 
+-- the block of an entry that has taken nothing yet, as open writes it
+pub record FreshBlock (kind letter low high : ℕ) (b : List ℕ) : Type 0 where
+  pub zeros : (i : ℕ) → i < 14 → word b i ≡ 0
+  pub copy : Copied kind letter low high b
+
 -- the cells of an entry's ring: a since has one, the other kinds none
 abbrev pub cells-of : (kind high : ℕ) → ℕ
 cells-of kind high = cond (eqb kind 5) (ring-words high) 0

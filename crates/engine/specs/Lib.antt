@@ -5,6 +5,7 @@ pub mod Block
 pub mod Step
 pub mod State
 pub mod Table
+pub mod Layout
 pub mod Answer
 pub mod Settle
 pub mod Ask

@@ -9,6 +9,7 @@ ghost use Rattle.engine.specs.Table.{RowsOk, column};
 
 mod blocks;
 mod connective;
+pub mod layout;
 mod letter;
 mod neighbour;
 mod operator;
