@@ -1,0 +1,436 @@
+-- The turns of an entry's loop: what each outcome of a step makes of the words.
+use Prim.Native.Nat.{ℕ, zero, suc, _+_, _*_, _-_, _≤_, _<_, _^_}
+use mathlib.Core.Bool.{Bool, true, false, cond}
+use mathlib.Core.Bool.{not as negate}
+use mathlib.Core.Path.{_≡_, refl, sym, ap, subst, _∙_}
+use mathlib.Core.List.{List}
+use native.Mathlib.Omega.{arith}
+use native.Mathlib.Nat.{zero-add, pos-of-ne-zero}
+use lib.Dec.{eqb}
+use lib.ListN.{length, drop, length-drop}
+use Rattle.mtl.specs.Formula.{Formula}
+use Rattle.mtl.specs.Log.{Log, NeverFalls}
+use Rattle.mtl.specs.Progress.{progress}
+use Rattle.mtl.proofs.Bounded.{true-and-false}
+use Rattle.trace.specs.Format.{record-count}
+use Rattle.engine.specs.Block.{word, taken, ring-words, Ready}
+use Rattle.engine.specs.Step.{Agrees, Runs, Moved, Stepped, Steps, Ends, empty, left-to-do}
+use Rattle.engine.specs.State.{State}
+use Rattle.engine.specs.Table.{Has, Row, RowOk, RowsOk, Fields, column, takes-left, takes-right, own-words}
+use Rattle.engine.specs.Answer.{Answers}
+use Rattle.engine.specs.Ask.{part, back, stored, Asks}
+use Rattle.engine.specs.declared.operator.Step.{Step}
+use Rattle.engine.specs.declared.operator.Step.the-variants.{Run, Left, Right, Again, Open}
+use Rattle.engine.specs.declared.Reply.the-variants.{Run as Verdict, Open as NoVerdict}
+use Rattle.engine.proofs.Parts.{part-end, length-part, put-back, back-from, drop-back-last, back-same, Side, other, by-side, start, stop, slot, lent, lent-own, Asked, asked, asked-stored}
+use Rattle.engine.proofs.Parts.Side.{on-left, on-right}
+use Rattle.engine.proofs.Uniform.{View, view, unview, has, of, entry, Stands-at, operand, view-of, answered-taken, row, operand-rows}
+use Rattle.engine.proofs.Fill.{stored-at, stored-count, stored-count-other, ready-filled}
+
+-- the words stand for whatever formula they stood for at the loop's start
+abbrev pub Stands : (t s : List ℕ) → ℕ → (ws₀ ws : List ℕ) → Type 0
+Stands t s k ws₀ ws =
+    (φ : Formula) (L : Log) (g : ℕ) → Has φ t k → NeverFalls L → Agrees s L g → State φ L g ws₀ → State φ L g ws
+
+-- the row of entry k as it is read: its operands have a and c words, and it has `end` in all
+pub record Reading (t : List ℕ) (k kind letter low high left a c end : ℕ) : Type 0 where
+  pub is-kind : kind ≡ column 0 t k
+  pub is-letter : letter ≡ column 1 t k
+  pub is-low : low ≡ column 2 t k
+  pub is-high : high ≡ column 3 t k
+  pub is-left : left ≡ column 4 t k
+  pub is-a : a ≡ column 5 t k
+  pub is-c : c ≡ column 6 t k
+  pub few : k < 128
+  pub rows : RowsOk t k
+  pub all : end ≡ column 7 t k
+
+-- one step of entry k, from words ws to block b′
+pub record Turn (t s : List ℕ) (k left a c end : ℕ) (ws₀ ws : List ℕ) (r : Step) (b′ : List ℕ) : Type 0 where
+  pub is-left : left ≡ column 4 t k
+  pub is-a : a ≡ column 5 t k
+  pub is-c : c ≡ column 6 t k
+  pub last : length ws ≡ end
+  pub room : a + c + 16 ≤ end
+  pub stands : Stands t s k ws₀ ws
+  pub steps : (φ : Formula) → Row φ t k → Steps φ s (drop (a + c) ws) r b′
+  pub ends : Ends (takes-left (column 0 t k)) (takes-right (column 0 t k)) s (drop (a + c) ws) r b′
+  pub size : length b′ ≡ end - (a + c)
+
+-- what a step says that wants an operand
+abbrev pub wants : Side → Step
+wants on-left = Left
+wants on-right = Right
+
+abbrev pub takes : Side → ℕ → Bool
+takes on-left = takes-left
+takes on-right = takes-right
+
+least : (kind high : ℕ) → 16 ≤ own-words kind high
+least kind high = cases (eqb kind 5) (eqb kind 6)
+  where
+    cases : (x y : Bool) → 16 ≤ cond x (16 + ring-words high) (cond y (16 + 2 * (high + 1)) 16)
+    cases true y = omega arith
+    cases false true = omega arith
+    cases false false = omega arith
+
+module _ {t : List ℕ} {k kind letter low high left a c end : ℕ} (read : Reading t k kind letter low high left a c end) where
+  own-row : RowOk t k
+  own-row = read .rows k (omega arith)
+
+  sizes : a + c + own-words kind high ≡ end
+  sizes = rw (read .is-a, read .is-c, read .is-kind, read .is-high, read .all) (sym (own-row .words))
+
+  pub bound : end ≤ 8192
+  bound = rw (read .all) (own-row .bound)
+
+  pub room : a + c + 16 ≤ end
+  room = omega (arith, sizes, least kind high)
+
+  -- what a step requires
+  pub may-step : (ws : List ℕ) → length ws ≡ end →
+      (kind ≤ 6) × (letter < 32) × (high < 2 ^ 32) × (own-words kind high ≤ length (part (a + c) end ws))
+  may-step ws last = (
+    rw (read .is-kind) (own-row .kind),
+    rw (read .is-letter) (own-row .letter),
+    rw (read .is-high) (own-row .high),
+    omega (arith, sizes, length-part (a + c) end ws (omega arith)),
+  )
+
+  -- an operand's row is an earlier one, with its words
+  earlier : (side : Side) → takes side (column 0 t k) ≡ true →
+      (entry side left k < k) × (start side a + column 7 t (entry side left k) ≡ stop side a c)
+  earlier on-left has = (
+    rw (read .is-left) (own-row .left has .0),
+    zero-add (column 7 t left) ∙ rw (read .is-left, read .is-a) (own-row .left has .1),
+  )
+  earlier on-right has =
+      let some = own-row .right has .0 in
+      (omega arith, ap (λ (n : ℕ). a + n) (own-row .right has .1 ∙ sym (read .is-c)))
+
+  -- what asking an operand requires of its entry
+  pub may-ask : (side : Side) → takes side (column 0 t k) ≡ true →
+      (entry side left k < k) ×
+      (entry side left k < 128) ×
+      RowsOk t (entry side left k) ×
+      (start side a + column 7 t (entry side left k) ≡ stop side a c)
+  may-ask side has =
+      let e = earlier side has in
+      let few = read .few in
+      (e .0, omega arith, λ j le. read .rows j (omega arith), e .1)
+
+  -- what a step gives
+  pub turn-of : (s ws₀ ws : List ℕ) (r : Step) (b′ : List ℕ) → length ws ≡ end → Stands t s k ws₀ ws →
+      Ends (takes-left kind) (takes-right kind) s (part (a + c) end ws) r b′ →
+      ((φ : Formula) → Fields φ kind letter low high → Steps φ s (part (a + c) end ws) r b′) →
+      length b′ ≡ length (part (a + c) end ws) → Turn t s k left a c end ws₀ ws r b′
+  turn-of s ws₀ ws r b′ last stands ends steps size =
+      let e = part-end (a + c) end ws last in
+      record {
+        is-left = read .is-left;
+        is-a = read .is-a;
+        is-c = read .is-c;
+        last = last;
+        room = room;
+        stands = stands;
+        steps =
+            λ φ row.
+            rw e at
+            (steps
+            φ
+            (record {
+              kind = read .is-kind ∙ row .fields .kind;
+              letter = read .is-letter ∙ row .fields .letter;
+              low = read .is-low ∙ row .fields .low;
+              high = read .is-high ∙ row .fields .high;
+            }));
+        ends = rw (e, read .is-kind) at ends;
+        size = size ∙ length-part (a + c) end ws (omega arith);
+      }
+
+same-words : (a c end : ℕ) (ws b′ : List ℕ) → a + c + 16 ≤ end → length ws ≡ end → b′ ≡ drop (a + c) ws →
+    put-back (a + c) end b′ ws ≡ ws
+same-words a c end ws b′ room last e =
+    ap (λ (l : List ℕ). put-back (a + c) end l ws) (e ∙ sym (part-end (a + c) end ws last)) ∙
+    back-same (a + c) end ws (omega arith) last
+
+module _ {t s : List ℕ} {k left a c end : ℕ} {ws₀ ws b′ : List ℕ} where
+  -- the outcome as it was told
+  pub told : {r r′ : Step} → r ≡ r′ → Turn t s k left a c end ws₀ ws r b′ → Turn t s k left a c end ws₀ ws r′ b′
+  told e turn = rw e at turn
+
+  module _ {r : Step} (turn : Turn t s k left a c end ws₀ ws r b′) where
+    own-put : drop (a + c) (put-back (a + c) end b′ ws) ≡ b′
+    own-put =
+        let inside : a + c ≤ end = omega (arith, turn .room) in
+        ap (λ (l : List ℕ). drop (a + c) l) (back-from (a + c) end b′ ws inside) ∙
+        drop-back-last (a + c) end b′ ws inside (turn .last)
+
+    module _ (φ : Formula) (L : Log) (g : ℕ) (entered : Has φ t k) where
+      viewed : NeverFalls L → Agrees s L g → State φ L g ws₀ → View a c φ L g ws
+      viewed never agrees state =
+          let e = row φ t k entered in
+          view φ L g ws (turn .is-a ∙ e .left-words) (turn .is-c ∙ e .right-words) (turn .stands φ L g entered never agrees state)
+
+      state-of : (p : ℕ) (ws′ b : List ℕ) → drop (a + c) ws′ ≡ b → Ready φ L p b →
+          ((side : Side) → Stands-at side a c φ L b ws′) → State φ L p ws′
+      state-of p ws′ b own ready parts =
+          let e = row φ t k entered in
+          unview φ L p ws′ (turn .is-a ∙ e .left-words) (turn .is-c ∙ e .right-words) (view-of a c φ L p ws′ b own ready parts)
+
+      stepped : NeverFalls L → Agrees s L g → View a c φ L g ws → Stepped φ L g (drop (a + c) ws) r b′
+      stepped never agrees v = turn .steps φ (row φ t k entered) L g never agrees (v .own)
+
+      -- the operands stay where they stand
+      moved-on : (p : ℕ) → View a c φ L g ws → Ready φ L p b′ → Moved φ (drop (a + c) ws) b′ →
+          State φ L p (put-back (a + c) end b′ ws)
+      moved-on p v ready moved =
+          state-of
+          p
+          (put-back (a + c) end b′ ws)
+          b′
+          own-put
+          ready
+          (by-side
+          (λ x. Stands-at x a c φ L b′ (put-back (a + c) end b′ ws))
+          on-left
+          (λ e. rw (stay on-left, moved .left e) (operand v on-left e))
+          (λ e. rw (stay on-right, moved .right e) (operand v on-right e)))
+        where
+          stay : (x : Side) → lent x a c (put-back (a + c) end b′ ws) ≡ lent x a c ws
+          stay x = lent-own x a c end ws b′ (turn .last) (omega (arith, turn .room)) (turn .size)
+
+  pub run-turn : {h : Bool} {n : ℕ} → Turn t s k left a c end ws₀ ws (Run h n) b′ →
+      Answers t s k ws₀ (Verdict h n) (put-back (a + c) end b′ ws)
+  run-turn {h} {n} turn φ L g entered never agrees state =
+      let v = viewed turn φ L g entered never agrees state in
+      let st = stepped turn φ L g entered never agrees v in
+      (st .0, moved-on turn φ L g entered (g + n) v (st .1) (st .2))
+
+  pub again-turn : Turn t s k left a c end ws₀ ws Again b′ → Stands t s k ws₀ (put-back (a + c) end b′ ws)
+  again-turn turn φ L g entered never agrees state =
+      let v = viewed turn φ L g entered never agrees state in
+      let st = stepped turn φ L g entered never agrees v in
+      moved-on turn φ L g entered g v (st .0) (st .1)
+
+  pub again-less : Turn t s k left a c end ws₀ ws Again b′ →
+      left-to-do s (drop (a + c) (put-back (a + c) end b′ ws)) < left-to-do s (drop (a + c) ws)
+  again-less turn = rw (own-put turn) (turn .ends)
+
+  pub open-turn : Turn t s k left a c end ws₀ ws Open b′ → Answers t s k ws₀ NoVerdict (put-back (a + c) end b′ ws)
+  open-turn turn φ L g entered never agrees state =
+      let v = viewed turn φ L g entered never agrees state in (
+        stepped turn φ L g entered never agrees v,
+        rw (same-words a c end ws b′ (turn .room) (turn .last) (turn .ends)) (turn .stands φ L g entered never agrees state),
+      )
+
+to-do : (side : Side) (s b : List ℕ) →
+    left-to-do s b ≡ 3 * (record-count s - taken b) + empty (word b (slot side)) + empty (word b (slot (other side)))
+to-do on-left s b = refl
+to-do on-right s b = omega arith
+
+empty-some : (n : ℕ) → 1 ≤ n → empty n ≡ 0
+empty-some zero le = omega arith
+empty-some (suc n) le = refl
+
+-- an operand is wanted
+module _ {t s : List ℕ} {k left a c end : ℕ} {ws₀ ws b′ : List ℕ} (side : Side) (turn : Turn t s k left a c end ws₀ ws (wants side) b′) where
+  -- its buffer is empty, and the block as it was
+  ended : (side : Side) → Ends (takes-left (column 0 t k)) (takes-right (column 0 t k)) s (drop (a + c) ws) (wants side) b′ →
+      (takes side (column 0 t k) ≡ true) × (b′ ≡ drop (a + c) ws) × (word (drop (a + c) ws) (slot side) ≡ 0)
+  ended on-left e = e
+  ended on-right e = e
+
+  pub taking : takes side (column 0 t k) ≡ true
+  taking = ended side (turn .ends) .0
+
+  none : word (drop (a + c) ws) (slot side) ≡ 0
+  none = ended side (turn .ends) .2
+
+  unchanged : put-back (a + c) end b′ ws ≡ ws
+  unchanged = same-words a c end ws b′ (turn .room) (turn .last) (ended side (turn .ends) .1)
+
+  inside : a + c ≤ length ws
+  inside = omega (arith, turn .room, turn .last)
+
+  long : 16 ≤ length (drop (a + c) ws)
+  long = simp length-drop (omega (arith, turn .room, turn .last))
+
+  wanting : (side : Side) (φ : Formula) (L : Log) (g : ℕ) (b : List ℕ) → Stepped φ L g b (wants side) b′ →
+      (has side φ ≡ true) × (progress (of side φ) L ≡ taken b → progress φ L ≡ g)
+  wanting on-left φ L g b st = st
+  wanting on-right φ L g b st = st
+
+  -- what the operand is asked, it is asked at the next position to take
+  ask-at : (P : Formula → Log → ℕ → Type 0) →
+      ((φ : Formula) (L : Log) (q : ℕ) → Has φ t (entry side left k) → NeverFalls L → Agrees s L q →
+      State φ L q (lent side a c ws) → P φ L q) →
+      (φ : Formula) (L : Log) (g : ℕ) → Has φ t k → NeverFalls L → Agrees s L g → View a c φ L g ws → has side φ ≡ true →
+      P (of side φ) L (taken (drop (a + c) ws))
+  ask-at P promise φ L g entered never agrees v e =
+      let b = drop (a + c) ws in
+      let later = answered-taken φ L g b (v .own .core .own) in
+      let here : taken b + word b (slot side) ≡ taken b = omega (arith, none) in
+      promise
+      (of side φ)
+      L
+      (taken b)
+      (rw (turn .is-left) (operand-rows φ t k entered side e))
+      never
+      (record { size = agrees .size; same = λ i ge lt. agrees .same i (omega arith) lt })
+      (rw here at (operand v side e))
+
+  -- the words after the question
+  asks-same : (x : Bool) (ws′ : List ℕ) →
+      Asks t s (entry side left k) (start side a) (stop side a c) (a + c + slot side) (put-back (a + c) end b′ ws) x ws′ →
+      Asks t s (entry side left k) (start side a) (stop side a c) (a + c + slot side) ws x ws′
+  asks-same x ws′ asks =
+      subst
+      (λ (l : List ℕ). Asks t s (entry side left k) (start side a) (stop side a c) (a + c + slot side) l x ws′)
+      unchanged
+      asks
+
+  framed : (ys : List ℕ) (h : Bool) (n : ℕ) → length ys ≡ stop side a c - start side a →
+      Asked
+      side
+      a
+      c
+      ws
+      ys
+      (stored (back (start side a) (stop side a c) ys ws) (a + c + slot side) h n)
+      (stored (drop (a + c) ws) (slot side) h n)
+  framed ys h n kept =
+      asked-stored
+      side
+      a
+      c
+      ws
+      ys
+      (back (start side a) (stop side a c) ys ws)
+      (drop (a + c) ws)
+      h
+      n
+      (asked side a c ws ys inside kept)
+
+  pub open-asked : (x : Bool) (ws′ : List ℕ) → negate x ≡ true →
+      Asks t s (entry side left k) (start side a) (stop side a c) (a + c + slot side) (put-back (a + c) end b′ ws) x ws′ →
+      Answers t s k ws₀ NoVerdict ws′
+  open-asked true ws′ e asks φ L g entered never agrees state = absurd (true-and-false e refl)
+  open-asked false ws′ e asks φ L g entered never agrees state =
+      let got = asks-same false ws′ asks in
+      let ys = got .0 in
+      let b = drop (a + c) ws in
+      let after = back (start side a) (stop side a c) ys ws in
+      let here : taken b + word b (slot side) ≡ taken b = omega (arith, none) in
+      let frame = asked side a c ws ys inside (got .1) in
+      let v = viewed turn φ L g entered never agrees state in
+      let st = wanting side φ L g b (stepped turn φ L g entered never agrees v) in
+      let it = ask-at (λ φ L q. (progress φ L ≡ q) × State φ L q ys) (got .2 .1) φ L g entered never agrees v (st .0) in (
+        st .1 (it .0),
+        rw (got .2 .0)
+            (state-of
+            turn
+            φ
+            L
+            g
+            entered
+            g
+            after
+            b
+            (frame .own)
+            (v .own)
+            (by-side
+            (λ x. Stands-at x a c φ L b after)
+            side
+            (λ e. rw (frame .here, here) (it .1))
+            (λ e. rw (frame .there) (operand v (other side) e)))),
+      )
+
+  pub filled : (x : Bool) (ws′ : List ℕ) → negate x ≡ false →
+      Asks t s (entry side left k) (start side a) (stop side a c) (a + c + slot side) (put-back (a + c) end b′ ws) x ws′ →
+      Stands t s k ws₀ ws′
+  filled false ws′ e asks φ L g entered never agrees state = absurd (true-and-false refl e)
+  filled true ws′ e asks φ L g entered never agrees state =
+      let got = asks-same true ws′ asks in
+      let ys = got .0 in
+      let h = got .2 .0 in
+      let n = got .2 .1 in
+      let b = drop (a + c) ws in
+      let new = stored b (slot side) h n in
+      let after = stored (back (start side a) (stop side a c) ys ws) (a + c + slot side) h n in
+      let frame = framed ys h n (got .1) in
+      let v = viewed turn φ L g entered never agrees state in
+      let st = wanting side φ L g b (stepped turn φ L g entered never agrees v) in
+      let it = ask-at (λ φ L q. Runs φ L q h n × State φ L (q + n) ys) (got .2 .4) φ L g entered never agrees v (st .0) in
+      rw (got .2 .3)
+      (state-of
+      turn
+      φ
+      L
+      g
+      entered
+      g
+      after
+      new
+      (frame .own)
+      (ready-filled side b long h n φ L g (v .own) (it .0))
+      (by-side
+      (λ x. Stands-at x a c φ L new after)
+      side
+      (λ e. rw (frame .here, stored-at side b long h n, stored-count side b long h n) (it .1))
+      (λ e.
+      rw (frame .there, stored-at side b long h n, stored-count-other side b long h n) (operand v (other side) e))))
+
+  pub filled-less : (x : Bool) (ws′ : List ℕ) → negate x ≡ false →
+      Asks t s (entry side left k) (start side a) (stop side a c) (a + c + slot side) (put-back (a + c) end b′ ws) x ws′ →
+      left-to-do s (drop (a + c) ws′) < left-to-do s (drop (a + c) ws)
+  filled-less false ws′ e asks = absurd (true-and-false refl e)
+  filled-less true ws′ e asks =
+      let got = asks-same true ws′ asks in
+      let h = got .2 .0 in
+      let n = got .2 .1 in
+      let b = drop (a + c) ws in
+      rw (
+        got .2 .3,
+        framed (got .0) h n (got .1) .own,
+        to-do side s (stored b (slot side) h n),
+        to-do side s b,
+        stored-at side b long h n,
+        stored-count side b long h n,
+        stored-count-other side b long h n,
+        none,
+        empty-some n (got .2 .2),
+      )
+      (omega arith)
+
+-- an operand's answer, as what was asked for: its words are ys now
+module _ (t s : List ℕ) (o from to slot : ℕ) (ws ys : List ℕ) (ordered : from ≤ to) (inside : to ≤ length ws) (kept : length ys ≡ length (part from to ws)) where
+  pub asked-open : Answers t s o (part from to ws) NoVerdict ys → Asks t s o from to slot ws false (put-back from to ys ws)
+  asked-open answers = (ys, kept ∙ length-part from to ws inside, (back-from from to ys ws ordered, answers))
+
+  pub asked-none : (h : Bool) (n : ℕ) → n ≡ 0 → Answers t s o (part from to ws) (Verdict h n) ys →
+      Asks t s o from to slot ws false (put-back from to ys ws)
+  asked-none h n e answers = (
+    ys,
+    kept ∙ length-part from to ws inside,
+    (
+      back-from from to ys ws ordered,
+      λ φ L q entered never agrees state.
+          let none : ⊥ = omega (arith, answers φ L q entered never agrees state .0 .some) in
+          absurd none,
+    ),
+  )
+
+  pub asked-run : (h : Bool) (n : ℕ) → (n ≡ 0 → ⊥) → Answers t s o (part from to ws) (Verdict h n) ys → (ws′ : List ℕ) →
+      ws′ ≡ stored (put-back from to ys ws) slot h n → Asks t s o from to slot ws true ws′
+  asked-run h n some answers ws′ e = (
+    ys,
+    kept ∙ length-part from to ws inside,
+    (
+      h,
+      n,
+      pos-of-ne-zero some,
+      e ∙ ap (λ (l : List ℕ). stored l slot h n) (back-from from to ys ws ordered),
+      answers,
+    ),
+  )

@@ -1,0 +1,477 @@
+-- A subformula's words entry by entry: the block of entry j stands at `offset t j` in the words W behind the checkpoint's header.
+use Prim.Native.Nat.{ℕ, zero, suc, _+_, _*_, _-_, _≤_, _<_}
+use mathlib.Core.Bool.{Bool, true, false, cond}
+use mathlib.Core.Logic.{⊎-elim}
+use mathlib.Core.Path.{_≡_, refl, sym, _∙_, ap, ap₂, subst}
+use mathlib.Core.List.{List, [], _∷_}
+use native.Mathlib.Nat.{not-suc-le-zero}
+use native.Mathlib.Omega.{arith}
+use lib.ListN.{length, getD, take, drop, length-drop}
+use lib.Dec.{eqb}
+use lib.Seq.{take-take, drop-drop, getD-take, getD-drop, length-take-le}
+use Rattle.mtl.specs.Formula.{Formula}
+use Rattle.mtl.specs.Formula.Formula.{letter, not, or, previous, next, since, until}
+use Rattle.mtl.specs.Log.{Log}
+use Rattle.mtl.proofs.Bounded.{le-or-lt}
+use Rattle.rule.specs.declared.Entry.{Entry}
+use Rattle.rule.specs.Entries.{entry}
+use Rattle.rule.specs.Words.{own, offset}
+use Rattle.rule.specs.Postfix.{root}
+use Rattle.rule.specs.Operands.{operands, span, left, part, FormulaAt, Unary, Binary}
+use Rattle.rule.specs.Accepted.{WellFormed}
+use Rattle.engine.specs.Block.{word, taken, left-count, right-count, ring-words, kind-of, letter-of, low-of, high-of, Copied, FreshBlock, cells-of, InRange, Own, Core, Buffer, Buffers, Ready}
+use Rattle.engine.specs.State.{words, Parts, Absent, State}
+use Rattle.engine.specs.Table.{own-words}
+use Rattle.engine.specs.Layout.{first}
+use Rattle.engine.proofs.Rows.{offset-grows, words-at, fields-of}
+
+-- the words of the subformula that ends at entry k
+abbrev pub part-words : List Entry → ℕ → List ℕ → List ℕ
+part-words t k W = take (part t k) (drop (offset t (first t k)) W)
+
+-- WORDS IN PARTS OF LISTS
+
+-- two lists have the same 16 words: all that a block is read by, but for the ring behind them
+abbrev Same : List ℕ → List ℕ → Type 0
+Same b b′ = (i : ℕ) → i < 16 → word b i ≡ word b′ i
+
+part-same : (W : List ℕ) (o w m p : ℕ) → o + m ≡ p → m + 16 ≤ w → Same (drop m (take w (drop o W))) (drop p W)
+part-same W o w m p e h i l =
+    getD-drop m (take w (drop o W)) i 0 ∙ getD-take w (drop o W) (m + i) 0 (omega arith) ∙ getD-drop o W (m + i) 0 ∙
+    ap (λ x. getD W x 0) (omega arith) ∙ sym (getD-drop p W i 0)
+
+take-drop-take : (a c w : ℕ) (l : List ℕ) → a + c ≤ w → take c (drop a (take w l)) ≡ take c (drop a l)
+take-drop-take zero c w l h = take-take c w l (omega arith)
+take-drop-take (suc a) c zero l h = absurd (omega arith)
+take-drop-take (suc a) c (suc w) [] h = refl
+take-drop-take (suc a) c (suc w) (x ∷ l) h = take-drop-take a c w l (omega arith)
+
+-- a part of a part
+part-of-part : (W : List ℕ) (o w a c p : ℕ) → o + a ≡ p → a + c ≤ w → take c (drop a (take w (drop o W))) ≡ take c (drop p W)
+part-of-part W o w a c p e h = take-drop-take a c w (drop o W) h ∙ ap (take c) (drop-drop a o W ∙ ap (λ x. drop x W) e)
+
+copied-same : {kind letter low high : ℕ} (b b′ : List ℕ) → Same b b′ → Copied kind letter low high b → Copied kind letter low high b′
+copied-same b b′ same c =
+    record { head = sym (same 14 (omega arith)) ∙ c .head; ends = sym (same 15 (omega arith)) ∙ c .ends }
+
+fresh-same : {kind letter low high : ℕ} (b b′ : List ℕ) → Same b b′ → FreshBlock kind letter low high b → FreshBlock kind letter low high b′
+fresh-same b b′ same f =
+    record { zeros = λ i h. sym (same i (omega arith)) ∙ f .zeros i h; copy = copied-same b b′ same (f .copy) }
+
+range-same : {size cells : ℕ} (b b′ : List ℕ) → Same b b′ → InRange size cells b → InRange size cells b′
+range-same b b′ same r =
+    omega (
+      arith,
+      same 0 (omega arith),
+      same 1 (omega arith),
+      same 2 (omega arith),
+      same 3 (omega arith),
+      same 4 (omega arith),
+      same 5 (omega arith),
+      same 6 (omega arith),
+      same 7 (omega arith),
+      same 8 (omega arith),
+      same 9 (omega arith),
+      same 10 (omega arith),
+    )
+
+-- WHERE AN ENTRY'S OPERANDS STAND
+
+own-least : (e : Entry) → 16 ≤ own e
+own-least e = least (eqb (e .kind) 5) (eqb (e .kind) 6) (cond (eqb (e .high) 4294967295) 1 (e .high + 1)) (e .high)
+  where
+    least : (b b′ : Bool) (x y : ℕ) → 16 ≤ cond b (16 + x) (cond b′ (16 + 2 * (y + 1)) 16)
+    least true b′ x y = omega arith
+    least false true x y = omega arith
+    least false false x y = omega arith
+
+module _ (t : List Entry) (W : List ℕ) where
+  -- from a part's first entry to behind its last
+  part-ends : (k : ℕ) → offset t (first t k) + part t k ≡ offset t (suc k)
+  part-ends k = let g = offset-grows t (first t k) (suc k) (omega arith) in omega arith
+
+  module _ (k a c : ℕ) (all : part t k ≡ a + c + own (entry t k)) where
+    own-same : Same (drop (a + c) (part-words t k W)) (drop (offset t k) W)
+    unfolding offset
+    own-same =
+        let p = part-ends k in
+        let w = own-least (entry t k) in
+        part-same W (offset t (first t k)) (part t k) (a + c) (offset t k) (omega arith) (omega arith)
+
+    own-room : (n : ℕ) → k < n → offset t n ≤ length W → own (entry t k) ≤ length (drop (a + c) (part-words t k W))
+    own-room n h room =
+        let p = part-ends k in
+        let g = offset-grows t (suc k) n h in
+        let d = length-drop (offset t (first t k)) W in
+        let l = length-take-le (part t k) (drop (offset t (first t k)) W) (omega arith) in
+        let l′ = length-drop (a + c) (part-words t k W) in
+        omega arith
+
+-- the only operand's part
+module _ (t : List Entry) (W : List ℕ) (k c : ℕ) (u : Unary t k) (words : c ≡ part t (k - 1)) where
+  one-first : first t (k - 1) ≡ first t k
+  one-first = let b = u .below in let s = u .span-is in omega arith
+
+  one-part : part t k ≡ 0 + c + own (entry t k)
+  one-part = let p = u .part-is in omega arith
+
+  one-right : take c (drop 0 (part-words t k W)) ≡ part-words t (k - 1) W
+  one-right =
+      let p = u .part-is in
+      part-of-part W (offset t (first t k)) (part t k) 0 c (offset t (first t (k - 1))) (rw one-first (omega arith)) (omega arith) ∙
+      ap (λ x. take x (drop (offset t (first t (k - 1))) W)) words
+
+-- both operands' parts
+module _ (t : List Entry) (W : List ℕ) (k a c : ℕ) (u : Binary t k) (lefts : a ≡ part t (left t k)) (rights : c ≡ part t (k - 1)) where
+  two-first : first t (left t k) ≡ first t k
+  two-first = let b = u .below in let s = u .span-is in omega arith
+
+  two-next : first t (k - 1) ≡ suc (left t k)
+  two-next = let b = u .below in omega arith
+
+  two-part : part t k ≡ a + c + own (entry t k)
+  two-part = let p = u .part-is in omega arith
+
+  two-left : take a (part-words t k W) ≡ part-words t (left t k) W
+  two-left =
+      let p = u .part-is in
+      part-of-part W (offset t (first t k)) (part t k) 0 a (offset t (first t (left t k))) (rw two-first (omega arith)) (omega arith) ∙
+      ap (λ x. take x (drop (offset t (first t (left t k))) W)) lefts
+
+  two-right : take c (drop a (part-words t k W)) ≡ part-words t (k - 1) W
+  two-right =
+      let p = u .part-is in
+      let e : offset t (first t k) + a ≡ offset t (first t (k - 1)) = rw (two-next, ← two-first, lefts) (part-ends t W (left t k)) in
+      part-of-part W (offset t (first t k)) (part t k) a c (offset t (first t (k - 1))) e (omega arith) ∙
+      ap (λ x. take x (drop (offset t (first t (k - 1))) W)) rights
+
+-- A FRESH BLOCK
+
+module _ (φ : Formula) (L : Log) (b : List ℕ) (fresh : FreshBlock (kind-of φ) (letter-of φ) (low-of φ) (high-of φ) b) where
+  fresh-core : Own φ L 0 b → Core φ L 0 b
+  fresh-core is =
+      record {
+        reached = omega arith;
+        range =
+            omega (
+              arith,
+              fresh .zeros 0 (omega arith),
+              fresh .zeros 1 (omega arith),
+              fresh .zeros 2 (omega arith),
+              fresh .zeros 3 (omega arith),
+              fresh .zeros 4 (omega arith),
+              fresh .zeros 5 (omega arith),
+              fresh .zeros 6 (omega arith),
+              fresh .zeros 7 (omega arith),
+              fresh .zeros 8 (omega arith),
+              fresh .zeros 9 (omega arith),
+              fresh .zeros 10 (omega arith),
+            );
+        copy = fresh .copy;
+        own = is;
+      }
+
+empty-buffer : (φ : Formula) (L : Log) (p count answer : ℕ) → p ≡ 0 → count ≡ 0 → Buffer φ L p count answer
+empty-buffer φ L p count answer e f = record { within = omega arith; same = λ i g h. absurd (omega arith) }
+
+ring-least : (high : ℕ) → 1 ≤ ring-words high
+ring-least high = least (eqb high 4294967295)
+  where
+    least : (b : Bool) → 1 ≤ cond b 1 (high + 1)
+    least true = omega arith
+    least false = omega arith
+
+fresh-own : (φ : Formula) (L : Log) (b : List ℕ) → ((i : ℕ) → i < 14 → word b i ≡ 0) → own-words (kind-of φ) (high-of φ) ≤ length b → Own φ L 0 b
+fresh-own (letter k) L b zeros room = zeros 0 (omega arith)
+fresh-own (not φ) L b zeros room = zeros 0 (omega arith)
+fresh-own (or φ ψ) L b zeros room = zeros 0 (omega arith)
+fresh-own (previous low high φ) L b zeros room =
+    record { at = zeros 0 (omega arith); last-answer = λ h. absurd (not-suc-le-zero h); last-time = λ h. absurd (not-suc-le-zero h) }
+fresh-own (next low high φ) L b zeros room = let z = zeros 0 (omega arith) in omega arith
+fresh-own (since low high φ ψ) L b zeros room =
+    let z = zeros 9 (omega arith) in
+    let r = ring-least high in
+    record {
+      at = zeros 0 (omega arith);
+      times = [];
+      ring = record {
+        room = room;
+        start = omega arith;
+        count = zeros 10 (omega arith);
+        fits = omega arith;
+        at = λ i h. absurd (not-suc-le-zero h);
+      };
+      alive = record {
+        rising = λ i j l h. absurd (not-suc-le-zero h);
+        sound = λ i h. absurd (not-suc-le-zero h);
+        complete = λ j is near. absurd (not-suc-le-zero (is .before));
+      };
+    }
+fresh-own (until low high φ ψ) L b zeros room =
+    let z = zeros 0 (omega arith) in (
+      zeros 5 (omega arith),
+      record {
+        ahead = omega arith;
+        last-left = λ h. absurd (omega arith);
+        last-right = λ h. absurd (omega arith);
+        last-time = λ h. absurd (omega arith);
+        left-held = λ k g h. absurd (omega arith);
+        right-early = λ k g h e. absurd (omega arith);
+        not-over = λ h. absurd (omega arith);
+      },
+    )
+
+fresh-buffers : (φ : Formula) (L : Log) (b : List ℕ) → taken b ≡ 0 → left-count b ≡ 0 → right-count b ≡ 0 → Buffers φ L b
+fresh-buffers (letter k) L b z l r = tt
+fresh-buffers (not φ) L b z l r = empty-buffer φ L _ _ _ z r
+fresh-buffers (or φ ψ) L b z l r = (empty-buffer φ L _ _ _ z l, empty-buffer ψ L _ _ _ z r)
+fresh-buffers (previous low high φ) L b z l r = empty-buffer φ L _ _ _ z r
+fresh-buffers (next low high φ) L b z l r = empty-buffer φ L _ _ _ z r
+fresh-buffers (since low high φ ψ) L b z l r = (empty-buffer φ L _ _ _ z l, empty-buffer ψ L _ _ _ z r)
+fresh-buffers (until low high φ ψ) L b z l r = (empty-buffer φ L _ _ _ z l, empty-buffer ψ L _ _ _ z r)
+
+-- the entry's fields in a formula's names
+entry-fields : (P : (kind letter low high : ℕ) → Type 0) (φ : Formula) (e : Entry) → e ≡ root φ →
+    P (e .kind) (e .letter) (e .low) (e .high) → P (kind-of φ) (letter-of φ) (low-of φ) (high-of φ)
+entry-fields P φ e is p =
+    let f = fields-of φ in
+    rw (← (f .kind), ← (f .letter), ← (f .low), ← (f .high)) (subst (λ x. P (x .kind) (x .letter) (x .low) (x .high)) is p)
+
+module _ (t : List Entry) (n : ℕ) (W : List ℕ) (room : offset t n ≤ length W) (φ : Formula) (k a c : ℕ) (h : k < n) (is : entry t k ≡ root φ)
+    (all : part t k ≡ a + c + own (entry t k))
+    (block : FreshBlock (entry t k .kind) (entry t k .letter) (entry t k .low) (entry t k .high) (drop (offset t k) W)) (L : Log) where
+  fresh-block : FreshBlock (kind-of φ) (letter-of φ) (low-of φ) (high-of φ) (drop (a + c) (part-words t k W))
+  fresh-block =
+      entry-fields (λ kind letter low high. FreshBlock kind letter low high (drop (a + c) (part-words t k W))) φ (entry t k) is
+      (fresh-same (drop (offset t k) W) (drop (a + c) (part-words t k W)) (λ i l. sym (own-same t W k a c all i l)) block)
+
+  fresh-ready : Ready φ L 0 (drop (a + c) (part-words t k W))
+  fresh-ready =
+      let f = fresh-block in
+      let r = entry-fields (λ kind letter low high. own-words kind high ≤ length (drop (a + c) (part-words t k W))) φ (entry t k) is
+      (own-room t W k a c all n h room) in
+      record {
+        core = fresh-core φ L (drop (a + c) (part-words t k W)) f (fresh-own φ L (drop (a + c) (part-words t k W)) (f .zeros) r);
+        buffers = fresh-buffers φ L (drop (a + c) (part-words t k W)) (f .zeros 0 (omega arith)) (f .zeros 1 (omega arith)) (f .zeros 3 (omega arith));
+      }
+
+  fresh-parts : (Left Right : ℕ → List ℕ → Type 0) (us vs : List ℕ) →
+      take a (part-words t k W) ≡ us → take c (drop a (part-words t k W)) ≡ vs → Left 0 us → Right 0 vs →
+      Parts (Ready φ L 0) Left Right a c (part-words t k W)
+  fresh-parts Left Right us vs e f l r =
+      let zeros = fresh-block .zeros in
+      let z = zeros 0 (omega arith) in
+      let z′ = zeros 1 (omega arith) in
+      let z″ = zeros 3 (omega arith) in
+      record {
+        own = fresh-ready;
+        left = subst (λ p. Left p (take a (part-words t k W))) (omega arith) (subst (Left 0) (sym e) l);
+        right = subst (λ p. Right p (take c (drop a (part-words t k W)))) (omega arith) (subst (Right 0) (sym f) r);
+      }
+
+-- every block of the entries from f to k is fresh
+abbrev pub FreshFrom : List Entry → List ℕ → ℕ → ℕ → Type 0
+FreshFrom t W f k =
+    (j : ℕ) → f ≤ j → j ≤ k → FreshBlock (entry t j .kind) (entry t j .letter) (entry t j .low) (entry t j .high) (drop (offset t j) W)
+
+-- THEOREM: the words that open writes have the state at 0, on every log.
+pub fresh-state : (t : List Entry) (n : ℕ) → WellFormed t n → (W : List ℕ) → offset t n ≤ length W → (φ : Formula) (k : ℕ) → k < n →
+    FormulaAt t k φ → FreshFrom t W (first t k) k → (L : Log) → State φ L 0 (part-words t k W)
+unfolding FormulaAt State
+fresh-state t n ok W room (letter l) k h e fresh L =
+    let p = ok .leaf k h (ap (λ x. operands (x .kind)) e) in
+    let s = p .span-is in
+    let q = p .part-is in
+    fresh-parts t n W room (letter l) k 0 0 h e (omega arith) (fresh k (omega arith) (omega arith)) L Absent Absent _ _ refl refl tt tt
+fresh-state t n ok W room (not φ) k h (e, b, f) fresh L =
+    let u = ok .unary k h (ap (λ x. operands (x .kind)) e) in
+    let w = sym (words-at t n ok φ (k - 1) (omega arith) f) in
+    let i = one-first t W k (words φ) u w in
+    fresh-parts t n W room (not φ) k 0 (words φ) h e (one-part t W k (words φ) u w) (fresh k (omega arith) (omega arith)) L Absent (State φ L)
+    _ _ refl (one-right t W k (words φ) u w) tt
+    (fresh-state t n ok W room φ (k - 1) (omega arith) f (λ j g l. fresh j (omega arith) (omega arith)) L)
+fresh-state t n ok W room (or φ ψ) k h (e, b, f, g) fresh L =
+    let u = ok .binary k h (ap (λ x. operands (x .kind)) e) in
+    let w = sym (words-at t n ok φ (left t k) (omega arith) f) in
+    let w′ = sym (words-at t n ok ψ (k - 1) (omega arith) g) in
+    let i = two-first t W k (words φ) (words ψ) u w w′ in
+    fresh-parts t n W room (or φ ψ) k (words φ) (words ψ) h e (two-part t W k (words φ) (words ψ) u w w′) (fresh k (omega arith) (omega arith)) L
+    (State φ L) (State ψ L) _ _ (two-left t W k (words φ) (words ψ) u w w′) (two-right t W k (words φ) (words ψ) u w w′)
+    (fresh-state t n ok W room φ (left t k) (omega arith) f (λ j l l′. fresh j (omega arith) (omega arith)) L)
+    (fresh-state t n ok W room ψ (k - 1) (omega arith) g (λ j l l′. fresh j (omega arith) (omega arith)) L)
+fresh-state t n ok W room (previous low high φ) k h (e, b, f) fresh L =
+    let u = ok .unary k h (ap (λ x. operands (x .kind)) e) in
+    let w = sym (words-at t n ok φ (k - 1) (omega arith) f) in
+    let i = one-first t W k (words φ) u w in
+    fresh-parts t n W room (previous low high φ) k 0 (words φ) h e (one-part t W k (words φ) u w) (fresh k (omega arith) (omega arith)) L Absent (State φ L)
+    _ _ refl (one-right t W k (words φ) u w) tt
+    (fresh-state t n ok W room φ (k - 1) (omega arith) f (λ j g l. fresh j (omega arith) (omega arith)) L)
+fresh-state t n ok W room (next low high φ) k h (e, b, f) fresh L =
+    let u = ok .unary k h (ap (λ x. operands (x .kind)) e) in
+    let w = sym (words-at t n ok φ (k - 1) (omega arith) f) in
+    let i = one-first t W k (words φ) u w in
+    fresh-parts t n W room (next low high φ) k 0 (words φ) h e (one-part t W k (words φ) u w) (fresh k (omega arith) (omega arith)) L Absent (State φ L)
+    _ _ refl (one-right t W k (words φ) u w) tt
+    (fresh-state t n ok W room φ (k - 1) (omega arith) f (λ j g l. fresh j (omega arith) (omega arith)) L)
+fresh-state t n ok W room (since low high φ ψ) k h (e, b, f, g) fresh L =
+    let u = ok .binary k h (ap (λ x. operands (x .kind)) e) in
+    let w = sym (words-at t n ok φ (left t k) (omega arith) f) in
+    let w′ = sym (words-at t n ok ψ (k - 1) (omega arith) g) in
+    let i = two-first t W k (words φ) (words ψ) u w w′ in
+    fresh-parts t n W room (since low high φ ψ) k (words φ) (words ψ) h e (two-part t W k (words φ) (words ψ) u w w′) (fresh k (omega arith) (omega arith)) L
+    (State φ L) (State ψ L) _ _ (two-left t W k (words φ) (words ψ) u w w′) (two-right t W k (words φ) (words ψ) u w w′)
+    (fresh-state t n ok W room φ (left t k) (omega arith) f (λ j l l′. fresh j (omega arith) (omega arith)) L)
+    (fresh-state t n ok W room ψ (k - 1) (omega arith) g (λ j l l′. fresh j (omega arith) (omega arith)) L)
+fresh-state t n ok W room (until low high φ ψ) k h (e, b, f, g) fresh L =
+    let u = ok .binary k h (ap (λ x. operands (x .kind)) e) in
+    let w = sym (words-at t n ok φ (left t k) (omega arith) f) in
+    let w′ = sym (words-at t n ok ψ (k - 1) (omega arith) g) in
+    let i = two-first t W k (words φ) (words ψ) u w w′ in
+    fresh-parts t n W room (until low high φ ψ) k (words φ) (words ψ) h e (two-part t W k (words φ) (words ψ) u w w′) (fresh k (omega arith) (omega arith)) L
+    (State φ L) (State ψ L) _ _ (two-left t W k (words φ) (words ψ) u w w′) (two-right t W k (words φ) (words ψ) u w w′)
+    (fresh-state t n ok W room φ (left t k) (omega arith) f (λ j l l′. fresh j (omega arith) (omega arith)) L)
+    (fresh-state t n ok W room ψ (k - 1) (omega arith) g (λ j l l′. fresh j (omega arith) (omega arith)) L)
+
+-- the block of entry j is in its ranges, and holds the entry's copy
+pub record Ranged (t : List Entry) (W : List ℕ) (size j : ℕ) : Type 0 where
+  pub range : InRange size (cells-of (entry t j .kind) (entry t j .high)) (drop (offset t j) W)
+  pub copy : Copied (entry t j .kind) (entry t j .letter) (entry t j .low) (entry t j .high) (drop (offset t j) W)
+
+-- a formula's names in the entry's fields
+fields-entry : (P : (kind letter low high : ℕ) → Type 0) (φ : Formula) (e : Entry) → e ≡ root φ →
+    P (kind-of φ) (letter-of φ) (low-of φ) (high-of φ) → P (e .kind) (e .letter) (e .low) (e .high)
+fields-entry P φ e is p =
+    let f = fields-of φ in
+    subst (λ x. P (x .kind) (x .letter) (x .low) (x .high)) (sym is) (rw (f .kind, f .letter, f .low, f .high) p)
+
+own-ranged : (t : List Entry) (W : List ℕ) (φ : Formula) (L : Log) (g k a c : ℕ) → entry t k ≡ root φ → part t k ≡ a + c + own (entry t k) →
+    Ready φ L g (drop (a + c) (part-words t k W)) → (j : ℕ) → k ≤ j → j ≤ k → Ranged t W (L .size) j
+own-ranged t W φ L g k a c is all ready j l l′ =
+    let same = own-same t W k a c all in
+    let core = ready .core in
+    subst (Ranged t W (L .size)) (omega arith)
+    (record {
+      range =
+          fields-entry (λ kind letter low high. InRange (L .size) (cells-of kind high) (drop (offset t k) W)) φ (entry t k) is
+          (range-same (drop (a + c) (part-words t k W)) (drop (offset t k) W) same (core .range));
+      copy =
+          fields-entry (λ kind letter low high. Copied kind letter low high (drop (offset t k) W)) φ (entry t k) is
+          (copied-same (drop (a + c) (part-words t k W)) (drop (offset t k) W) same (core .copy));
+    })
+
+-- THEOREM: where the words have the state, every block is in its ranges and holds its entry's copy.
+pub state-ranges : (t : List Entry) (n : ℕ) → WellFormed t n → (W : List ℕ) (φ : Formula) (k : ℕ) → k < n → FormulaAt t k φ →
+    (L : Log) (g : ℕ) → State φ L g (part-words t k W) → (j : ℕ) → first t k ≤ j → j ≤ k → Ranged t W (L .size) j
+unfolding FormulaAt State
+state-ranges t n ok W (letter l) k h e L g s j from to =
+    let p = ok .leaf k h (ap (λ x. operands (x .kind)) e) in
+    let q = p .span-is in
+    let q′ = p .part-is in
+    own-ranged t W (letter l) L g k 0 0 e (omega arith) (s .own) j (omega arith) to
+state-ranges t n ok W (not φ) k h (e, b, f) L g s j from to =
+    let u = ok .unary k h (ap (λ x. operands (x .kind)) e) in
+    let w = sym (words-at t n ok φ (k - 1) (omega arith) f) in
+    let i = one-first t W k (words φ) u w in
+    ⊎-elim
+    (λ (l : k ≤ j). own-ranged t W (not φ) L g k 0 (words φ) e (one-part t W k (words φ) u w) (s .own) j l to)
+    (λ (l : j < k).
+    state-ranges t n ok W φ (k - 1) (omega arith) f L _ (subst (State φ L _) (one-right t W k (words φ) u w) (s .right)) j (omega arith) (omega arith))
+    (le-or-lt k j)
+state-ranges t n ok W (or φ ψ) k h (e, b, f, f′) L g s j from to =
+    let u = ok .binary k h (ap (λ x. operands (x .kind)) e) in
+    let w = sym (words-at t n ok φ (left t k) (omega arith) f) in
+    let w′ = sym (words-at t n ok ψ (k - 1) (omega arith) f′) in
+    let i = two-first t W k (words φ) (words ψ) u w w′ in
+    let i′ = two-next t W k (words φ) (words ψ) u w w′ in
+    ⊎-elim
+    (λ (l : k ≤ j). own-ranged t W (or φ ψ) L g k (words φ) (words ψ) e (two-part t W k (words φ) (words ψ) u w w′) (s .own) j l to)
+    (λ (l : j < k).
+    ⊎-elim
+    (λ (m : j ≤ left t k).
+    state-ranges t n ok W φ (left t k) (omega arith) f L _
+    (subst (State φ L _) (two-left t W k (words φ) (words ψ) u w w′) (s .left)) j (omega arith) m)
+    (λ (m : left t k < j).
+    state-ranges t n ok W ψ (k - 1) (omega arith) f′ L _
+    (subst (State ψ L _) (two-right t W k (words φ) (words ψ) u w w′) (s .right)) j (omega arith) (omega arith))
+    (le-or-lt j (left t k)))
+    (le-or-lt k j)
+state-ranges t n ok W (previous low high φ) k h (e, b, f) L g s j from to =
+    let u = ok .unary k h (ap (λ x. operands (x .kind)) e) in
+    let w = sym (words-at t n ok φ (k - 1) (omega arith) f) in
+    let i = one-first t W k (words φ) u w in
+    ⊎-elim
+    (λ (l : k ≤ j). own-ranged t W (previous low high φ) L g k 0 (words φ) e (one-part t W k (words φ) u w) (s .own) j l to)
+    (λ (l : j < k).
+    state-ranges t n ok W φ (k - 1) (omega arith) f L _ (subst (State φ L _) (one-right t W k (words φ) u w) (s .right)) j (omega arith) (omega arith))
+    (le-or-lt k j)
+state-ranges t n ok W (next low high φ) k h (e, b, f) L g s j from to =
+    let u = ok .unary k h (ap (λ x. operands (x .kind)) e) in
+    let w = sym (words-at t n ok φ (k - 1) (omega arith) f) in
+    let i = one-first t W k (words φ) u w in
+    ⊎-elim
+    (λ (l : k ≤ j). own-ranged t W (next low high φ) L g k 0 (words φ) e (one-part t W k (words φ) u w) (s .own) j l to)
+    (λ (l : j < k).
+    state-ranges t n ok W φ (k - 1) (omega arith) f L _ (subst (State φ L _) (one-right t W k (words φ) u w) (s .right)) j (omega arith) (omega arith))
+    (le-or-lt k j)
+state-ranges t n ok W (since low high φ ψ) k h (e, b, f, f′) L g s j from to =
+    let u = ok .binary k h (ap (λ x. operands (x .kind)) e) in
+    let w = sym (words-at t n ok φ (left t k) (omega arith) f) in
+    let w′ = sym (words-at t n ok ψ (k - 1) (omega arith) f′) in
+    let i = two-first t W k (words φ) (words ψ) u w w′ in
+    let i′ = two-next t W k (words φ) (words ψ) u w w′ in
+    ⊎-elim
+    (λ (l : k ≤ j). own-ranged t W (since low high φ ψ) L g k (words φ) (words ψ) e (two-part t W k (words φ) (words ψ) u w w′) (s .own) j l to)
+    (λ (l : j < k).
+    ⊎-elim
+    (λ (m : j ≤ left t k).
+    state-ranges t n ok W φ (left t k) (omega arith) f L _
+    (subst (State φ L _) (two-left t W k (words φ) (words ψ) u w w′) (s .left)) j (omega arith) m)
+    (λ (m : left t k < j).
+    state-ranges t n ok W ψ (k - 1) (omega arith) f′ L _
+    (subst (State ψ L _) (two-right t W k (words φ) (words ψ) u w w′) (s .right)) j (omega arith) (omega arith))
+    (le-or-lt j (left t k)))
+    (le-or-lt k j)
+state-ranges t n ok W (until low high φ ψ) k h (e, b, f, f′) L g s j from to =
+    let u = ok .binary k h (ap (λ x. operands (x .kind)) e) in
+    let w = sym (words-at t n ok φ (left t k) (omega arith) f) in
+    let w′ = sym (words-at t n ok ψ (k - 1) (omega arith) f′) in
+    let i = two-first t W k (words φ) (words ψ) u w w′ in
+    let i′ = two-next t W k (words φ) (words ψ) u w w′ in
+    ⊎-elim
+    (λ (l : k ≤ j). own-ranged t W (until low high φ ψ) L g k (words φ) (words ψ) e (two-part t W k (words φ) (words ψ) u w w′) (s .own) j l to)
+    (λ (l : j < k).
+    ⊎-elim
+    (λ (m : j ≤ left t k).
+    state-ranges t n ok W φ (left t k) (omega arith) f L _
+    (subst (State φ L _) (two-left t W k (words φ) (words ψ) u w w′) (s .left)) j (omega arith) m)
+    (λ (m : left t k < j).
+    state-ranges t n ok W ψ (k - 1) (omega arith) f′ L _
+    (subst (State ψ L _) (two-right t W k (words φ) (words ψ) u w w′) (s .right)) j (omega arith) (omega arith))
+    (le-or-lt j (left t k)))
+    (le-or-lt k j)
+
+-- THEOREMS, of a whole rule: its formula is the one that ends at its last entry.
+module _ (t : List Entry) (n : ℕ) (ok : WellFormed t n) (some : 0 < n) (whole : span t (n - 1) ≡ n) (φ : Formula) (last : FormulaAt t (n - 1) φ)
+    (W : List ℕ) where
+  rule-words : part-words t (n - 1) W ≡ take (words φ) W
+  unfolding offset
+  rule-words =
+      let z : first t (n - 1) ≡ 0 = omega arith in
+      ap₂ (λ w x. take w (drop (offset t x) W)) (words-at t n ok φ (n - 1) (omega arith) last) z
+
+  -- the words behind the header are those of the formula
+  pub rule-size : offset t n ≡ words φ
+  rule-size =
+      let w = words-at t n ok φ (n - 1) (omega arith) last in
+      let r = ok .words-are in
+      omega arith
+
+  pub fresh-rule : offset t n ≤ length W →
+      ((j : ℕ) → j < n → FreshBlock (entry t j .kind) (entry t j .letter) (entry t j .low) (entry t j .high) (drop (offset t j) W)) →
+      (L : Log) → State φ L 0 (take (words φ) W)
+  fresh-rule room fresh L =
+      rw rule-words at (fresh-state t n ok W room φ (n - 1) (omega arith) last (λ j l l′. fresh j (omega arith)) L)
+
+  pub rule-ranges : (L : Log) (g : ℕ) → State φ L g (take (words φ) W) → (j : ℕ) → j < n → Ranged t W (L .size) j
+  rule-ranges L g s j h =
+      state-ranges t n ok W φ (n - 1) (omega arith) last L g (rw rule-words s) j (omega arith) (omega arith)

@@ -1,0 +1,79 @@
+-- The words of a block after a chain of stores at literal indices. Assumes nothing.
+use Prim.Native.Nat.{ℕ, zero, suc, _+_, _≤_, _<_}
+use native.Mathlib.Omega.{arith}
+use mathlib.Core.Bool.{Bool, true, false, cond}
+use mathlib.Core.List.{List, [], _∷_}
+use mathlib.Core.Path.{_≡_, refl, sym, ap, _∙_}
+use lib.Dec.{eqb}
+use lib.ListN.{length, getD, set, length-set}
+use lib.Seq.{getD-set-same, getD-set-other}
+use borrow.Author.Tests.{eqb-true, eqb-false}
+use Rattle.mtl.specs.Formula.{Formula}
+use Rattle.mtl.specs.Log.{Log}
+use Rattle.mtl.proofs.Until.{progress-le-size}
+use Rattle.trace.specs.Format.{record-count}
+use Rattle.engine.specs.Block.{word, taken, left-count, right-count, Copied, Buffer}
+use Rattle.engine.specs.Step.{empty, left-to-do}
+
+-- a store: an index and the word put there
+pub record Store : Type 0 where
+  pub index : ℕ
+  pub value : ℕ
+
+abbrev pub put : ℕ → ℕ → Store
+put i v = record { index = i; value = v }
+
+-- the stores in the order of the code, the first first: `stores (put 0 x ∷ put 3 y ∷ []) b` is `set (set b 0 x) 3 y`
+abbrev pub stores : List Store → List ℕ → List ℕ
+stores [] b = b
+stores (w ∷ ws) b = stores ws (set b (w .index) (w .value))
+
+-- word k after them, from the words before
+abbrev pub after : List Store → (ℕ → ℕ) → ℕ → ℕ
+after [] f k = f k
+after (w ∷ ws) f k = after ws (λ j. cond (eqb j (w .index)) (w .value) (f j)) k
+
+-- every index lies in a block's first 16 words
+abbrev pub Inside : List Store → Type 0
+Inside [] = Unit {0}
+Inside (w ∷ ws) = (w .index < 16) × Inside ws
+
+word-set : (b : List ℕ) (i v k : ℕ) → i < length b → word (set b i v) k ≡ cond (eqb k i) v (word b k)
+word-set b i v k h = at (eqb k i) refl
+  where
+    at : (t : Bool) → eqb k i ≡ t → word (set b i v) k ≡ cond t v (word b k)
+    at true e = rw (eqb-true k i e) (getD-set-same b i v 0 h)
+    at false e = getD-set-other b i k v 0 (eqb-false k i e)
+
+after-same : (ws : List Store) (f g : ℕ → ℕ) → ((k : ℕ) → f k ≡ g k) → (k : ℕ) → after ws f k ≡ after ws g k
+after-same [] f g e k = e k
+after-same (w ∷ ws) f g e k = after-same ws _ _ (λ j. ap (cond (eqb j (w .index)) (w .value)) (e j)) k
+
+pub word-stores : (ws : List Store) (b : List ℕ) → Inside ws → 16 ≤ length b → (k : ℕ) → word (stores ws b) k ≡ after ws (word b) k
+word-stores [] b i l k = refl
+word-stores (w ∷ ws) b i l k =
+    word-stores ws (set b (w .index) (w .value)) (i .1) (simp length-set l) k ∙
+    after-same ws _ _ (λ j. word-set b (w .index) (w .value) j (omega (arith, i .0))) k
+
+-- a block whose last two words are kept still has its entry's copy
+pub copied : {kind letter low high : ℕ} {b b′ : List ℕ} → word b′ 14 ≡ word b 14 → word b′ 15 ≡ word b 15 → Copied kind letter low high b → Copied kind letter low high b′
+copied e f copy = record { head = e ∙ copy .head; ends = f ∙ copy .ends }
+
+-- what is left of a buffer after some of its positions are taken
+pub later : {φ : Formula} {L : Log} {p count answer p′ count′ answer′ : ℕ} → p ≤ p′ → p′ + count′ ≤ p + count → answer′ ≡ answer →
+    Buffer φ L p count answer → Buffer φ L p′ count′ answer′
+later l h e b =
+    let w = b .within in
+    record { within = omega arith; same = λ i lo hi. rw e (b .same i (omega arith) (omega arith)) }
+
+-- a buffer's positions lie within the log
+pub fits : {φ : Formula} {L : Log} {p count answer : ℕ} → Buffer φ L p count answer → p + count ≤ L .size
+fits {φ = φ} {L = L} b = omega (arith, b .within, progress-le-size φ L)
+
+empty-most : (n : ℕ) → empty n ≤ 1
+empty-most zero = omega arith
+empty-most (suc n) = omega arith
+
+-- a position taken leaves less to do
+pub less-to-do : (s b b′ : List ℕ) → taken b < record-count s → taken b′ ≡ taken b + 1 → left-to-do s b′ < left-to-do s b
+less-to-do s b b′ h e = omega (arith, empty-most (left-count b′), empty-most (right-count b′))

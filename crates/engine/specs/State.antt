@@ -1,0 +1,59 @@
+-- The state of a whole subformula: its part of the checkpoint is its operands' words, left then right, and its own block.
+use Prim.Native.Nat.{ℕ, _+_, _*_}
+use mathlib.Core.Bool.{Bool, true, false}
+use mathlib.Core.List.{List}
+use lib.ListN.{take, drop}
+use Rattle.mtl.specs.Formula.{Formula}
+use Rattle.mtl.specs.Formula.Formula.{letter, not, or, previous, next, since, until}
+use Rattle.mtl.specs.Log.{Log}
+use Rattle.engine.specs.Block.{taken, left-count, right-count, ring-words, Ready}
+
+-- "16 for each entry, and for since with a finite high (high + 1), for since without upper end 1, for until 2 × (high + 1)"
+unfoldable pub words : Formula → ℕ
+words (letter k) = 16
+words (not φ) = words φ + 16
+words (or φ ψ) = words φ + words ψ + 16
+words (previous low high φ) = words φ + 16
+words (next low high φ) = words φ + 16
+words (since low high φ ψ) = words φ + words ψ + (16 + ring-words high)
+words (until low high φ ψ) = words φ + words ψ + (16 + 2 * (high + 1))
+
+-- the words of the left operand, and of the right or only one
+abbrev pub left-words : Formula → ℕ
+left-words (letter k) = 0
+left-words (not φ) = 0
+left-words (or φ ψ) = words φ
+left-words (previous low high φ) = 0
+left-words (next low high φ) = 0
+left-words (since low high φ ψ) = words φ
+left-words (until low high φ ψ) = words φ
+
+abbrev pub right-words : Formula → ℕ
+right-words (letter k) = 0
+right-words (not φ) = words φ
+right-words (or φ ψ) = words ψ
+right-words (previous low high φ) = words φ
+right-words (next low high φ) = words φ
+right-words (since low high φ ψ) = words ψ
+right-words (until low high φ ψ) = words ψ
+
+-- a part of a words for the left operand and one of c words for the right, then the operator's own block; each operand
+-- itself stands where its buffer ends
+pub record Parts (Own : List ℕ → Type 0) (Left Right : ℕ → List ℕ → Type 0) (a c : ℕ) (ws : List ℕ) : Type 0 where
+  pub own : Own (drop (a + c) ws)
+  pub left : Left (taken (drop (a + c) ws) + left-count (drop (a + c) ws)) (take a ws)
+  pub right : Right (taken (drop (a + c) ws) + right-count (drop (a + c) ws)) (take c (drop a ws))
+
+-- where there is no operand nothing is asked of its words
+abbrev pub Absent : ℕ → List ℕ → Type 0
+Absent p ws = Unit {0}
+
+-- the words stand for the subformula at position g of the log: the next that it answers
+unfoldable pub State : Formula → Log → ℕ → List ℕ → Type 0
+State (letter k) L g = Parts (Ready (letter k) L g) Absent Absent 0 0
+State (not φ) L g = Parts (Ready (not φ) L g) Absent (State φ L) 0 (words φ)
+State (or φ ψ) L g = Parts (Ready (or φ ψ) L g) (State φ L) (State ψ L) (words φ) (words ψ)
+State (previous low high φ) L g = Parts (Ready (previous low high φ) L g) Absent (State φ L) 0 (words φ)
+State (next low high φ) L g = Parts (Ready (next low high φ) L g) Absent (State φ L) 0 (words φ)
+State (since low high φ ψ) L g = Parts (Ready (since low high φ ψ) L g) (State φ L) (State ψ L) (words φ) (words ψ)
+State (until low high φ ψ) L g = Parts (Ready (until low high φ ψ) L g) (State φ L) (State ψ L) (words φ) (words ψ)

@@ -1,0 +1,106 @@
+// The decoded rule laid out for the engine: a row of eight numbers for each entry, once for a call.
+ghost use mathlib.Core.Path.{_≡_};
+ghost use mathlib.Core.Bool.{true, cond};
+ghost use Prim.Native.Nat.{ℕ, _+_, _*_, _-_, _≤_, _<_};
+ghost use lib.ListN.{getD};
+ghost use lib.Seq.{sets};
+ghost use Rattle.rule.specs.Accepted.{WellFormed};
+ghost use Rattle.engine.specs.Table.{column, takes-left};
+ghost use Rattle.engine.specs.Layout.{first, first-from, left-from, row-of, Laid};
+use rule::Entry;
+
+// or, since, until.
+fn takes_left(kind: u8) -> bool
+    ensures { λ r. ⌜ r ≡ takes-left kind ⌝ }
+{
+    (kind == 2) | ((kind == 5) | (kind == 6))
+}
+
+// The entry before; entry 0 has none, and takes no operand.
+fn one_less(k: usize) -> usize
+    ensures { λ r. ⌜ r ≡ k - 1 ⌝ }
+{
+    if k == 0 { 0 } else { k - 1 }
+}
+
+// The entry before the first of the right operand's entries.
+fn left_entry(takes: bool, k: usize, firsts: &[usize; 128]) -> usize
+    requires { ⌜ k ≤ 128 ⌝ }
+    ensures { λ r. ⌜ r ≡ left-from takes k (now (firsts .entry)) ⌝ }
+{
+    if takes {
+        one_less(firsts[one_less(k)])
+    } else {
+        0
+    }
+}
+
+// The first entry of the subformula that ends at entry k: the left operand's, or the right or only one's, or its own.
+fn first_entry(kind: u8, k: usize, firsts: &[usize; 128]) -> usize
+    requires { ⌜ (k ≤ 128) × (takes-left kind ≡ true → getD (now firsts) (k - 1) 0 ≤ 128) ⌝ }
+    ensures { λ r. ⌜ r ≡ first-from kind k (now (firsts .entry)) ⌝ }
+{
+    if takes_left(kind) {
+        return firsts[left_entry(true, k, firsts)];
+    }
+    if kind != 0 { firsts[one_less(k)] } else { k }
+}
+
+// The first entry of each subformula.
+fn first_entries(entries: [Entry; 128], count: usize) -> [usize; 128]
+    requires { ⌜ (count ≤ 128) × WellFormed entries count ⌝ }
+    ensures { λ r. ⌜ ((k : ℕ) → k < count → getD r k 0 ≡ first entries k) ⌝ }
+{
+    let mut firsts = [0usize; 128];
+    let mut k: usize = 0;
+    while k < count {
+        let e = entries[k];
+        let at = first_entry(e.kind, k, &firsts);
+        firsts[k] = at;
+        k += 1;
+    }
+    firsts
+}
+
+// The words of an operand, from its row.
+fn words_of(takes: bool, operand: usize, table: &[u64; 1024]) -> u64
+    requires { ⌜ operand < 128 ⌝ }
+    ensures { λ r. ⌜ r ≡ cond takes (column 7 (now (table .entry)) operand) 0 ⌝ }
+{
+    if takes { table[operand * 8 + 7] } else { 0 }
+}
+
+// A row, at its place: a words for the left operand and c for the right one.
+fn put(table: &mut [u64; 1024], at: usize, e: Entry, left: usize, a: u64, c: u64)
+    requires { ⌜ (at + 8 ≤ 1024) × (a ≤ 8192) × (c ≤ 8192) ⌝ }
+    ensures { λ _. ⌜ now (table .exit) ≡ sets (now (table .entry)) at (row-of e left a c) ⌝ }
+{
+    table[at] = e.kind as u64;
+    table[at + 1] = e.letter as u64;
+    table[at + 2] = e.low as u64;
+    table[at + 3] = e.high as u64;
+    table[at + 4] = left as u64;
+    table[at + 5] = a;
+    table[at + 6] = c;
+    table[at + 7] = a + c + rule::own_words(e);
+}
+
+// The rows of an accepted rule's entries, each from those of its operands, which stand before it; 0 behind them.
+pub fn lay_out(entries: [Entry; 128], count: usize) -> [u64; 1024]
+    requires { ⌜ (count ≤ 128) × WellFormed entries count ⌝ }
+    ensures { λ r. ⌜ Laid entries count r ⌝ }
+{
+    let firsts = first_entries(entries, count);
+    let mut table = [0u64; 1024];
+    let mut k: usize = 0;
+    while k < count {
+        let e = entries[k];
+        let takes = takes_left(e.kind);
+        let left = left_entry(takes, k, &firsts);
+        let left_words = words_of(takes, left, &table);
+        let right_words = words_of(e.kind != 0, one_less(k), &table);
+        put(&mut table, k * 8, e, left, left_words, right_words);
+        k += 1;
+    }
+    table
+}

@@ -1,0 +1,91 @@
+// Answers a formula's positions one run after the other, from a log's records and the lent words of a checkpoint.
+ghost use mathlib.Core.Path.{_≡_};
+ghost use mathlib.Core.Bool.{true, false};
+ghost use Prim.Native.Nat.{ℕ, _+_, _*_, _≤_, _<_};
+ghost use lib.ListN.{length};
+ghost use Rattle.engine.specs.Answer.{Answers};
+ghost use Rattle.engine.specs.Ask.{Asks};
+ghost use Rattle.engine.specs.Table.{RowsOk, column};
+
+mod blocks;
+mod connective;
+pub mod layout;
+mod letter;
+mod neighbour;
+mod operator;
+mod ring;
+mod since;
+mod table;
+mod time;
+mod until;
+
+use operator::Step;
+
+// What an entry answers: the same verdict for count positions from its next one on, or that it is open.
+pub enum Reply {
+    Run { holds: bool, count: u64 },
+    Open,
+}
+
+// Asks entry k for its next answer. Its words are its operands' words, left then right, and its own block.
+pub fn answer(table: &[u64; 1024], records: &[u8], k: usize, words: &mut [u64]) -> Reply
+    requires { ⌜ (k < 128) × RowsOk (now table) k × (length (now words) ≡ column 7 (now table) k) ⌝ }
+    ensures { λ r. ⌜ Answers (now (table .entry)) (now (records .entry)) k (now (words .entry)) r (now (words .exit)) ⌝ }
+{
+    let kind = table::field(table, k, 0);
+    let letter = table::field(table, k, 1);
+    let low = table::field(table, k, 2);
+    let high = table::field(table, k, 3);
+    let left = table::field(table, k, 4) as usize;
+    let middle = table::field(table, k, 5) as usize;
+    let own = middle + table::field(table, k, 6) as usize;
+    let end = words.len();
+    loop {
+        let step = operator::advance(kind, letter, low, high, records, &mut words[own..end]);
+        match step {
+            Step::Run { holds, count } => {
+                return Reply::Run { holds, count };
+            }
+            Step::Open => {
+                return Reply::Open;
+            }
+            Step::Again => {}
+            Step::Left => {
+                let filled = ask(table, records, left, 0, middle, own + 1, words);
+                if !filled {
+                    return Reply::Open;
+                }
+            }
+            Step::Right => {
+                let filled = ask(table, records, k - 1, middle, own, own + 3, words);
+                if !filled {
+                    return Reply::Open;
+                }
+            }
+        }
+    }
+}
+
+// Fills an operand's buffer at `slot` by asking it; false where the operand is open.
+pub fn ask(
+    table: &[u64; 1024],
+    records: &[u8],
+    operand: usize,
+    from: usize,
+    to: usize,
+    slot: usize,
+    words: &mut [u64],
+) -> bool
+    requires { ⌜ (operand < 128) × RowsOk (now table) operand × (from + column 7 (now table) operand ≡ to) × (to ≤ length (now words)) × (slot + 1 < length (now words)) ⌝ }
+    ensures { λ r. ⌜ Asks (now (table .entry)) (now (records .entry)) operand from to slot (now (words .entry)) r (now (words .exit)) ⌝ }
+{
+    let reply = answer(table, records, operand, &mut words[from..to]);
+    let Reply::Run { holds, count } = reply else {
+        return false;
+    };
+    if count == 0 {
+        return false;
+    }
+    blocks::store(words, slot, holds, count);
+    true
+}

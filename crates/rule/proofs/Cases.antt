@@ -1,0 +1,46 @@
+-- The measuring rows of document 01, worked out by the definitions.
+use Prim.Native.Nat.{ℕ, _/_, _%_}
+use mathlib.Core.Path.{_≡_, refl}
+use mathlib.Core.List.{List, [], _∷_, _++_}
+use lib.ListN.{length, set}
+use Rattle.mtl.specs.Formula.{Formula, reach, has-next}
+use Rattle.mtl.specs.Formula.Formula.{letter, until}
+use Rattle.mtl.specs.Satisfaction.{any}
+use Rattle.rule.specs.declared.Entry.{Entry}
+use Rattle.rule.specs.Entries.{first-entries}
+use Rattle.rule.specs.Words.{offset}
+use Rattle.rule.specs.Postfix.{push-kind, read, postfix}
+use Rattle.rule.specs.Refusal.{header-refusal, entries-refusal}
+use Rattle.rule.specs.Measure.{measured}
+
+abbrev pub bytes-of : ℕ → List ℕ
+bytes-of n = n / 16777216 ∷ n / 65536 % 256 ∷ n / 256 % 256 ∷ n % 256 ∷ []
+
+unfoldable pub body : List Entry → List ℕ
+body [] = []
+body (e ∷ es) = e .kind ∷ e .letter ∷ bytes-of (e .low) ++ bytes-of (e .high) ++ body es
+
+-- the rule of a formula, as document 01 has it in bytes
+unfoldable pub rule-of : Formula → List ℕ
+rule-of φ = 0x4B ∷ 0x52 ∷ 0x4C ∷ 0 ∷ 1 ∷ length (postfix φ) ∷ 0 ∷ 0 ∷ body (postfix φ)
+
+-- the answer of weighing
+abbrev pub Weighs : List ℕ → ℕ → ℕ → ℕ → Type 0
+Weighs s number words far = measured s ≡ record { number = number; words = words; reach = far }
+
+abbrev pub P1 : Formula
+P1 = until 0 2 (letter 0) (letter 1)
+
+abbrev pub P10 : ℕ → Formula
+P10 high = until 0 high (until 0 3600 (letter 0) (letter 1)) (letter 2)
+
+pub rows :
+    (length (rule-of P1) ≡ 38)
+    × Weighs (rule-of P1) 0 70 2
+    × Weighs (rule-of (P10 446)) 0 8192 4046
+    × Weighs (rule-of (P10 447)) 8 0 0
+    × Weighs (rule-of (until 0 3600 (letter 0) (letter 1))) 0 7266 3600
+    × Weighs (rule-of (until 0 3601 (letter 0) (letter 1))) 6 0 0
+    × Weighs (set (set (rule-of P1) 4 2) 5 0) 2 0 0
+unfolding rule-of body postfix header-refusal entries-refusal first-entries any offset read push-kind reach has-next
+rows = (refl, refl, refl, refl, refl, refl, refl)

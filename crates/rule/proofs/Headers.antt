@@ -1,0 +1,88 @@
+-- What the header's answer says of the whole answer, and what an accepted header says of the bytes.
+use Prim.Native.Nat.{ℕ, suc, _+_, _*_, _≤_, _<_}
+use native.Mathlib.Omega.{arith}
+use borrow.Author.Tests.{eqb-true, eqb-false, ltb-false, lt-ltb, not-false}
+use mathlib.Core.Path.{_≡_, refl, ap, _∙_}
+use mathlib.Core.Bool.{Bool, true, false, _||_, not}
+use mathlib.Core.List.{List}
+use lib.Dec.{eqb, ltb}
+use lib.ListN.{length}
+use Rattle.rule.specs.declared.Header.the-variants.{Count, Stopped}
+use Rattle.rule.specs.Bytes.{byte}
+use Rattle.rule.specs.Entries.{count, decoded}
+use Rattle.rule.specs.Refusal.{first, before, unmarked, other-version, empty, malformed, header-refusal, entries-refusal, refusal}
+use Rattle.rule.specs.Measure.{refused, measured}
+use Rattle.rule.specs.Code.{measured-entries, header}
+
+-- no refusal: neither this one nor a later one
+pub first-zero : (n : ℕ) (b : Bool) (other : ℕ) → first (suc n) b other ≡ 0 → (b ≡ false) × (other ≡ 0)
+first-zero n true other e = absurd (omega arith)
+first-zero n false other e = (refl, e)
+
+pub or-left : (a b : Bool) → a || b ≡ false → a ≡ false
+or-left true b e = e
+or-left false b e = refl
+
+pub or-right : (a b : Bool) → a || b ≡ false → b ≡ false
+or-right true b e = cc
+or-right false b e = e
+
+before-zero : (m n : ℕ) → m ≡ 0 → before m n ≡ n
+before-zero m n e = rw e refl
+
+before-other : (m n : ℕ) → eqb m 0 ≡ false → before m n ≡ m
+before-other m n e =
+    let l : 0 < m = pos m (eqb-false m 0 e) in
+    simp (lt-ltb 0 m l)
+  where
+    pos : (m : ℕ) → (m ≡ 0 → ⊥) → 0 < m
+    pos m h = omega arith
+
+pub stopped : (s : List ℕ) (m : ℕ) → header s ≡ Stopped m → refused m ≡ measured s
+stopped s m e = go (eqb (header-refusal s) 0) refl
+  where
+    go : (b : Bool) → eqb (header-refusal s) 0 ≡ b → refused m ≡ measured s
+    go true p = let q : Count (count s) ≡ Stopped m = simp p at e in cc
+    go false p =
+        let q : Stopped (header-refusal s) ≡ Stopped m = simp p at e in
+        let b : refusal s ≡ header-refusal s = before-other (header-refusal s) (entries-refusal (decoded s) (count s)) p in
+        let r : m ≡ header-refusal s = cc in
+        ap refused r ∙ simp (b, p)
+
+-- an accepted header
+pub record Headed (s : List ℕ) : Type 0 where
+  pub counts : 0 < count s
+  pub few : count s ≤ 128
+  pub size : length s ≡ 8 + count s * 10
+
+pub headed : (s : List ℕ) → header-refusal s ≡ 0 → Headed s
+unfolding header-refusal
+headed s e =
+    let a = first-zero 0 (unmarked s) _ e in
+    let b = first-zero 1 (other-version s) _ (a .1) in
+    let c = first-zero 2 (empty s) _ (b .1) in
+    let d = first-zero 3 (malformed s) 0 (c .1) in
+    let f = or-left (ltb 128 (count s) || not (eqb (byte s 6) 0) || not (eqb (byte s 7) 0)) (not (eqb (length s) (8 + count s * 10))) (d .0) in
+    record {
+      counts = let n : count s ≡ 0 → ⊥ = eqb-false (count s) 0 (c .0) in omega arith;
+      few = ltb-false 128 (count s) (or-left (ltb 128 (count s)) (not (eqb (byte s 6) 0)) (or-left _ (not (eqb (byte s 7) 0)) f));
+      size =
+          eqb-true (length s) (8 + count s * 10)
+          (not-false _
+          (or-right (ltb 128 (count s) || not (eqb (byte s 6) 0) || not (eqb (byte s 7) 0)) (not (eqb (length s) (8 + count s * 10))) (d .0)));
+    }
+
+pub record Counted (s : List ℕ) (n : ℕ) : Type 0 where
+  pub is-count : n ≡ count s
+  pub accepted : header-refusal s ≡ 0
+  pub answer-is : measured s ≡ measured-entries (decoded s) (count s)
+
+pub counted : (s : List ℕ) (n : ℕ) → header s ≡ Count n → Counted s n
+counted s n e = go (eqb (header-refusal s) 0) refl
+  where
+    go : (b : Bool) → eqb (header-refusal s) 0 ≡ b → Counted s n
+    go true p =
+        let z : header-refusal s ≡ 0 = eqb-true (header-refusal s) 0 p in
+        let q : Count (count s) ≡ Count n = simp p at e in
+        record { is-count = cc; accepted = z; answer-is = simp z }
+    go false p = let q : Stopped (header-refusal s) ≡ Count n = simp p at e in let z : _≡_ {A = ℕ} 0 1 = cc in absurd (omega arith)

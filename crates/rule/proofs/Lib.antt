@@ -1,0 +1,15 @@
+-- Laws of the rule format that the functions' proofs and the layers above cite.
+pub mod Laws
+pub mod Stacks
+pub mod Run
+pub mod Nexts
+pub mod Answers
+pub mod Headers
+pub mod Spans
+pub mod Subformulas
+pub mod Ranges
+pub mod Flat
+pub mod Decoded
+pub mod Acceptance
+pub mod Outcome
+pub mod Cases

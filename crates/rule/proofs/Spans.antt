@@ -1,0 +1,99 @@
+-- The spans of subformulas, and the words that go with them, from those of the operands.
+use Prim.Native.Nat.{ℕ, zero, suc, _+_, _-_, _≤_, _<_}
+use native.Mathlib.Omega.{arith}
+use mathlib.Core.Path.{_≡_, refl, sym, ap, subst, _∙_}
+use mathlib.Core.List.{List}
+use lib.ListN.{getD}
+use Rattle.rule.specs.declared.Entry.{Entry}
+use Rattle.rule.specs.Entries.{entry}
+use Rattle.rule.specs.Words.{own, offset}
+use Rattle.rule.specs.Operands.{operands, next-span, spans, span, left, Leaf, Unary, Binary}
+use Rattle.rule.proofs.Laws.{grown-at}
+
+spans-have : (t : List Entry) (n k : ℕ) → k < n → getD (spans t n) k 0 ≡ next-span (operands (entry t k .kind)) (spans t k) k
+unfolding spans
+spans-have t n k h =
+    grown-at 0 (spans t) (λ (m : ℕ). next-span (operands (entry t m .kind)) (spans t m) m) refl (λ m. refl) n k h
+
+span-is : (t : List Entry) (k : ℕ) → span t k ≡ next-span (operands (entry t k .kind)) (spans t k) k
+span-is t k = spans-have t (suc k) k (omega arith)
+
+-- the spans of the first n entries are the entries' own
+spans-at : (t : List Entry) (n k : ℕ) → k < n → getD (spans t n) k 0 ≡ span t k
+spans-at t n k h = spans-have t n k h ∙ sym (span-is t k)
+
+module _ (t : List Entry) (k : ℕ) where
+  pub span-leaf : operands (entry t k .kind) ≡ 0 → span t k ≡ 1
+  span-leaf e = span-is t k ∙ ap (λ (m : ℕ). next-span m (spans t k) k) e
+
+  pub span-unary : operands (entry t k .kind) ≡ 1 → 0 < k → span t k ≡ 1 + span t (k - 1)
+  span-unary e h =
+      span-is t k
+      ∙ ap (λ (m : ℕ). next-span m (spans t k) k) e
+      ∙ ap (λ (m : ℕ). 1 + m) (spans-at t k (k - 1) (omega arith))
+
+  pub span-binary : operands (entry t k .kind) ≡ 2 → span t (k - 1) < k → span t k ≡ 1 + span t (k - 1) + span t (left t k)
+  span-binary e h =
+      let r : getD (spans t k) (k - 1) 0 ≡ span t (k - 1) = spans-at t k (k - 1) (omega arith) in
+      span-is t k
+      ∙ ap (λ (m : ℕ). next-span m (spans t k) k) e
+      ∙ ap (λ (m : ℕ). 1 + m + getD (spans t k) (k - 1 - m) 0) r
+      ∙ ap (λ (m : ℕ). 1 + span t (k - 1) + m) (spans-at t k (left t k) (omega arith))
+
+-- the words of more entries are no fewer
+offset-grows : (t : List Entry) (i j : ℕ) → offset t i ≤ offset t (i + j)
+unfolding offset
+offset-grows t i zero = let e : i + 0 ≡ i = omega arith in rw e (omega arith)
+offset-grows t i (suc j) =
+    let e : i + suc j ≡ suc (i + j) = omega arith in
+    let h = offset-grows t i j in
+    rw e (omega arith)
+
+pub offset-mono : (t : List Entry) (i j : ℕ) → i ≤ j → offset t i ≤ offset t j
+offset-mono t i j h = let e : i + (j - i) ≡ j = omega arith in subst (λ (m : ℕ). offset t i ≤ offset t m) e (offset-grows t i (j - i))
+
+offset-suc : (t : List Entry) (k : ℕ) → offset t (suc k) ≡ offset t k + own (entry t k)
+unfolding offset
+offset-suc t k = refl
+
+module _ (t : List Entry) (k : ℕ) where
+  pub leaf-of : operands (entry t k .kind) ≡ 0 → Leaf t k
+  leaf-of e =
+      let s = span-leaf t k e in
+      let i : suc k - span t k ≡ k = omega arith in
+      let p = ap (offset t) i in
+      record { span-is = s; part-is = omega (arith, offset-suc t k, p) }
+
+  pub unary-of : operands (entry t k .kind) ≡ 1 → 0 < k → span t (k - 1) ≤ k → Unary t k
+  unary-of e h f =
+      let s = span-unary t k e h in
+      let i : suc k - span t k ≡ suc (k - 1) - span t (k - 1) = omega arith in
+      let j : suc (k - 1) ≡ k = omega arith in
+      record {
+        below = h;
+        span-is = s;
+        part-is =
+            omega
+            (arith, offset-suc t k, ap (offset t) i, ap (offset t) j, offset-mono t (suc (k - 1) - span t (k - 1)) (suc (k - 1)) (omega arith));
+      }
+
+  pub binary-of : operands (entry t k .kind) ≡ 2 → span t (k - 1) < k → span t (left t k) ≤ suc (left t k) → Binary t k
+  binary-of e h f =
+      let s = span-binary t k e h in
+      let i : suc k - span t k ≡ suc (left t k) - span t (left t k) = omega arith in
+      let j : suc (k - 1) ≡ k = omega arith in
+      let m : suc (k - 1) - span t (k - 1) ≡ suc (left t k) = omega arith in
+      record {
+        below = h;
+        span-is = s;
+        part-is =
+            omega (
+              arith,
+              offset-suc t k,
+              ap (offset t) i,
+              ap (offset t) j,
+              ap (offset t) m,
+              offset-mono t (suc (left t k) - span t (left t k)) (suc (left t k)) (omega arith),
+              offset-mono t (suc (left t k)) (suc (k - 1)) (omega arith),
+            );
+      }

@@ -1,0 +1,84 @@
+-- `rule::header_reason` meets its contract: its tests are those of `header-refusal`, by what the callees ensure.
+use borrow.Author.Needs.{needs}
+use Rattle.rule.specs.Refusal.{header-refusal}
+use Rattle.rule.proofs.header_reason.Statement.{statement}
+use Rattle.rule.proofs.header_reason.Tie as tie
+
+entry-count-requires : tie.Need-entry-count-requires
+entry-count-requires c κs = search needs
+
+slice-aggregate-lacks-mark : tie.Need-slice-aggregate-lacks-mark
+slice-aggregate-lacks-mark c = search needs
+
+lacks-mark-requires : tie.Need-lacks-mark-requires
+lacks-mark-requires c κs = search needs
+
+byte-at-requires : tie.Need-byte-at-requires
+byte-at-requires c κs = search needs
+
+wide-requires : tie.Need-wide-requires
+wide-requires c κs = search needs
+
+mul-version : tie.Need-mul-version
+mul-version c = search needs
+
+byte-at-requires-2 : tie.Need-byte-at-requires-2
+byte-at-requires-2 c κs = search needs
+
+wide-requires-2 : tie.Need-wide-requires-2
+wide-requires-2 c κs = search needs
+
+add-version : tie.Need-add-version
+add-version c = search needs
+
+byte-at-requires-3 : tie.Need-byte-at-requires-3
+byte-at-requires-3 c κs = search needs
+
+byte-at-requires-4 : tie.Need-byte-at-requires-4
+byte-at-requires-4 c κs = search needs
+
+mul-malformed : tie.Need-mul-malformed
+mul-malformed c = search needs
+
+add-malformed : tie.Need-add-malformed
+add-malformed c = search needs
+
+refuse-requires : tie.Need-refuse-requires
+refuse-requires c κs = search needs
+
+refuse-requires-2 : tie.Need-refuse-requires-2
+refuse-requires-2 c κs = search needs
+
+refuse-requires-3 : tie.Need-refuse-requires-3
+refuse-requires-3 c κs = search needs
+
+refuse-requires-4 : tie.Need-refuse-requires-4
+refuse-requires-4 c κs = search needs
+
+returns : tie.Need-returns
+unfolding header-refusal
+returns c =
+    simp (c .refuse4 .ensures, c .before .refuse3 .ensures, c .before .before .refuse2 .ensures, c .before .before .before .refuse .ensures, c .before .before .before .before .byte-at4 .ensures, c .before .before .before .before .before .byte-at3 .ensures, c .before .before .before .before .before .before .wide2 .ensures .0, c .before .before .before .before .before .before .before .byte-at2 .ensures, c .before .before .before .before .before .before .before .before .wide .ensures .0, c .before .before .before .before .before .before .before .before .before .byte-at .ensures, c .before .before .before .before .before .before .before .before .before .before .lacks-mark .ensures, c .before .before .before .before .before .before .before .before .before .before .before .before .entry-count .ensures .0)
+
+pub header-reason-spec : {M : Type 1} → statement M
+header-reason-spec =
+    tie.close
+    (tie.spec
+    entry-count-requires
+    slice-aggregate-lacks-mark
+    lacks-mark-requires
+    byte-at-requires
+    wide-requires
+    mul-version
+    byte-at-requires-2
+    wide-requires-2
+    add-version
+    byte-at-requires-3
+    byte-at-requires-4
+    mul-malformed
+    add-malformed
+    refuse-requires
+    refuse-requires-2
+    refuse-requires-3
+    refuse-requires-4
+    returns)

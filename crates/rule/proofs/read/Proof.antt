@@ -1,0 +1,127 @@
+-- `rule::read` meets its contract. The loop's invariant: the array holds the reaches of the formulas on the stack after k entries.
+use Prim.Native.Nat.{_<_, zero-le, _+_, _-_, _≤_}
+use native.Mathlib.Omega.{arith}
+use borrow.Author.Needs.{needs}
+use mathlib.Core.Path.{_≡_, sym}
+use Rattle.rule.specs.Entries.{entry}
+use Rattle.rule.specs.Operands.{operands}
+use Rattle.rule.proofs.Run.{Running, none-read, one-more, lacks-operand, one-formula, other-than-one}
+use Rattle.rule.proofs.read.Statement.{statement}
+use Rattle.rule.proofs.read.Tie as tie
+
+abbrev Inv-loop : tie.InvT-loop
+Inv-loop count table stack₀ depth₀ k₀ stack depth k = (k ≤ count) × Running table stack depth k
+
+abbrev μ-loop : tie.MeasureT-loop
+μ-loop count table stack₀ depth₀ k₀ stack depth k = count - k
+
+loop-holds : tie.Need-loop-holds Inv-loop μ-loop
+loop-holds c = (zero-le, none-read (c .args .t1))
+
+mul-e : tie.Need-mul-e Inv-loop μ-loop
+mul-e c = search needs
+
+array-copy-out-e : tie.Need-array-copy-out-e Inv-loop μ-loop
+array-copy-out-e c = search needs
+
+operands-of-requires : tie.Need-operands-of-requires Inv-loop μ-loop
+operands-of-requires c κs = search needs
+
+returns : tie.Need-returns Inv-loop μ-loop
+returns c =
+    let i = c .before .before .before .before .loop in
+    let a = c .before .before .before .before .before .args in
+    let l : i .depth < operands (entry (a .t1) (i .k) .kind) = omega (arith, c .before .operands-of .ensures) in
+    sym (lacks-operand (a .t1) (i .stack) (i .depth) (i .k) (a .count) (i .inv .1) (omega arith) (omega arith) l)
+
+add-at : tie.Need-add-at Inv-loop μ-loop
+add-at c = search needs
+
+sub-at : tie.Need-sub-at Inv-loop μ-loop
+sub-at c = search needs
+
+mul-joined : tie.Need-mul-joined Inv-loop μ-loop
+mul-joined c = search needs
+
+array-read-joined : tie.Need-array-read-joined Inv-loop μ-loop
+array-read-joined c = search needs
+
+mul-joined-2 : tie.Need-mul-joined-2 Inv-loop μ-loop
+mul-joined-2 c = search needs
+
+array-read-joined-2 : tie.Need-array-read-joined-2 Inv-loop μ-loop
+array-read-joined-2 c = search needs
+
+joined-requires : tie.Need-joined-requires Inv-loop μ-loop
+joined-requires c κs =
+    let i = c .before .before .before .before .loop in
+    omega (arith, i .inv .1 .bound (i .depth + 1 - c .before .operands-of .result), i .inv .1 .bound (i .depth))
+
+mul-stack : tie.Need-mul-stack Inv-loop μ-loop
+mul-stack c = search needs
+
+array-write-stack : tie.Need-array-write-stack Inv-loop μ-loop
+array-write-stack c = search needs
+
+add-k : tie.Need-add-k Inv-loop μ-loop
+add-k c = search needs
+
+loop-less : tie.Need-loop-less Inv-loop μ-loop
+loop-less c = search needs
+
+loop-again : tie.Need-loop-again Inv-loop μ-loop
+loop-again c =
+    let i = c .before .before .before .before .before .loop in
+    let a = c .before .before .before .before .before .before .args in
+    let e = c .before .before .operands-of .ensures in
+    let l : operands (entry (a .t1) (i .k) .kind) ≤ i .depth = omega (arith, e) in (
+      omega arith,
+      rw e
+          (one-more (a .t1) (i .stack) (i .depth) (i .k) (c .joined .result) (i .inv .1) (omega arith) (omega arith) l
+          (rw e at (c .joined .ensures .0)) (rw e at (c .joined .ensures .1))),
+    )
+
+array-read-t30 : tie.Need-array-read-t30 Inv-loop μ-loop
+array-read-t30 c = search needs
+
+returns-2 : tie.Need-returns-2 Inv-loop μ-loop
+returns-2 c =
+    let i = c .before .before .loop in
+    let a = c .before .before .before .args in
+    let e : i .k ≡ a .count = omega arith in
+    let r : Running (a .t1) (i .stack) 1 (a .count) = rw (e, c .if2 .taken) at (i .inv .1) in
+    sym (one-formula (a .t1) (i .stack) (a .count) r)
+
+returns-3 : tie.Need-returns-3 Inv-loop μ-loop
+returns-3 c =
+    let i = c .before .before .loop in
+    let a = c .before .before .before .args in
+    let e : i .k ≡ a .count = omega arith in
+    sym (other-than-one (a .t1) (i .stack) (i .depth) (a .count) (rw e at (i .inv .1)) (c .if2 .left))
+
+pub read-spec : {M : Type 1} → statement M
+read-spec =
+    tie.close
+    (tie.spec
+    Inv-loop
+    μ-loop
+    loop-holds
+    mul-e
+    array-copy-out-e
+    operands-of-requires
+    returns
+    add-at
+    sub-at
+    mul-joined
+    array-read-joined
+    mul-joined-2
+    array-read-joined-2
+    joined-requires
+    mul-stack
+    array-write-stack
+    add-k
+    loop-less
+    loop-again
+    array-read-t30
+    returns-2
+    returns-3)

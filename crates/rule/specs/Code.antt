@@ -1,0 +1,59 @@
+-- What the crate's own functions answer, between the bytes and the answer of `measure`.
+use Prim.Native.Nat.{ℕ, _+_, max}
+use mathlib.Core.Bool.{Bool, cond, _&&_, _||_, not}
+use mathlib.Core.List.{List}
+use mathlib.Core.Option.{Option, none, some}
+use lib.Dec.{eqb}
+use lib.ListN.{getD}
+use Rattle.mtl.specs.Formula.{Formula}
+use Rattle.mtl.specs.Formula.{reach as formula-reach}
+use Rattle.mtl.specs.Satisfaction.{any}
+use Rattle.rule.specs.declared.Entry.{Entry}
+use Rattle.rule.specs.declared.Totals.{Totals}
+use Rattle.rule.specs.declared.Header.{Header}
+use Rattle.rule.specs.declared.Header.the-variants.{Count, Stopped}
+use Rattle.rule.specs.declared.Reading.{Reading}
+use Rattle.rule.specs.declared.Reading.the-variants.{Reach, Faulty}
+use Rattle.rule.specs.Entries.{count, entry}
+use Rattle.rule.specs.Words.{own, offset}
+use Rattle.rule.specs.Refusal.{misshapen, misplaced, misshapen-at, misplaced-at, header-refusal, entries-refusal}
+use Rattle.rule.specs.Measure.{Answer, answer-by}
+
+-- the list does not begin with the mark
+abbrev pub lacks : List ℕ → List ℕ → Bool
+lacks s m = not (eqb (getD s 0 0) (getD m 0 0) && eqb (getD s 1 0) (getD m 1 0) && eqb (getD s 2 0) (getD m 2 0))
+
+-- the reach of an entry's formula from the reaches of its operands; both are the same where there is one operand
+abbrev pub joined-reach : Entry → ℕ → ℕ → ℕ
+joined-reach e left right = cond (eqb (e .kind) 0) 0 (cond (eqb (e .kind) 6) (e .high + max left right) (max left right))
+
+abbrev pub next-at : List Entry → ℕ → Bool
+next-at t k = eqb (entry t k .kind) 4
+
+-- the sums over the first n entries
+abbrev pub totals : List Entry → ℕ → Totals
+totals t n =
+    record { misshapen = any n (misshapen-at t); misplaced = any n (misplaced-at t); next = any n (next-at t); words = offset t n }
+
+-- the sums with one entry more
+abbrev pub with-entry : Totals → Entry → Totals
+with-entry sums e =
+    record { misshapen = sums .misshapen || misshapen e; misplaced = sums .misplaced || misplaced e; next = sums .next || eqb (e .kind) 4; words = sums .words + own e }
+
+-- the part of the answer that comes after the header
+abbrev pub measured-entries : List Entry → ℕ → Answer
+measured-entries t n = answer-by (entries-refusal t n) t n
+
+-- the number that the header's answer stands for: 0, or the refusal's
+abbrev pub header-number : Header → ℕ
+header-number (Count n) = 0
+header-number (Stopped n) = n
+
+-- what the check of the header answers
+abbrev pub header : List ℕ → Header
+header s = cond (eqb (header-refusal s) 0) (Count (count s)) (Stopped (header-refusal s))
+
+-- what reading the entries answers: the reach of the formula, if there is one
+abbrev pub reading : Option Formula → Reading
+reading none = Faulty
+reading (some φ) = Reach (formula-reach φ)

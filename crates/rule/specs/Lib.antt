@@ -1,0 +1,11 @@
+-- The rule format of document 01 and what weighing a rule gives. Read Bytes, Entries, Words, Postfix, Refusal, Measure; then
+-- Operands and Accepted, on which the layers above rely. Code has what the private functions answer.
+pub mod Bytes
+pub mod Entries
+pub mod Words
+pub mod Postfix
+pub mod Refusal
+pub mod Measure
+pub mod Code
+pub mod Operands
+pub mod Accepted

@@ -1,0 +1,88 @@
+-- Where weighing stops: refusals 1 to 8 of document 01, "Where a call stops". "The first that applies is returned. .. a check
+-- that speaks of entries goes over all of them."
+use Prim.Native.Nat.{ℕ, _+_, _*_}
+use mathlib.Core.Bool.{Bool, true, false, _&&_, _||_, not}
+use mathlib.Core.List.{List}
+use mathlib.Core.Option.{Option, none, some}
+use lib.Dec.{ltb, eqb}
+use lib.ListN.{length}
+use Rattle.mtl.specs.Formula.{Formula}
+use Rattle.mtl.specs.Satisfaction.{any}
+use Rattle.rule.specs.declared.Entry.{Entry}
+use Rattle.rule.specs.Bytes.{byte, word16}
+use Rattle.rule.specs.Entries.{count, decoded, entry}
+use Rattle.rule.specs.Words.{unbounded, words, limit}
+use Rattle.rule.specs.Postfix.{formula}
+
+-- KRL (hexadecimal 4B 52 4C)
+abbrev pub marked : List ℕ → Bool
+marked s = eqb (byte s 0) 0x4B && eqb (byte s 1) 0x52 && eqb (byte s 2) 0x4C
+
+-- 1. "The rule is shorter than 8 bytes or lacks its mark."
+abbrev pub unmarked : List ℕ → Bool
+unmarked s = ltb (length s) 8 || not (marked s)
+
+-- 2. "The rule's version is not 1."
+abbrev pub other-version : List ℕ → Bool
+other-version s = not (eqb (word16 s 3) 1)
+
+-- 3. "The entry count is 0."
+abbrev pub empty : List ℕ → Bool
+empty s = eqb (count s) 0
+
+-- 4. "The count is above 128, a spare byte is not zero, or the length is not 8 + 10 × count."
+abbrev pub malformed : List ℕ → Bool
+malformed s = ltb 128 (count s) || not (eqb (byte s 6) 0) || not (eqb (byte s 7) 0) || not (eqb (length s) (8 + count s * 10))
+
+-- 5. "Some kind is above 6, some letter above 31, or some unused field not zero." Kind 0 uses the letter, kinds 3 to 6 low and high.
+abbrev pub misshapen : Entry → Bool
+misshapen e =
+    ltb 6 (e .kind) || ltb 31 (e .letter)
+    || (ltb 0 (e .kind) && ltb 0 (e .letter))
+    || (ltb (e .kind) 3 && (ltb 0 (e .low) || ltb 0 (e .high)))
+
+-- 6. "Some low or finite high is above 3,600, some low is above its high, or next or until has no upper end." Where the kind
+-- uses no interval, low and high are zero by then, which meets none of these.
+abbrev pub misplaced : Entry → Bool
+misplaced e =
+    ltb 3600 (e .low) || ltb (e .high) (e .low)
+    || (ltb 3600 (e .high) && not (eqb (e .high) unbounded))
+    || (eqb (e .high) unbounded && (eqb (e .kind) 4 || eqb (e .kind) 6))
+
+abbrev pub misshapen-at : List Entry → ℕ → Bool
+misshapen-at t k = misshapen (entry t k)
+
+abbrev pub misplaced-at : List Entry → ℕ → Bool
+misplaced-at t k = misplaced (entry t k)
+
+-- 7. "Some entry lacks an operand, or the whole leaves other than one formula."
+abbrev pub lacking : Option Formula → Bool
+lacking none = true
+lacking (some φ) = false
+
+-- 8. "The need is above 8,192 words."
+abbrev pub over-limit : List Entry → ℕ → Bool
+over-limit t n = ltb limit (words t n)
+
+-- number n where its condition holds, else what comes after it
+abbrev pub first : ℕ → Bool → ℕ → ℕ
+first n true other = n
+first n false other = other
+
+-- the refusals of the header; 0 where none of them applies
+unfoldable pub header-refusal : List ℕ → ℕ
+header-refusal s = first 1 (unmarked s) (first 2 (other-version s) (first 3 (empty s) (first 4 (malformed s) 0)))
+
+-- the refusals of n decoded entries
+unfoldable pub entries-refusal : List Entry → ℕ → ℕ
+entries-refusal t n =
+    first 5 (any n (misshapen-at t))
+    (first 6 (any n (misplaced-at t)) (first 7 (lacking (formula t n)) (first 8 (over-limit t n) 0)))
+
+-- of two numbers, the first that is not 0
+abbrev pub before : ℕ → ℕ → ℕ
+before m n = first m (ltb 0 m) n
+
+-- the number with which weighing the rule stops, and 0 where it is accepted
+abbrev pub refusal : List ℕ → ℕ
+refusal s = before (header-refusal s) (entries-refusal (decoded s) (count s))

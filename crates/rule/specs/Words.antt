@@ -1,0 +1,28 @@
+-- The words that a checkpoint (document 01's point) needs for a rule.
+use Prim.Native.Nat.{ℕ, zero, suc, _+_, _*_}
+use mathlib.Core.Bool.{cond}
+use mathlib.Core.List.{List}
+use lib.Dec.{eqb}
+use Rattle.rule.specs.declared.Entry.{Entry}
+use Rattle.rule.specs.Entries.{entry}
+
+-- "High 4,294,967,295 means no upper end"
+abbrev pub unbounded : ℕ
+unbounded = 4294967295
+
+-- "16 for each entry, and for since with a finite high (high + 1), for since without upper end 1, for until 2 × (high + 1)"
+abbrev pub own : Entry → ℕ
+own e = cond (eqb (e .kind) 5) (16 + cond (eqb (e .high) unbounded) 1 (e .high + 1)) (cond (eqb (e .kind) 6) (16 + 2 * (e .high + 1)) 16)
+
+-- the words of the first n entries, and where the words of entry n begin, counted from those of entry 0
+unfoldable pub offset : List Entry → ℕ → ℕ
+offset t zero = 0
+offset t (suc n) = offset t n + own (entry t n)
+
+-- "Words needed: 16, and" those of the entries
+abbrev pub words : List Entry → ℕ → ℕ
+words t n = 16 + offset t n
+
+-- "The limit is 8,192."
+abbrev pub limit : ℕ
+limit = 8192
