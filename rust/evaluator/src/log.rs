@@ -25,15 +25,12 @@ pub fn encode(records: &[Record]) -> Vec<u8> {
 /// The records of a log, or refusal 12: "The log is shorter than 8 bytes, its mark, version or spare bytes are
 /// wrong, its length less 8 is no multiple of 8, or it has too many records."
 pub fn parse(bytes: &[u8]) -> Result<Vec<Record>, u32> {
-    if bytes.len() < 8 || bytes[..8] != HEADER || (bytes.len() - 8) % 8 != 0 {
+    if bytes.len() < 8 || bytes[..8] != HEADER || !(bytes.len() - 8).is_multiple_of(8) {
         return Err(12);
     }
     if (bytes.len() - 8) / 8 > MOST_RECORDS {
         return Err(12);
     }
     let be32 = |b: &[u8]| u32::from_be_bytes(b.try_into().unwrap());
-    Ok(bytes[8..]
-        .chunks(8)
-        .map(|r| Record { time: be32(&r[..4]), letters: be32(&r[4..]) })
-        .collect())
+    Ok(bytes[8..].chunks(8).map(|r| Record { time: be32(&r[..4]), letters: be32(&r[4..]) }).collect())
 }

@@ -12,7 +12,8 @@ impl Random {
         Random(seed)
     }
 
-    pub fn next(&mut self) -> u64 {
+    /// Any 64-bit number.
+    pub fn draw(&mut self) -> u64 {
         self.0 = self.0.wrapping_add(0x9E37_79B9_7F4A_7C15);
         let z = (self.0 ^ (self.0 >> 30)).wrapping_mul(0xBF58_476D_1CE4_E5B9);
         let z = (z ^ (z >> 27)).wrapping_mul(0x94D0_49BB_1331_11EB);
@@ -21,7 +22,7 @@ impl Random {
 
     /// A number below `end`, which is above 0.
     pub fn below(&mut self, end: usize) -> usize {
-        (self.next() % end as u64) as usize
+        (self.draw() % end as u64) as usize
     }
 
     /// A number from `low` to `high`, both included.
@@ -40,7 +41,7 @@ impl Random {
 
     pub fn fill(&mut self, bytes: &mut [u8]) {
         for b in bytes {
-            *b = self.next() as u8;
+            *b = self.draw() as u8;
         }
     }
 }
@@ -117,12 +118,12 @@ pub struct LogShape {
 pub fn log(r: &mut Random, shape: LogShape) -> Vec<Record> {
     let mask = if shape.letters >= 32 { u32::MAX } else { (1 << shape.letters) - 1 };
     let mut time = shape.start;
-    let mut letters = r.next() as u32 & mask;
+    let mut letters = r.draw() as u32 & mask;
     let mut all = Vec::with_capacity(shape.records);
     for _ in 0..shape.records {
         all.push(Record { time, letters });
         if shape.hold <= 1 {
-            letters = r.next() as u32 & mask;
+            letters = r.draw() as u32 & mask;
         } else if r.one_in(shape.hold) {
             letters ^= 1 << r.below(shape.letters);
         }
@@ -150,7 +151,7 @@ pub fn shapes(r: &mut Random, most_entries: usize, most_records: usize) -> (Rule
         start: 0,
     };
     let last_second = u32::MAX - r.below(40) as u32;
-    let start = [0, r.below(100) as u32, r.next() as u32, last_second];
+    let start = [0, r.below(100) as u32, r.draw() as u32, last_second];
     (rule, LogShape { start: r.pick(&start), ..log })
 }
 
@@ -160,10 +161,10 @@ pub fn damage(r: &mut Random, bytes: &mut Vec<u8>) {
         let at = if bytes.is_empty() { 0 } else { r.below(bytes.len()) };
         match r.below(6) {
             0 if !bytes.is_empty() => bytes[at] ^= 1 << r.below(8),
-            1 if !bytes.is_empty() => bytes[at] = r.next() as u8,
+            1 if !bytes.is_empty() => bytes[at] = r.draw() as u8,
             2 if !bytes.is_empty() => bytes[at] = r.pick(&[0, 1, 2, 6, 7, 31, 32, 127, 128, 129, 255]),
             3 => bytes.truncate(at),
-            4 => bytes.push(r.next() as u8),
+            4 => bytes.push(r.draw() as u8),
             _ => {
                 let end = bytes.len().min(at + r.from_to(0, 20));
                 let part = bytes[at..end].to_vec();

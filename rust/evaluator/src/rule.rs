@@ -102,12 +102,7 @@ pub fn parse(bytes: &[u8]) -> Result<Rule, u32> {
     let entries: Vec<Entry> = (0..count)
         .map(|k| {
             let at = 8 + 10 * k;
-            Entry {
-                kind: bytes[at],
-                letter: bytes[at + 1],
-                low: be32(bytes, at + 2),
-                high: be32(bytes, at + 6),
-            }
+            Entry { kind: bytes[at], letter: bytes[at + 1], low: be32(bytes, at + 2), high: be32(bytes, at + 6) }
         })
         .collect();
     check(entries)

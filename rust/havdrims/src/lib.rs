@@ -90,9 +90,7 @@ pub fn measure(rule: &[u8]) -> Result<Needs, Refusal> {
 /// Writes a fresh checkpoint for a rule. Words beyond the need are kept. Refusals: 1 to 9.
 pub fn open(rule: &[u8], checkpoint: &mut [u64]) -> Result<(), Refusal> {
     // SAFETY: the pointers and lengths are those of two slices, the second of them borrowed for this call alone.
-    let number = unsafe {
-        ffi::havdrims_open(rule.as_ptr(), rule.len(), checkpoint.as_mut_ptr(), checkpoint.len())
-    };
+    let number = unsafe { ffi::havdrims_open(rule.as_ptr(), rule.len(), checkpoint.as_mut_ptr(), checkpoint.len()) };
     refusal::checked(number)
 }
 

@@ -38,10 +38,7 @@ const SENTENCES: [(Refusal, &str); 15] = [
     (Refusal::RuleMark, "The rule is shorter than 8 bytes or lacks its mark."),
     (Refusal::RuleVersion, "The rule's version is not 1."),
     (Refusal::EntryCount, "The entry count is 0."),
-    (
-        Refusal::RuleLength,
-        "The count is above 128, a spare byte is not zero, or the length is not 8 + 10 × count.",
-    ),
+    (Refusal::RuleLength, "The count is above 128, a spare byte is not zero, or the length is not 8 + 10 × count."),
     (Refusal::EntryField, "Some kind is above 6, some letter above 31, or some unused field not zero."),
     (
         Refusal::Interval,
@@ -50,10 +47,7 @@ const SENTENCES: [(Refusal, &str); 15] = [
     (Refusal::Shape, "Some entry lacks an operand, or the whole leaves other than one formula."),
     (Refusal::TooManyWords, "The need is above 8,192 words."),
     (Refusal::ShortPoint, "The lent point is shorter than the need."),
-    (
-        Refusal::ForeignPoint,
-        "The point does not begin as a point of this library with a copy of this rule.",
-    ),
+    (Refusal::ForeignPoint, "The point does not begin as a point of this library with a copy of this rule."),
     (Refusal::PointRange, "A word of the point is outside its range, as d above the records seen."),
     (
         Refusal::LogFormat,

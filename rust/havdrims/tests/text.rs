@@ -40,7 +40,9 @@ fn faults_name_their_line() {
 
 #[test]
 fn damaged_logs_are_refused() {
-    for file in [&b""[..], b"KLG", b"KLG\x00\x02\x00\x00\x00", b"KLG\x00\x01\x00\x00\x01", b"KLG\x00\x01\x00\x00\x00\x07"] {
+    for file in
+        [&b""[..], b"KLG", b"KLG\x00\x02\x00\x00\x00", b"KLG\x00\x01\x00\x00\x01", b"KLG\x00\x01\x00\x00\x00\x07"]
+    {
         assert_eq!(log_to_text(file), Err(Refusal::LogFormat));
     }
     assert_eq!(log_to_text(&log::HEADER).unwrap(), "");
@@ -50,7 +52,7 @@ fn damaged_logs_are_refused() {
 fn random_logs_come_back() {
     let mut r = Random::new(5);
     for _ in 0..500 {
-        let shape = LogShape { records: r.below(60), letters: 32, hold: 1, step: 1 << 28, start: r.next() as u32 };
+        let shape = LogShape { records: r.below(60), letters: 32, hold: 1, step: 1 << 28, start: r.draw() as u32 };
         let file = log::encode(&random::log(&mut r, shape));
         assert_eq!(log_from_text(&log_to_text(&file).unwrap()).unwrap(), file);
     }

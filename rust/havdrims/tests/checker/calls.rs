@@ -50,7 +50,7 @@ thread_local! {
 
 fn read_only_turn() -> bool {
     CALLS.set(CALLS.get() + 1);
-    CALLS.get() % READ_ONLY_ONE_IN == 0
+    CALLS.get().is_multiple_of(READ_ONLY_ONE_IN)
 }
 
 /// havdrims_measure on a guarded rule.

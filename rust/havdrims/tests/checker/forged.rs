@@ -13,7 +13,7 @@ fn forge(r: &mut Random, words: &mut [u64], n: usize) {
         let end = if r.one_in(3) { 16 } else { words.len() };
         let at = r.below(end);
         words[at] = match r.below(9) {
-            0 => r.next(),
+            0 => r.draw(),
             1 => words[at] ^ 1 << r.below(64),
             2 => words[at].wrapping_add(1),
             3 => words[at].wrapping_sub(1),
@@ -21,7 +21,7 @@ fn forge(r: &mut Random, words: &mut [u64], n: usize) {
             5 => r.below(n + 2) as u64,
             6 => (n as u64).wrapping_sub(r.below(3) as u64),
             7 => words[r.below(words.len())],
-            _ => r.next() >> r.below(64),
+            _ => r.draw() >> r.below(64),
         };
     }
 }
@@ -83,10 +83,10 @@ fn foreign_points() {
         let (mut kiosk, n) = used(r);
         let mut words = kiosk.point.words().to_vec();
         let need = kiosk.need;
-        let random = r.next();
+        let random = r.draw();
         match r.below(3) {
             0 => words[..need].fill(r.pick(&[0, 1, u64::MAX, random])),
-            1 => words[..need].iter_mut().for_each(|w| *w = r.next()),
+            1 => words[..need].iter_mut().for_each(|w| *w = r.draw()),
             _ => words[0] ^= 1 << r.below(64),
         }
         kiosk.point.set(&words, side(r));
@@ -160,7 +160,7 @@ fn another_rule() {
             let at = 8 + 10 * r.below(count);
             match rule[at] {
                 0 => rule[at + 1] = r.below(32) as u8,
-                3 | 4 | 5 | 6 => rule[at + 5] = rule[at + 9].min(r.below(4) as u8),
+                3..=6 => rule[at + 5] = rule[at + 9].min(r.below(4) as u8),
                 _ => {}
             }
         }

@@ -33,7 +33,13 @@ fn rules() -> Vec<(&'static str, Vec<Entry>)> {
         Entry::timed(UNTIL, 2, 120),
         Entry::or(),
     ];
-    vec![("letter", letters(&[0])), ("ninety seconds", ninety), ("ten minutes", ten_minutes), ("endless", endless), ("mix", mix)]
+    vec![
+        ("letter", letters(&[0])),
+        ("ninety seconds", ninety),
+        ("ten minutes", ten_minutes),
+        ("endless", endless),
+        ("mix", mix),
+    ]
 }
 
 fn long_log(seed: u64, hold: usize, step: u32) -> Vec<Record> {
@@ -189,7 +195,7 @@ fn latest_times() {
         let points = [0, 1, 5, 3_600, 3_601, 1 << 31, (1 << 31) - 1, u32::MAX - 3_601, u32::MAX - 1, u32::MAX];
         let mut times: Vec<u32> = (0..n).map(|_| r.pick(&points)).collect();
         times.sort();
-        let records: Vec<Record> = times.iter().map(|&time| Record { time, letters: r.next() as u32 }).collect();
+        let records: Vec<Record> = times.iter().map(|&time| Record { time, letters: r.draw() as u32 }).collect();
         let (rule, all, need) = expected(&entries, &records);
         let call = Call { rule: &rule, need, words: need, side: side(r) };
         let given = open(&rule, need).resume(&call, &log::encode(&records), &vec![3; n]).unwrap();

@@ -59,7 +59,7 @@ impl Kiosk {
         let untouched = random::log(r, log_shape);
         let file = log::encode(&untouched);
         let need = model::measure(&rule).unwrap().0 as usize;
-        let words: Vec<u64> = (0..need + r.pick(&[0, 0, 1, 7, 600])).map(|_| r.next()).collect();
+        let words: Vec<u64> = (0..need + r.pick(&[0, 0, 1, 7, 600])).map(|_| r.draw()).collect();
         let mut point = Checkpoint::new(&words, side(r));
         point.open(&rule, need, side(r)).unwrap();
         let model = model::open(&rule, words.len()).unwrap();

@@ -86,12 +86,7 @@ fn watch(name: &'static str, running: Arc<AtomicU64>) {
 
 /// Runs a test's body for seeds from 0, or for the one that HAVDRIMS_SEED names. What the counts need to show is
 /// asserted by `shown`, unless one seed alone is run.
-pub fn cases(
-    name: &'static str,
-    count: u64,
-    body: impl Fn(&mut Random, &mut Counts),
-    shown: impl Fn(&Counts) -> bool,
-) {
+pub fn cases(name: &'static str, count: u64, body: impl Fn(&mut Random, &mut Counts), shown: impl Fn(&Counts) -> bool) {
     catch_faults();
     let only: Option<u64> = env::var("HAVDRIMS_SEED").ok().map(|s| s.parse().expect("a number"));
     let seeds = only.map_or(0..count, |seed| seed..seed + 1);

@@ -54,7 +54,7 @@ fn open() {
         let rule = any_rule(r);
         let need = model::measure(&rule).map_or(r.below(100), |(words, _)| words as usize);
         let length = r.pick(&[0, 1, need - need.min(1), need, need, need + 1, need + 20]);
-        let words: Vec<u64> = (0..length).map(|_| r.next()).collect();
+        let words: Vec<u64> = (0..length).map(|_| r.draw()).collect();
         let expected = model::open(&rule, length).map(|_| ());
         let mut point = Checkpoint::new(&words, side(r));
         assert_eq!(point.open(&rule, need, side(r)), expected, "rule {}, {length} words", hex(&rule));
