@@ -55,21 +55,23 @@ fn read_only_turn() -> bool {
 
 /// havdrims_measure on a guarded rule.
 pub fn measure(rule: &[u8], side: Side) -> Answer {
-    let mut rule = lent(rule, side);
-    rule.read_only_if(read_only_turn());
+    let mut copy = lent(rule, side);
+    copy.read_only_if(read_only_turn());
     let [mut words, mut reach] = KEPT;
     // SAFETY: the rule is lent for reading, the numbers are this function's own.
-    let number = unsafe { ffi::havdrims_measure(rule.pointer(), rule.length(), &mut words, &mut reach) };
+    let number = unsafe { ffi::havdrims_measure(copy.pointer(), copy.length(), &mut words, &mut reach) };
+    assert_eq!(copy.bytes(), rule, "measure changed the rule");
     answer(number, [words, reach])
 }
 
 /// havdrims_tally on a guarded sheet.
 pub fn tally(sheet: &[u8], side: Side) -> Answer {
-    let mut sheet = lent(sheet, side);
-    sheet.read_only_if(read_only_turn());
+    let mut copy = lent(sheet, side);
+    copy.read_only_if(read_only_turn());
     let [mut no, mut yes] = KEPT;
     // SAFETY: the sheet is lent for reading, the numbers are this function's own.
-    let number = unsafe { ffi::havdrims_tally(sheet.pointer(), sheet.length(), &mut no, &mut yes) };
+    let number = unsafe { ffi::havdrims_tally(copy.pointer(), copy.length(), &mut no, &mut yes) };
+    assert_eq!(copy.bytes(), sheet, "tally changed the sheet");
     answer(number, [no, yes])
 }
 
@@ -104,11 +106,12 @@ impl Checkpoint {
     /// havdrims_open. The words behind the need are kept, and all of them if it refuses.
     pub fn open(&mut self, rule: &[u8], need: usize, side: Side) -> Result<(), u32> {
         let before = self.words().to_vec();
-        let mut rule = lent(rule, side);
-        rule.read_only_if(read_only_turn());
+        let mut copy = lent(rule, side);
+        copy.read_only_if(read_only_turn());
         let (point, length) = (self.lent.pointer().cast(), before.len());
         // SAFETY: rule and words are lent, the words for writing.
-        let number = unsafe { ffi::havdrims_open(rule.pointer(), rule.length(), point, length) };
+        let number = unsafe { ffi::havdrims_open(copy.pointer(), copy.length(), point, length) };
+        assert_eq!(copy.bytes(), rule, "open changed the rule");
         let kept = if number == 0 { need } else { 0 };
         assert_eq!(self.words()[kept..], before[kept..], "open changed words that it has to keep");
         assert!(self.lent.surroundings_kept(), "open wrote outside the point");
