@@ -1,0 +1,115 @@
+/*
+ * A week of one kiosk in C: a log that grows, a point that carries on, and a card that is overwritten.
+ *
+ *     cc -Wall -Wextra -Iinclude examples/c/week.c target/staticlib/libhavdrims.a -o week && ./week
+ *
+ * The rule: the head stays warm (letter 0) until the print starts (letter 1), within ninety seconds.
+ */
+#include "havdrims.h"
+
+#include <stdio.h>
+#include <stdlib.h>
+#include <string.h>
+
+static const uint8_t rule[38] = {
+    'K', 'R', 'L', 0, 1, 3, 0, 0,
+    0, 0, 0, 0, 0, 0, 0, 0, 0, 0,  /* letter 0 */
+    0, 1, 0, 0, 0, 0, 0, 0, 0, 0,  /* letter 1 */
+    6, 0, 0, 0, 0, 0, 0, 0, 0, 90, /* until, 0 to 90 seconds */
+};
+
+static uint8_t log_file[8 + 8 * 16] = {'K', 'L', 'G', 0, 1, 0, 0, 0};
+static size_t log_length = 8;
+
+static void put32(uint8_t *at, uint32_t number) {
+    at[0] = (uint8_t)(number >> 24);
+    at[1] = (uint8_t)(number >> 16);
+    at[2] = (uint8_t)(number >> 8);
+    at[3] = (uint8_t)number;
+}
+
+/* Appends a record: a time in seconds and a set of letters, letter k being the bit worth 2 to the k. */
+static void record(uint32_t seconds, uint32_t letters) {
+    put32(log_file + log_length, seconds);
+    put32(log_file + log_length + 4, letters);
+    log_length += 8;
+}
+
+/* Ends the program if a call was refused. */
+static void accepted(const char *call, uint32_t number) {
+    if (number != 0) {
+        fprintf(stderr, "%s: refused %u\n", call, (unsigned)number);
+        exit(1);
+    }
+}
+
+static void check(int holds, const char *what) {
+    if (!holds) {
+        fprintf(stderr, "unexpected: %s\n", what);
+        exit(1);
+    }
+}
+
+/* Prints the verdicts of one evening, the first of them for the record at `from`. */
+static void print(const char *evening, const uint8_t *sheet, uint64_t from, uint64_t given, uint64_t more) {
+    printf("%s: %u verdicts, %s\n", evening, (unsigned)given, more ? "more" : "caught up");
+    for (uint64_t i = 0; i < given; i++) {
+        printf("%u %s\n", (unsigned)(from + i), sheet[i] ? "yes" : "no");
+    }
+}
+
+int main(void) {
+    enum { WARM = 1, PRINTS = 2 };
+    uint64_t words, reach, given, more, no, yes;
+    uint8_t sheet[16];
+
+    accepted("measure", havdrims_measure(rule, sizeof rule, &words, &reach));
+    printf("a point needs %u words; a record waits at most %u seconds\n", (unsigned)words, (unsigned)reach);
+    check(words == 246 && reach == 90, "words and reach");
+
+    uint64_t *point = calloc(words, sizeof *point);
+    check(point != NULL, "no memory");
+    accepted("open", havdrims_open(rule, sizeof rule, point, words));
+
+    /* Monday: a print in time, a head that went cold, and one that is still warm when the shop closes. */
+    record(100, WARM);
+    record(140, WARM);
+    record(150, PRINTS);
+    record(200, WARM);
+    record(260, 0);
+    record(300, WARM);
+    memset(sheet, 7, sizeof sheet);
+    accepted("resume", havdrims_resume(rule, sizeof rule, log_file, log_length, point, words, sheet, sizeof sheet,
+                                       &given, &more));
+    print("Monday", sheet, 0, given, more);
+    check(given == 5 && more == 0, "Monday's count");
+    check(memcmp(sheet, "\1\1\1\0\0\7", 6) == 0, "Monday's verdicts");
+    uint64_t first = given;
+
+    /* The records that have verdicts may be overwritten. */
+    memset(log_file + 8, 0xFF, 8 * first);
+
+    /* Tuesday: the print starts in time for record 5; then one waits for more than ninety seconds. */
+    record(390, PRINTS);
+    record(400, WARM);
+    record(491, WARM);
+    accepted("resume", havdrims_resume(rule, sizeof rule, log_file, log_length, point, words, sheet + first,
+                                       sizeof sheet - first, &given, &more));
+    print("Tuesday", sheet + first, first, given, more);
+    check(given == 3 && more == 0, "Tuesday's count");
+    check(memcmp(sheet + first, "\1\1\0\7", 4) == 0, "Tuesday's verdicts");
+    uint64_t all = first + given;
+
+    accepted("tally", havdrims_tally(sheet, all, &no, &yes));
+    printf("the week so far: %u yes, %u no\n", (unsigned)yes, (unsigned)no);
+    check(yes == 5 && no == 3, "the tally");
+
+    /* A log that has lost a record is refused, and the point is as it was. */
+    uint32_t number = havdrims_resume(rule, sizeof rule, log_file, log_length - 8, point, words, sheet, sizeof sheet,
+                                      &given, &more);
+    printf("with a record removed: refused %u\n", (unsigned)number);
+    check(number == HAVDRIMS_FEWER_RECORDS, "the refusal");
+
+    free(point);
+    return 0;
+}

@@ -1,0 +1,116 @@
+/* Havdrims: a checker of metric temporal rules over kiosk logs. The C interface of libhavdrims.a. */
+#ifndef HAVDRIMS_H
+#define HAVDRIMS_H
+
+#include <stddef.h>
+#include <stdint.h>
+
+#ifdef __cplusplus
+extern "C" {
+#endif
+
+/*
+ * For all four calls:
+ *
+ * The result is 0 if the call was accepted, otherwise the number of its refusal, the first of the list below that
+ * applies. A refused call changes nothing: every buffer keeps its bytes and words, and so do the numbers behind
+ * the last two pointers.
+ *
+ * The caller owns every buffer, before, during and after the call. The library allocates nothing, keeps no pointer
+ * and has no state of its own: all that it knows between two calls is in the point. Calls on different points may
+ * run at the same time.
+ *
+ * A length counts the elements of its buffer: bytes, or 64-bit words for a point. A buffer of length 0 is not
+ * touched, and its pointer may be null. Words are aligned as uint64_t is.
+ *
+ * Nothing may overlap: what a call writes (point, sheet, the numbers behind its last pointers) shares no byte with
+ * anything else that the call is given.
+ *
+ * The formats of rule, log and sheet are those of docs/FORMATS.md. A point's words are the library's own, in the
+ * byte order of the machine: save them and hand them back as they are.
+ */
+
+/* Why a call is refused. */
+enum havdrims_refusal {
+    HAVDRIMS_RULE_MARK = 1,       /* the rule is shorter than 8 bytes or lacks its mark */
+    HAVDRIMS_RULE_VERSION = 2,    /* the rule's version is not 1 */
+    HAVDRIMS_ENTRY_COUNT = 3,     /* the entry count is 0 */
+    HAVDRIMS_RULE_LENGTH = 4,     /* the count is above 128, a spare byte is not zero, or the length is not
+                                     8 + 10 * count */
+    HAVDRIMS_ENTRY_FIELD = 5,     /* some kind is above 6, some letter above 31, or some unused field not zero */
+    HAVDRIMS_INTERVAL = 6,        /* some low or finite high is above 3,600, some low is above its high, or next or
+                                     until has no upper end */
+    HAVDRIMS_SHAPE = 7,           /* some entry lacks an operand, or the whole leaves other than one formula */
+    HAVDRIMS_TOO_MANY_WORDS = 8,  /* the need is above 8,192 words */
+    HAVDRIMS_SHORT_POINT = 9,     /* the lent point is shorter than the need */
+    HAVDRIMS_FOREIGN_POINT = 10,  /* the point does not begin as a point of this library with a copy of this rule */
+    HAVDRIMS_POINT_RANGE = 11,    /* a word of the point is outside its range; a point that this library left never
+                                     meets this */
+    HAVDRIMS_LOG_FORMAT = 12,     /* the log is shorter than 8 bytes, its mark, version or spare bytes are wrong, its
+                                     length less 8 is no multiple of 8, or it has more than 1,000,000 records */
+    HAVDRIMS_FEWER_RECORDS = 13,  /* the log has fewer records than the point has seen */
+    HAVDRIMS_TIME_FALLS = 14,     /* some record after the first without a verdict has a time below that of the
+                                     record before it, or the first new record's time is below the last time seen */
+    HAVDRIMS_SHEET_BYTE = 15      /* a sheet given to tally has a byte above 1 */
+};
+
+/* No position of the rule is sure to be answered after any time: the reach of a rule with next. */
+#define HAVDRIMS_NO_REACH UINT64_C(4294967295)
+
+/* The most words that a point can need. */
+#define HAVDRIMS_MOST_WORDS 8192
+
+/*
+ * Weighs a rule of rule_len bytes.
+ *
+ * *words becomes the number of words that a point of this rule needs, 32 to 8,192. *reach becomes the rule's reach
+ * in seconds: a record has its verdict, at the latest, once the log has a record more than that much later; or
+ * HAVDRIMS_NO_REACH.
+ *
+ * Refusals: 1 to 8.
+ */
+uint32_t havdrims_measure(const uint8_t *rule, size_t rule_len, uint64_t *words, uint64_t *reach);
+
+/*
+ * Writes a fresh point for a rule into the first words of `point`, as many as havdrims_measure gives for the rule.
+ * The words behind them are kept. What the words held before does not matter.
+ *
+ * Refusals: 1 to 8, and 9 if point_len is below the need.
+ */
+uint32_t havdrims_open(const uint8_t *rule, size_t rule_len, uint64_t *point, size_t point_len);
+
+/*
+ * Carries on from a point: judges the log as far as it goes and writes the verdicts that are new since the last
+ * accepted call with this point, one byte for each record in turn, 1 for yes and 0 for no.
+ *
+ * rule    the rule that the point was opened for, byte for byte.
+ * log     the whole log from its header on, with the records of the accepted calls before and any number of new
+ *         ones behind them. A record that has its verdict is not read again: it may hold any bytes. The others must
+ *         be as they were; if they are not, or if the point was not left by this library, the call still returns and
+ *         writes nothing outside point and sheet, but its verdicts mean nothing.
+ * point   as open or the last accepted call left it. It becomes the point to carry on from. Words behind the need
+ *         are kept.
+ * sheet   takes the verdicts. Its bytes behind them are kept. It may be of any length, 0 included.
+ *
+ * *given becomes the number of verdicts written. *more becomes 1 if the log settles further records, for which the
+ * sheet had no room, and 0 if the point has caught up.
+ *
+ * Refusals: 1 to 14.
+ */
+uint32_t havdrims_resume(const uint8_t *rule, size_t rule_len, const uint8_t *log, size_t log_len,
+                         uint64_t *point, size_t point_len, uint8_t *sheet, size_t sheet_len,
+                         uint64_t *given, uint64_t *more);
+
+/*
+ * Counts the verdicts of a sheet of sheet_len bytes: *no becomes the number of bytes 0, *yes that of bytes 1.
+ * Give it the verdicts alone, not the rest of the sheet.
+ *
+ * Refusal: 15.
+ */
+uint32_t havdrims_tally(const uint8_t *sheet, size_t sheet_len, uint64_t *no, uint64_t *yes);
+
+#ifdef __cplusplus
+}
+#endif
+
+#endif

@@ -1,0 +1,255 @@
+//! Records per second of the checker against document 002's algorithm in plain Rust and against a pass that only reads
+//! the records, as ratios of one run; growth with records, entries and calls; bytes of state.
+//!
+//! `cargo run --release --offline -p bench`, or with `-- quick` for a shorter run. It prints tables in Markdown.
+
+mod multihead;
+mod rules;
+
+use evaluator::log::{self, Record};
+use evaluator::rule::{self, Entry, Rule};
+use std::ffi::{c_int, c_long};
+use std::hint::black_box;
+
+/// The middle of some measurements, and the least and the most.
+struct Spread {
+    low: f64,
+    middle: f64,
+    high: f64,
+}
+
+impl Spread {
+    fn of(mut all: Vec<f64>) -> Spread {
+        all.sort_by(f64::total_cmp);
+        Spread { low: all[0], middle: all[all.len() / 2], high: all[all.len() - 1] }
+    }
+
+    /// With its least and most behind it.
+    fn text(&self, digits: usize) -> String {
+        format!("{:.*} ({:.*} to {:.*})", digits, self.middle, digits, self.low, digits, self.high)
+    }
+}
+
+#[repr(C)]
+struct Timespec {
+    seconds: i64,
+    nanoseconds: c_long,
+}
+
+extern "C" {
+    fn clock_gettime(clock: c_int, time: *mut Timespec) -> c_int;
+}
+
+/// This thread's processor time: what else the machine does is not counted.
+fn now() -> f64 {
+    const THREAD_CPU_TIME: c_int = 3;
+    let mut time = Timespec { seconds: 0, nanoseconds: 0 };
+    // SAFETY: the time is this function's own.
+    assert_eq!(unsafe { clock_gettime(THREAD_CPU_TIME, &mut time) }, 0);
+    time.seconds as f64 + time.nanoseconds as f64 / 1e9
+}
+
+fn seconds(work: impl FnOnce()) -> f64 {
+    let begun = now();
+    work();
+    now() - begun
+}
+
+/// A rule and a log as the checker takes them.
+struct Job {
+    rule: Rule,
+    bytes: Vec<u8>,
+    file: Vec<u8>,
+    records: usize,
+}
+
+impl Job {
+    fn new(entries: &[Entry], records: &[Record]) -> Job {
+        let bytes = rule::encode(entries);
+        let rule = rule::parse(&bytes).expect("a rule without fault");
+        Job { rule, bytes, file: log::encode(records), records: records.len() }
+    }
+
+    fn fresh(&self) -> Vec<u64> {
+        let mut point = vec![0; self.rule.words as usize];
+        havdrims::open(&self.bytes, &mut point).expect("open");
+        point
+    }
+
+    /// The checker in one call: its seconds, and its verdicts in the sheet.
+    fn checker(&self, sheet: &mut Vec<u8>) -> f64 {
+        let mut point = self.fresh();
+        sheet.resize(self.records, 0);
+        let mut given = 0;
+        let time = seconds(|| {
+            let done = havdrims::resume(&self.bytes, &self.file, &mut point, sheet).expect("resume");
+            given = done.verdicts;
+        });
+        sheet.truncate(given);
+        time
+    }
+
+    /// Document 002's algorithm: its seconds, its verdicts in the sheet, and the bytes of its state.
+    fn multihead(&self, sheet: &mut Vec<u8>) -> (f64, usize) {
+        let mut monitor = multihead::monitor(&self.rule);
+        sheet.resize(self.records, 0);
+        let mut given = 0;
+        let records = &self.file[8..];
+        let time = seconds(|| {
+            while let Some((_, holds)) = monitor.next(records) {
+                sheet[given] = holds as u8;
+                given += 1;
+            }
+        });
+        sheet.truncate(given);
+        (time, monitor.bytes())
+    }
+
+    /// A pass that only reads the records.
+    fn reading(&self) -> f64 {
+        let records = &self.file[8..];
+        seconds(|| {
+            let mut sum = 0u32;
+            for at in 0..self.records {
+                if let Some((time, letters)) = multihead::read(records, at) {
+                    sum = sum.wrapping_add(time ^ letters);
+                }
+            }
+            black_box(sum);
+        })
+    }
+
+    /// The checker in so many calls of equal growth, with a sheet that takes all.
+    fn in_calls(&self, calls: usize) -> f64 {
+        let mut point = self.fresh();
+        let mut sheet = vec![0; self.records];
+        seconds(|| {
+            for call in 1..=calls {
+                let end = 8 + 8 * (self.records * call / calls);
+                havdrims::resume(&self.bytes, &self.file[..end], &mut point, &mut sheet).expect("resume");
+            }
+        })
+    }
+
+    /// The checker on the whole log with a sheet of a part of it, as often as it says "more".
+    fn in_sheets(&self, parts: usize) -> f64 {
+        let mut point = self.fresh();
+        let mut sheet = vec![0; self.records.div_ceil(parts)];
+        seconds(|| while havdrims::resume(&self.bytes, &self.file, &mut point, &mut sheet).expect("resume").more {})
+    }
+}
+
+/// Each rule over each log: three ways in turn, round by round.
+fn rates(records: usize, rounds: usize) {
+    println!("## Records per second, {records} records, {rounds} rounds\n");
+    println!("Millions of records a second of processor time, middle of the rounds (least to most). A ratio is of one");
+    println!("round's two times: above 1, the checker is faster.\n");
+    println!("| rule | log | checker | document 002 in Rust | reading alone | checker / 002 | checker / reading | verdicts | 002's |");
+    println!("|---|---|---|---|---|---|---|---|---|");
+    for (rule_name, entries) in rules::all() {
+        for (log_name, log) in rules::logs(records) {
+            let job = Job::new(&entries, &log);
+            let (mut sheet, mut other) = (Vec::new(), Vec::new());
+            let mut times: [Vec<f64>; 3] = Default::default();
+            for _ in 0..rounds {
+                times[0].push(job.checker(&mut sheet));
+                times[1].push(job.multihead(&mut other).0);
+                times[2].push(job.reading());
+                assert!(sheet.starts_with(&other), "{rule_name} over {log_name}: verdicts differ");
+                let counts_agree = multihead::may_answer_later(&job.rule) || sheet.len() == other.len();
+                assert!(counts_agree, "{rule_name} over {log_name}: counts differ");
+            }
+            let rate = |way: usize| Spread::of(times[way].iter().map(|t| records as f64 / t / 1e6).collect()).text(1);
+            let ratio = |way: usize| {
+                let all = times[0].iter().zip(&times[way]).map(|(checker, other)| other / checker);
+                Spread::of(all.collect()).text(2)
+            };
+            println!(
+                "| {rule_name} | {log_name} | {} | {} | {} | {} | {} | {} | {} |",
+                rate(0),
+                rate(1),
+                rate(2),
+                ratio(1),
+                ratio(2),
+                sheet.len(),
+                other.len()
+            );
+        }
+    }
+    println!();
+}
+
+fn middle(rounds: usize, work: impl FnMut(usize) -> f64) -> Spread {
+    Spread::of((0..rounds).map(work).collect())
+}
+
+fn growth_with_records(most: usize, rounds: usize) {
+    println!("## Growth with records\n\nNanoseconds a record, all seven kinds.\n");
+    println!("| records | checker | document 002 in Rust |\n|---|---|---|");
+    let entries = &rules::all()[3].1;
+    let mut records = 1_000;
+    while records <= most {
+        let job = Job::new(entries, &rules::logs(records)[0].1);
+        let each = 1e9 / records as f64;
+        let mut sheet = Vec::new();
+        let checker = middle(rounds, |_| job.checker(&mut sheet) * each);
+        let other = middle(rounds, |_| job.multihead(&mut sheet).0 * each);
+        println!("| {records} | {} | {} |", checker.text(1), other.text(1));
+        records *= 10;
+    }
+    println!();
+}
+
+fn growth_with_entries(records: usize, rounds: usize) {
+    println!("## Growth with entries\n\nNanoseconds a record and entry; or, since and until over letters in a balanced tree.\n");
+    println!("| entries | checker | document 002 in Rust |\n|---|---|---|");
+    for leaves in [1, 2, 4, 8, 16, 32, 64] {
+        let entries = rules::tree(leaves, &mut 0);
+        let job = Job::new(&entries, &rules::logs(records)[0].1);
+        let each = 1e9 / records as f64 / entries.len() as f64;
+        let mut sheet = Vec::new();
+        let checker = middle(rounds, |_| job.checker(&mut sheet) * each);
+        let other = middle(rounds, |_| job.multihead(&mut sheet).0 * each);
+        println!("| {} | {} | {} |", entries.len(), checker.text(2), other.text(2));
+    }
+    println!();
+}
+
+fn growth_with_calls(records: usize, rounds: usize) {
+    println!("## Growth with calls\n\nMilliseconds for {records} records in all, the ninety-second rule.\n");
+    println!("| calls | the log grows, each call brings what is new | the whole log, each call's sheet takes a part |");
+    println!("|---|---|---|");
+    let job = Job::new(&rules::all()[1].1, &rules::logs(records)[0].1);
+    for calls in [1, 10, 100, 1_000, 10_000] {
+        let grows = middle(rounds, |_| job.in_calls(calls) * 1e3);
+        let sheets = match calls {
+            10_000 => "-".to_string(),
+            _ => middle(rounds, |_| job.in_sheets(calls) * 1e3).text(1),
+        };
+        println!("| {calls} | {} | {sheets} |", grows.text(1));
+    }
+    println!();
+}
+
+fn memory(records: usize) {
+    println!("## Memory\n\nBytes of state. The checker's are lent and do not grow; it allocates nothing.\n");
+    println!("| rule | log | checker's point | document 002 in Rust, after {records} records |\n|---|---|---|---|");
+    for (rule_name, entries) in rules::all() {
+        for (log_name, log) in rules::logs(records) {
+            let job = Job::new(&entries, &log);
+            let other = job.multihead(&mut Vec::new()).1;
+            println!("| {rule_name} | {log_name} | {} | {other} |", 8 * job.rule.words);
+        }
+    }
+    println!();
+}
+
+fn main() {
+    let quick = std::env::args().any(|word| word == "quick");
+    let (records, rounds) = if quick { (100_000, 3) } else { (1_000_000, 11) };
+    rates(records, rounds);
+    growth_with_records(records, rounds);
+    growth_with_entries(records / 10, rounds);
+    growth_with_calls(records, rounds.min(5));
+    memory(records);
+}

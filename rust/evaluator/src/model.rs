@@ -1,0 +1,94 @@
+//! A point as document 01 describes it, and what each of the four calls must answer.
+
+use crate::log::{self, Record};
+use crate::rule::{self, Rule};
+
+/// "A point holds a copy of its rule, the verdicts given d, the records seen, and the last time seen."
+#[derive(Clone, Debug)]
+pub struct Point {
+    pub rule: Vec<u8>,
+    pub given: usize,
+    pub seen: usize,
+    pub last: u32,
+}
+
+/// What an accepted carry on gives: its c verdicts, and whether there are more.
+#[derive(Clone, Debug, PartialEq, Eq)]
+pub struct Resumed {
+    pub verdicts: Vec<u8>,
+    pub more: bool,
+}
+
+/// Weigh: words needed and reach.
+pub fn measure(bytes: &[u8]) -> Result<(u64, u64), u32> {
+    rule::parse(bytes).map(|r| (r.words, r.reach))
+}
+
+/// Open, for a lent point of so many words.
+pub fn open(bytes: &[u8], lent_words: usize) -> Result<Point, u32> {
+    if rule::parse(bytes)?.words > lent_words as u64 {
+        return Err(9);
+    }
+    Ok(Point { rule: bytes.to_vec(), given: 0, seen: 0, last: 0 })
+}
+
+/// Tally: the count of no and of yes.
+pub fn tally(sheet: &[u8]) -> Result<(u64, u64), u32> {
+    let count = |b: u8| sheet.iter().filter(|&&s| s == b).count() as u64;
+    if sheet.iter().any(|&s| s > 1) {
+        return Err(15);
+    }
+    Ok((count(0), count(1)))
+}
+
+impl Point {
+    /// The rule and the records of a carry on that is not refused, else its refusal. The point is one that the
+    /// library left, so 11 is not met; and it begins as one, so 10 is met by another rule alone.
+    pub fn check(&self, bytes: &[u8], log: &[u8], lent_words: usize) -> Result<(Rule, Vec<Record>), u32> {
+        let rule = rule::parse(bytes)?;
+        if rule.words > lent_words as u64 {
+            return Err(9);
+        }
+        if bytes != self.rule {
+            return Err(10);
+        }
+        let records = log::parse(log)?;
+        if records.len() < self.seen {
+            return Err(13);
+        }
+        if self.time_falls(&records) {
+            return Err(14);
+        }
+        Ok((rule, records))
+    }
+
+    /// "Some record after position d has a time below that of the record before it, or the first new record's
+    /// time is below the last time seen."
+    fn time_falls(&self, records: &[Record]) -> bool {
+        let after_d = (self.given + 1..records.len()).any(|p| records[p].time < records[p - 1].time);
+        let first_new = records.get(self.seen).is_some_and(|r| r.time < self.last);
+        after_d || first_new
+    }
+
+    /// Carry on. `verdicts` gives the verdicts of the untouched log as far as this call brings it.
+    pub fn resume(
+        &mut self,
+        bytes: &[u8],
+        log: &[u8],
+        lent_words: usize,
+        sheet_length: usize,
+        verdicts: impl FnOnce(&Rule, usize) -> Vec<bool>,
+    ) -> Result<Resumed, u32> {
+        let (rule, records) = self.check(bytes, log, lent_words)?;
+        let all = verdicts(&rule, records.len());
+        let d = self.given;
+        let c = (all.len() - d).min(sheet_length);
+        self.given = d + c;
+        if records.len() > self.seen {
+            self.last = records[records.len() - 1].time;
+        }
+        self.seen = records.len();
+        let written = all[d..d + c].iter().map(|&b| b as u8).collect();
+        Ok(Resumed { verdicts: written, more: all.len() > d + c })
+    }
+}

@@ -1,0 +1,175 @@
+//! Random rules, logs and damage from a fixed seed.
+
+use crate::log::Record;
+use crate::rule::{Entry, NEXT, NOT, NO_END, OR, PREVIOUS, SINCE, UNTIL};
+
+/// Vigna's splitmix64.
+#[derive(Clone, Debug)]
+pub struct Random(u64);
+
+impl Random {
+    pub fn new(seed: u64) -> Random {
+        Random(seed)
+    }
+
+    /// Any 64-bit number.
+    pub fn draw(&mut self) -> u64 {
+        self.0 = self.0.wrapping_add(0x9E37_79B9_7F4A_7C15);
+        let z = (self.0 ^ (self.0 >> 30)).wrapping_mul(0xBF58_476D_1CE4_E5B9);
+        let z = (z ^ (z >> 27)).wrapping_mul(0x94D0_49BB_1331_11EB);
+        z ^ (z >> 31)
+    }
+
+    /// A number below `end`, which is above 0.
+    pub fn below(&mut self, end: usize) -> usize {
+        (self.draw() % end as u64) as usize
+    }
+
+    /// A number from `low` to `high`, both included.
+    pub fn from_to(&mut self, low: usize, high: usize) -> usize {
+        low + self.below(high - low + 1)
+    }
+
+    /// True once in `n` times.
+    pub fn one_in(&mut self, n: usize) -> bool {
+        self.below(n) == 0
+    }
+
+    pub fn pick<T: Copy>(&mut self, of: &[T]) -> T {
+        of[self.below(of.len())]
+    }
+
+    pub fn fill(&mut self, bytes: &mut [u8]) {
+        for b in bytes {
+            *b = self.draw() as u8;
+        }
+    }
+}
+
+/// How random rules are drawn.
+#[derive(Clone, Copy, Debug)]
+pub struct RuleShape {
+    /// At most so many entries.
+    pub entries: usize,
+    /// Letters below this number.
+    pub letters: usize,
+    /// Highs up to this number of seconds, or no upper end.
+    pub high: u32,
+}
+
+/// The entries of a rule with exactly `size` entries; its need may be above the limit.
+pub fn entries(r: &mut Random, shape: RuleShape, size: usize) -> Vec<Entry> {
+    if size == 1 {
+        return vec![Entry::letter(r.below(shape.letters) as u8)];
+    }
+    let unary = [NOT, NOT, PREVIOUS, NEXT];
+    let binary = [OR, OR, SINCE, SINCE, UNTIL, UNTIL, UNTIL];
+    let two = size >= 3 && !r.one_in(3);
+    let kind = if two { r.pick(&binary) } else { r.pick(&unary) };
+    let mut all = Vec::new();
+    if two {
+        let left = r.from_to(1, size - 2);
+        all.extend(entries(r, shape, left));
+        all.extend(entries(r, shape, size - 1 - left));
+    } else {
+        all.extend(entries(r, shape, size - 1));
+    }
+    all.push(interval(r, shape, kind));
+    all
+}
+
+fn interval(r: &mut Random, shape: RuleShape, kind: u8) -> Entry {
+    if kind < PREVIOUS {
+        return Entry::timed(kind, 0, 0);
+    }
+    let top = shape.high as usize;
+    let endless = (kind == PREVIOUS || kind == SINCE) && r.one_in(3);
+    let low = if r.one_in(2) { 0 } else { r.from_to(0, top) };
+    let high = if r.one_in(8) { low } else { r.from_to(low, top) };
+    Entry::timed(kind, low as u32, if endless { NO_END } else { high as u32 })
+}
+
+/// A rule of random size whose need is within the limit.
+pub fn valid_entries(r: &mut Random, shape: RuleShape) -> Vec<Entry> {
+    loop {
+        let size = r.from_to(1, shape.entries);
+        let drawn = entries(r, shape, size);
+        if crate::rule::parse(&crate::rule::encode(&drawn)).is_ok() {
+            return drawn;
+        }
+    }
+}
+
+/// How random logs are drawn.
+#[derive(Clone, Copy, Debug)]
+pub struct LogShape {
+    pub records: usize,
+    /// Letters below this number are drawn.
+    pub letters: usize,
+    /// A letter changes once in so many records; 1 draws all anew.
+    pub hold: usize,
+    /// Steps of time up to so many seconds, most of them smaller.
+    pub step: u32,
+    /// The first record's time.
+    pub start: u32,
+}
+
+/// A log whose times never fall; it ends at time 4,294,967,295 if it would go beyond.
+pub fn log(r: &mut Random, shape: LogShape) -> Vec<Record> {
+    let mask = if shape.letters >= 32 { u32::MAX } else { (1 << shape.letters) - 1 };
+    let mut time = shape.start;
+    let mut letters = r.draw() as u32 & mask;
+    let mut all = Vec::with_capacity(shape.records);
+    for _ in 0..shape.records {
+        all.push(Record { time, letters });
+        if shape.hold <= 1 {
+            letters = r.draw() as u32 & mask;
+        } else if r.one_in(shape.hold) {
+            letters ^= 1 << r.below(shape.letters);
+        }
+        let step = match r.below(4) {
+            0 => 0,
+            1 => r.from_to(0, (shape.step as usize).min(1)) as u32,
+            2 => r.from_to(0, shape.step as usize / 2) as u32,
+            _ => r.from_to(0, shape.step as usize) as u32,
+        };
+        time = time.saturating_add(step);
+    }
+    all
+}
+
+/// A small rule shape and a log shape that suits it.
+pub fn shapes(r: &mut Random, most_entries: usize, most_records: usize) -> (RuleShape, LogShape) {
+    let letters = r.from_to(1, 4);
+    let high = r.pick(&[0, 1, 2, 3, 5, 10, 30]);
+    let rule = RuleShape { entries: most_entries, letters, high };
+    let log = LogShape {
+        records: r.from_to(0, most_records),
+        letters,
+        hold: r.pick(&[1, 1, 2, 5, 10]),
+        step: r.pick(&[0, 1, 2, 3, high / 2 + 1, high + 1, 2 * high + 2]),
+        start: 0,
+    };
+    let last_second = u32::MAX - r.below(40) as u32;
+    let start = [0, r.below(100) as u32, r.draw() as u32, last_second];
+    (rule, LogShape { start: r.pick(&start), ..log })
+}
+
+/// Bytes changed at random: one to three of a bit, a byte, a cut, an added byte or a repeated part.
+pub fn damage(r: &mut Random, bytes: &mut Vec<u8>) {
+    for _ in 0..r.from_to(1, 3) {
+        let at = if bytes.is_empty() { 0 } else { r.below(bytes.len()) };
+        match r.below(6) {
+            0 if !bytes.is_empty() => bytes[at] ^= 1 << r.below(8),
+            1 if !bytes.is_empty() => bytes[at] = r.draw() as u8,
+            2 if !bytes.is_empty() => bytes[at] = r.pick(&[0, 1, 2, 6, 7, 31, 32, 127, 128, 129, 255]),
+            3 => bytes.truncate(at),
+            4 => bytes.push(r.draw() as u8),
+            _ => {
+                let end = bytes.len().min(at + r.from_to(0, 20));
+                let part = bytes[at..end].to_vec();
+                bytes.extend(part);
+            }
+        }
+    }
+}

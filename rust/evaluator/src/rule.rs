@@ -1,0 +1,178 @@
+//! The rule format: entries, refusals 1 to 8, words needed and reach.
+
+/// High 4,294,967,295: no upper end.
+pub const NO_END: u32 = u32::MAX;
+/// The reach of a rule with next: none.
+pub const NO_REACH: u64 = u32::MAX as u64;
+
+pub const LETTER: u8 = 0;
+pub const NOT: u8 = 1;
+pub const OR: u8 = 2;
+pub const PREVIOUS: u8 = 3;
+pub const NEXT: u8 = 4;
+pub const SINCE: u8 = 5;
+pub const UNTIL: u8 = 6;
+
+/// One entry of a rule, as its ten bytes give it.
+#[derive(Clone, Copy, Debug, PartialEq, Eq)]
+pub struct Entry {
+    pub kind: u8,
+    pub letter: u8,
+    pub low: u32,
+    pub high: u32,
+}
+
+impl Entry {
+    pub fn letter(letter: u8) -> Entry {
+        Entry { kind: LETTER, letter, low: 0, high: 0 }
+    }
+
+    /// An entry of a kind without letter.
+    pub fn timed(kind: u8, low: u32, high: u32) -> Entry {
+        Entry { kind, letter: 0, low, high }
+    }
+
+    pub fn not() -> Entry {
+        Entry::timed(NOT, 0, 0)
+    }
+
+    pub fn or() -> Entry {
+        Entry::timed(OR, 0, 0)
+    }
+
+    pub fn operands(&self) -> usize {
+        match self.kind {
+            LETTER => 0,
+            NOT | PREVIOUS | NEXT => 1,
+            _ => 2,
+        }
+    }
+
+    /// "low ≤ gap ≤ high"; no upper end is above every gap of 32-bit times.
+    pub fn within(&self, earlier: u32, later: u32) -> bool {
+        let gap = later - earlier;
+        self.low <= gap && gap <= self.high
+    }
+
+    fn has_interval(&self) -> bool {
+        self.kind >= PREVIOUS
+    }
+}
+
+/// A rule without fault: its entries and, for each, the numbers of its operands' entries.
+#[derive(Clone, Debug, PartialEq, Eq)]
+pub struct Rule {
+    pub entries: Vec<Entry>,
+    pub operands: Vec<Vec<usize>>,
+    pub words: u64,
+    pub reach: u64,
+}
+
+/// The bytes of a rule with these entries.
+pub fn encode(entries: &[Entry]) -> Vec<u8> {
+    let mut bytes = b"KRL".to_vec();
+    bytes.extend([0, 1, entries.len() as u8, 0, 0]);
+    for e in entries {
+        bytes.extend([e.kind, e.letter]);
+        bytes.extend(e.low.to_be_bytes());
+        bytes.extend(e.high.to_be_bytes());
+    }
+    bytes
+}
+
+fn be32(bytes: &[u8], at: usize) -> u32 {
+    u32::from_be_bytes(bytes[at..at + 4].try_into().unwrap())
+}
+
+/// The rule that the bytes hold, or the first of refusals 1 to 8 that applies.
+pub fn parse(bytes: &[u8]) -> Result<Rule, u32> {
+    if bytes.len() < 8 || &bytes[..3] != b"KRL" {
+        return Err(1);
+    }
+    if u16::from_be_bytes([bytes[3], bytes[4]]) != 1 {
+        return Err(2);
+    }
+    let count = bytes[5] as usize;
+    if count == 0 {
+        return Err(3);
+    }
+    if count > 128 || bytes[6] != 0 || bytes[7] != 0 || bytes.len() != 8 + 10 * count {
+        return Err(4);
+    }
+    let entries: Vec<Entry> = (0..count)
+        .map(|k| {
+            let at = 8 + 10 * k;
+            Entry { kind: bytes[at], letter: bytes[at + 1], low: be32(bytes, at + 2), high: be32(bytes, at + 6) }
+        })
+        .collect();
+    check(entries)
+}
+
+/// Refusals 5 to 8, which speak of entries.
+fn check(entries: Vec<Entry>) -> Result<Rule, u32> {
+    if entries.iter().any(field_fault) {
+        return Err(5);
+    }
+    if entries.iter().any(interval_fault) {
+        return Err(6);
+    }
+    let operands = operands(&entries).ok_or(7u32)?;
+    let words = words(&entries);
+    if words > 8192 {
+        return Err(8);
+    }
+    let reach = reach(&entries, &operands);
+    Ok(Rule { entries, operands, words, reach })
+}
+
+/// "Some kind is above 6, some letter above 31, or some unused field not zero."
+fn field_fault(e: &Entry) -> bool {
+    let unused_letter = e.kind != LETTER && e.letter != 0;
+    let unused_interval = !e.has_interval() && (e.low != 0 || e.high != 0);
+    e.kind > 6 || e.letter > 31 || unused_letter || unused_interval
+}
+
+/// "Some low or finite high is above 3,600, some low is above its high, or next or until has no upper end."
+fn interval_fault(e: &Entry) -> bool {
+    let endless = e.high == NO_END;
+    let needs_end = e.kind == NEXT || e.kind == UNTIL;
+    e.low > 3600 || (!endless && e.high > 3600) || e.low > e.high || (endless && needs_end)
+}
+
+/// Each entry's operands in postfix order; none if one is lacking or the whole leaves other than one formula.
+fn operands(entries: &[Entry]) -> Option<Vec<Vec<usize>>> {
+    let mut stack = Vec::new();
+    let mut all = Vec::new();
+    for (k, e) in entries.iter().enumerate() {
+        let rest = stack.len().checked_sub(e.operands())?;
+        all.push(stack.split_off(rest));
+        stack.push(k);
+    }
+    (stack.len() == 1).then_some(all)
+}
+
+/// "Words needed: 16, and 16 for each entry, and for since with a finite high (high + 1), for since without
+/// upper end 1, for until 2 × (high + 1)."
+fn words(entries: &[Entry]) -> u64 {
+    let further = |e: &Entry| match (e.kind, e.high) {
+        (SINCE, NO_END) => 1,
+        (SINCE, high) => high as u64 + 1,
+        (UNTIL, high) => 2 * (high as u64 + 1),
+        _ => 0,
+    };
+    16 + entries.iter().map(|e| 16 + further(e)).sum::<u64>()
+}
+
+/// "Reach: letter 0; not and previous as the operand; or and since the larger; until high plus the larger. A
+/// rule with next has reach 4,294,967,295, meaning none."
+fn reach(entries: &[Entry], operands: &[Vec<usize>]) -> u64 {
+    if entries.iter().any(|e| e.kind == NEXT) {
+        return NO_REACH;
+    }
+    let mut reaches: Vec<u64> = Vec::new();
+    for (e, ops) in entries.iter().zip(operands) {
+        let larger = ops.iter().map(|&o| reaches[o]).max().unwrap_or(0);
+        reaches.push(if e.kind == UNTIL { e.high as u64 + larger } else { larger });
+    }
+    *reaches.last().unwrap()
+}

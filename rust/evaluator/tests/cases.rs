@@ -1,0 +1,59 @@
+//! Document 01's worked cases, evaluated.
+
+use evaluator::log::{self, Record};
+use evaluator::rule::{self, Rule};
+use evaluator::{cases, linear, model, reading};
+
+fn as_bytes(verdicts: Vec<bool>) -> Vec<u8> {
+    verdicts.into_iter().map(u8::from).collect()
+}
+
+#[test]
+fn worked_cases() {
+    for case in cases::all() {
+        let rule = rule::parse(&rule::encode(&case.entries)).unwrap();
+        assert_eq!(as_bytes(reading::verdicts(&rule, &case.records)), case.verdicts, "{}", case.name);
+        assert_eq!(as_bytes(linear::verdicts(&rule, &case.records)), case.verdicts, "{}", case.name);
+    }
+}
+
+#[test]
+fn p1_bytes_words_and_reach() {
+    let bytes = rule::encode(&cases::p1_entries());
+    assert_eq!(bytes.len(), 38);
+    assert_eq!(model::measure(&bytes), Ok((70, 2)));
+}
+
+#[test]
+fn p2_carries_on_after_overwriting() {
+    let bytes = rule::encode(&cases::p1_entries());
+    let mut untouched = cases::p1_records();
+    untouched.push(Record { time: 21, letters: 2 });
+    let evaluate = |rule: &Rule, n: usize| reading::verdicts(rule, &untouched[..n]);
+    let mut point = model::open(&bytes, 70).unwrap();
+    let first = point.resume(&bytes, &log::encode(&cases::p1_records()), 70, 100, evaluate).unwrap();
+    assert_eq!((first.verdicts, first.more), (vec![0, 0, 0, 1, 1], false));
+    let second = point.resume(&bytes, &log::encode(&cases::p2_records()), 70, 100, evaluate).unwrap();
+    assert_eq!((second.verdicts, second.more), (vec![1, 1], false));
+}
+
+#[test]
+fn p10_words_at_the_limit() {
+    assert_eq!(model::measure(&rule::encode(&cases::p10_entries(3600, 446))).unwrap().0, 8192);
+    assert_eq!(model::measure(&rule::encode(&cases::p10_entries(3600, 447))), Err(8));
+}
+
+#[test]
+fn intervals_at_the_limit_and_two_errors() {
+    let with_high = |high| {
+        let mut entries = cases::p1_entries();
+        entries[2].high = high;
+        rule::encode(&entries)
+    };
+    assert!(model::measure(&with_high(3600)).is_ok());
+    assert_eq!(model::measure(&with_high(3601)), Err(6));
+    let mut two_errors = with_high(2);
+    two_errors[4] = 2;
+    two_errors[5] = 0;
+    assert_eq!(model::measure(&two_errors), Err(2));
+}

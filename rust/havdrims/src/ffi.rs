@@ -1,0 +1,39 @@
+//! The four functions of the archive, as include/havdrims.h declares and explains them.
+
+extern "C" {
+    /// Words needed and reach of a rule.
+    ///
+    /// # Safety
+    /// As for every function here: each pointer is valid for its length, or for one number, and what is written
+    /// to overlaps nothing else.
+    pub fn havdrims_measure(rule: *const u8, rule_len: usize, words: *mut u64, reach: *mut u64) -> u32;
+
+    /// A fresh checkpoint.
+    ///
+    /// # Safety
+    /// See [`havdrims_measure`].
+    pub fn havdrims_open(rule: *const u8, rule_len: usize, point: *mut u64, point_len: usize) -> u32;
+
+    /// Carry on.
+    ///
+    /// # Safety
+    /// See [`havdrims_measure`].
+    pub fn havdrims_resume(
+        rule: *const u8,
+        rule_len: usize,
+        log: *const u8,
+        log_len: usize,
+        point: *mut u64,
+        point_len: usize,
+        sheet: *mut u8,
+        sheet_len: usize,
+        given: *mut u64,
+        more: *mut u64,
+    ) -> u32;
+
+    /// Counts of no and of yes.
+    ///
+    /// # Safety
+    /// See [`havdrims_measure`].
+    pub fn havdrims_tally(sheet: *const u8, sheet_len: usize, no: *mut u64, yes: *mut u64) -> u32;
+}

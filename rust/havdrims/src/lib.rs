@@ -1,0 +1,131 @@
+//! A checker of rules over kiosk logs that carries on, evening by evening, from a saved point.
+//!
+//! A rule says what ought to hold around each record of a log, in metric temporal logic: "the head stays warm
+//! until the print starts, within ninety seconds". The checker gives a verdict, yes or no, for each record in
+//! turn, as soon as the log decides it. What it knows between two evenings is a checkpoint (a saved point): some
+//! words that the caller lends and keeps. A record that has its verdict is never read again, so the kiosk may
+//! overwrite it.
+//!
+//! There are four calls: [`measure`] (weigh), [`open`], [`resume`] (carry on) and [`tally`]. Each yields its result
+//! or one [`Refusal`], and a refused call changes nothing. The checker is proved; this crate only hands slices on
+//! to it. Nothing here allocates.
+//!
+//! # Example
+//!
+//! Letter 0 until letter 1, within two seconds, over a log that grows:
+//!
+//! ```
+//! use havdrims::{measure, open, resume, tally, Refusal};
+//!
+//! # fn main() -> Result<(), Refusal> {
+//! let mut rule = b"KRL\x00\x01\x03\x00\x00".to_vec();
+//! rule.extend([0, 0, 0, 0, 0, 0, 0, 0, 0, 0]); // letter 0
+//! rule.extend([0, 1, 0, 0, 0, 0, 0, 0, 0, 0]); // letter 1
+//! rule.extend([6, 0, 0, 0, 0, 0, 0, 0, 0, 2]); // until, 0 to 2 seconds
+//!
+//! let needs = measure(&rule)?;
+//! assert_eq!((needs.words, needs.reach), (70, Some(2)));
+//! let mut checkpoint = vec![0; needs.words];
+//! open(&rule, &mut checkpoint)?;
+//!
+//! let mut log = b"KLG\x00\x01\x00\x00\x00".to_vec();
+//! log.extend([0, 0, 0, 10, 0, 0, 0, 1]); // second 10: letter 0
+//! log.extend([0, 0, 0, 12, 0, 0, 0, 1]); // second 12: letter 0
+//! let mut sheet = [0; 16];
+//! let first = resume(&rule, &log, &mut checkpoint, &mut sheet)?;
+//! assert_eq!((first.verdicts, first.more), (0, false)); // both still open
+//!
+//! log.extend([0, 0, 0, 13, 0, 0, 0, 2]); // second 13: letter 1
+//! let second = resume(&rule, &log, &mut checkpoint, &mut sheet)?;
+//! assert_eq!(sheet[..second.verdicts], [0, 1, 1]); // no, yes, yes
+//!
+//! let counts = tally(&sheet[..second.verdicts])?;
+//! assert_eq!((counts.no, counts.yes), (1, 2));
+//! # Ok(())
+//! # }
+//! ```
+
+pub mod ffi;
+mod refusal;
+pub mod text;
+
+pub use refusal::Refusal;
+
+/// What a rule needs.
+#[derive(Clone, Copy, Debug, PartialEq, Eq)]
+pub struct Needs {
+    /// The 64-bit words that a checkpoint of the rule takes: 32 to 8,192.
+    pub words: usize,
+    /// A position is answered once the last record lies more than so many seconds after it; none for a rule with
+    /// next.
+    pub reach: Option<u32>,
+}
+
+/// What an accepted [`resume`] gave.
+#[derive(Clone, Copy, Debug, PartialEq, Eq)]
+pub struct Resumed {
+    /// The verdicts written, from the sheet's first byte on.
+    pub verdicts: usize,
+    /// The log settles further positions, which the sheet had no room for. Otherwise the checkpoint has caught up.
+    pub more: bool,
+}
+
+/// The counts of a sheet.
+#[derive(Clone, Copy, Debug, PartialEq, Eq)]
+pub struct Tally {
+    pub no: u64,
+    pub yes: u64,
+}
+
+/// Reads a rule and gives the words that its checkpoint needs, and its reach. Refusals: 1 to 8.
+pub fn measure(rule: &[u8]) -> Result<Needs, Refusal> {
+    let (mut words, mut reach) = (0, 0);
+    // SAFETY: the pointers and lengths are those of a slice and of two numbers, none of which overlap.
+    let number = unsafe { ffi::havdrims_measure(rule.as_ptr(), rule.len(), &mut words, &mut reach) };
+    refusal::checked(number)?;
+    let reach = u32::try_from(reach).ok().filter(|&r| r != u32::MAX);
+    Ok(Needs { words: words as usize, reach })
+}
+
+/// Writes a fresh checkpoint for a rule. Words beyond the need are kept. Refusals: 1 to 9.
+pub fn open(rule: &[u8], checkpoint: &mut [u64]) -> Result<(), Refusal> {
+    // SAFETY: the pointers and lengths are those of two slices, the second of them borrowed for this call alone.
+    let number = unsafe { ffi::havdrims_open(rule.as_ptr(), rule.len(), checkpoint.as_mut_ptr(), checkpoint.len()) };
+    refusal::checked(number)
+}
+
+/// Carries on: writes the verdicts that the log settles beyond those already given, as many as the sheet takes,
+/// each byte 1 for yes or 0 for no. The rest of the sheet keeps its bytes.
+///
+/// The log is the whole log from its header on; records that have verdicts may have been overwritten with any
+/// bytes. Refusals: 1 to 14.
+pub fn resume(rule: &[u8], log: &[u8], checkpoint: &mut [u64], sheet: &mut [u8]) -> Result<Resumed, Refusal> {
+    let (mut given, mut more) = (0, 0);
+    // SAFETY: the pointers and lengths are those of four slices and of two numbers. What is written to is borrowed
+    // for this call alone, so nothing overlaps.
+    let number = unsafe {
+        ffi::havdrims_resume(
+            rule.as_ptr(),
+            rule.len(),
+            log.as_ptr(),
+            log.len(),
+            checkpoint.as_mut_ptr(),
+            checkpoint.len(),
+            sheet.as_mut_ptr(),
+            sheet.len(),
+            &mut given,
+            &mut more,
+        )
+    };
+    refusal::checked(number)?;
+    Ok(Resumed { verdicts: given as usize, more: more == 1 })
+}
+
+/// Counts the no and the yes of a sheet. Refusal: 15.
+pub fn tally(sheet: &[u8]) -> Result<Tally, Refusal> {
+    let (mut no, mut yes) = (0, 0);
+    // SAFETY: the pointers and lengths are those of a slice and of two numbers, none of which overlap.
+    let number = unsafe { ffi::havdrims_tally(sheet.as_ptr(), sheet.len(), &mut no, &mut yes) };
+    refusal::checked(number)?;
+    Ok(Tally { no, yes })
+}

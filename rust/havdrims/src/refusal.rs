@@ -1,0 +1,116 @@
+//! Where a call stops: the numbered refusals, in the words of the checker's paper.
+
+use std::error::Error;
+use std::fmt;
+
+/// Why a call was refused. It prints its number and the paper's sentence.
+///
+/// ```
+/// use havdrims::{measure, Refusal};
+///
+/// let refusal = measure(b"not a rule").unwrap_err();
+/// assert_eq!(refusal, Refusal::RuleMark);
+/// assert_eq!(refusal.number(), 1);
+/// assert_eq!(refusal.to_string(), "refused 1: The rule is shorter than 8 bytes or lacks its mark.");
+/// ```
+#[derive(Clone, Copy, Debug, PartialEq, Eq, PartialOrd, Ord, Hash)]
+#[non_exhaustive]
+pub enum Refusal {
+    RuleMark = 1,
+    RuleVersion,
+    EntryCount,
+    RuleLength,
+    EntryField,
+    Interval,
+    Shape,
+    TooManyWords,
+    ShortPoint,
+    ForeignPoint,
+    PointRange,
+    LogFormat,
+    FewerRecords,
+    TimeFalls,
+    SheetByte,
+}
+
+/// Every refusal, by its number less one, with the paper's words.
+const SENTENCES: [(Refusal, &str); 15] = [
+    (Refusal::RuleMark, "The rule is shorter than 8 bytes or lacks its mark."),
+    (Refusal::RuleVersion, "The rule's version is not 1."),
+    (Refusal::EntryCount, "The entry count is 0."),
+    (Refusal::RuleLength, "The count is above 128, a spare byte is not zero, or the length is not 8 + 10 × count."),
+    (Refusal::EntryField, "Some kind is above 6, some letter above 31, or some unused field not zero."),
+    (
+        Refusal::Interval,
+        "Some low or finite high is above 3,600, some low is above its high, or next or until has no upper end.",
+    ),
+    (Refusal::Shape, "Some entry lacks an operand, or the whole leaves other than one formula."),
+    (Refusal::TooManyWords, "The need is above 8,192 words."),
+    (Refusal::ShortPoint, "The lent point is shorter than the need."),
+    (Refusal::ForeignPoint, "The point does not begin as a point of this library with a copy of this rule."),
+    (Refusal::PointRange, "A word of the point is outside its range, as d above the records seen."),
+    (
+        Refusal::LogFormat,
+        "The log is shorter than 8 bytes, its mark, version or spare bytes are wrong, its length less 8 is no \
+         multiple of 8, or it has too many records.",
+    ),
+    (Refusal::FewerRecords, "The log has fewer records than the point has seen."),
+    (
+        Refusal::TimeFalls,
+        "Some record after position d has a time below that of the record before it, or the first new record's \
+         time is below the last time seen.",
+    ),
+    (Refusal::SheetByte, "A sheet given to tally has a byte above 1."),
+];
+
+impl Refusal {
+    /// The paper's number, 1 to 15.
+    pub fn number(self) -> u32 {
+        self as u32
+    }
+
+    /// The refusal with this number, if there is one.
+    pub fn from_number(number: u32) -> Option<Refusal> {
+        let at = number.checked_sub(1)? as usize;
+        SENTENCES.get(at).map(|&(refusal, _)| refusal)
+    }
+
+    /// The paper's sentence.
+    pub fn sentence(self) -> &'static str {
+        SENTENCES[self as usize - 1].1
+    }
+}
+
+impl fmt::Display for Refusal {
+    fn fmt(&self, f: &mut fmt::Formatter<'_>) -> fmt::Result {
+        write!(f, "refused {}: {}", self.number(), self.sentence())
+    }
+}
+
+impl Error for Refusal {}
+
+/// What a function of the archive returned: 0, or a refusal's number.
+pub(crate) fn checked(number: u32) -> Result<(), Refusal> {
+    match Refusal::from_number(number) {
+        None if number == 0 => Ok(()),
+        None => unreachable!("the archive returned {number}, which is no refusal"),
+        Some(refusal) => Err(refusal),
+    }
+}
+
+#[cfg(test)]
+mod tests {
+    use super::{Refusal, SENTENCES};
+
+    #[test]
+    fn numbers_and_sentences() {
+        assert_eq!(Refusal::from_number(0), None);
+        assert_eq!(Refusal::from_number(16), None);
+        for (at, (refusal, sentence)) in SENTENCES.into_iter().enumerate() {
+            let number = at as u32 + 1;
+            assert_eq!(refusal.number(), number);
+            assert_eq!(Refusal::from_number(number), Some(refusal));
+            assert_eq!(refusal.to_string(), format!("refused {number}: {sentence}"));
+        }
+    }
+}

@@ -1,0 +1,163 @@
+//! Logs as text, for people who have theirs so, and rules shown as formulas.
+//!
+//! A log as text has a line for each record, the seconds and then the letters:
+//!
+//! ```text
+//! # second, letters
+//! 10 e0
+//! 11 none
+//! 12 e0 e3
+//! ```
+//!
+//! A letter is `e0` to `e31`, or its number alone. `none`, or nothing behind the seconds, is a record without
+//! letters. Empty lines, and what follows a `#`, are passed over.
+
+use crate::{measure, Refusal};
+use std::fmt::Write;
+
+const LOG_HEADER: [u8; 8] = *b"KLG\x00\x01\x00\x00\x00";
+const MOST_RECORDS: usize = 1_000_000;
+const NO_END: u32 = u32::MAX;
+
+/// The bytes of the log that the text describes, or what is wrong and in which line.
+///
+/// ```
+/// let log = havdrims::text::log_from_text("10 e0\n11 none\n").unwrap();
+/// assert_eq!(log, *b"KLG\x00\x01\x00\x00\x00\x00\x00\x00\x0A\x00\x00\x00\x01\x00\x00\x00\x0B\x00\x00\x00\x00");
+/// ```
+pub fn log_from_text(text: &str) -> Result<Vec<u8>, String> {
+    let mut log = LOG_HEADER.to_vec();
+    let mut before = 0;
+    for (at, line) in text.lines().enumerate() {
+        let line = line.split('#').next().unwrap_or("");
+        let mut parts = line.split_whitespace();
+        let Some(seconds) = parts.next() else { continue };
+        let (time, letters) = record(seconds, parts).map_err(|fault| format!("line {}: {fault}", at + 1))?;
+        if time < before {
+            return Err(format!("line {}: second {time} comes after second {before}", at + 1));
+        }
+        before = time;
+        if log.len() == 8 + 8 * MOST_RECORDS {
+            return Err(format!("line {}: a log has at most 1,000,000 records", at + 1));
+        }
+        log.extend(time.to_be_bytes());
+        log.extend(letters.to_be_bytes());
+    }
+    Ok(log)
+}
+
+fn record<'a>(seconds: &str, parts: impl Iterator<Item = &'a str>) -> Result<(u32, u32), String> {
+    let time = seconds.parse().map_err(|_| format!("`{seconds}` is no number of seconds up to 4294967295"))?;
+    let mut letters = 0;
+    for part in parts.filter(|&part| part != "none") {
+        let number: u32 = part.strip_prefix('e').unwrap_or(part).parse().unwrap_or(32);
+        if number > 31 {
+            return Err(format!("`{part}` is no letter: letters are e0 to e31"));
+        }
+        letters |= 1 << number;
+    }
+    Ok((time, letters))
+}
+
+/// A log as text, or refusal 12.
+pub fn log_to_text(log: &[u8]) -> Result<String, Refusal> {
+    let records = log.strip_prefix(&LOG_HEADER).ok_or(Refusal::LogFormat)?;
+    if records.len() % 8 != 0 || records.len() > 8 * MOST_RECORDS {
+        return Err(Refusal::LogFormat);
+    }
+    let mut text = String::new();
+    for record in records.chunks_exact(8) {
+        let (time, letters) = (be32(record), be32(&record[4..]));
+        let _ = write!(text, "{time}");
+        for letter in (0..32).filter(|letter| letters >> letter & 1 == 1) {
+            let _ = write!(text, " e{letter}");
+        }
+        text.push_str(if letters == 0 { " none\n" } else { "\n" });
+    }
+    Ok(text)
+}
+
+fn be32(bytes: &[u8]) -> u32 {
+    u32::from_be_bytes([bytes[0], bytes[1], bytes[2], bytes[3]])
+}
+
+/// How tightly a formula binds: or, then since and until, then the words with one operand, then a letter.
+#[derive(Clone, Copy, PartialEq, PartialOrd)]
+enum Binding {
+    Or,
+    Binary,
+    Unary,
+    Letter,
+}
+
+/// A part of a formula, and how tightly it binds.
+struct Part {
+    text: String,
+    binding: Binding,
+}
+
+impl Part {
+    /// The part's text where at least this binding is wanted, in brackets if it binds less.
+    fn at(self, wanted: Binding) -> String {
+        if self.binding < wanted {
+            format!("({})", self.text)
+        } else {
+            self.text
+        }
+    }
+}
+
+/// A rule as a formula, or the refusal that it meets. The words not, prev, next bind tightest, then since and until,
+/// grouping to the right, then or, grouping to the left.
+///
+/// ```
+/// let rule = *b"KRL\x00\x01\x03\x00\x00\
+///     \x00\x00\x00\x00\x00\x00\x00\x00\x00\x00\
+///     \x00\x01\x00\x00\x00\x00\x00\x00\x00\x00\
+///     \x06\x00\x00\x00\x00\x00\x00\x00\x00\x5A";
+/// assert_eq!(havdrims::text::formula(&rule).unwrap(), "e0 until[0,90] e1");
+/// ```
+pub fn formula(rule: &[u8]) -> Result<String, Refusal> {
+    measure(rule)?;
+    // The rule has no fault, so every entry finds its operands and one part is left.
+    let mut parts: Vec<Part> = Vec::new();
+    for entry in rule[8..].chunks_exact(10) {
+        let part = match entry[0] {
+            0 => Part { text: format!("e{}", entry[1]), binding: Binding::Letter },
+            1 | 3 | 4 => {
+                let operand = operand(&mut parts).at(Binding::Unary);
+                Part { text: format!("{} {operand}", word(entry)), binding: Binding::Unary }
+            }
+            2 => {
+                let right = operand(&mut parts).at(Binding::Binary);
+                let left = operand(&mut parts).at(Binding::Or);
+                Part { text: format!("{left} or {right}"), binding: Binding::Or }
+            }
+            _ => {
+                let right = operand(&mut parts).at(Binding::Binary);
+                let left = operand(&mut parts).at(Binding::Unary);
+                Part { text: format!("{left} {} {right}", word(entry)), binding: Binding::Binary }
+            }
+        };
+        parts.push(part);
+    }
+    Ok(operand(&mut parts).text)
+}
+
+fn operand(parts: &mut Vec<Part>) -> Part {
+    parts.pop().expect("measure found each entry's operands")
+}
+
+/// An operator's word, with its interval if it has one.
+fn word(entry: &[u8]) -> String {
+    let (low, high) = (be32(&entry[2..]), be32(&entry[6..]));
+    let name = match entry[0] {
+        1 => return "not".to_string(),
+        3 => "prev",
+        4 => "next",
+        5 => "since",
+        _ => "until",
+    };
+    let high = if high == NO_END { "inf".to_string() } else { high.to_string() };
+    format!("{name}[{low},{high}]")
+}

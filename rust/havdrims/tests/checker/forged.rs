@@ -1,0 +1,177 @@
+//! Forged points and altered open records: the call returns, nothing outside is written, a refusal changes nothing.
+
+use crate::calls::{hex, side, Call, Checkpoint};
+use crate::lists::Kiosk;
+use crate::runner::{cases, Counts};
+use evaluator::log;
+use evaluator::random::{self, Random};
+
+/// Changes some words, most of them to numbers that a point might hold.
+fn forge(r: &mut Random, words: &mut [u64], n: usize) {
+    let times = r.pick(&[1, 1, 2, 4, 40]);
+    for _ in 0..times {
+        let end = if r.one_in(3) { 16 } else { words.len() };
+        let at = r.below(end);
+        words[at] = match r.below(9) {
+            0 => r.draw(),
+            1 => words[at] ^ 1 << r.below(64),
+            2 => words[at].wrapping_add(1),
+            3 => words[at].wrapping_sub(1),
+            4 => r.pick(&[0, 1, 2, 3, u64::MAX, u32::MAX as u64, 1 << 63, 1_000_000, 1_000_001]),
+            5 => r.below(n + 2) as u64,
+            6 => (n as u64).wrapping_sub(r.below(3) as u64),
+            7 => words[r.below(words.len())],
+            _ => r.draw() >> r.below(64),
+        };
+    }
+}
+
+/// Records at or behind d changed, with times that may fall.
+fn alter(r: &mut Random, log: &mut [u8], from: usize) {
+    let n = (log.len() - 8) / 8;
+    for at in from..n {
+        if r.one_in(3) {
+            let record = &mut log[8 + 8 * at..16 + 8 * at];
+            match r.below(3) {
+                0 => r.fill(record),
+                1 => r.fill(&mut record[4..]),
+                _ => record[3] = record[3].wrapping_add(r.pick(&[1, 2, 255])),
+            }
+        }
+    }
+}
+
+/// A point that has been through some calls.
+fn used(r: &mut Random) -> (Kiosk, usize) {
+    let mut kiosk = Kiosk::new(r, 10, 40);
+    let mut n = 0;
+    for _ in 0..r.below(4) {
+        n = r.from_to(n, kiosk.untouched.len());
+        kiosk.accepted(r, n);
+    }
+    (kiosk, n)
+}
+
+#[test]
+fn forged_points() {
+    let body = |r: &mut Random, counts: &mut Counts| {
+        let (mut kiosk, n) = used(r);
+        let length = kiosk.point.words().len();
+        for _ in 0..r.from_to(1, 3) {
+            let mut words = kiosk.point.words().to_vec();
+            forge(r, &mut words[..kiosk.need], n);
+            kiosk.point.set(&words, side(r));
+            let mut log = kiosk.brought(r.from_to(n, kiosk.untouched.len()));
+            if r.one_in(3) {
+                alter(r, &mut log, 0);
+            }
+            let sheet = vec![5; r.below(50)];
+            let call = Call { rule: &kiosk.rule, need: kiosk.need, words: length, side: side(r) };
+            let number = kiosk.point.resume(&call, &log, &sheet).err().unwrap_or(0);
+            counts.returned(number);
+            let possible = [0, 10, 11, 13, 14].contains(&number);
+            assert!(possible, "refused {number}\n{}point {words:?}\nlog {}", kiosk.story, hex(&log));
+        }
+    };
+    cases("forged_points", 40_000, body, |counts| counts.get("accepted") > 0 && counts.get("refused 10") > 0);
+}
+
+/// Words that are no point: all the same, random, or a point of which only the beginning is left.
+#[test]
+fn foreign_points() {
+    let body = |r: &mut Random, counts: &mut Counts| {
+        let (mut kiosk, n) = used(r);
+        let mut words = kiosk.point.words().to_vec();
+        let need = kiosk.need;
+        let random = r.draw();
+        match r.below(3) {
+            0 => words[..need].fill(r.pick(&[0, 1, u64::MAX, random])),
+            1 => words[..need].iter_mut().for_each(|w| *w = r.draw()),
+            _ => words[0] ^= 1 << r.below(64),
+        }
+        kiosk.point.set(&words, side(r));
+        let mut log = kiosk.brought(n);
+        if r.one_in(2) {
+            random::damage(r, &mut log);
+        }
+        let call = Call { rule: &kiosk.rule, need, words: words.len(), side: side(r) };
+        let got = kiosk.point.resume(&call, &log, &[5; 20]);
+        assert_eq!(got, Err(10), "{}point {words:?}\nlog {}", kiosk.story, hex(&log));
+        counts.returned(10);
+    };
+    cases("foreign_points", 10_000, body, |_| true);
+}
+
+/// Refusals are exact for altered records too: only what an accepted call writes is free.
+#[test]
+fn altered_open_records() {
+    let body = |r: &mut Random, counts: &mut Counts| {
+        let (mut kiosk, mut n) = used(r);
+        let length = kiosk.point.words().len();
+        for _ in 0..r.from_to(1, 4) {
+            n = r.from_to(n, kiosk.untouched.len());
+            let mut log = kiosk.brought(n);
+            alter(r, &mut log, kiosk.model.given);
+            if r.one_in(2) {
+                sort_times(&mut log, kiosk.model.given);
+            }
+            let sheet = vec![5; r.below(30)];
+            let call = Call { rule: &kiosk.rule, need: kiosk.need, words: length, side: side(r) };
+            let got = kiosk.point.resume(&call, &log, &sheet);
+            let expected = kiosk.model.check(&kiosk.rule, &log, length).map(|_| ());
+            kiosk.story.add(&kiosk.rule, &log, length, sheet.len(), &kiosk.model);
+            let number = got.as_ref().err().copied().unwrap_or(0);
+            assert_eq!(number, expected.err().unwrap_or(0), "{}", kiosk.story);
+            counts.returned(number);
+            let Ok(given) = got else { continue };
+            let records = log::parse(&log).unwrap();
+            kiosk.model.given += given.verdicts.len();
+            if records.len() > kiosk.model.seen {
+                kiosk.model.last = records[records.len() - 1].time;
+            }
+            kiosk.model.seen = records.len();
+            if kiosk.model.given > kiosk.model.seen {
+                break;
+            }
+        }
+    };
+    cases("altered_open_records", 40_000, body, |counts| counts.get("accepted") > 0);
+}
+
+/// Makes the times from a position on rise.
+fn sort_times(log: &mut [u8], from: usize) {
+    let n = (log.len() - 8) / 8;
+    let at = |i: usize| 8 + 8 * i..12 + 8 * i;
+    let mut times: Vec<[u8; 4]> = (from..n).map(|i| log[at(i)].try_into().unwrap()).collect();
+    times.sort();
+    for (i, time) in (from..n).zip(times) {
+        log[at(i)].copy_from_slice(&time);
+    }
+}
+
+/// A point opened for one rule, brought with another that needs as many words.
+#[test]
+fn another_rule() {
+    let body = |r: &mut Random, counts: &mut Counts| {
+        let kiosk = Kiosk::new(r, 8, 10);
+        let mut rule = kiosk.rule.clone();
+        let count = (rule.len() - 8) / 10;
+        for _ in 0..r.from_to(1, 2) {
+            let at = 8 + 10 * r.below(count);
+            match rule[at] {
+                0 => rule[at + 1] = r.below(32) as u8,
+                3..=6 => rule[at + 5] = rule[at + 9].min(r.below(4) as u8),
+                _ => {}
+            }
+        }
+        let need = evaluator::model::measure(&rule).map_or(0, |m| m.0 as usize);
+        let mut point = Checkpoint::new(&vec![0; kiosk.need], side(r));
+        point.open(&kiosk.rule, kiosk.need, side(r)).unwrap();
+        let call = Call { rule: &rule, need, words: kiosk.need, side: side(r) };
+        let expected = kiosk.model.check(&rule, &log::HEADER, kiosk.need).err().unwrap_or(0);
+        let got = point.resume(&call, &log::HEADER, &[]).err().unwrap_or(0);
+        assert_eq!(got, expected, "opened for {}\nbrought {}", hex(&kiosk.rule), hex(&rule));
+        counts.returned(got);
+    };
+    cases("another_rule", 20_000, body, |counts| counts.get("refused 10") > 1_000);
+}

@@ -1,0 +1,217 @@
+//! The largest logs and rules, and the latest times.
+
+use crate::calls::{side, Call, Checkpoint};
+use crate::guard::{Lent, Side};
+use crate::runner::{cases, say, Counts};
+use evaluator::log::{self, Record};
+use evaluator::random::{self, LogShape, Random, RuleShape};
+use evaluator::rule::{self, Entry, NEXT, NO_END, PREVIOUS, SINCE, UNTIL};
+use evaluator::{linear, model};
+use std::time::Instant;
+
+const MILLION: usize = 1_000_000;
+
+fn letters(all: &[u8]) -> Vec<Entry> {
+    all.iter().map(|&l| Entry::letter(l)).collect()
+}
+
+/// Rules for long logs, each with a name.
+fn rules() -> Vec<(&'static str, Vec<Entry>)> {
+    let ninety = [letters(&[0, 1]), vec![Entry::timed(UNTIL, 0, 90)]].concat();
+    let ten_minutes = [letters(&[0, 1]), vec![Entry::timed(SINCE, 30, 600)]].concat();
+    let endless = [letters(&[0, 1]), vec![Entry::timed(SINCE, 10, NO_END)]].concat();
+    // (not e0 since[0,60] prev[0,5] e1) or (next[0,9] e2 until[2,120] e3)
+    let mix = vec![
+        Entry::letter(0),
+        Entry::not(),
+        Entry::letter(1),
+        Entry::timed(PREVIOUS, 0, 5),
+        Entry::timed(SINCE, 0, 60),
+        Entry::letter(2),
+        Entry::timed(NEXT, 0, 9),
+        Entry::letter(3),
+        Entry::timed(UNTIL, 2, 120),
+        Entry::or(),
+    ];
+    vec![
+        ("letter", letters(&[0])),
+        ("ninety seconds", ninety),
+        ("ten minutes", ten_minutes),
+        ("endless", endless),
+        ("mix", mix),
+    ]
+}
+
+fn long_log(seed: u64, hold: usize, step: u32) -> Vec<Record> {
+    let shape = LogShape { records: MILLION, letters: 4, hold, step, start: 7 };
+    random::log(&mut Random::new(seed), shape)
+}
+
+/// The verdicts and the point's words of a fresh point carried on to the end of the log.
+fn expected(entries: &[Entry], records: &[Record]) -> (Vec<u8>, Vec<u8>, usize) {
+    let bytes = rule::encode(entries);
+    let rule = rule::parse(&bytes).unwrap();
+    let all = linear::verdicts(&rule, records).iter().map(|&b| b as u8).collect();
+    (bytes, all, rule.words as usize)
+}
+
+fn open(rule: &[u8], need: usize) -> Checkpoint {
+    let mut point = Checkpoint::new(&vec![0; need], Side::Right);
+    point.open(rule, need, Side::Left).unwrap();
+    point
+}
+
+#[test]
+fn million_records_in_one_call() {
+    for (name, entries) in rules() {
+        for (seed, hold, step) in [(1, 40, 2), (2, 1, 3)] {
+            let records = long_log(seed, hold, step);
+            let (rule, all, need) = expected(&entries, &records);
+            let mut log = Lent::new(8 + 8 * MILLION);
+            log.place(&log::encode(&records), Side::Right);
+            log.read_only_if(true);
+            let call = Call { rule: &rule, need, words: need, side: Side::Right };
+            let begun = Instant::now();
+            let given = open(&rule, need).resume_in_place(&call, &mut log, &vec![3; all.len()]).unwrap();
+            let seconds = begun.elapsed().as_secs_f64();
+            assert!(!given.more && given.verdicts == all, "{name}, seed {seed}");
+            let yes = all.iter().filter(|&&b| b == 1).count();
+            say(&format!("million_records_in_one_call: {name}, {} verdicts, {yes} yes ({seconds:.2} s)", all.len()));
+        }
+    }
+}
+
+#[test]
+fn million_records_in_a_thousand_calls() {
+    for (name, entries) in rules() {
+        let records = long_log(3, 20, 2);
+        let (rule, all, need) = expected(&entries, &records);
+        let mut point = open(&rule, need);
+        let mut log = Lent::new(8 + 8 * MILLION);
+        log.place(&log::encode(&records), Side::Left);
+        let mut written: Vec<u8> = Vec::new();
+        let begun = Instant::now();
+        for n in (1..=1_000).map(|k| 1_000 * k) {
+            log.shorten(8 + 8 * n);
+            let call = Call { rule: &rule, need, words: need, side: Side::Left };
+            // Now and then the sheet is too short for all that is settled.
+            let length = if n % 7_000 == 0 { 300 } else { 5_000 };
+            let given = point.resume_in_place(&call, &mut log, &vec![3; length]).unwrap();
+            let from = 8 + 8 * written.len();
+            written.extend(given.verdicts);
+            log.bytes_mut()[from..8 + 8 * written.len()].fill(0xFF);
+        }
+        let seconds = begun.elapsed().as_secs_f64();
+        assert!(written == all, "{name}");
+        say(&format!("million_records_in_a_thousand_calls: {name}, {} verdicts ({seconds:.2} s)", written.len()));
+    }
+}
+
+#[test]
+fn too_many_records() {
+    let rule = rule::encode(&letters(&[0]));
+    let mut file = log::HEADER.to_vec();
+    file.resize(8 + 8 * (MILLION + 1), 0);
+    let call = Call { rule: &rule, need: 32, words: 32, side: Side::Right };
+    assert_eq!(open(&rule, 32).resume(&call, &file, &[]), Err(12));
+    file.truncate(8 + 8 * MILLION);
+    assert!(open(&rule, 32).resume(&call, &file, &[]).unwrap().more);
+}
+
+/// Rules of 128 entries and rules of up to 8,192 words.
+fn large_rule(r: &mut Random) -> Vec<Entry> {
+    let unary = [Entry::not(), Entry::timed(PREVIOUS, 0, NO_END), Entry::timed(NEXT, 0, 3600)];
+    match r.below(5) {
+        // A chain: one letter under 127 words with one operand.
+        0 => {
+            let mut all = letters(&[0]);
+            all.extend((0..127).map(|_| r.pick(&unary)));
+            all
+        }
+        // 64 letters, then 63 binary words and a not: operands wait as long as they can.
+        1 => {
+            let mut all = letters(&(0..64).map(|k| k % 32).collect::<Vec<_>>());
+            let binary = [Entry::or(), Entry::timed(SINCE, 1, 40), Entry::timed(UNTIL, 0, 30)];
+            all.extend((0..63).map(|_| r.pick(&binary)));
+            all.push(Entry::not());
+            all
+        }
+        // One since with the longest ring.
+        2 => [letters(&[0, 1]), vec![Entry::timed(SINCE, 0, 3600)]].concat(),
+        // Two untils at the limit of words.
+        3 => evaluator::cases::p10_entries(3600, 446),
+        _ => loop {
+            let high = r.pick(&[5, 60, 200]);
+            let drawn = random::entries(r, RuleShape { entries: 128, letters: 4, high }, 128);
+            if rule::parse(&rule::encode(&drawn)).is_ok() {
+                break drawn;
+            }
+        },
+    }
+}
+
+#[test]
+fn largest_rules() {
+    let body = |r: &mut Random, counts: &mut Counts| {
+        let entries = large_rule(r);
+        let shape = LogShape {
+            records: r.from_to(3_000, 9_000),
+            letters: 4,
+            hold: r.pick(&[1, 30, 3_000]),
+            step: r.pick(&[1, 2, 10]),
+            start: r.pick(&[0, 1_000, u32::MAX - 20_000, u32::MAX - 4_000]),
+        };
+        let mut records = random::log(r, shape);
+        if r.one_in(3) {
+            // A witness in every second.
+            records.iter_mut().enumerate().for_each(|(i, m)| m.time = shape.start.saturating_add(i as u32));
+            records.iter_mut().for_each(|m| m.letters |= 3);
+        }
+        let (rule, all, need) = expected(&entries, &records);
+        let mut point = open(&rule, need);
+        let file = log::encode(&records);
+        let (mut n, mut written) = (0, Vec::new());
+        while n < records.len() {
+            n = r.from_to(n + 1, records.len());
+            let call = Call { rule: &rule, need, words: need, side: side(r) };
+            written.extend(point.resume(&call, &file[..8 + 8 * n], &vec![3; records.len()]).unwrap().verdicts);
+        }
+        assert!(written == all, "{entries:?}");
+        counts.add("verdicts", all.len());
+        counts.add("of 128 entries", (entries.len() == 128) as usize);
+        counts.add("of 8,192 words", (need == 8_192) as usize);
+    };
+    let shown = |counts: &Counts| counts.get("of 128 entries") > 0 && counts.get("of 8,192 words") > 0;
+    cases("largest_rules", 150, body, shown);
+}
+
+/// The whole range of times in one log.
+#[test]
+fn latest_times() {
+    let body = |r: &mut Random, counts: &mut Counts| {
+        let shape = RuleShape { entries: 8, letters: 2, high: r.pick(&[1, 5, 3600]) };
+        let entries = random::valid_entries(r, shape);
+        let n = r.from_to(0, 30);
+        let points = [0, 1, 5, 3_600, 3_601, 1 << 31, (1 << 31) - 1, u32::MAX - 3_601, u32::MAX - 1, u32::MAX];
+        let mut times: Vec<u32> = (0..n).map(|_| r.pick(&points)).collect();
+        times.sort();
+        let records: Vec<Record> = times.iter().map(|&time| Record { time, letters: r.draw() as u32 }).collect();
+        let (rule, all, need) = expected(&entries, &records);
+        let call = Call { rule: &rule, need, words: need, side: side(r) };
+        let given = open(&rule, need).resume(&call, &log::encode(&records), &vec![3; n]).unwrap();
+        assert!(!given.more);
+        assert_eq!(given.verdicts, all, "{entries:?} {records:?}");
+        counts.add("verdicts", all.len());
+    };
+    cases("latest_times", 20_000, body, |_| true);
+}
+
+/// A sheet of a million bytes.
+#[test]
+fn large_sheets() {
+    let mut r = Random::new(1);
+    let mut sheet: Vec<u8> = (0..MILLION).map(|_| r.below(2) as u8).collect();
+    assert_eq!(crate::calls::tally(&sheet, Side::Left), model::tally(&sheet));
+    sheet[MILLION - 1] = 2;
+    assert_eq!(crate::calls::tally(&sheet, Side::Right), Err(15));
+}

@@ -1,0 +1,216 @@
+//! Lists of calls: growth, overwriting, refused calls between, sheets of all lengths, words behind the need.
+
+use crate::calls::{hex, side, Call, Checkpoint, Given};
+use crate::runner::{cases, Counts};
+use evaluator::log::{self, Record};
+use evaluator::model::{self, Point};
+use evaluator::random::{self, Random, RuleShape};
+use evaluator::{reading, rule};
+use std::fmt;
+
+/// A rule, an untouched log with the bytes that the kiosk has left of it, a point, and the model of that point.
+pub struct Kiosk {
+    pub rule: Vec<u8>,
+    pub shape: RuleShape,
+    pub need: usize,
+    pub untouched: Vec<Record>,
+    /// The whole log; records that have verdicts may be overwritten.
+    pub file: Vec<u8>,
+    pub point: Checkpoint,
+    pub model: Point,
+    /// The calls so far, to be printed with a failure.
+    pub story: Story,
+}
+
+/// A list of calls as far as it went, in the oracle's hexadecimal.
+#[derive(Default)]
+pub struct Story(Vec<Step>);
+
+struct Step {
+    rule: Vec<u8>,
+    log: Vec<u8>,
+    words: usize,
+    sheet: usize,
+    point: String,
+}
+
+impl Story {
+    pub fn add(&mut self, rule: &[u8], log: &[u8], words: usize, sheet: usize, before: &Point) {
+        let point = format!("d {}, seen {}, last {}", before.given, before.seen, before.last);
+        self.0.push(Step { rule: rule.to_vec(), log: log.to_vec(), words, sheet, point });
+    }
+}
+
+impl fmt::Display for Story {
+    fn fmt(&self, f: &mut fmt::Formatter<'_>) -> fmt::Result {
+        for (at, step) in self.0.iter().enumerate() {
+            writeln!(f, "call {at}: {} words, a sheet of {} bytes; {}", step.words, step.sheet, step.point)?;
+            writeln!(f, "  rule {}\n  log {}", hex(&step.rule), hex(&step.log))?;
+        }
+        Ok(())
+    }
+}
+
+impl Kiosk {
+    /// A random rule and log, with an open point.
+    pub fn new(r: &mut Random, most_entries: usize, most_records: usize) -> Kiosk {
+        let (shape, log_shape) = random::shapes(r, most_entries, most_records);
+        let rule = rule::encode(&random::valid_entries(r, shape));
+        let untouched = random::log(r, log_shape);
+        let file = log::encode(&untouched);
+        let need = model::measure(&rule).unwrap().0 as usize;
+        let words: Vec<u64> = (0..need + r.pick(&[0, 0, 1, 7, 600])).map(|_| r.draw()).collect();
+        let mut point = Checkpoint::new(&words, side(r));
+        point.open(&rule, need, side(r)).unwrap();
+        let model = model::open(&rule, words.len()).unwrap();
+        Kiosk { rule, shape, need, untouched, file, point, model, story: Story::default() }
+    }
+
+    /// The first n records as the file has them now.
+    pub fn brought(&self, n: usize) -> Vec<u8> {
+        self.file[..8 + 8 * n].to_vec()
+    }
+
+    /// Overwrites some of the records that have verdicts.
+    pub fn overwrite(&mut self, r: &mut Random) {
+        for at in 0..self.model.given {
+            let record = &mut self.file[8 + 8 * at..16 + 8 * at];
+            match r.below(4) {
+                0 => r.fill(record),
+                1 => record.fill(r.pick(&[0, 1, 127, 128, 255])),
+                _ => {}
+            }
+        }
+    }
+
+    /// Calls, and compares with the model. `log` agrees with the untouched one from d on, or is refused.
+    fn resume(&mut self, r: &mut Random, rule: &[u8], log: &[u8], words: usize, sheet: &[u8]) -> Result<Given, u32> {
+        self.story.add(rule, log, words, sheet.len(), &self.model);
+        let untouched = &self.untouched;
+        let evaluate = |rule: &rule::Rule, n: usize| reading::verdicts(rule, &untouched[..n]);
+        let expected = self.model.resume(rule, log, words, sheet.len(), evaluate);
+        let expected = expected.map(|e| Given { verdicts: e.verdicts, more: e.more });
+        let call = Call { rule, need: self.need, words, side: side(r) };
+        let got = self.point.resume(&call, log, sheet);
+        assert_eq!(got, expected, "{}", self.story);
+        got
+    }
+
+    fn sheet(&self, r: &mut Random) -> Vec<u8> {
+        let rest = self.untouched.len() - self.model.given;
+        let length = r.pick(&[0, 1, 2, 5, rest, rest + 3]);
+        let mut sheet = vec![0; length];
+        r.fill(&mut sheet);
+        sheet
+    }
+
+    /// A call that the list allows: n records.
+    pub fn accepted(&mut self, r: &mut Random, n: usize) -> Given {
+        let (rule, log, sheet) = (self.rule.clone(), self.brought(n), self.sheet(r));
+        let lent = self.point.words().len();
+        let words = r.from_to(self.need, lent);
+        let got = self.resume(r, &rule, &log, words, &sheet);
+        got.unwrap_or_else(|n| panic!("refused {n}\n{}", self.story))
+    }
+
+    /// A call with one or more faults, if they come to a refusal: its number.
+    fn refused(&mut self, r: &mut Random, n: usize) -> Option<u32> {
+        let mut rule = self.rule.clone();
+        let mut words = self.point.words().len();
+        let mut log = self.brought(n);
+        if r.one_in(4) {
+            random::damage(r, &mut rule);
+        } else if r.one_in(4) {
+            rule = rule::encode(&random::valid_entries(r, self.shape));
+        }
+        if r.one_in(4) {
+            words = r.pick(&[0, 1, self.need / 2, self.need - 1]);
+        }
+        match r.below(5) {
+            0 => random::damage(r, &mut log),
+            1 => {
+                let at = r.below(8);
+                log[at] ^= 1 << r.below(8);
+            }
+            2 => log.truncate(8 + 8 * self.model.seen.saturating_sub(r.from_to(1, 3))),
+            3 if n > 0 => {
+                let at = r.below(n);
+                let time = &mut log[8 + 8 * at..12 + 8 * at];
+                let lower = u32::from_be_bytes(time.try_into().unwrap()).saturating_sub(r.from_to(1, 5) as u32);
+                time.copy_from_slice(&lower.to_be_bytes());
+            }
+            _ => {}
+        }
+        self.model.check(&rule, &log, words).err()?;
+        let sheet = self.sheet(r);
+        self.resume(r, &rule, &log, words, &sheet).err()
+    }
+}
+
+/// Random lists; laid end to end their verdicts are those of one run.
+#[test]
+fn lists() {
+    let body = |r: &mut Random, counts: &mut Counts| {
+        let mut kiosk = Kiosk::new(r, 10, 40);
+        let total = kiosk.untouched.len();
+        let (mut n, mut written, mut caught_up) = (0, Vec::new(), None);
+        for _ in 0..r.from_to(0, 14) {
+            if r.one_in(3) {
+                kiosk.overwrite(r);
+            }
+            if r.one_in(3) {
+                let n = r.from_to(n, total);
+                if let Some(number) = kiosk.refused(r, n) {
+                    counts.returned(number);
+                }
+                continue;
+            }
+            n = if r.one_in(3) { n } else { r.from_to(n, total) };
+            let given = kiosk.accepted(r, n);
+            counts.returned(0);
+            counts.add("verdicts", given.verdicts.len());
+            written.extend(given.verdicts);
+            caught_up = Some(!given.more);
+        }
+        let rule = rule::parse(&kiosk.rule).unwrap();
+        let one_run: Vec<u8> = reading::verdicts(&rule, &kiosk.untouched[..n]).iter().map(|&b| b as u8).collect();
+        assert!(one_run.starts_with(&written), "{}", kiosk.story);
+        if let Some(caught_up) = caught_up {
+            assert_eq!(caught_up, one_run.len() == written.len(), "{}", kiosk.story);
+        }
+    };
+    let shown = |counts: &Counts| (1..=14).all(|n| n == 8 || n == 11 || counts.get(&format!("refused {n:02}")) > 0);
+    cases("lists", 30_000, body, shown);
+}
+
+/// Every length of the first sheet, and what it leaves over by calls of one byte or in one go.
+#[test]
+fn sheets_of_all_lengths() {
+    let body = |r: &mut Random, counts: &mut Counts| {
+        let start = Kiosk::new(r, 7, 20);
+        let rule = rule::parse(&start.rule).unwrap();
+        let all: Vec<u8> = reading::verdicts(&rule, &start.untouched).iter().map(|&b| b as u8).collect();
+        let fresh = start.point.words().to_vec();
+        let mut kiosk = start;
+        for length in 0..=all.len() + 2 {
+            kiosk.point.set(&fresh, side(r));
+            kiosk.model = model::open(&kiosk.rule, fresh.len()).unwrap();
+            kiosk.file = log::encode(&kiosk.untouched);
+            let (bytes, mut written) = (kiosk.rule.clone(), Vec::new());
+            let mut next = length;
+            loop {
+                let log = kiosk.brought(kiosk.untouched.len());
+                let given = kiosk.resume(r, &bytes, &log, fresh.len(), &vec![9; next]).unwrap();
+                counts.returned(0);
+                written.extend(given.verdicts);
+                kiosk.overwrite(r);
+                if !given.more {
+                    break;
+                }
+                next = r.pick(&[1, 1, all.len()]);
+            }
+            assert_eq!(written, all, "{}", kiosk.story);
+        }
+    };
+    cases("sheets_of_all_lengths", 1_500, body, |counts| counts.get("accepted") > 0);
+}
