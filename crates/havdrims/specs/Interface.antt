@@ -1,0 +1,44 @@
+-- What the exported functions promise, in terms of the calls' own definitions: the number returned, and each lent byte, word and
+-- number afterwards. Where the number is not 0, the numbers behind the pointers are kept.
+use Prim.Native.Nat.{ℕ}
+use mathlib.Core.Bool.{Bool, true, false, cond}
+use mathlib.Core.Path.{_≡_}
+use mathlib.Core.List.{List}
+use lib.Dec.{eqb}
+use Rattle.rule.specs.Measure.{measured}
+use Rattle.monitor.specs.Open.{Opens, opened-number}
+use Rattle.monitor.specs.Resume.{Resumes, resumed-number, resumed-count, resumed-more}
+use Rattle.monitor.specs.Tally.{tallied}
+use Rattle.monitor.specs.declared.Opened.{Opened}
+use Rattle.monitor.specs.declared.Resumed.{Resumed}
+
+-- the new value where the call was accepted, else the old one
+abbrev pub or-kept : (number old new : ℕ) → ℕ
+or-kept number old new = cond (eqb number 0) new old
+
+-- 1 for more, 0 for caught up
+abbrev pub flag : Bool → ℕ
+flag true = 1
+flag false = 0
+
+pub record Measures (rule : List ℕ) (words reach r words′ reach′ : ℕ) : Type 0 where
+  pub number : r ≡ measured rule .number
+  pub need : words′ ≡ or-kept r words (measured rule .words)
+  pub most : reach′ ≡ or-kept r reach (measured rule .reach)
+
+pub record Opening (rule p : List ℕ) (r : ℕ) (p′ : List ℕ) : Type 0 where
+  pub outcome : Opened
+  pub opens : Opens rule p outcome p′
+  pub number : r ≡ opened-number outcome
+
+pub record Resuming (rule log p sheet : List ℕ) (given more r : ℕ) (p′ sheet′ : List ℕ) (given′ more′ : ℕ) : Type 0 where
+  pub outcome : Resumed
+  pub resumes : Resumes rule log p sheet outcome p′ sheet′
+  pub number : r ≡ resumed-number outcome
+  pub count : given′ ≡ or-kept r given (resumed-count outcome)
+  pub rest : more′ ≡ or-kept r more (flag (resumed-more outcome))
+
+pub record Tallies (sheet : List ℕ) (noes yeses r noes′ yeses′ : ℕ) : Type 0 where
+  pub number : r ≡ tallied sheet .number
+  pub no-count : noes′ ≡ or-kept r noes (tallied sheet .no-count)
+  pub yes-count : yeses′ ≡ or-kept r yeses (tallied sheet .yes-count)

@@ -1,0 +1,75 @@
+// The C interface: the library's four calls under plain names. Each answers 0, or the refusal's number, and then every number
+// behind a pointer is as it was. include/havdrims.h says what a C programmer needs to know.
+ghost use mathlib.Core.Path.{_≡_};
+ghost use Rattle.monitor.specs.Open.{Opens, opened-number};
+ghost use Rattle.havdrims.specs.Interface.{Measures, Opening, Resuming, Tallies};
+use monitor::Opened;
+use monitor::Resumed;
+use monitor::Tallied;
+use rule::Measured;
+
+// weigh
+#[no_mangle]
+pub extern "C" fn havdrims_measure(rule: &[u8], words: &mut u64, reach: &mut u64) -> u32
+    ensures { λ r. ⌜ Measures (now (rule .entry)) (now (words .entry)) (now (reach .entry)) r (now (words .exit)) (now (reach .exit)) ⌝ }
+{
+    match rule::measure(rule) {
+        Measured::Refused(n) => n,
+        Measured::Words {
+            words: w,
+            reach: most,
+        } => {
+            *words = w as u64;
+            *reach = most;
+            0
+        }
+    }
+}
+
+// open
+#[no_mangle]
+pub extern "C" fn havdrims_open(rule: &[u8], point: &mut [u64]) -> u32
+    ensures { λ r. ⌜ Opening (now (rule .entry)) (now (point .entry)) r (now (point .exit)) ⌝ }
+{
+    match monitor::open(rule, point) {
+        Opened::Refused(n) => n,
+        Opened::Done => 0,
+    }
+}
+
+// carry on
+#[no_mangle]
+pub extern "C" fn havdrims_resume(
+    rule: &[u8],
+    log: &[u8],
+    point: &mut [u64],
+    sheet: &mut [u8],
+    given: &mut u64,
+    more: &mut u64,
+) -> u32
+    ensures { λ r. ⌜ Resuming (now (rule .entry)) (now (log .entry)) (now (point .entry)) (now (sheet .entry)) (now (given .entry)) (now (more .entry)) r (now (point .exit)) (now (sheet .exit)) (now (given .exit)) (now (more .exit)) ⌝ }
+{
+    match monitor::resume(rule, log, point, sheet) {
+        Resumed::Refused(n) => n,
+        Resumed::Given { count, more: left } => {
+            *given = count as u64;
+            *more = left as u64;
+            0
+        }
+    }
+}
+
+// tally
+#[no_mangle]
+pub extern "C" fn havdrims_tally(sheet: &[u8], no: &mut u64, yes: &mut u64) -> u32
+    ensures { λ r. ⌜ Tallies (now (sheet .entry)) (now («no» .entry)) (now («yes» .entry)) r (now («no» .exit)) (now («yes» .exit)) ⌝ }
+{
+    match monitor::tally(sheet) {
+        Tallied::Refused(n) => n,
+        Tallied::Counts { no: n, yes: y } => {
+            *no = n as u64;
+            *yes = y as u64;
+            0
+        }
+    }
+}

@@ -1,0 +1,1 @@
+-- The laws behind the proofs of the monitor's functions, and the theorem about lists of calls.

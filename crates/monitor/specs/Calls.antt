@@ -1,0 +1,100 @@
+-- Demand 3: one claim about a whole list of calls. Its steps are the records that the calls' `ensures` name, and nothing here
+-- names the inside of a checkpoint. proofs/Demand3.antt proves it.
+use Prim.Native.Nat.{ℕ, _+_, _*_, _-_, _≤_, _<_, min}
+use mathlib.Core.Bool.{Bool, false}
+use mathlib.Core.Path.{_≡_}
+use mathlib.Core.Logic.{_↔_}
+use mathlib.Core.List.{List, [], _∷_, _++_}
+use lib.ListN.{length, getD, take, drop}
+use lib.Dec.{ltb}
+use Rattle.mtl.specs.Log.{NeverFalls}
+use Rattle.trace.specs.Format.{record-count, records-of, malformed}
+use Rattle.trace.specs.Log.{log-of}
+use Rattle.monitor.specs.Checkpoint.{need}
+use Rattle.monitor.specs.Verdicts.{answered, all-verdicts}
+use Rattle.monitor.specs.Open.{Opens}
+use Rattle.monitor.specs.Resume.{Resumes, resumed-number}
+use Rattle.monitor.specs.declared.Opened.the-variants.{Done}
+use Rattle.monitor.specs.declared.Resumed.{Resumed}
+use Rattle.monitor.specs.declared.Resumed.the-variants.{Given, Refused}
+
+-- "One untouched log belongs to the list: a header without fault, then at most 1,000,000 records whose times never fall"
+pub record Untouched (log : List ℕ) : Type 0 where
+  pub well-formed : malformed log ≡ false
+  pub never-falls : NeverFalls (log-of (records-of log))
+
+-- an accepted call, as far as the claim speaks of it: the records that it brought, the sheet's length, c, "more", and the
+-- first c bytes of the sheet as the call left it
+pub record Call : Type 0 where
+  pub records : ℕ
+  pub room : ℕ
+  pub count : ℕ
+  pub more : Bool
+  pub bytes : List ℕ
+
+-- of the accepted calls, the latest first: "d is the sum of c over the accepted calls before it"
+unfoldable pub given-by : List Call → ℕ
+given-by [] = 0
+given-by (c ∷ older) = given-by older + c .count
+
+-- the records that the last accepted call brought
+unfoldable pub brought-by : List Call → ℕ
+brought-by [] = 0
+brought-by (c ∷ older) = c .records
+
+-- "laid end to end in the order of the calls"
+unfoldable pub laid : List Call → List ℕ
+laid [] = []
+laid (c ∷ older) = laid older ++ c .bytes
+
+-- "it brings .. this header and the records from the first on .. A record has a verdict if its position is below d. Such a
+-- record may hold any bytes; the others stand as in the untouched log."
+pub record Brings (log : List ℕ) (d n : ℕ) (log′ : List ℕ) : Type 0 where
+  pub size : length log′ ≡ 8 + 8 * n
+  pub within : n ≤ record-count (records-of log)
+  pub header : take 8 log′ ≡ take 8 log
+  pub same : (i : ℕ) → 8 + 8 * d ≤ i → i < 8 + 8 * n → getD log′ i 0 ≡ getD log i 0
+
+-- a list of calls on the words `lent`, with the accepted ones and the checkpoint as the last call left it
+data Calls (rule log lent : List ℕ) : List Call → List ℕ → Type 0 where
+  -- "The list starts from the point as open left it for the rule"
+  opened : {p : List ℕ} → Opens rule lent Done p → Calls rule log lent [] p
+  -- "refused, whatever rule, log and sheet it brought"
+  refused : {h : List Call} {p : List ℕ} → Calls rule log lent h p →
+      (rule′ log′ sheet : List ℕ) (n : ℕ) (p′ sheet′ : List ℕ) →
+      Resumes rule′ log′ p sheet (Refused n) p′ sheet′ → Calls rule log lent h p′
+  -- "or it brings the rule, this header and the records .., no fewer than the accepted call before it brought"
+  accepted : {h : List Call} {p : List ℕ} → Calls rule log lent h p →
+      (n : ℕ) (log′ sheet : List ℕ) (c : ℕ) (more : Bool) (p′ sheet′ : List ℕ) →
+      brought-by h ≤ n → Brings log (given-by h) n log′ → Resumes rule log′ p sheet (Given c more) p′ sheet′ →
+      Calls rule log lent (record { records = n; room = length sheet; count = c; more = more; bytes = take c sheet′ } ∷ h) p′
+
+-- "Each accepted call's c and its 'more' or 'caught up' are as above, with this d and the A of the untouched records up to its last."
+pub record AsPromised (rule log : List ℕ) (d : ℕ) (c : Call) : Type 0 where
+  pub count : c .count ≡ min (answered rule log (c .records) - d) (c .room)
+  pub more : c .more ≡ ltb (d + c .count) (answered rule log (c .records))
+  pub bytes : length (c .bytes) ≡ c .count
+
+unfoldable pub Each : (rule log : List ℕ) → List Call → Type 0
+Each rule log [] = Unit {0}
+Each rule log (c ∷ older) = AsPromised rule log (given-by older) c × Each rule log older
+
+-- "they are all A of them exactly when that call gave 'caught up'. Before the first accepted call nothing is written."
+unfoldable pub AllWhenCaughtUp : (rule log : List ℕ) → List Call → Type 0
+AllWhenCaughtUp rule log [] = laid [] ≡ []
+AllWhenCaughtUp rule log (c ∷ older) = (laid (c ∷ older) ≡ all-verdicts rule log (c .records)) ↔ (c .more ≡ false)
+
+-- the claim, for every list
+pub record Demand3 (rule log lent : List ℕ) (h : List Call) (p : List ℕ) : Type 0 where
+  -- 1. the bytes laid end to end are the first verdicts of the untouched log as far as the last accepted call brought it
+  pub first : laid h ≡ take (length (laid h)) (all-verdicts rule log (brought-by h))
+  -- 2. and all of them exactly when that call said caught up
+  pub all : AllWhenCaughtUp rule log h
+  -- 3. each accepted call's c and "more"
+  pub each : Each rule log h
+  -- 4. "A call that brings rule and log in this way is not refused."
+  pub not-refused : (n : ℕ) (log′ sheet : List ℕ) (r : Resumed) (p′ sheet′ : List ℕ) →
+      brought-by h ≤ n → Brings log (given-by h) n log′ → Resumes rule log′ p sheet r p′ sheet′ → resumed-number r ≡ 0
+  -- 5. "any words behind them are kept"
+  pub beyond : drop (need rule) p ≡ drop (need rule) lent
+  pub length : length p ≡ length lent

@@ -1,0 +1,102 @@
+-- What the crate's own functions answer, between the calls and the definitions that their promises name.
+use Prim.Native.Nat.{ℕ, zero, suc, _+_, _-_, _≤_, _<_, _^_, min}
+use mathlib.Core.Bool.{Bool, true, false, cond}
+use mathlib.Core.Path.{_≡_}
+use mathlib.Core.List.{List}
+use lib.ListN.{length, getD, drop, set}
+use lib.Dec.{eqb, ltb}
+use Rattle.mtl.specs.Formula.{Formula}
+use Rattle.mtl.specs.Log.{Log, NeverFalls}
+use Rattle.mtl.specs.Satisfaction.{sat}
+use Rattle.mtl.specs.Progress.{progress}
+use Rattle.rule.specs.declared.Entry.{Entry}
+use Rattle.rule.specs.Entries.{entry}
+use Rattle.rule.specs.Refusal.{refusal}
+use Rattle.engine.specs.Block.{word}
+use Rattle.engine.specs.Step.{Agrees}
+use Rattle.engine.specs.Table.{Has}
+use Rattle.trace.specs.Format.{record-count}
+use Rattle.trace.specs.Order.{last-time}
+use Rattle.monitor.specs.Checkpoint.{format, given, seen, last, held-count, need, block-at, copy-head, copy-ends}
+use Rattle.monitor.specs.Verdicts.{formula-of, verdict}
+use Rattle.monitor.specs.Stands.{Top}
+use Rattle.monitor.specs.declared.check.Sized.{Sized}
+use Rattle.monitor.specs.declared.check.Sized.the-variants.{Words, Stopped}
+use Rattle.monitor.specs.declared.Resumed.{Resumed}
+use Rattle.monitor.specs.declared.Resumed.the-variants.{Given, Refused}
+
+abbrev pub sized-number : Sized → ℕ
+sized-number (Words n) = 0
+sized-number (Stopped n) = n
+
+abbrev pub pick : Bool → Sized → Sized → Sized
+pick true a b = a
+pick false a b = b
+
+-- refusals 1 to 9, or the need
+abbrev pub sized-of : List ℕ → ℕ → Sized
+sized-of rule lent =
+    pick (eqb (refusal rule) 0) (pick (ltb lent (need rule)) (Stopped 9) (Words (need rule))) (Stopped (refusal rule))
+
+-- the words of a fresh checkpoint: nothing given, seen or held, and each entry's copy in its block
+pub record Fresh (t : List Entry) (n : ℕ) (ws : List ℕ) : Type 0 where
+  pub first-word : word ws 0 ≡ format
+  pub entries : word ws 6 ≡ n
+  pub header : (i : ℕ) → 0 < i → i < 6 → word ws i ≡ 0
+  pub blocks : (k : ℕ) → k < n → (i : ℕ) → i < 14 → word ws (block-at t k + i) ≡ 0
+  pub heads : (k : ℕ) → k < n → word ws (block-at t k + 14) ≡ copy-head (entry t k)
+  pub ends : (k : ℕ) → k < n → word ws (block-at t k + 15) ≡ copy-ends (entry t k)
+
+-- `hold` fills the header's buffer where it is empty: false where the formula is open
+abbrev pub Holding : Formula → Log → ℕ → Bool → List ℕ → Type 0
+Holding φ L d true ws′ = Top φ L d ws′
+Holding φ L d false ws′ = Top φ L d ws′ × (progress φ L ≡ d)
+
+pub record Holds (t s : List ℕ) (k : ℕ) (ws : List ℕ) (r : Bool) (ws′ : List ℕ) : Type 0 where
+  pub words-length : length ws′ ≡ length ws
+  pub header : (i : ℕ) → i < 16 → (i ≡ 4 → ⊥) → (i ≡ 5 → ⊥) → word ws′ i ≡ word ws i
+  pub some : r ≡ true → 0 < held-count ws′
+  pub none : r ≡ false → held-count ws′ ≡ 0
+  pub meaning : (φ : Formula) (L : Log) (d : ℕ) → Has φ t k → NeverFalls L → Agrees s L d → Top φ L d ws → Holding φ L d r ws′
+
+-- the copies of the first n entries, written into their blocks
+unfoldable pub copies : List Entry → ℕ → List ℕ → List ℕ
+copies t zero ws = ws
+copies t (suc n) ws =
+    set (set (copies t n ws) (block-at t n + 14) (copy-head (entry t n))) (block-at t n + 15) (copy-ends (entry t n))
+
+-- c verdicts from d on: the bytes, and what the words stand for then
+pub record Giving (φ : Formula) (L : Log) (d c : ℕ) (ws′ sheet′ : List ℕ) : Type 0 where
+  pub top : Top φ L (d + c) ws′
+  pub bytes : (i : ℕ) → i < c → getD sheet′ i 0 ≡ verdict (sat φ L (d + i))
+
+-- `give` writes c verdicts: as many as the sheet holds, or as there are
+pub record Gave (t s : List ℕ) (k : ℕ) (ws sheet : List ℕ) (c : ℕ) (ws′ sheet′ : List ℕ) : Type 0 where
+  pub room : c ≤ length sheet
+  pub rest : drop c sheet′ ≡ drop c sheet
+  pub sheet-length : length sheet′ ≡ length sheet
+  pub words-length : length ws′ ≡ length ws
+  pub count : given ws′ ≡ given ws + c
+  pub header : (i : ℕ) → i < 16 → (i ≡ 1 → ⊥) → (i ≡ 4 → ⊥) → (i ≡ 5 → ⊥) → word ws′ i ≡ word ws i
+  pub meaning : (φ : Formula) (L : Log) (d : ℕ) → Has φ t k → NeverFalls L → Agrees s L d → Top φ L d ws →
+      Giving φ L d c ws′ sheet′ × (c < length sheet → progress φ L ≡ d + c)
+
+-- an accepted call on exactly the words that the rule needs
+pub record Carried (rule s ws sheet : List ℕ) (c : ℕ) (more : Bool) (ws′ sheet′ : List ℕ) : Type 0 where
+  pub room : c ≤ length sheet
+  pub rest : drop c sheet′ ≡ drop c sheet
+  pub sheet-length : length sheet′ ≡ length sheet
+  pub words-length : length ws′ ≡ length ws
+  pub first-word : word ws′ 0 ≡ word ws 0
+  pub count : given ws′ ≡ given ws + c
+  pub size : seen ws′ ≡ record-count s
+  pub time : last ws′ ≡ last-time s (seen ws) (last ws)
+  pub fits : last ws < 2 ^ 32 → last ws′ < 2 ^ 32
+  pub entries : word ws′ 6 ≡ word ws 6
+  pub meaning : (L : Log) (d : ℕ) → NeverFalls L → Agrees s L d → Top (formula-of rule) L d ws →
+      Giving (formula-of rule) L d c ws′ sheet′ × (c ≡ min (progress (formula-of rule) L - d) (length sheet)) ×
+      (more ≡ ltb (d + c) (progress (formula-of rule) L))
+
+abbrev pub CarriesOn : (rule s ws sheet : List ℕ) → Resumed → (ws′ sheet′ : List ℕ) → Type 0
+CarriesOn rule s ws sheet (Given c more) ws′ sheet′ = Carried rule s ws sheet c more ws′ sheet′
+CarriesOn rule s ws sheet (Refused n) ws′ sheet′ = ⊥

@@ -1,0 +1,39 @@
+-- Where a call stops: "The first that applies is returned. Rule checks precede point checks."
+use Prim.Native.Nat.{ℕ, _<_}
+use mathlib.Core.Bool.{Bool, true, cond, _||_}
+use mathlib.Core.List.{List}
+use lib.ListN.{length}
+use lib.Dec.{eqb, ltb}
+use Rattle.mtl.specs.Satisfaction.{any}
+use Rattle.rule.specs.declared.Entry.{Entry}
+use Rattle.rule.specs.Entries.{count, decoded}
+use Rattle.rule.specs.Refusal.{refusal}
+use Rattle.trace.specs.Format.{record-count, records-of, malformed}
+use Rattle.trace.specs.Order.{disordered}
+use Rattle.monitor.specs.Checkpoint.{given, seen, last, need, foreign, outside}
+
+-- the number where its condition holds, else what comes after it
+abbrev pub first : ℕ → Bool → ℕ → ℕ
+first number bad other = cond bad number other
+
+-- a refusal that was met, else what comes after it
+abbrev pub before : ℕ → ℕ → ℕ
+before number other = cond (eqb number 0) other number
+
+-- open, on a checkpoint of so many words: refusals 1 to 9
+abbrev pub open-refusal : List ℕ → ℕ → ℕ
+open-refusal rule lent = before (refusal rule) (first 9 (ltb lent (need rule)) 0)
+
+-- refusals 10 to 14, of a rule's n entries, a log's bytes and a checkpoint's words
+abbrev pub point-refusal : List Entry → ℕ → List ℕ → List ℕ → ℕ
+point-refusal t n log p =
+    first 10 (foreign t n p)
+    (first 11 (outside t n p)
+    (first 12 (malformed log)
+    (first 13 (ltb (record-count (records-of log)) (seen p))
+    (first 14 (disordered (records-of log) (given p) (seen p) (last p)) 0))))
+
+-- resume: refusals 1 to 14, for every rule, log and checkpoint, forged ones included
+abbrev pub resume-refusal : (rule log point : List ℕ) → ℕ
+resume-refusal rule log point =
+    before (open-refusal rule (length point)) (point-refusal (decoded rule) (count rule) log point)

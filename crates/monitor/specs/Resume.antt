@@ -1,0 +1,62 @@
+-- What `resume` (document 01's carry on) promises, for every rule, log, checkpoint and verdict buffer (sheet).
+use Prim.Native.Nat.{ℕ, _+_, _-_, _≤_, _<_, min}
+use mathlib.Core.Bool.{Bool, false}
+use mathlib.Core.Path.{_≡_}
+use mathlib.Core.List.{List}
+use lib.ListN.{length, getD, drop}
+use lib.Dec.{ltb}
+use Rattle.mtl.specs.Log.{Log, NeverFalls, Continues}
+use Rattle.mtl.specs.Satisfaction.{sat}
+use Rattle.mtl.specs.Progress.{progress}
+use Rattle.trace.specs.Format.{record-count, records-of}
+use Rattle.trace.specs.Order.{last-time}
+use Rattle.engine.specs.Step.{Agrees}
+use Rattle.monitor.specs.Checkpoint.{given, seen, last, need}
+use Rattle.monitor.specs.Refusal.{resume-refusal}
+use Rattle.monitor.specs.Verdicts.{formula-of, verdict}
+use Rattle.monitor.specs.Stands.{Stands}
+use Rattle.monitor.specs.declared.Resumed.{Resumed}
+use Rattle.monitor.specs.declared.Resumed.the-variants.{Given, Refused}
+
+-- the paper's number and values for each case: 0, or the refusal's; c; whether there is "more"
+abbrev pub resumed-number : Resumed → ℕ
+resumed-number (Given c more) = 0
+resumed-number (Refused n) = n
+
+abbrev pub resumed-count : Resumed → ℕ
+resumed-count (Given c more) = c
+resumed-count (Refused n) = 0
+
+abbrev pub resumed-more : Resumed → Bool
+resumed-more (Given c more) = more
+resumed-more (Refused n) = false
+
+-- "Carry on writes c verdicts, c the smaller of A - d and the sheet's length .. It gives c and 'more' if A > d + c"
+pub record Gives (rule : List ℕ) (L : Log) (d : ℕ) (sheet : List ℕ) (c : ℕ) (m : Bool) (p′ sheet′ : List ℕ) : Type 0 where
+  pub count : c ≡ min (progress (formula-of rule) L - d) (length sheet)
+  pub bytes : (i : ℕ) → i < c → getD sheet′ i 0 ≡ verdict (sat (formula-of rule) L (d + i))
+  pub more : m ≡ ltb (d + c) (progress (formula-of rule) L)
+  pub stands : Stands rule L (d + c) p′
+
+-- an accepted call: what holds on any words, and `meaning`, where the checkpoint stands for the rule and a log as it was last
+-- seen, the log brought continues it, and the lent records are its own from d on: those before may have been overwritten
+pub record Accepted (rule log p sheet : List ℕ) (c : ℕ) (more : Bool) (p′ sheet′ : List ℕ) : Type 0 where
+  pub room : c ≤ length sheet
+  pub rest : drop c sheet′ ≡ drop c sheet
+  pub beyond : drop (need rule) p′ ≡ drop (need rule) p
+  pub count : given p′ ≡ given p + c
+  pub size : seen p′ ≡ record-count (records-of log)
+  pub time : last p′ ≡ last-time (records-of log) (seen p) (last p)
+  pub meaning : (K L : Log) (d : ℕ) → Stands rule K d p → Continues K L → NeverFalls L → Agrees (records-of log) L d →
+      Gives rule L d sheet c more p′ sheet′
+
+abbrev pub Resuming : (rule log p sheet : List ℕ) → Resumed → (p′ sheet′ : List ℕ) → Type 0
+Resuming rule log p sheet (Given c more) p′ sheet′ = Accepted rule log p sheet c more p′ sheet′
+-- "rule, log, point and sheet keep their bytes"
+Resuming rule log p sheet (Refused n) p′ sheet′ = (p′ ≡ p) × (sheet′ ≡ sheet)
+
+pub record Resumes (rule log p sheet : List ℕ) (r : Resumed) (p′ sheet′ : List ℕ) : Type 0 where
+  pub number : resumed-number r ≡ resume-refusal rule log p
+  pub point-length : length p′ ≡ length p
+  pub sheet-length : length sheet′ ≡ length sheet
+  pub words : Resuming rule log p sheet r p′ sheet′

@@ -1,0 +1,38 @@
+-- What `tally` promises: "reads a sheet and gives the count of no and of yes".
+use Prim.Native.Nat.{ℕ, zero, suc, _+_}
+use mathlib.Core.Bool.{Bool, true, false, cond}
+use mathlib.Core.List.{List, [], _∷_}
+use lib.ListN.{length, getD}
+use lib.Dec.{ltb, eqb}
+use Rattle.mtl.specs.Satisfaction.{any}
+use Rattle.monitor.specs.declared.Tallied.{Tallied}
+use Rattle.monitor.specs.declared.Tallied.the-variants.{Counts, Refused}
+
+-- how many of the first n bytes are x
+unfoldable pub count-of : ℕ → List ℕ → ℕ → ℕ
+count-of x s zero = 0
+count-of x s (suc n) = count-of x s n + cond (eqb (getD s n 0) x) 1 0
+
+-- "A sheet given to tally has a byte above 1."
+abbrev pub above-one : List ℕ → ℕ → Bool
+above-one s i = ltb 1 (getD s i 0)
+
+-- the paper's number and values for each case
+pub record Answer : Type 0 where
+  pub number : ℕ
+  pub no-count : ℕ
+  pub yes-count : ℕ
+
+abbrev pub answer : Tallied → Answer
+answer (Counts n y) = record { number = 0; no-count = n; yes-count = y }
+answer (Refused n) = record { number = n; no-count = 0; yes-count = 0 }
+
+abbrev pub pick : Bool → Answer → Answer → Answer
+pick true a b = a
+pick false a b = b
+
+abbrev pub tallied : List ℕ → Answer
+tallied s =
+    pick (any (length s) (above-one s))
+    (record { number = 15; no-count = 0; yes-count = 0 })
+    (record { number = 0; no-count = count-of 0 s (length s); yes-count = count-of 1 s (length s) })

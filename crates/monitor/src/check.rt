@@ -1,0 +1,186 @@
+// Refusals 1 to 14: each check over all entries before the next begins. Nothing is written.
+ghost use mathlib.Core.Path.{_≡_};
+ghost use Prim.Native.Nat.{_+_, _≤_, _<_};
+ghost use lib.ListN.{length, drop};
+ghost use Rattle.mtl.specs.Satisfaction.{any};
+ghost use Rattle.rule.specs.Entries.{count, decoded};
+ghost use Rattle.rule.specs.Refusal.{refusal};
+ghost use Rattle.rule.specs.Words.{offset};
+ghost use Rattle.monitor.specs.Checkpoint.{copy-head, copy-ends, need, copy-differs, foreign, room, block-in-range, block-outside, header-in-range, outside};
+ghost use Rattle.monitor.specs.Code.{sized-of, sized-number};
+ghost use Rattle.monitor.specs.Refusal.{first, point-refusal};
+ghost use Rattle.engine.specs.Block.{cells-of};
+use rule::Entry;
+use rule::Measured;
+
+// The number in a checkpoint's first word: the bytes HAVD, and the format's number.
+pub const FORMAT: u64 = 5206537494274768897;
+
+// Refusals 1 to 9, or the words that the rule needs.
+pub enum Sized {
+    Words(usize),
+    Stopped(u32),
+}
+
+impl Sized {
+    pub fn number(self) -> u32
+        ensures { λ r. ⌜ r ≡ sized-number self ⌝ }
+    {
+        match self {
+            Sized::Words(_) => 0,
+            Sized::Stopped(n) => n,
+        }
+    }
+}
+
+pub fn size_of(rule: &[u8], lent: usize) -> Sized
+    ensures { λ r. ⌜ r ≡ sized-of (now (rule .entry)) lent ⌝ }
+{
+    match rule::measure(rule) {
+        Measured::Refused(n) => Sized::Stopped(n),
+        Measured::Words { words, reach: _ } => {
+            if lent < words {
+                Sized::Stopped(9)
+            } else {
+                Sized::Words(words)
+            }
+        }
+    }
+}
+
+// The number where its condition holds, else what comes after it.
+fn refuse(number: u32, bad: bool, other: u32) -> u32
+    ensures { λ r. ⌜ r ≡ first number bad other ⌝ }
+{
+    if bad { number } else { other }
+}
+
+// An entry's kind and letter, as its block keeps them.
+pub fn head_of(e: Entry) -> u64
+    ensures { λ r. ⌜ r ≡ copy-head e ⌝ }
+{
+    e.kind as u64 * 256 + e.letter as u64
+}
+
+// An entry's low and high, as its block keeps them.
+pub fn ends_of(e: Entry) -> u64
+    ensures { λ r. ⌜ r ≡ copy-ends e ⌝ }
+{
+    e.low as u64 * 4294967296 + e.high as u64
+}
+
+// Some entry's block, of the first count, has another copy than the entry's.
+fn copies_differ(entries: [Entry; 128], count: usize, point: &[u64]) -> bool
+    requires { ⌜ (count ≤ 128) × (16 + offset entries count ≤ length (now point)) ⌝ }
+    ensures { λ r. ⌜ r ≡ any count (copy-differs entries (now (point .entry))) ⌝ }
+{
+    let mut at: usize = 16;
+    let mut k: usize = 0;
+    let mut differ = false;
+    while k < count {
+        let e = entries[k];
+        differ = differ | !((point[at + 14] == head_of(e)) & (point[at + 15] == ends_of(e)));
+        at += rule::own_words(e) as usize;
+        k += 1;
+    }
+    differ
+}
+
+// Refusal 10.
+fn is_foreign(entries: [Entry; 128], count: usize, point: &[u64]) -> bool
+    requires { ⌜ (count ≤ 128) × (16 + offset entries count ≤ length (now point)) ⌝ }
+    ensures { λ r. ⌜ r ≡ foreign entries count (now (point .entry)) ⌝ }
+{
+    (point[0] != FORMAT) | ((point[6] != count as u64) | copies_differ(entries, count, point))
+}
+
+// count positions from `at` on lie within so many.
+fn has_room(at: u64, count: u64, total: u64) -> bool
+    ensures { λ r. ⌜ r ≡ room at count total ⌝ }
+{
+    if count <= total { at <= total - count } else { false }
+}
+
+// The ring's cells of an entry.
+fn cells(e: Entry) -> u64
+    ensures { λ r. ⌜ r ≡ cells-of (e .kind) (e .high) ⌝ }
+{
+    if e.kind == 5 {
+        rule::own_words(e) - 16
+    } else {
+        0
+    }
+}
+
+// The words of the block that begins at `at` lie in their ranges.
+fn block_fits(size: u64, cells: u64, point: &[u64], at: usize) -> bool
+    requires { ⌜ at + 16 ≤ length (now point) ⌝ }
+    ensures { λ r. ⌜ r ≡ block-in-range size cells (drop at (now (point .entry))) ⌝ }
+{
+    (point[at] <= size)
+        & (point[at + 1] <= size)
+        & (point[at + 2] <= 1)
+        & (point[at + 3] <= size)
+        & (point[at + 4] <= 1)
+        & (point[at + 5] <= point[at])
+        & (point[at + 6] <= 1)
+        & (point[at + 7] <= 1)
+        & (point[at + 8] < 4294967296)
+        & (point[at + 9] <= cells)
+        & (point[at + 10] <= cells)
+}
+
+// Some entry's block, of the first count, has a word outside its range.
+fn blocks_outside(entries: [Entry; 128], count: usize, point: &[u64]) -> bool
+    requires { ⌜ (count ≤ 128) × (16 + offset entries count ≤ length (now point)) ⌝ }
+    ensures { λ r. ⌜ r ≡ any count (block-outside entries (now (point .entry))) ⌝ }
+{
+    let size = point[2];
+    let mut at: usize = 16;
+    let mut k: usize = 0;
+    let mut outside = false;
+    while k < count {
+        let e = entries[k];
+        outside = outside | !block_fits(size, cells(e), point, at);
+        at += rule::own_words(e) as usize;
+        k += 1;
+    }
+    outside
+}
+
+// Refusal 11.
+fn is_outside(entries: [Entry; 128], count: usize, point: &[u64]) -> bool
+    requires { ⌜ (count ≤ 128) × (16 + offset entries count ≤ length (now point)) ⌝ }
+    ensures { λ r. ⌜ r ≡ outside entries count (now (point .entry)) ⌝ }
+{
+    let seen = point[2];
+    let fits = (seen <= 1000000)
+        & has_room(point[1], point[4], seen)
+        & (point[3] < 4294967296)
+        & (point[5] <= 1);
+    !fits | blocks_outside(entries, count, point)
+}
+
+// Refusals 10 to 14, or 0.
+pub fn reason(rule: &[u8], log: &[u8], point: &[u64]) -> u32
+    requires { ⌜ (refusal (now rule) ≡ 0) × (need (now rule) ≤ length (now point)) ⌝ }
+    ensures { λ r. ⌜ r ≡ point-refusal (decoded (now (rule .entry))) (count (now (rule .entry))) (now (log .entry)) (now (point .entry)) ⌝ }
+{
+    let entries = rule::entries(rule);
+    let count = rule::entry_count(rule);
+    let records = trace::records(log);
+    let given = point[1] as usize;
+    let seen = point[2] as usize;
+    let disordered = trace::is_disordered(records, given, seen, point[3]);
+    let fewer = trace::count(records) < seen;
+    let after = refuse(
+        12,
+        trace::is_malformed(log),
+        refuse(13, fewer, refuse(14, disordered, 0)),
+    );
+    refuse(
+        10,
+        is_foreign(entries, count, point),
+        refuse(11, is_outside(entries, count, point), after),
+    )
+}

@@ -1,0 +1,51 @@
+// A fresh checkpoint: zeros, the format's number, and each entry's copy in its block.
+ghost use mathlib.Core.Path.{_≡_};
+ghost use Prim.Native.Nat.{_+_, _≤_, _<_};
+ghost use lib.ListN.{length, replicate};
+ghost use Rattle.rule.specs.Entries.{count, decoded};
+ghost use Rattle.rule.specs.Refusal.{refusal};
+ghost use Rattle.rule.specs.Words.{offset};
+ghost use Rattle.monitor.specs.Checkpoint.{need};
+ghost use Rattle.monitor.specs.Code.{Fresh, copies};
+use super::check;
+use rule::Entry;
+
+// Sets every word to 0.
+fn clear(words: &mut [u64])
+    ensures { λ _. ⌜ now (words .exit) ≡ replicate (length (now (words .entry))) 0 ⌝ }
+{
+    let mut i: usize = 0;
+    while i < words.len() {
+        words[i] = 0;
+        i += 1;
+    }
+}
+
+// Writes the copies of the first count entries into their blocks.
+fn write_copies(entries: [Entry; 128], count: usize, words: &mut [u64])
+    requires { ⌜ (count ≤ 128) × (16 + offset entries count ≤ length (now words)) ⌝ }
+    ensures { λ _. ⌜ now (words .exit) ≡ copies entries count (now (words .entry)) ⌝ }
+{
+    let mut at: usize = 16;
+    let mut k: usize = 0;
+    while k < count {
+        let e = entries[k];
+        words[at + 14] = check::head_of(e);
+        words[at + 15] = check::ends_of(e);
+        at += rule::own_words(e) as usize;
+        k += 1;
+    }
+}
+
+// Writes a fresh checkpoint into exactly the words that the rule needs.
+pub fn write(rule: &[u8], words: &mut [u64])
+    requires { ⌜ (refusal (now rule) ≡ 0) × (length (now words) ≡ need (now rule)) ⌝ }
+    ensures { λ _. ⌜ Fresh (decoded (now (rule .entry))) (count (now (rule .entry))) (now (words .exit)) ⌝ }
+{
+    let entries = rule::entries(rule);
+    let count = rule::entry_count(rule);
+    clear(words);
+    words[0] = check::FORMAT;
+    words[6] = count as u64;
+    write_copies(entries, count, words);
+}

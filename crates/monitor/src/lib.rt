@@ -1,0 +1,64 @@
+// Checkpoints over a growing log: open one for a rule, resume from it with the records at hand, and tally the verdicts.
+ghost use mathlib.Core.Path.{_≡_};
+ghost use Rattle.monitor.specs.Open.{Opens};
+ghost use Rattle.monitor.specs.Resume.{Resumes};
+ghost use Rattle.monitor.specs.Tally.{answer, tallied};
+
+mod check;
+mod fresh;
+mod give;
+mod sheet;
+
+use check::Sized;
+
+// What `open` answers.
+pub enum Opened {
+    Done,
+    Refused(u32),
+}
+
+// What `resume` answers: how many verdicts it gave, and whether more are settled.
+pub enum Resumed {
+    Given { count: usize, more: bool },
+    Refused(u32),
+}
+
+// What `tally` answers.
+pub enum Tallied {
+    Counts { no: usize, yes: usize },
+    Refused(u32),
+}
+
+// Writes a fresh checkpoint for the rule into the first words of those lent.
+pub fn open(rule: &[u8], point: &mut [u64]) -> Opened
+    ensures { λ r. ⌜ Opens (now (rule .entry)) (now (point .entry)) r (now (point .exit)) ⌝ }
+{
+    let sized = check::size_of(rule, point.len());
+    let Sized::Words(words) = sized else {
+        return Opened::Refused(sized.number());
+    };
+    fresh::write(rule, &mut point[0..words]);
+    Opened::Done
+}
+
+// Carry on: takes rule and log as far as the log goes, and writes the verdicts that are settled and not yet given.
+pub fn resume(rule: &[u8], log: &[u8], point: &mut [u64], sheet: &mut [u8]) -> Resumed
+    ensures { λ r. ⌜ Resumes (now (rule .entry)) (now (log .entry)) (now (point .entry)) (now (sheet .entry)) r (now (point .exit)) (now (sheet .exit)) ⌝ }
+{
+    let sized = check::size_of(rule, point.len());
+    let Sized::Words(words) = sized else {
+        return Resumed::Refused(sized.number());
+    };
+    let reason = check::reason(rule, log, point);
+    if reason != 0 {
+        return Resumed::Refused(reason);
+    }
+    give::carry_on(rule, trace::records(log), &mut point[0..words], sheet)
+}
+
+// Counts the verdicts of a sheet.
+pub fn tally(sheet: &[u8]) -> Tallied
+    ensures { λ r. ⌜ answer r ≡ tallied (now (sheet .entry)) ⌝ }
+{
+    sheet::count(sheet)
+}
