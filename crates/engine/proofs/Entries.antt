@@ -77,7 +77,7 @@ range-same b b′ same r =
 
 -- WHERE AN ENTRY'S OPERANDS STAND
 
-own-least : (e : Entry) → 16 ≤ own e
+pub own-least : (e : Entry) → 16 ≤ own e
 own-least e = least (eqb (e .kind) 5) (eqb (e .kind) 6) (cond (eqb (e .high) 4294967295) 1 (e .high + 1)) (e .high)
   where
     least : (b b′ : Bool) (x y : ℕ) → 16 ≤ cond b (16 + x) (cond b′ (16 + 2 * (y + 1)) 16)

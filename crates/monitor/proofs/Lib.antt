@@ -1,1 +1,16 @@
 -- The laws behind the proofs of the monitor's functions, and the theorem about lists of calls.
+-- Offsets, Copies, Sizes, Starts: the checks and a fresh checkpoint. Tallies: tally. Written, Holding, Giving, Carrying, Resuming:
+-- the verdicts of a call. VerdictBytes, OwnCheckpoint, Demand3: lists of calls.
+pub mod Offsets
+pub mod Copies
+pub mod Sizes
+pub mod Starts
+pub mod Tallies
+pub mod Written
+pub mod Holding
+pub mod Giving
+pub mod Carrying
+pub mod Resuming
+pub mod VerdictBytes
+pub mod OwnCheckpoint
+pub mod Demand3

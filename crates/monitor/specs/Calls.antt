@@ -10,10 +10,12 @@ use lib.Dec.{ltb}
 use Rattle.mtl.specs.Log.{NeverFalls}
 use Rattle.trace.specs.Format.{record-count, records-of, malformed}
 use Rattle.trace.specs.Log.{log-of}
+use Rattle.rule.specs.Measure.{measured}
 use Rattle.monitor.specs.Checkpoint.{need}
 use Rattle.monitor.specs.Verdicts.{answered, all-verdicts}
 use Rattle.monitor.specs.Open.{Opens}
-use Rattle.monitor.specs.Resume.{Resumes, resumed-number}
+use Rattle.monitor.specs.Resume.{Resumes}
+use Rattle.monitor.specs.declared.Opened.{Opened}
 use Rattle.monitor.specs.declared.Opened.the-variants.{Done}
 use Rattle.monitor.specs.declared.Resumed.{Resumed}
 use Rattle.monitor.specs.declared.Resumed.the-variants.{Given, Refused}
@@ -55,8 +57,8 @@ pub record Brings (log : List ℕ) (d n : ℕ) (log′ : List ℕ) : Type 0 wher
   pub header : take 8 log′ ≡ take 8 log
   pub same : (i : ℕ) → 8 + 8 * d ≤ i → i < 8 + 8 * n → getD log′ i 0 ≡ getD log i 0
 
--- a list of calls on the words `lent`, with the accepted ones and the checkpoint as the last call left it
-data Calls (rule log lent : List ℕ) : List Call → List ℕ → Type 0 where
+-- a list of calls on the words `lent`: its accepted calls, the latest first, and the checkpoint as its last call left it
+pub data Calls (rule log lent : List ℕ) : List Call → List ℕ → Type 0 where
   -- "The list starts from the point as open left it for the rule"
   opened : {p : List ℕ} → Opens rule lent Done p → Calls rule log lent [] p
   -- "refused, whatever rule, log and sheet it brought"
@@ -84,6 +86,18 @@ unfoldable pub AllWhenCaughtUp : (rule log : List ℕ) → List Call → Type 0
 AllWhenCaughtUp rule log [] = laid [] ≡ []
 AllWhenCaughtUp rule log (c ∷ older) = (laid (c ∷ older) ≡ all-verdicts rule log (c .records)) ↔ (c .more ≡ false)
 
+-- "One run is a carry on from a fresh point with a sheet of A bytes": its answer and its sheet, for the first n records
+pub record OneRun (rule log : List ℕ) (n : ℕ) (r : Resumed) (sheet′ : List ℕ) : Type 0 where
+  pub lent : List ℕ
+  pub fresh : List ℕ
+  pub opens : Opens rule lent Done fresh
+  pub brought : List ℕ
+  pub brings : Brings log 0 n brought
+  pub sheet : List ℕ
+  pub room : length sheet ≡ answered rule log n
+  pub left : List ℕ
+  pub resumes : Resumes rule brought fresh sheet r left sheet′
+
 -- the claim, for every list
 pub record Demand3 (rule log lent : List ℕ) (h : List Call) (p : List ℕ) : Type 0 where
   -- 1. the bytes laid end to end are the first verdicts of the untouched log as far as the last accepted call brought it
@@ -93,8 +107,12 @@ pub record Demand3 (rule log lent : List ℕ) (h : List Call) (p : List ℕ) : T
   -- 3. each accepted call's c and "more"
   pub each : Each rule log h
   -- 4. "A call that brings rule and log in this way is not refused."
-  pub not-refused : (n : ℕ) (log′ sheet : List ℕ) (r : Resumed) (p′ sheet′ : List ℕ) →
-      brought-by h ≤ n → Brings log (given-by h) n log′ → Resumes rule log′ p sheet r p′ sheet′ → resumed-number r ≡ 0
-  -- 5. "any words behind them are kept"
+  pub not-refused : (n : ℕ) (log′ sheet : List ℕ) → brought-by h ≤ n → Brings log (given-by h) n log′ →
+      (number : ℕ) (p′ sheet′ : List ℕ) → Resumes rule log′ p sheet (Refused number) p′ sheet′ → ⊥
+  -- 5. "A point of exactly the words that weigh gave is enough for every list, and any words behind them are kept."
+  pub enough : (words : List ℕ) (r : Opened) (fresh : List ℕ) → length words ≡ measured rule .words → Opens rule words r fresh → r ≡ Done
   pub beyond : drop (need rule) p ≡ drop (need rule) lent
   pub length : length p ≡ length lent
+  -- 6. one run "writes just these", and so the bytes of 1 are its first bytes
+  pub one-run : (n : ℕ) (r : Resumed) (sheet′ : List ℕ) → OneRun rule log n r sheet′ →
+      (r ≡ Given (answered rule log n) false) × (sheet′ ≡ all-verdicts rule log n)

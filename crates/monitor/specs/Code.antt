@@ -29,14 +29,10 @@ abbrev pub sized-number : Sized → ℕ
 sized-number (Words n) = 0
 sized-number (Stopped n) = n
 
-abbrev pub pick : Bool → Sized → Sized → Sized
-pick true a b = a
-pick false a b = b
-
 -- refusals 1 to 9, or the need
 abbrev pub sized-of : List ℕ → ℕ → Sized
 sized-of rule lent =
-    pick (eqb (refusal rule) 0) (pick (ltb lent (need rule)) (Stopped 9) (Words (need rule))) (Stopped (refusal rule))
+    cond (eqb (refusal rule) 0) (cond (ltb lent (need rule)) (Stopped 9) (Words (need rule))) (Stopped (refusal rule))
 
 -- the words of a fresh checkpoint: nothing given, seen or held, and each entry's copy in its block
 pub record Fresh (t : List Entry) (n : ℕ) (ws : List ℕ) : Type 0 where

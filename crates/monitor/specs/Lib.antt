@@ -1,5 +1,5 @@
 -- What the product's calls promise. Read Checkpoint, Refusal, Verdicts, then Open, Resume and Tally, which the calls' `ensures`
--- name, and Calls, the statement about lists of calls (demand 3).
+-- name, and Calls, the statement about lists of calls (demand 3). Examples has the cases worked by hand.
 pub mod Checkpoint
 pub mod Refusal
 pub mod Verdicts
@@ -8,4 +8,5 @@ pub mod Open
 pub mod Resume
 pub mod Tally
 pub mod Calls
+pub mod Examples
 pub mod Code

@@ -1,5 +1,5 @@
 -- What `open` promises, for every rule and every lent checkpoint.
-use Prim.Native.Nat.{ℕ}
+use Prim.Native.Nat.{ℕ, _<_}
 use mathlib.Core.Path.{_≡_}
 use mathlib.Core.List.{List}
 use lib.ListN.{length, drop}
@@ -19,7 +19,7 @@ opened-number (Refused n) = n
 -- record, with no verdict given, and "words beyond the need are not touched"
 abbrev pub Opening : List ℕ → List ℕ → Opened → List ℕ → Type 0
 Opening rule p Done p′ = (drop (need rule) p′ ≡ drop (need rule) p) × ((L : Log) → L .size ≡ 0 → Stands rule L 0 p′)
-Opening rule p (Refused n) p′ = p′ ≡ p
+Opening rule p (Refused n) p′ = (0 < n) × (p′ ≡ p)
 
 pub record Opens (rule p : List ℕ) (r : Opened) (p′ : List ℕ) : Type 0 where
   pub number : opened-number r ≡ open-refusal rule (length p)

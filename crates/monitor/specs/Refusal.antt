@@ -1,10 +1,9 @@
 -- Where a call stops: "The first that applies is returned. Rule checks precede point checks."
-use Prim.Native.Nat.{ℕ, _<_}
-use mathlib.Core.Bool.{Bool, true, cond, _||_}
+use Prim.Native.Nat.{ℕ}
+use mathlib.Core.Bool.{Bool, cond}
 use mathlib.Core.List.{List}
 use lib.ListN.{length}
 use lib.Dec.{eqb, ltb}
-use Rattle.mtl.specs.Satisfaction.{any}
 use Rattle.rule.specs.declared.Entry.{Entry}
 use Rattle.rule.specs.Entries.{count, decoded}
 use Rattle.rule.specs.Refusal.{refusal}
@@ -24,14 +23,16 @@ before number other = cond (eqb number 0) other number
 abbrev pub open-refusal : List ℕ → ℕ → ℕ
 open-refusal rule lent = before (refusal rule) (first 9 (ltb lent (need rule)) 0)
 
+-- refusals 12 to 14, of a log's bytes and of what a checkpoint says was given and seen
+abbrev pub log-refusal : (log : List ℕ) (given seen last : ℕ) → ℕ
+log-refusal log given seen last =
+    first 12 (malformed log)
+    (first 13 (ltb (record-count (records-of log)) seen) (first 14 (disordered (records-of log) given seen last) 0))
+
 -- refusals 10 to 14, of a rule's n entries, a log's bytes and a checkpoint's words
 abbrev pub point-refusal : List Entry → ℕ → List ℕ → List ℕ → ℕ
 point-refusal t n log p =
-    first 10 (foreign t n p)
-    (first 11 (outside t n p)
-    (first 12 (malformed log)
-    (first 13 (ltb (record-count (records-of log)) (seen p))
-    (first 14 (disordered (records-of log) (given p) (seen p) (last p)) 0))))
+    first 10 (foreign t n p) (first 11 (outside t n p) (log-refusal log (given p) (seen p) (last p)))
 
 -- resume: refusals 1 to 14, for every rule, log and checkpoint, forged ones included
 abbrev pub resume-refusal : (rule log point : List ℕ) → ℕ

@@ -53,7 +53,7 @@ pub record Accepted (rule log p sheet : List ℕ) (c : ℕ) (more : Bool) (p′ 
 abbrev pub Resuming : (rule log p sheet : List ℕ) → Resumed → (p′ sheet′ : List ℕ) → Type 0
 Resuming rule log p sheet (Given c more) p′ sheet′ = Accepted rule log p sheet c more p′ sheet′
 -- "rule, log, point and sheet keep their bytes"
-Resuming rule log p sheet (Refused n) p′ sheet′ = (p′ ≡ p) × (sheet′ ≡ sheet)
+Resuming rule log p sheet (Refused n) p′ sheet′ = (0 < n) × (p′ ≡ p) × (sheet′ ≡ sheet)
 
 pub record Resumes (rule log p sheet : List ℕ) (r : Resumed) (p′ sheet′ : List ℕ) : Type 0 where
   pub number : resumed-number r ≡ resume-refusal rule log p

@@ -17,22 +17,19 @@ count-of x s (suc n) = count-of x s n + cond (eqb (getD s n 0) x) 1 0
 abbrev pub above-one : List ℕ → ℕ → Bool
 above-one s i = ltb 1 (getD s i 0)
 
--- the paper's number and values for each case
+-- the paper's number and values for each case; `refused` tells the cases apart
 pub record Answer : Type 0 where
+  pub refused : Bool
   pub number : ℕ
   pub no-count : ℕ
   pub yes-count : ℕ
 
 abbrev pub answer : Tallied → Answer
-answer (Counts n y) = record { number = 0; no-count = n; yes-count = y }
-answer (Refused n) = record { number = n; no-count = 0; yes-count = 0 }
-
-abbrev pub pick : Bool → Answer → Answer → Answer
-pick true a b = a
-pick false a b = b
+answer (Counts n y) = record { refused = false; number = 0; no-count = n; yes-count = y }
+answer (Refused n) = record { refused = true; number = n; no-count = 0; yes-count = 0 }
 
 abbrev pub tallied : List ℕ → Answer
 tallied s =
-    pick (any (length s) (above-one s))
-    (record { number = 15; no-count = 0; yes-count = 0 })
-    (record { number = 0; no-count = count-of 0 s (length s); yes-count = count-of 1 s (length s) })
+    cond (any (length s) (above-one s))
+    (record { refused = true; number = 15; no-count = 0; yes-count = 0 })
+    (record { refused = false; number = 0; no-count = count-of 0 s (length s); yes-count = count-of 1 s (length s) })

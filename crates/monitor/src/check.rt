@@ -98,7 +98,11 @@ fn is_foreign(entries: [Entry; 128], count: usize, point: &[u64]) -> bool
 fn has_room(at: u64, count: u64, total: u64) -> bool
     ensures { λ r. ⌜ r ≡ room at count total ⌝ }
 {
-    if count <= total { at <= total - count } else { false }
+    if count <= total {
+        at <= total - count
+    } else {
+        false
+    }
 }
 
 // The ring's cells of an entry.

@@ -25,11 +25,21 @@ fn hold(table: &[u64; 1024], top: usize, records: &[u8], words: &mut [u64]) -> b
 fn portion(held: u64, room: usize) -> usize
     ensures { λ r. ⌜ (r ≤ held) × (r ≤ room) × (0 < held → 0 < room → 0 < r) × (r < room → r ≡ held) ⌝ }
 {
-    if held < room as u64 { held as usize } else { room }
+    if held < room as u64 {
+        held as usize
+    } else {
+        room
+    }
 }
 
 // Writes verdicts until the sheet is full or the formula is open.
-fn give(table: &[u64; 1024], top: usize, records: &[u8], words: &mut [u64], sheet: &mut [u8]) -> usize
+fn give(
+    table: &[u64; 1024],
+    top: usize,
+    records: &[u8],
+    words: &mut [u64],
+    sheet: &mut [u8],
+) -> usize
     requires { ⌜ (top < 128) × RowsOk (now table) top × (16 + column 7 (now table) top ≡ length (now words)) × (given (now words) ≤ 1000000) ⌝ }
     ensures { λ r. ⌜ Gave (now (table .entry)) (now (records .entry)) top (now (words .entry)) (now (sheet .entry)) r (now (words .exit)) (now (sheet .exit)) ⌝ }
 {

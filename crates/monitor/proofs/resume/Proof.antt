@@ -1,5 +1,149 @@
--- STUB: to be replaced by the proof.
+-- `monitor::resume` meets its contract: a refusal has written nothing, and an accepted call lends `carry_on` the words that the rule needs.
+use borrow.Author.Needs.{needs}
+use Prim.Native.Nat.{_-_}
+use mathlib.Core.Path.{_≡_, sym, _∙_}
+use native.Mathlib.Omega.{arith}
+use lib.ListN.{length}
+use lib.Seq.{length-take-le, getD-take}
+use Rattle.monitor.specs.Code.{sized-of}
+use Rattle.monitor.specs.declared.check.Sized.the-variants.{Words}
+use Rattle.monitor.proofs.Sizes.{Enough, enough}
+use Rattle.monitor.proofs.Resuming.{resume-stopped, resume-refused, resume-given, passes}
 use Rattle.monitor.proofs.resume.Statement.{statement}
+use Rattle.monitor.proofs.resume.Tie as tie
+
+-- the words that `size_of` gives
+words-of : (d : tie.After-sized) →
+    let a = d .before .before .before .before .before .before .before .args in
+    Words (d .sized .given .0 .0) ≡ sized-of (a .rule .now) (length (a .point .now))
+words-of d = sym (d .sized .given .1) ∙ d .before .before .size-of .ensures
+
+fit : (d : tie.After-sized) →
+    let a = d .before .before .before .before .before .before .before .args in
+    Enough (a .rule .now) (length (a .point .now)) (d .sized .given .0 .0)
+fit d =
+    let a = d .before .before .before .before .before .before .before .args in
+    enough (a .rule .now) (length (a .point .now)) (d .sized .given .0 .0) (words-of d)
+
+size-of-requires : tie.Need-size-of-requires
+size-of-requires c κs = search needs
+
+enum-known-sized : tie.Need-enum-known-sized
+enum-known-sized c = search needs
+
+enum-told : tie.Need-enum-told
+enum-told c = search needs
+
+number-requires : tie.Need-number-requires
+number-requires c κs = search needs
+
+returns : tie.Need-returns
+returns c =
+    let a = c .before .before .before .before .before .before .before .before .args in
+    resume-stopped
+    (a .rule .now)
+    (a .log .now)
+    (a .point .now)
+    (a .sheet .now)
+    (c .before .before .before .size-of .result)
+    (c .before .enum-told .given .0 .0)
+    (c .number .result)
+    (c .before .before .before .size-of .ensures)
+    (c .before .enum-told .given .1)
+    (c .number .ensures)
+
+reason-requires : tie.Need-reason-requires
+reason-requires c κs =
+    let e = fit (c .before .before) in
+    (e .accepted, e .room)
+
+same-length : tie.Need-same-length
+same-length c = search needs
+
+returns-2 : tie.Need-returns-2
+returns-2 c =
+    let a = c .before .before .before .before .before .before .before .before .before .before .before .args in
+    resume-refused
+    (a .rule .now)
+    (a .log .now)
+    (a .point .now)
+    (a .sheet .now)
+    (c .before .before .before .before .sized .given .0 .0)
+    (c .before .reason .result)
+    (words-of (c .before .before .before .before))
+    (c .before .reason .ensures)
+    (c .if1 .taken)
+
+records-requires : tie.Need-records-requires
+records-requires c κs = search needs
+
+sub-carry-on : tie.Need-sub-carry-on
+sub-carry-on c = search needs
+
+part-carry-on-start : tie.Need-part-carry-on-start
+part-carry-on-start c = search needs
+
+part-carry-on-end : tie.Need-part-carry-on-end
+part-carry-on-end c =
+    let e = fit (c .before .before .before .before .before) in
+    omega arith
+
+carry-on-requires : tie.Need-carry-on-requires
+carry-on-requires c κs =
+    let a = c .before .before .before .before .before .before .before .before .before .before .before .before .before .before .args in
+    let w = c .before .before .before .before .before .before .before .sized .given .0 .0 in
+    let e = fit (c .before .before .before .before .before .before .before) in
+    let p = passes (a .rule .now) (a .log .now) (a .point .now) (c .before .before .before .before .reason .result) (c .before .before .before .before .reason .ensures) (c .before .before .before .if1 .left) in (
+      e .accepted,
+      omega (arith, length-take-le (w - 0) (a .point .now) (omega arith)),
+      omega (arith, getD-take (w - 0) (a .point .now) 1 0 (omega arith)),
+    )
+
+same-length-2 : tie.Need-same-length-2
+same-length-2 c = search needs
+
+same-length-3 : tie.Need-same-length-3
+same-length-3 c = search needs
+
+returns-3 : tie.Need-returns-3
+returns-3 c =
+    let a = c .before .before .before .before .before .before .before .before .before .before .before .before .before .before .before .before .before .before .before .args in
+    let w = c .before .before .before .before .before .before .before .before .before .before .before .before .sized .given .0 .0 in
+    let y = c .before .before .before .before .carry-on in
+    resume-given
+    (a .rule .now)
+    (a .log .now)
+    (a .point .now)
+    (a .sheet .now)
+    (c .before .before .before .before .before .before .before .records .result .now)
+    w
+    (c .before .before .before .before .before .before .before .before .before .reason .result)
+    (y .result)
+    (y .last .1 .1 .0)
+    (y .last .1 .1 .1 .0)
+    (words-of (c .before .before .before .before .before .before .before .before .before .before .before .before))
+    (c .before .before .before .before .before .before .before .before .before .reason .ensures)
+    (c .before .before .before .before .before .before .before .before .if1 .left)
+    (c .before .before .before .before .before .before .before .records .ensures)
+    (y .ensures)
 
 pub resume-spec : {M : Type 1} → statement M
-resume-spec = ?
+resume-spec =
+    tie.close
+    (tie.spec
+    size-of-requires
+    enum-known-sized
+    enum-told
+    number-requires
+    returns
+    reason-requires
+    same-length
+    returns-2
+    records-requires
+    sub-carry-on
+    part-carry-on-start
+    part-carry-on-end
+    carry-on-requires
+    same-length-2
+    same-length-3
+    returns-3)

@@ -1,5 +1,95 @@
--- STUB: to be replaced by the proof.
+-- `check::reason` meets its contract: each test by its function's contract, and the first that holds by `refuse`'s.
+use borrow.Author.Needs.{needs}
+use Rattle.monitor.proofs.Sizes.{fits-in}
 use Rattle.monitor.proofs.check.reason.Statement.{statement}
+use Rattle.monitor.proofs.check.reason.Tie as tie
+
+entries-requires : tie.Need-entries-requires
+entries-requires c κs = search needs
+
+entry-count-requires : tie.Need-entry-count-requires
+entry-count-requires c κs = search needs
+
+records-requires : tie.Need-records-requires
+records-requires c κs = search needs
+
+shared-slice-read-given : tie.Need-shared-slice-read-given
+shared-slice-read-given c = search needs
+
+shared-slice-read-seen : tie.Need-shared-slice-read-seen
+shared-slice-read-seen c = search needs
+
+shared-slice-read-is-disordered : tie.Need-shared-slice-read-is-disordered
+shared-slice-read-is-disordered c = search needs
+
+is-disordered-requires : tie.Need-is-disordered-requires
+is-disordered-requires c κs = search needs
+
+count-requires : tie.Need-count-requires
+count-requires c κs = search needs
+
+is-malformed-requires : tie.Need-is-malformed-requires
+is-malformed-requires c κs = search needs
+
+refuse-requires : tie.Need-refuse-requires
+refuse-requires c κs = search needs
+
+refuse-requires-2 : tie.Need-refuse-requires-2
+refuse-requires-2 c κs = search needs
+
+refuse-requires-3 : tie.Need-refuse-requires-3
+refuse-requires-3 c κs = search needs
+
+is-foreign-requires : tie.Need-is-foreign-requires
+is-foreign-requires c κs =
+    fits-in (c .before .before .before .before .before .before .before .before .before .before .before .before .before .before .before .args .rule .now) _ _ _ (c .before .before .before .before .before .before .before .before .before .before .before .before .before .before .before .pre .0) (c .before .before .before .before .before .before .before .before .before .before .before .entries .ensures) (c .before .before .before .before .before .before .before .before .before .before .entry-count .ensures .0) (c .before .before .before .before .before .before .before .before .before .before .before .before .before .before .before .pre .1)
+
+is-outside-requires : tie.Need-is-outside-requires
+is-outside-requires c κs =
+    fits-in (c .before .before .before .before .before .before .before .before .before .before .before .before .before .before .before .before .args .rule .now) _ _ _ (c .before .before .before .before .before .before .before .before .before .before .before .before .before .before .before .before .pre .0) (c .before .before .before .before .before .before .before .before .before .before .before .before .entries .ensures) (c .before .before .before .before .before .before .before .before .before .before .before .entry-count .ensures .0) (c .before .before .before .before .before .before .before .before .before .before .before .before .before .before .before .before .pre .1)
+
+refuse-requires-4 : tie.Need-refuse-requires-4
+refuse-requires-4 c κs = search needs
+
+refuse-requires-5 : tie.Need-refuse-requires-5
+refuse-requires-5 c κs = search needs
+
+returns : tie.Need-returns
+returns c =
+    simp (
+      c .refuse5 .ensures,
+      c .before .refuse4 .ensures,
+      c .before .before .before .before .refuse3 .ensures,
+      c .before .before .before .before .before .refuse2 .ensures,
+      c .before .before .before .before .before .before .refuse .ensures,
+      c .before .before .before .is-foreign .ensures,
+      c .before .before .is-outside .ensures,
+      c .before .before .before .before .before .before .before .is-malformed .ensures,
+      c .before .before .before .before .before .before .before .before .count .ensures,
+      c .before .before .before .before .before .before .before .before .before .is-disordered .ensures,
+      c .before .before .before .before .before .before .before .before .before .before .before .before .before .records .ensures,
+      c .before .before .before .before .before .before .before .before .before .before .before .before .before .before .entry-count .ensures .0,
+      c .before .before .before .before .before .before .before .before .before .before .before .before .before .before .before .entries .ensures,
+    )
 
 pub reason-spec : {M : Type 1} → statement M
-reason-spec = ?
+reason-spec =
+    tie.close
+    (tie.spec
+    entries-requires
+    entry-count-requires
+    records-requires
+    shared-slice-read-given
+    shared-slice-read-seen
+    shared-slice-read-is-disordered
+    is-disordered-requires
+    count-requires
+    is-malformed-requires
+    refuse-requires
+    refuse-requires-2
+    refuse-requires-3
+    is-foreign-requires
+    is-outside-requires
+    refuse-requires-4
+    refuse-requires-5
+    returns)

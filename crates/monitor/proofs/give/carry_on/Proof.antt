@@ -1,5 +1,130 @@
--- STUB: to be replaced by the proof.
+-- `monitor::give::carry_on` meets its contract: what `give` and `hold` promise for the rule's formula, and the log's end noted.
+use borrow.Author.Needs.{needs}
+use Prim.Native.Nat.{_-_}
+use mathlib.Core.Path.{sym, _∙_}
+use native.Mathlib.Omega.{arith}
+use lib.ListN.{length-set}
+use Rattle.rule.proofs.Acceptance.{accepted}
+use Rattle.monitor.proofs.Carrying.{Tabled, tabled, carried}
 use Rattle.monitor.proofs.give.carry_on.Statement.{statement}
+use Rattle.monitor.proofs.give.carry_on.Tie as tie
+
+-- the rule's table, once it is laid out
+table-of : (d : tie.After-lay-out) →
+    Tabled (d .before .before .before .before .before .before .before .args .rule .now) (d .lay-out .result) (d .before .entry-count .result - 1)
+table-of d =
+    let s = d .before .before .before .before .before .before .before in
+    tabled
+    (s .args .rule .now)
+    (d .before .before .entries .result)
+    (d .before .entry-count .result)
+    (d .lay-out .result)
+    (s .pre .0)
+    (d .before .before .entries .ensures)
+    (d .before .entry-count .ensures .0)
+    (d .lay-out .ensures)
+
+entries-requires : tie.Need-entries-requires
+entries-requires c κs = search needs
+
+entry-count-requires : tie.Need-entry-count-requires
+entry-count-requires c κs = search needs
+
+lay-out-requires : tie.Need-lay-out-requires
+lay-out-requires c κs =
+    let s = c .before .before .before .before .before .before in
+    let a = accepted (s .args .rule .now) (s .pre .0) in
+    rw (c .before .entries .ensures, c .entry-count .ensures .0) (a .few-entries, a .well-formed)
+
+sub-top : tie.Need-sub-top
+sub-top c =
+    let s = c .before .before .before .before .before .before .before in
+    omega (arith, c .before .entry-count .ensures .0, accepted (s .args .rule .now) (s .pre .0) .some-entries)
+
+give-requires : tie.Need-give-requires
+give-requires c κs =
+    let t = table-of (c .before .before .before) in
+    let s = c .before .before .before .before .before .before .before .before .before .before in
+    (t .few, t .rows, t .size ∙ sym (s .pre .1), s .pre .2)
+
+hold-requires : tie.Need-hold-requires
+hold-requires c κs =
+    let t = table-of (c .before .before .before .before .before .before .before .before .before .before) in
+    let s = c .before .before .before .before .before .before .before .before .before .before .before .before .before .before .before .before .before in
+    (t .few, t .rows, t .size ∙ sym (s .pre .1) ∙ sym (c .before .before .before .before .before .before .give .ensures .words-length))
+
+slice-read-last-time : tie.Need-slice-read-last-time
+slice-read-last-time c = search needs
+
+slice-read-last-time-2 : tie.Need-slice-read-last-time-2
+slice-read-last-time-2 c = search needs
+
+last-time-requires : tie.Need-last-time-requires
+last-time-requires c κs = search needs
+
+slice-write-words : tie.Need-slice-write-words
+slice-write-words c = search needs
+
+count-requires : tie.Need-count-requires
+count-requires c κs = search needs
+
+slice-write-words-2 : tie.Need-slice-write-words-2
+slice-write-words-2 c =
+    simp length-set
+    (omega (arith, c .before .before .before .before .before .before .hold .ensures .words-length, c .before .before .before .before .before .before .before .before .before .before .before .before .before .give .ensures .words-length, c .before .before .before .before .before .before .before .before .before .before .before .before .before .before .before .before .before .before .before .before .before .before .before .before .pre .1))
+
+same-length : tie.Need-same-length
+same-length c =
+    simp length-set (c .before .before .before .before .before .before .hold .ensures .words-length ∙ c .before .before .before .before .before .before .before .before .before .before .before .before .before .give .ensures .words-length)
+
+same-length-2 : tie.Need-same-length-2
+same-length-2 c = search needs
+
+returns : tie.Need-returns
+returns c =
+    let s = c .before .before .before .before .before .before .before .before .before .before .before .before .before .before .before .before .before .before .before .before .before .before .before .before in
+    let a = s .args in
+    let d = c .before .before .before .before .before .before .before .before .before .before .before .before .before .before .before .before .before in
+    let g = c .before .before .before .before .before .before .before .before .before .before .before .before .before .give in
+    let h = c .before .before .before .before .before .before .hold in
+    carried
+    (a .rule .now)
+    (d .lay-out .result)
+    (a .records .now)
+    (d .before .entry-count .result - 1)
+    (a .words .now)
+    (a .sheet .now)
+    (g .result)
+    (g .last .1 .1 .1 .0)
+    (g .last .1 .1 .1 .1 .0)
+    (h .result)
+    (h .last .1 .1 .1 .0)
+    (c .before .last-time .result)
+    (c .count .result)
+    (table-of d)
+    (omega (arith, s .pre .1))
+    (λ i. c .before .before .before .before .before .before .before .before .before .before .before .before .before .before .before .before .before .before .before .before .before .before .shared-slice-known2 .given i .fits)
+    (g .ensures)
+    (h .ensures)
+    (c .before .last-time .ensures)
+    (c .count .ensures)
 
 pub carry-on-spec : {M : Type 1} → statement M
-carry-on-spec = ?
+carry-on-spec =
+    tie.close
+    (tie.spec
+    entries-requires
+    entry-count-requires
+    lay-out-requires
+    sub-top
+    give-requires
+    hold-requires
+    slice-read-last-time
+    slice-read-last-time-2
+    last-time-requires
+    slice-write-words
+    count-requires
+    slice-write-words-2
+    same-length
+    same-length-2
+    returns)

@@ -1,0 +1,147 @@
+-- One accepted call on exactly the words that its rule needs: the rule's table, and the header once the log's end is noted.
+use Prim.Native.Nat.{ℕ, _+_, _-_, _≤_, _<_, min}
+use mathlib.Core.Bool.{Bool, true, false}
+use mathlib.Core.Path.{_≡_, refl, sym, _∙_}
+use mathlib.Core.List.{List}
+use mathlib.Core.Logic.{⊎-elim}
+use native.Mathlib.Omega.{arith}
+use borrow.Author.Tests.{lt-ltb, le-ltb}
+use lib.Dec.{ltb}
+use lib.ListN.{length, getD, drop, set, length-set}
+use lib.Seq.{drop-set-lt, getD-set-same, getD-set-other}
+use Rattle.mtl.specs.Formula.{Formula}
+use Rattle.mtl.specs.Log.{Log}
+use Rattle.mtl.specs.Progress.{progress}
+use Rattle.mtl.proofs.Bounded.{le-or-lt}
+use Rattle.rule.specs.declared.Entry.{Entry}
+use Rattle.rule.specs.Entries.{count, decoded}
+use Rattle.rule.specs.Refusal.{refusal}
+use Rattle.rule.proofs.Acceptance.{accepted}
+use Rattle.trace.specs.Format.{record-count}
+use Rattle.trace.specs.Order.{last-time}
+use Rattle.trace.proofs.Laws.{last-time-bound}
+use Rattle.engine.specs.Block.{word}
+use Rattle.engine.specs.Table.{RowsOk, column, Has}
+use Rattle.engine.specs.Layout.{Laid}
+use Rattle.engine.proofs.Rows.{rows-ok, has-at, column-is-part}
+use Rattle.monitor.specs.Checkpoint.{need}
+use Rattle.monitor.specs.Verdicts.{formula-of}
+use Rattle.monitor.specs.Stands.{Top}
+use Rattle.monitor.specs.Code.{Holding, Holds, Gave, Carried}
+use Rattle.monitor.proofs.Giving.{agrees-later}
+
+-- the table of an accepted rule: its last entry is the rule's formula
+pub record Tabled (rule table : List ℕ) (top : ℕ) : Type 0 where
+  pub few : top < 128
+  pub rows : RowsOk table top
+  pub size : 16 + column 7 table top ≡ need rule
+  pub has : Has (formula-of rule) table top
+
+pub tabled : (rule : List ℕ) (t : List Entry) (n : ℕ) (table : List ℕ) → refusal rule ≡ 0 → t ≡ decoded rule → n ≡ count rule →
+    Laid t n table → Tabled rule table (n - 1)
+tabled rule t n table ok same counted laid =
+    let a = accepted rule ok in
+    let laid′ : Laid (decoded rule) (count rule) table = rw (same, counted) at laid in
+    let last : count rule - 1 < count rule = omega (arith, a .some-entries) in
+    rw counted
+    (record {
+      few = omega (arith, a .few-entries, a .some-entries);
+      rows = rows-ok (decoded rule) (count rule) (a .well-formed) table laid′ (a .some-entries);
+      size =
+          rw (column-is-part (decoded rule) (count rule) (a .well-formed) table laid′ (count rule - 1) last)
+          (sym (a .well-formed .words-are));
+      has =
+          rw (a .reads)
+          (has-at (decoded rule) (count rule) (a .well-formed) table laid′ (a .the-formula) (count rule - 1) last (a .at-last));
+    })
+
+-- the header once the last time and the number of records are noted
+abbrev pub noted : (time size : ℕ) → List ℕ → List ℕ
+noted time size ws = set (set ws 3 time) 2 size
+
+module _ (time size : ℕ) (ws : List ℕ) (room : 16 ≤ length ws) where
+  pub length-noted : length (noted time size ws) ≡ length ws
+  length-noted = simp length-set
+
+  noted-other : (i : ℕ) → (i ≡ 2 → ⊥) → (i ≡ 3 → ⊥) → word (noted time size ws) i ≡ word ws i
+  noted-other i ne ne′ = getD-set-other (set ws 3 time) 2 i size 0 ne ∙ getD-set-other ws 3 i time 0 ne′
+
+  noted-size : word (noted time size ws) 2 ≡ size
+  noted-size = getD-set-same (set ws 3 time) 2 size 0 (simp length-set (omega arith))
+
+  noted-time : word (noted time size ws) 3 ≡ time
+  noted-time =
+      getD-set-other (set ws 3 time) 2 3 size 0 (λ e. omega arith) ∙ getD-set-same ws 3 time 0 (omega arith)
+
+  drop-noted : drop 16 (noted time size ws) ≡ drop 16 ws
+  drop-noted = drop-set-lt 16 (set ws 3 time) 2 size (omega arith) ∙ drop-set-lt 16 ws 3 time (omega arith)
+
+  top-noted : (φ : Formula) (L : Log) (d : ℕ) → Top φ L d ws → Top φ L d (noted time size ws)
+  top-noted φ L d top =
+      let held = noted-other 4 (λ e. omega arith) (λ e. omega arith) in
+      let answer = noted-other 5 (λ e. omega arith) (λ e. omega arith) in
+      record {
+        at = noted-other 1 (λ e. omega arith) (λ e. omega arith) ∙ top .at;
+        buffer = rw (held, answer) (top .buffer);
+        answer = rw answer (top .answer);
+        state = rw (held, drop-noted) (top .state);
+      }
+
+-- c and "more", from what was given and what is held then
+record Counted (φ : Formula) (L : Log) (d c room : ℕ) (held : Bool) (ws′ : List ℕ) : Type 0 where
+  top : Top φ L (d + c) ws′
+  count : c ≡ min (progress φ L - d) room
+  more : held ≡ ltb (d + c) (progress φ L)
+
+counted : (φ : Formula) (L : Log) (d c room : ℕ) (more : Bool) (ws′ : List ℕ) → c ≤ room →
+    (c < room → progress φ L ≡ d + c) → (more ≡ true → 0 < word ws′ 4) → Holding φ L (d + c) more ws′ → Counted φ L d c room more ws′
+counted φ L d c room true ws′ fits short some top =
+    let ahead : d + c < progress φ L = omega (arith, top .buffer .within, some refl) in
+    let full : room ≤ c = ⊎-elim (λ le. le) (λ lt. omega (arith, short lt)) (le-or-lt room c) in
+    record { top = top; count = omega arith; more = sym (lt-ltb (d + c) (progress φ L) ahead) }
+counted φ L d c room false ws′ fits short some (top, is-open) =
+    record { top = top; count = omega arith; more = sym (le-ltb (d + c) (progress φ L) (omega arith)) }
+
+pub carried : (rule table s : List ℕ) (k : ℕ) (ws sheet : List ℕ) (c : ℕ) (ws₁ sheet₁ : List ℕ) (more : Bool) (ws₂ : List ℕ)
+    (time size : ℕ) → Tabled rule table k → 16 ≤ length ws → ((i : ℕ) → getD s i 0 < 256) →
+    Gave table s k ws sheet c ws₁ sheet₁ → Holds table s k ws₁ more ws₂ →
+    time ≡ last-time s (word ws₂ 2) (word ws₂ 3) → size ≡ record-count s →
+    Carried rule s ws sheet c more (noted time size ws₂) sheet₁
+carried rule table s k ws sheet c ws₁ sheet₁ more ws₂ time size tab room byte gave held timed sized =
+    let wide : 16 ≤ length ws₂ = omega (arith, held .words-length, gave .words-length) in
+    let seen-same = kept 2 (omega arith) (λ e. omega arith) (λ e. omega arith) (λ e. omega arith) in
+    let last-same = kept 3 (omega arith) (λ e. omega arith) (λ e. omega arith) (λ e. omega arith) in
+    let now : time ≡ last-time s (word ws 2) (word ws 3) = rw (seen-same, last-same) at timed in
+    record {
+      room = gave .room;
+      rest = gave .rest;
+      sheet-length = gave .sheet-length;
+      words-length = length-noted time size ws₂ wide ∙ held .words-length ∙ gave .words-length;
+      first-word =
+          noted-other time size ws₂ wide 0 (λ e. omega arith) (λ e. omega arith) ∙
+          kept 0 (omega arith) (λ e. omega arith) (λ e. omega arith) (λ e. omega arith);
+      count =
+          noted-other time size ws₂ wide 1 (λ e. omega arith) (λ e. omega arith) ∙
+          held .header 1 (omega arith) (λ e. omega arith) (λ e. omega arith) ∙
+          gave .count;
+      size = noted-size time size ws₂ wide ∙ sized;
+      time = noted-time time size ws₂ wide ∙ now;
+      fits = λ small.
+          rw (noted-time time size ws₂ wide, now) (last-time-bound s (word ws 2) (word ws 3) byte small);
+      entries =
+          noted-other time size ws₂ wide 6 (λ e. omega arith) (λ e. omega arith) ∙
+          kept 6 (omega arith) (λ e. omega arith) (λ e. omega arith) (λ e. omega arith);
+      meaning = λ L d never agrees top.
+          let φ = formula-of rule in
+          let (giving, short) = gave .meaning φ L d (tab .has) never agrees top in
+          let later = agrees-later s L d (d + c) (omega arith) agrees in
+          let after = held .meaning φ L (d + c) (tab .has) never later (giving .top) in
+          let n = counted φ L d c (length sheet) more ws₂ (gave .room) short (held .some) after in (
+            record { top = top-noted time size ws₂ wide φ L (d + c) (n .top); bytes = giving .bytes },
+            n .count,
+            n .more,
+          );
+    }
+  where
+    kept : (i : ℕ) → i < 16 → (i ≡ 1 → ⊥) → (i ≡ 4 → ⊥) → (i ≡ 5 → ⊥) → word ws₂ i ≡ word ws i
+    kept i low ne ne′ ne″ = held .header i low ne′ ne″ ∙ gave .header i low ne ne′ ne″

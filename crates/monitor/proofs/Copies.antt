@@ -1,0 +1,156 @@
+-- The words of a fresh checkpoint, once the entries' copies are written.
+use Prim.Native.Nat.{ℕ, zero, suc, _+_, _≤_, _<_}
+use native.Mathlib.Nat.{not-suc-le-zero}
+use native.Mathlib.Numerals.{add-one}
+use native.Mathlib.Omega.{arith}
+use mathlib.Core.Logic.{⊎-elim}
+use mathlib.Core.Path.{_≡_, refl, ap, subst, _∙_}
+use mathlib.Core.List.{List}
+use lib.ListN.{length, set, replicate, length-set, length-replicate, getD-replicate}
+use lib.Seq.{getD-set-same, getD-set-other}
+use Rattle.mtl.proofs.Bounded.{le-or-lt}
+use Rattle.rule.specs.declared.Entry.{Entry}
+use Rattle.rule.specs.Entries.{entry}
+use Rattle.rule.specs.Words.{words}
+use Rattle.rule.proofs.Spans.{offset-mono}
+use Rattle.engine.specs.Block.{word}
+use Rattle.monitor.specs.Checkpoint.{format, block-at, copy-head, copy-ends}
+use Rattle.monitor.specs.Code.{Fresh, copies}
+use Rattle.monitor.proofs.Offsets.{block-fits}
+
+-- a block's copy, written at its place
+abbrev stored : (b : List ℕ) (at head ends : ℕ) → List ℕ
+stored b at head ends = set (set b (at + 14) head) (at + 15) ends
+
+module _ (b : List ℕ) (at head ends : ℕ) where
+  stored-keeps : (i : ℕ) → (i ≡ at + 14 → ⊥) → (i ≡ at + 15 → ⊥) → word (stored b at head ends) i ≡ word b i
+  stored-keeps i h h′ =
+      getD-set-other (set b (at + 14) head) (at + 15) i ends 0 h′ ∙ getD-set-other b (at + 14) i head 0 h
+
+  stored-head : at + 16 ≤ length b → word (stored b at head ends) (at + 14) ≡ head
+  stored-head room =
+      getD-set-other (set b (at + 14) head) (at + 15) (at + 14) ends 0 (omega arith) ∙ getD-set-same b (at + 14) head 0 (omega arith)
+
+  stored-ends : at + 16 ≤ length b → word (stored b at head ends) (at + 15) ≡ ends
+  stored-ends room =
+      let l = length-set b (at + 14) head in getD-set-same (set b (at + 14) head) (at + 15) ends 0 (omega arith)
+
+module _ (t : List Entry) (ws : List ℕ) where
+  pub copies-more : (n : ℕ) → copies t (n + 1) ws ≡ stored (copies t n ws) (block-at t n) (copy-head (entry t n)) (copy-ends (entry t n))
+  unfolding copies
+  copies-more n = ap (λ (m : ℕ). copies t m ws) (add-one n)
+
+  pub copies-length : (n : ℕ) → length (copies t n ws) ≡ length ws
+  unfolding copies
+  copies-length zero = refl
+  copies-length (suc n) = simp length-set (copies-length n)
+
+  -- a word that is in no copy is kept
+  copies-keep : (n i : ℕ) → ((k : ℕ) → k < n → (i ≡ block-at t k + 14 → ⊥) × (i ≡ block-at t k + 15 → ⊥)) →
+      word (copies t n ws) i ≡ word ws i
+  unfolding copies
+  copies-keep zero i out = refl
+  copies-keep (suc n) i out =
+      let o = out n (omega arith) in
+      stored-keeps (copies t n ws) (block-at t n) (copy-head (entry t n)) (copy-ends (entry t n)) i (o .0) (o .1)
+      ∙ copies-keep n i (λ k l. out k (omega arith))
+
+  copies-head-here : (n : ℕ) → words t (suc n) ≤ length ws → word (copies t (suc n) ws) (block-at t n + 14) ≡ copy-head (entry t n)
+  unfolding copies
+  copies-head-here n room =
+      stored-head
+      (copies t n ws)
+      (block-at t n)
+      (copy-head (entry t n))
+      (copy-ends (entry t n))
+      (omega (arith, block-fits t (suc n) n (omega arith), copies-length n))
+
+  copies-ends-here : (n : ℕ) → words t (suc n) ≤ length ws → word (copies t (suc n) ws) (block-at t n + 15) ≡ copy-ends (entry t n)
+  unfolding copies
+  copies-ends-here n room =
+      stored-ends
+      (copies t n ws)
+      (block-at t n)
+      (copy-head (entry t n))
+      (copy-ends (entry t n))
+      (omega (arith, block-fits t (suc n) n (omega arith), copies-length n))
+
+  -- a later entry's copy stands behind an earlier one's block
+  later-keeps : (n k i : ℕ) → k < n → i < 16 → word (copies t (suc n) ws) (block-at t k + i) ≡ word (copies t n ws) (block-at t k + i)
+  unfolding copies
+  later-keeps n k i h l =
+      let b = block-fits t n k h in
+      stored-keeps
+      (copies t n ws)
+      (block-at t n)
+      (copy-head (entry t n))
+      (copy-ends (entry t n))
+      (block-at t k + i)
+      (omega arith)
+      (omega arith)
+
+  copies-heads : (n k : ℕ) → k < n → words t n ≤ length ws → word (copies t n ws) (block-at t k + 14) ≡ copy-head (entry t k)
+  copies-heads zero k h room = absurd (not-suc-le-zero h)
+  copies-heads (suc n) k h room =
+      ⊎-elim
+      (λ (l : n ≤ k).
+      subst (λ (x : ℕ). word (copies t (suc n) ws) (block-at t x + 14) ≡ copy-head (entry t x)) (omega arith) (copies-head-here n room))
+      (λ (l : k < n).
+      later-keeps n k 14 l (omega arith) ∙ copies-heads n k l (omega (arith, offset-mono t n (suc n) (omega arith))))
+      (le-or-lt n k)
+
+  copies-ends : (n k : ℕ) → k < n → words t n ≤ length ws → word (copies t n ws) (block-at t k + 15) ≡ copy-ends (entry t k)
+  copies-ends zero k h room = absurd (not-suc-le-zero h)
+  copies-ends (suc n) k h room =
+      ⊎-elim
+      (λ (l : n ≤ k).
+      subst (λ (x : ℕ). word (copies t (suc n) ws) (block-at t x + 15) ≡ copy-ends (entry t x)) (omega arith) (copies-ends-here n room))
+      (λ (l : k < n).
+      later-keeps n k 15 l (omega arith) ∙ copies-ends n k l (omega (arith, offset-mono t n (suc n) (omega arith))))
+      (le-or-lt n k)
+
+-- no block's first words are in another's copy
+apart : (t : List Entry) (k k′ i j : ℕ) → i < 14 → 14 ≤ j → j < 16 → block-at t k + i ≡ block-at t k′ + j → ⊥
+apart t k k′ i j h l l′ e =
+    ⊎-elim
+    (λ (a : k′ ≤ k).
+    ⊎-elim
+    (λ (b : k ≤ k′). let s : block-at t k ≡ block-at t k′ = ap (block-at t) (omega arith) in omega arith)
+    (λ (b : k′ < k). omega (arith, block-fits t k k′ b))
+    (le-or-lt k k′))
+    (λ (a : k < k′). omega (arith, block-fits t k′ k a))
+    (le-or-lt k′ k)
+
+module _ (t : List Entry) (n m : ℕ) (room : words t n ≤ m) where
+  abbrev headed : List ℕ
+  headed = set (set (replicate m 0) 0 format) 6 n
+
+  headed-length : length headed ≡ m
+  headed-length = simp (length-set, length-replicate)
+
+  -- zeros, the format's number, the number of entries, and the copies are a fresh checkpoint
+  pub fresh-words : Fresh t n (copies t n (set (set (replicate m 0) 0 format) 6 n))
+  fresh-words =
+      let l = headed-length in
+      let zero-word : ℕ = 0 in
+      let z = length-replicate m zero-word in
+      let s = length-set (replicate m 0) 0 format in
+      let outside : (i : ℕ) → i < 16 → word (copies t n headed) i ≡ word headed i =
+      λ i h. copies-keep t headed n i (λ k b. (omega arith, omega arith))
+      in
+      let zeros : (i : ℕ) → (i ≡ 0 → ⊥) → (i ≡ 6 → ⊥) → i < m → word headed i ≡ 0 =
+      λ i h h′ b. getD-set-other (set (replicate m 0) 0 format) 6 i n 0 h′ ∙ getD-set-other (replicate m 0) 0 i format 0 h ∙ getD-replicate m i 0 0 b
+      in
+      record {
+        first-word =
+            outside 0 (omega arith) ∙ getD-set-other (set (replicate m 0) 0 format) 6 0 n 0 (omega arith) ∙ getD-set-same (replicate m 0) 0 format 0 (omega arith);
+        entries = outside 6 (omega arith) ∙ getD-set-same (set (replicate m 0) 0 format) 6 n 0 (omega arith);
+        header = λ i h h′. outside i (omega arith) ∙ zeros i (omega arith) (omega arith) (omega arith);
+        blocks =
+            λ k h i h′.
+            let b = block-fits t n k h in
+            copies-keep t headed n (block-at t k + i) (λ k′ l′. (apart t k k′ i 14 h′ (omega arith) (omega arith), apart t k k′ i 15 h′ (omega arith) (omega arith)))
+            ∙ zeros (block-at t k + i) (omega arith) (omega arith) (omega arith);
+        heads = λ k h. copies-heads t headed n k h (omega arith);
+        ends = λ k h. copies-ends t headed n k h (omega arith);
+      }

@@ -1,0 +1,329 @@
+-- The theorem of demand 3, stated in specs/Calls.antt, by induction on the list of calls. Assumes nothing.
+use Prim.Native.Nat.{ℕ, _+_, _*_, _-_, _≤_, _<_}
+use mathlib.Core.Bool.{Bool, false}
+use mathlib.Core.Logic.{⊎-elim}
+use mathlib.Core.Path.{_≡_, refl, sym, _∙_, ap, subst}
+use mathlib.Core.List.{List, _++_}
+use native.Mathlib.Nat.{le-of-eq}
+use native.Mathlib.Omega.{arith}
+use lib.Dec.{eqb}
+use lib.ListN.{length, getD, take, drop, length-drop, take-append-drop}
+use lib.Seq.{getD-take, getD-drop, length-take-le, take-take, take-all}
+use borrow.Author.Tests.{le-ltb, ltb-false, eq-eqb, ne-eqb, eqb-true}
+use Rattle.mtl.specs.Log.{Log, NeverFalls, Continues}
+use Rattle.mtl.proofs.Bounded.{le-or-lt, true-or-false}
+use Rattle.rule.specs.Entries.{count, decoded}
+use Rattle.rule.specs.Refusal.{refusal}
+use Rattle.rule.specs.Measure.{measured}
+use Rattle.trace.specs.Format.{record-count, time-at, records-of, malformed}
+use Rattle.trace.specs.Log.{log-of}
+use Rattle.trace.specs.Order.{disordered}
+use Rattle.trace.proofs.Laws.{well-formed-iff, well-formed-records, ordered-iff, agree, keeps-agreed, prefix-continues, count-prefix}
+use Rattle.engine.specs.Step.{Agrees}
+use Rattle.monitor.specs.Checkpoint.{given, seen, last, need, foreign, outside}
+use Rattle.monitor.specs.Refusal.{before, open-refusal, resume-refusal}
+use Rattle.monitor.specs.Verdicts.{formula-of, verdicts, first-records, answered, all-verdicts}
+use Rattle.monitor.specs.Stands.{Stands}
+use Rattle.monitor.specs.Open.{Opens}
+use Rattle.monitor.specs.Resume.{Gives, Resumes}
+use Rattle.monitor.specs.Calls.{Untouched, Call, given-by, brought-by, laid, Brings, Calls, Each, AllWhenCaughtUp, OneRun, Demand3}
+use Rattle.monitor.specs.Calls.Calls.{opened, refused, accepted}
+use Rattle.monitor.specs.declared.Opened.{Opened}
+use Rattle.monitor.specs.declared.Opened.the-variants.{Done}
+use Rattle.monitor.specs.declared.Opened.the-variants.{Refused as OpenRefused}
+use Rattle.monitor.specs.declared.Resumed.{Resumed}
+use Rattle.monitor.specs.declared.Resumed.the-variants.{Given, Refused}
+use Rattle.monitor.proofs.OwnCheckpoint.{own-given, own-within, not-foreign, not-outside}
+use Rattle.monitor.proofs.VerdictBytes.{length-verdicts, verdicts-more, take-verdicts, verdicts-stay}
+
+-- REFUSALS
+
+-- what comes first is not met where nothing is
+before-none : (a b : ℕ) → before a b ≡ 0 → a ≡ 0
+before-none a b h = ⊎-elim (λ e. eqb-true a 0 e) (λ e. rw e at h) (true-or-false (eqb a 0))
+
+-- open accepts an accepted rule on enough words
+open-enough : (rule : List ℕ) (lent : ℕ) → refusal rule ≡ 0 → need rule ≤ lent → open-refusal rule lent ≡ 0
+open-enough rule lent fine enough = rw (eq-eqb (refusal rule) 0 fine, le-ltb lent (need rule) enough)
+
+-- "A point of exactly the words that weigh gave is enough"
+pub exactly-enough : (rule : List ℕ) → refusal rule ≡ 0 → (open-refusal rule (need rule) ≡ 0) × (measured rule .words ≡ need rule)
+exactly-enough rule fine = (open-enough rule (need rule) fine (omega arith), rw (eq-eqb (refusal rule) 0 fine))
+
+open-accepts : (rule lent : List ℕ) (r : Opened) (p : List ℕ) → refusal rule ≡ 0 → need rule ≤ length lent → Opens rule lent r p → r ≡ Done
+open-accepts rule lent Done p fine enough opens = refl
+open-accepts rule lent (OpenRefused n) p fine enough opens =
+    let none = open-enough rule (length lent) fine enough in
+    let number = opens .number in
+    let some = opens .words .0 in
+    absurd (omega arith)
+
+-- THE UNTOUCHED LOG
+
+module _ (rule log : List ℕ) (untouched : Untouched log) where
+  abbrev records : List ℕ
+  records = records-of log
+
+  -- the number of bytes as the laws of trace have it
+  eight : (n : ℕ) → 8 * n ≡ n * 8
+  eight n = omega arith
+
+  first-size : (n : ℕ) → n ≤ record-count records → first-records log n .size ≡ n
+  first-size n h = ap (λ k. record-count (take k records)) (eight n) ∙ count-prefix records n h
+
+  first-longer : (m n : ℕ) → m ≤ n → Continues (first-records log m) (first-records log n)
+  first-longer m n h =
+      subst (λ s. Continues (log-of s) (first-records log n)) (take-take (8 * m) (8 * n) records (omega arith))
+      (prefix-continues (take (8 * n) records) (8 * m))
+
+  first-falls : (n : ℕ) → NeverFalls (first-records log n)
+  first-falls n i j le h =
+      let c = prefix-continues records (8 * n) in
+      let l = c .longer in
+      let kept = untouched .never-falls i j le (omega arith) in
+      let first = c .same i (omega arith) (omega arith) .time in
+      let second = c .same j (omega arith) h .time in
+      omega arith
+
+  -- a call's log
+  module _ (d n : ℕ) (log′ : List ℕ) (brings : Brings log d n log′) where
+    brought-size : length (records-of log′) ≡ 8 * n
+    brought-size = let size = brings .size in length-drop 8 log′ ∙ omega arith
+
+    same-byte : (k : ℕ) → d * 8 ≤ k → k < n * 8 → getD (records-of log′) k 0 ≡ getD (take (8 * n) records) k 0
+    same-byte k lo hi =
+        getD-drop 8 log′ k 0 ∙ brings .same (8 + k) (omega arith) (omega arith) ∙ sym (getD-drop 8 log k 0) ∙
+        sym (getD-take (8 * n) records k 0 (omega arith))
+
+    brought-agrees : Agrees (records-of log′) (first-records log n) d
+    brought-agrees =
+        let size = brought-size in
+        let first = first-size n (brings .within) in
+        record {
+          size = omega arith;
+          same = agree (records-of log′) (take (8 * n) records) d (first-records log n .size) (λ k lo hi. same-byte k lo (omega arith));
+        }
+
+    -- refusal 12 is not met
+    brought-well-formed : malformed log′ ≡ false
+    brought-well-formed =
+        let long = well-formed-records log (untouched .well-formed) in
+        let few = long .1 .few in
+        let within = brings .within in
+        let size = brings .size in
+        let size′ = brought-size in
+        let header = well-formed-iff (take 8 log) records (length-take-le 8 log (long .0)) .0 (rw (take-append-drop 8 log) (untouched .well-formed)) .0 in
+        rw (take-append-drop 8 log′) at
+        (well-formed-iff (take 8 log′) (records-of log′) (length-take-le 8 log′ (omega arith)) .1 (
+          rw (brings .header) header,
+          record { whole = omega arith; few = omega arith },
+        ))
+
+    -- a checkpoint that stands for fewer records, or as many
+    module _ (m : ℕ) (p : List ℕ) (more : m ≤ n) (fine : refusal rule ≡ 0) (stands : Stands rule (first-records log m) d p) where
+      abbrev old : Log
+      old = first-records log m
+
+      abbrev new : Log
+      new = first-records log n
+
+      -- "the first new record's time" is not below "the last time seen"
+      last-not-above : seen p < record-count (records-of log′) → last p ≤ time-at (records-of log′) (seen p)
+      last-not-above h =
+          let agrees = brought-agrees in
+          let counts = agrees .size in
+          let size = stands .size in
+          let time = stands .time in
+          let d-within = own-within rule old d p fine stands in
+          ⊎-elim
+          (λ (some : 1 ≤ old .size).
+          let last-is : last p ≡ old .time (old .size - 1) = rw (ne-eqb (old .size) 0 (λ e. omega arith)) at time in
+          let kept = first-longer m n more .same (old .size - 1) (omega arith) (omega arith) .time in
+          let grows = first-falls n (old .size - 1) (seen p) (omega arith) (omega arith) in
+          let lent = agrees .same (seen p) (omega arith) (omega arith) .time in
+          omega arith)
+          (λ (none : old .size < 1).
+          let last-is : last p ≡ 0 = rw (eq-eqb (old .size) 0 (omega arith)) at time in
+          omega arith)
+          (le-or-lt 1 (old .size))
+
+      -- refusal 14 is not met
+      brought-ordered : disordered (records-of log′) (given p) (seen p) (last p) ≡ false
+      brought-ordered =
+          let agrees = brought-agrees in
+          let counts = agrees .size in
+          let same = own-given rule old d p fine stands in
+          ordered-iff (records-of log′) (given p) (seen p) (last p) .1 (
+            keeps-agreed (records-of log′) (take (8 * n) records) (given p) (first-falls n) (le-of-eq counts)
+                (λ i lo hi. agrees .same i (omega arith) (omega arith)),
+            last-not-above,
+          )
+
+      -- no refusal is met
+      none-met : resume-refusal rule log′ p ≡ 0
+      none-met =
+          let counts = brought-agrees .size in
+          let size = stands .size in
+          let longer = first-longer m n more .longer in
+          rw (
+            open-enough rule (length p) fine (stands .enough),
+            not-foreign rule old d p fine stands,
+            not-outside rule old d p fine stands,
+            brought-well-formed,
+            le-ltb (record-count (records-of log′)) (seen p) (omega arith),
+            brought-ordered,
+          )
+
+      -- "A call that brings rule and log in this way is not refused."
+      never-refused : (sheet : List ℕ) (number : ℕ) (p′ sheet′ : List ℕ) → Resumes rule log′ p sheet (Refused number) p′ sheet′ → ⊥
+      never-refused sheet number p′ sheet′ resumes =
+          let none = none-met in
+          let is = resumes .number in
+          let some = resumes .words .0 in
+          omega arith
+
+      gives : (sheet : List ℕ) (c : ℕ) (b : Bool) (p′ sheet′ : List ℕ) → Resumes rule log′ p sheet (Given c b) p′ sheet′ → Gives rule new d sheet c b p′ sheet′
+      gives sheet c b p′ sheet′ resumes = resumes .words .meaning old new d stands (first-longer m n more) (first-falls n) brought-agrees
+
+      -- the bytes of an accepted call, behind those of the verdicts before it
+      gives-bytes : (sheet : List ℕ) (c : ℕ) (b : Bool) (p′ sheet′ : List ℕ) → Resumes rule log′ p sheet (Given c b) p′ sheet′ →
+          verdicts (formula-of rule) old d ++ take c sheet′ ≡ verdicts (formula-of rule) new (d + c)
+      gives-bytes sheet c b p′ sheet′ resumes =
+          let within = stands .top .buffer .within in
+          let room = resumes .words .room in
+          let kept = resumes .sheet-length in
+          let bytes = gives sheet c b p′ sheet′ resumes .bytes in
+          ap (λ vs. vs ++ take c sheet′) (verdicts-stay (formula-of rule) old new (first-longer m n more) (first-falls n) d (omega arith)) ∙
+          verdicts-more (formula-of rule) new d c sheet′ (omega arith) bytes
+
+  -- what holds after every list of calls
+  record Invariant (lent : List ℕ) (h : List Call) (p : List ℕ) : Type 0 where
+    fine : refusal rule ≡ 0
+    stands : Stands rule (first-records log (brought-by h)) (given-by h) p
+    within : brought-by h ≤ record-count records
+    bytes : laid h ≡ verdicts (formula-of rule) (first-records log (brought-by h)) (given-by h)
+    all : AllWhenCaughtUp rule log h
+    each : Each rule log h
+    beyond : drop (need rule) p ≡ drop (need rule) lent
+    length : length p ≡ length lent
+
+  -- on an opened checkpoint
+  module _ (lent p : List ℕ) (opens : Opens rule lent Done p) where
+    opened-fine : refusal rule ≡ 0
+    opened-fine = before-none (refusal rule) _ (sym (opens .number))
+
+    opened-stands : Stands rule (first-records log 0) 0 p
+    opened-stands = opens .words .1 (first-records log 0) (first-size 0 (omega arith))
+
+  invariant : (lent : List ℕ) {h : List Call} {p : List ℕ} → Calls rule log lent h p → Invariant lent h p
+  unfolding given-by brought-by laid Each AllWhenCaughtUp verdicts
+  invariant lent (opened {p} opens) =
+      record {
+        fine = opened-fine lent p opens;
+        stands = opened-stands lent p opens;
+        within = omega arith;
+        bytes = refl;
+        all = refl;
+        each = tt;
+        beyond = opens .words .0;
+        length = opens .length;
+      }
+  invariant lent (refused calls rule′ log′ sheet number p′ sheet′ resumes) =
+      let before = invariant lent calls in
+      rw (resumes .words .1) before
+  invariant lent (accepted {h} {p} calls n log′ sheet c more p′ sheet′ no-fewer brings resumes) =
+      let before = invariant lent calls in
+      let old = brought-by h in
+      let d = given-by h in
+      let φ = formula-of rule in
+      let all = answered rule log n in
+      let step = gives d n log′ brings old p no-fewer (before .fine) (before .stands) sheet c more p′ sheet′ resumes in
+      let bytes : laid h ++ take c sheet′ ≡ verdicts φ (first-records log n) (d + c) =
+      ap (λ vs. vs ++ take c sheet′) (before .bytes) ∙
+      gives-bytes d n log′ brings old p no-fewer (before .fine) (before .stands) sheet c more p′ sheet′ resumes in
+      let within = step .stands .top .buffer .within in
+      let same-length = resumes .sheet-length in
+      record {
+        fine = before .fine;
+        stands = step .stands;
+        within = brings .within;
+        bytes = bytes;
+        all = (
+          λ e.
+              let lengths = ap length (sym bytes ∙ e) in
+              let given = length-verdicts φ (first-records log n) (d + c) in
+              let whole = length-verdicts φ (first-records log n) all in
+              step .more ∙ le-ltb (d + c) all (omega arith),
+          λ caught-up.
+              let none = ltb-false (d + c) all (sym (step .more) ∙ caught-up) in
+              let sum : d + c ≡ all = omega arith in
+              bytes ∙ ap (verdicts φ (first-records log n)) sum,
+        );
+        each = (
+          record { count = step .count; more = step .more; bytes = length-take-le c sheet′ (omega (arith, resumes .words .room)) },
+          before .each,
+        );
+        beyond = resumes .words .beyond ∙ before .beyond;
+        length = resumes .point-length ∙ before .length;
+      }
+
+  -- "One run is a carry on from a fresh point with a sheet of A bytes, and it writes just these."
+  one-run-writes : (n : ℕ) (r : Resumed) (sheet′ : List ℕ) → OneRun rule log n r sheet′ →
+      (r ≡ Given (answered rule log n) false) × (sheet′ ≡ all-verdicts rule log n)
+  unfolding verdicts
+  one-run-writes n (Refused number) sheet′ run =
+      let fine = opened-fine (run .lent) (run .fresh) (run .opens) in
+      let stands = opened-stands (run .lent) (run .fresh) (run .opens) in
+      absurd (never-refused 0 n (run .brought) (run .brings) 0 (run .fresh) (omega arith) fine stands (run .sheet) number (run .left) sheet′ (run .resumes))
+  one-run-writes n (Given c more) sheet′ run =
+      let fine = opened-fine (run .lent) (run .fresh) (run .opens) in
+      let stands = opened-stands (run .lent) (run .fresh) (run .opens) in
+      let φ = formula-of rule in
+      let all = answered rule log n in
+      let step = gives 0 n (run .brought) (run .brings) 0 (run .fresh) (omega arith) fine stands (run .sheet) c more (run .left) sheet′ (run .resumes) in
+      let bytes =
+      gives-bytes 0 n (run .brought) (run .brings) 0 (run .fresh) (omega arith) fine stands (run .sheet) c more (run .left) sheet′ (run .resumes) in
+      let count = step .count in
+      let room = run .room in
+      let kept = run .resumes .sheet-length in
+      let whole : c ≡ all = omega arith in
+      let sum : 0 + c ≡ all = omega arith in
+      let caught-up : more ≡ false = step .more ∙ le-ltb (0 + c) all (omega arith) in (
+        rw (whole, caught-up),
+        sym (take-all c sheet′ (omega arith)) ∙ bytes ∙ ap (verdicts φ (first-records log n)) sum,
+      )
+
+-- THE THEOREM
+pub demand-3 : (rule log lent : List ℕ) → Untouched log → (h : List Call) (p : List ℕ) → Calls rule log lent h p → Demand3 rule log lent h p
+demand-3 rule log lent untouched h p calls =
+    let i = invariant rule log untouched lent calls in
+    let φ = formula-of rule in
+    let L = first-records log (brought-by h) in
+    let within = i .stands .top .buffer .within in
+    record {
+      first = rw (i .bytes, length-verdicts φ L (given-by h)) (sym (take-verdicts φ L (given-by h) (answered rule log (brought-by h)) (omega arith)));
+      all = i .all;
+      each = i .each;
+      not-refused = λ n log′ sheet no-fewer brings.
+          never-refused rule log untouched (given-by h) n log′ brings (brought-by h) p no-fewer (i .fine) (i .stands) sheet;
+      enough = λ words r fresh size opens.
+          open-accepts rule words r fresh (i .fine) (le-of-eq (sym (size ∙ exactly-enough rule (i .fine) .1))) opens;
+      beyond = i .beyond;
+      length = i .length;
+      one-run = one-run-writes rule log untouched;
+    }
+
+-- the bytes of every list are the first bytes of one run
+pub bytes-of-one-run : (rule log lent : List ℕ) → Untouched log → (h : List Call) (p : List ℕ) → Calls rule log lent h p →
+    (r : Resumed) (sheet′ : List ℕ) → OneRun rule log (brought-by h) r sheet′ → laid h ≡ take (length (laid h)) sheet′
+bytes-of-one-run rule log lent untouched h p calls r sheet′ run =
+    let claim = demand-3 rule log lent untouched h p calls in
+    rw (claim .one-run (brought-by h) r sheet′ run .1) (claim .first)
+
+-- "a point that this library left never meets" refusal 11, nor 10 with its rule
+pub own-checkpoint : (rule log lent : List ℕ) → Untouched log → (h : List Call) (p : List ℕ) → Calls rule log lent h p →
+    (foreign (decoded rule) (count rule) p ≡ false) × (outside (decoded rule) (count rule) p ≡ false)
+own-checkpoint rule log lent untouched h p calls =
+    let i = invariant rule log untouched lent calls in
+    let L = first-records log (brought-by h) in
+    (not-foreign rule L (given-by h) p (i .fine) (i .stands), not-outside rule L (given-by h) p (i .fine) (i .stands))

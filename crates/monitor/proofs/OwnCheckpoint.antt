@@ -1,0 +1,131 @@
+-- A checkpoint that the library left never meets refusal 10 or 11 with its rule. Assumes nothing.
+-- (Examples is named first so that the table of worked examples is checked before any theorem.)
+use Rattle.monitor.specs.Examples
+use Prim.Native.Nat.{ℕ, suc, _+_, _-_, _≤_, _<_, _^_}
+use mathlib.Core.Bool.{false}
+use mathlib.Core.Path.{_≡_, sym, _∙_, ap, subst}
+use mathlib.Core.List.{List}
+use native.Mathlib.Omega.{arith}
+use lib.ListN.{take, drop, length-drop}
+use lib.Seq.{getD-take, getD-drop, length-take-le, take-all}
+use borrow.Author.Tests.{le-leb, lt-ltb, eq-eqb}
+use Rattle.mtl.specs.Log.{Log}
+use Rattle.mtl.proofs.Bounded.{any-false-iff}
+use Rattle.mtl.proofs.Until.{progress-le-size}
+use Rattle.rule.specs.Entries.{count, decoded, entry}
+use Rattle.rule.specs.Words.{offset}
+use Rattle.rule.specs.Refusal.{refusal}
+use Rattle.rule.proofs.Acceptance.{accepted}
+use Rattle.engine.specs.Block.{word, cells-of}
+use Rattle.engine.specs.State.{words, State}
+use Rattle.engine.proofs.Rows.{offset-grows}
+use Rattle.engine.proofs.Entries.{Ranged, rule-size, rule-ranges, own-least}
+use Rattle.monitor.specs.Checkpoint.{format, given, seen, last, held-count, held-answer, need, block-at, copy-differs, foreign, block-outside, outside}
+use Rattle.monitor.specs.Verdicts.{formula-or, formula-of}
+use Rattle.monitor.specs.Stands.{Stands}
+
+module _ (rule : List ℕ) (K : Log) (d : ℕ) (p : List ℕ) (fine : refusal rule ≡ 0) (stands : Stands rule K d p) where
+  -- the rule's own words, and those behind the header
+  abbrev own-part : List ℕ
+  own-part = take (need rule) p
+
+  abbrev behind : List ℕ
+  behind = drop 16 own-part
+
+  own-word : (i : ℕ) → i < need rule → word own-part i ≡ word p i
+  own-word i h = getD-take (need rule) p i 0 h
+
+  -- the verdicts given, as the checkpoint has them
+  pub own-given : given p ≡ d
+  own-given = sym (own-word 1 (omega arith)) ∙ stands .top .at
+
+  -- no more of them than records seen
+  pub own-within : d ≤ K .size
+  own-within = let within = stands .top .buffer .within in let below = progress-le-size (formula-of rule) K in omega arith
+
+  ranged : (j : ℕ) → j < count rule → Ranged (decoded rule) behind (K .size) j
+  ranged j h =
+      let a = accepted rule fine in
+      let φ = a .the-formula in
+      let e : formula-of rule ≡ φ = ap formula-or (a .reads) in
+      let enough = stands .enough in
+      let size = rule-size (decoded rule) (count rule) (a .well-formed) (a .some-entries) (a .spans-all) φ (a .at-last) behind in
+      let short = length-take-le (need rule) p enough in
+      let length-behind = length-drop 16 own-part in
+      let s = subst (λ ψ. State ψ K (d + held-count own-part) behind) e (stands .top .state) in
+      rule-ranges (decoded rule) (count rule) (a .well-formed) (a .some-entries) (a .spans-all) φ (a .at-last) behind K (d + held-count own-part)
+      (rw (take-all (words φ) behind (omega arith)) s) j h
+
+  -- a block lies within the need
+  block-room : (j : ℕ) → j < count rule → block-at (decoded rule) j + 16 ≤ need rule
+  unfolding offset
+  block-room j h =
+      let g = offset-grows (decoded rule) (suc j) (count rule) h in
+      let w = own-least (entry (decoded rule) j) in
+      omega arith
+
+  block-word : (j i : ℕ) → j < count rule → i < 16 → word (drop (offset (decoded rule) j) behind) i ≡ word p (block-at (decoded rule) j + i)
+  block-word j i h l =
+      let r = block-room j h in
+      getD-drop (offset (decoded rule) j) behind i 0 ∙ getD-drop 16 own-part (offset (decoded rule) j + i) 0 ∙
+      ap (word own-part) (omega arith) ∙ own-word (block-at (decoded rule) j + i) (omega arith)
+
+  same-copy : (j : ℕ) → j < count rule → copy-differs (decoded rule) p j ≡ false
+  same-copy j h =
+      let c = ranged j h .copy in
+      rw (
+        eq-eqb _ _ (sym (block-word j 14 h (omega arith)) ∙ c .head),
+        eq-eqb _ _ (sym (block-word j 15 h (omega arith)) ∙ c .ends),
+      )
+
+  -- refusal 10 is not met
+  pub not-foreign : foreign (decoded rule) (count rule) p ≡ false
+  not-foreign =
+      rw (
+        eq-eqb (word p 0) format (stands .first-word),
+        eq-eqb (word p 6) (count rule) (stands .entries),
+        any-false-iff (count rule) (copy-differs (decoded rule) p) .1 same-copy,
+      )
+
+  -- the block in the checkpoint has the words of the block behind the header
+  same-word : (j i : ℕ) → j < count rule → i < 16 → word (drop (block-at (decoded rule) j) p) i ≡ word (drop (offset (decoded rule) j) behind) i
+  same-word j i h l = getD-drop (block-at (decoded rule) j) p i 0 ∙ sym (block-word j i h l)
+
+  in-range : (j : ℕ) → j < count rule → block-outside (decoded rule) p j ≡ false
+  in-range j h =
+      let e = entry (decoded rule) j in
+      let b = drop (block-at (decoded rule) j) p in
+      let cells = cells-of (e .kind) (e .high) in
+      let size = stands .size in
+      let r = ranged j h .range in
+      rw (
+        le-leb (word b 0) (seen p) (omega (arith, same-word j 0 h (omega arith))),
+        le-leb (word b 1) (seen p) (omega (arith, same-word j 1 h (omega arith))),
+        le-leb (word b 2) 1 (omega (arith, same-word j 2 h (omega arith))),
+        le-leb (word b 3) (seen p) (omega (arith, same-word j 3 h (omega arith))),
+        le-leb (word b 4) 1 (omega (arith, same-word j 4 h (omega arith))),
+        le-leb (word b 5) (word b 0) (omega (arith, same-word j 0 h (omega arith), same-word j 5 h (omega arith))),
+        le-leb (word b 6) 1 (omega (arith, same-word j 6 h (omega arith))),
+        le-leb (word b 7) 1 (omega (arith, same-word j 7 h (omega arith))),
+        lt-ltb (word b 8) (2 ^ 32) (omega (arith, same-word j 8 h (omega arith))),
+        le-leb (word b 9) cells (omega (arith, same-word j 9 h (omega arith))),
+        le-leb (word b 10) cells (omega (arith, same-word j 10 h (omega arith))),
+      )
+
+  -- refusal 11 is not met
+  pub not-outside : outside (decoded rule) (count rule) p ≡ false
+  not-outside =
+      let few = stands .few in
+      let size = stands .size in
+      let within = stands .top .buffer .within in
+      let below = progress-le-size (formula-of rule) K in
+      let at = stands .top .at in
+      let answer = stands .top .answer in
+      rw (
+        le-leb (seen p) 1000000 (omega arith),
+        le-leb (held-count p) (seen p) (omega (arith, own-word 4 (omega arith))),
+        le-leb (given p) (seen p - held-count p) (omega (arith, own-word 1 (omega arith), own-word 4 (omega arith))),
+        lt-ltb (last p) (2 ^ 32) (stands .fits),
+        le-leb (held-answer p) 1 (omega (arith, own-word 5 (omega arith))),
+        any-false-iff (count rule) (block-outside (decoded rule) p) .1 in-range,
+      )

@@ -1,0 +1,237 @@
+-- From an accepted call on the words that the rule needs to what `resume` promises of the whole checkpoint.
+use Prim.Native.Nat.{ℕ, _+_, _-_, _≤_, _<_, zero-le}
+use mathlib.Core.Bool.{Bool, true, false, cond, _||_}
+use mathlib.Core.Bool.{not as negate}
+use mathlib.Core.Path.{_≡_, refl, sym, ap, _∙_}
+use mathlib.Core.List.{List, _++_}
+use mathlib.Core.Logic.{⊎-elim}
+use native.Mathlib.Omega.{arith}
+use native.Mathlib.Nat.{sub-zero}
+use borrow.Author.Tests.{le-ltb, lt-ltb, ne-eqb, eqb-false, not-false}
+use lib.Dec.{eqb, ltb, leb}
+use lib.ListN.{length, take, drop, length-append, length-drop, List·getD-append}
+use lib.Seq.{length-take-le, take-at, drop-at, getD-take}
+use Rattle.mtl.specs.Formula.{Formula}
+use Rattle.mtl.specs.Log.{Log, NeverFalls, Continues}
+use Rattle.mtl.specs.Satisfaction.{any}
+use Rattle.mtl.proofs.Bounded.{and-iff, leb-iff, le-or-lt}
+use Rattle.mtl.proofs.Until.{progress-le-size}
+use Rattle.mtl.proofs.Lengthening.{progress-grows, answers-stay}
+use Rattle.rule.specs.Entries.{count, decoded}
+use Rattle.rule.specs.Refusal.{refusal}
+use Rattle.trace.specs.Format.{record-count, records-of, malformed}
+use Rattle.trace.specs.Order.{disordered, last-time}
+use Rattle.trace.proofs.Laws.{well-formed-records}
+use Rattle.engine.specs.Block.{word}
+use Rattle.engine.specs.Step.{Agrees}
+use Rattle.engine.specs.Ask.{part}
+use Rattle.engine.proofs.Longer.{state-longer}
+use Rattle.engine.proofs.Parts.{put-back}
+use Rattle.monitor.specs.Checkpoint.{given, seen, last, held-count, need, room, foreign, block-outside, outside, header-in-range}
+use Rattle.monitor.specs.Refusal.{first, before, open-refusal, log-refusal, point-refusal, resume-refusal}
+use Rattle.monitor.specs.Verdicts.{formula-of}
+use Rattle.monitor.specs.Stands.{Top, last-of, Stands}
+use Rattle.monitor.specs.Resume.{Resumes}
+use Rattle.monitor.specs.Code.{sized-of, sized-number, Carried, CarriesOn}
+use Rattle.monitor.specs.declared.check.Sized.{Sized}
+use Rattle.monitor.specs.declared.check.Sized.the-variants.{Words, Stopped}
+use Rattle.monitor.specs.declared.Resumed.{Resumed}
+use Rattle.monitor.specs.declared.Resumed.the-variants.{Given, Refused}
+use Rattle.monitor.proofs.Sizes.{sized-refusal, enough, stops}
+
+-- refusals that are met and those that are not
+before-met : (number other : ℕ) → 0 < number → before number other ≡ number
+before-met number other met = rw (ne-eqb number 0 (λ e. omega arith))
+
+first-not-met : (number other : ℕ) (bad : Bool) → 0 < number → first number bad other ≡ 0 → (bad ≡ false) × (other ≡ 0)
+first-not-met number other true some none = absurd (omega arith)
+first-not-met number other false some none = (refl, none)
+
+-- refusals 1 to 9
+pub resume-stopped : (rule log p sheet : List ℕ) (r : Sized) (m n : ℕ) → r ≡ sized-of rule (length p) → r ≡ Stopped m →
+    n ≡ sized-number r → Resumes rule log p sheet (Refused n) p sheet
+resume-stopped rule log p sheet r m n sized stopped numbered =
+    let met : 0 < m =
+    stops rule (length p) m (sym stopped ∙ sized) in
+    let is : n ≡ m = numbered ∙ ap sized-number stopped in
+    let some : 0 < n = omega arith in
+    let number : open-refusal rule (length p) ≡ n =
+    sym (sized-refusal rule (length p)) ∙ ap sized-number (sym sized) ∙ sym numbered in
+    record {
+      number =
+          sym
+          (ap (λ (k : ℕ). before k (point-refusal (decoded rule) (count rule) log p)) number ∙
+          before-met n (point-refusal (decoded rule) (count rule) log p) some);
+      point-length = refl;
+      sheet-length = refl;
+      words = (some, refl, refl);
+    }
+
+not-stopped : (rule log p : List ℕ) (w : ℕ) → Words w ≡ sized-of rule (length p) →
+    resume-refusal rule log p ≡ point-refusal (decoded rule) (count rule) log p
+not-stopped rule log p w sized =
+    let none : open-refusal rule (length p) ≡ 0 = sym (sized-refusal rule (length p)) ∙ ap sized-number (sym sized) in
+    ap (λ (k : ℕ). before k (point-refusal (decoded rule) (count rule) log p)) none
+
+-- refusals 10 to 14
+pub resume-refused : (rule log p sheet : List ℕ) (w n : ℕ) → Words w ≡ sized-of rule (length p) →
+    n ≡ point-refusal (decoded rule) (count rule) log p → (n ≡ 0 → ⊥) → Resumes rule log p sheet (Refused n) p sheet
+resume-refused rule log p sheet w n sized numbered met =
+    record {
+      number = numbered ∙ sym (not-stopped rule log p w sized);
+      point-length = refl;
+      sheet-length = refl;
+      words = (omega arith, refl, refl);
+    }
+
+-- what the refusals that are not met tell
+pub record Passes (log p : List ℕ) : Type 0 where
+  pub given : given p ≤ 1000000
+  pub records : record-count (records-of log) ≤ 1000000
+
+neither-left : (a b : Bool) → a || b ≡ false → a ≡ false
+neither-left true b e = e
+neither-left false b e = refl
+
+header-given : (p : List ℕ) → header-in-range p ≡ true → given p ≤ 1000000
+header-given p fits =
+    let a = and-iff (leb (seen p) 1000000) (room (given p) (held-count p) (seen p)) in
+    let all = and-iff _ _ .0 (and-iff _ _ .0 fits .0) .0 in
+    let halves = a .0 all in
+    let rooms = and-iff (leb (held-count p) (seen p)) (leb (given p) (seen p - held-count p)) .0 (halves .1) in
+    let few = leb-iff (seen p) 1000000 .0 (halves .0) in
+    let low = leb-iff (given p) (seen p - held-count p) .0 (rooms .1) in
+    omega arith
+
+pub passes : (rule log p : List ℕ) (n : ℕ) → n ≡ point-refusal (decoded rule) (count rule) log p → n ≡ 0 → Passes log p
+passes rule log p number numbered zero =
+    let none : point-refusal (decoded rule) (count rule) log p ≡ 0 = sym numbered ∙ zero in
+    let t = decoded rule in
+    let n = count rule in
+    let logs = log-refusal log (given p) (seen p) (last p) in
+    let tenth = first-not-met 10 (first 11 (outside t n p) logs) (foreign t n p) (omega arith) none in
+    let eleventh = first-not-met 11 logs (outside t n p) (omega arith) (tenth .1) in
+    let thirteenth = first 13 (ltb (record-count (records-of log)) (seen p)) (first 14 (disordered (records-of log) (given p) (seen p) (last p)) 0) in
+    let twelfth = first-not-met 12 thirteenth (malformed log) (omega arith) (eleventh .1) in
+    record {
+      given = header-given p (not-false (header-in-range p) (neither-left (negate (header-in-range p)) (any n (block-outside t p)) (eleventh .0)));
+      records = well-formed-records log (twelfth .0) .1 .few;
+    }
+
+-- the header and the state survive a longer log
+top-longer : (φ : Formula) (K L : Log) (d : ℕ) (ws : List ℕ) → Continues K L → NeverFalls L → Top φ K d ws → Top φ L d ws
+top-longer φ K L d ws longer never top =
+    let within = top .buffer .within in
+    record {
+      at = top .at;
+      buffer =
+          record {
+            within = omega (arith, progress-grows φ K L longer never);
+            same = λ i low high. sym (answers-stay φ K L longer never i (omega arith)) ∙ top .buffer .same i low high;
+          };
+      answer = top .answer;
+      state = state-longer φ K L longer never (d + held-count ws) (drop 16 ws) (top .state);
+    }
+
+cond-same : (b : Bool) (x y : ℕ) → (b ≡ false → x ≡ y) → cond b 0 x ≡ cond b 0 y
+cond-same true x y e = refl
+cond-same false x y e = e refl
+
+-- the last time seen, once the lent records are seen
+module _ (s : List ℕ) (K L : Log) (d : ℕ) (longer : Continues K L) (agrees : Agrees s L d) (given : d ≤ K .size) where
+  time-new : K .size < record-count s → last-time s (K .size) (last-of K) ≡ last-of L
+  time-new new =
+      let size = agrees .size in
+      let some : L .size ≡ 0 → ⊥ = λ e. omega arith in
+      rw (lt-ltb (K .size) (record-count s) new, ne-eqb (L .size) 0 some, size)
+      (agrees .same (L .size - 1) (omega arith) (omega arith) .time)
+
+  time-kept : record-count s ≤ K .size → last-time s (K .size) (last-of K) ≡ last-of L
+  time-kept old =
+      let same : K .size ≡ L .size = omega (arith, agrees .size, longer .longer) in
+      rw (le-ltb (K .size) (record-count s) old, same)
+      (cond-same
+      (eqb (L .size) 0)
+      (K .time (L .size - 1))
+      (L .time (L .size - 1))
+      (λ none.
+      let some = eqb-false (L .size) 0 none in
+      longer .same (L .size - 1) zero-le (omega arith) .time))
+
+  pub time-seen : last-time s (K .size) (last-of K) ≡ last-of L
+  time-seen = ⊎-elim time-kept time-new (le-or-lt (record-count s) (K .size))
+
+-- an accepted call: the words that the rule needs are ws′ then, the others are kept
+module _ (rule log p sheet : List ℕ) (ok : refusal rule ≡ 0) (room : need rule ≤ length p)
+    (none : point-refusal (decoded rule) (count rule) log p ≡ 0) (c : ℕ) (more : Bool) (ws′ sheet′ : List ℕ)
+    (done : Carried rule (records-of log) (take (need rule) p) sheet c more ws′ sheet′) where
+  size : length ws′ ≡ need rule
+  size = done .words-length ∙ length-take-le (need rule) p room
+
+  -- a header word, before and after
+  was : (i : ℕ) → i < 16 → word (take (need rule) p) i ≡ word p i
+  was i low = getD-take (need rule) p i 0 (omega arith)
+
+  now : (i : ℕ) → i < 16 → word (ws′ ++ drop (need rule) p) i ≡ word ws′ i
+  now i low = List·getD-append ws′ (drop (need rule) p) 0 i (omega (arith, size))
+
+  length-now : length (ws′ ++ drop (need rule) p) ≡ length p
+  length-now = simp (length-append, size, length-drop) (omega arith)
+
+  stands-now : (K L : Log) (d : ℕ) → Stands rule K d p → Continues K L → NeverFalls L → Agrees (records-of log) L d →
+      Top (formula-of rule) L (d + c) ws′ → Stands rule L (d + c) (ws′ ++ drop (need rule) p)
+  stands-now K L d stands longer never agrees top =
+      let reached : d ≤ K .size =
+      omega (arith, stands .top .buffer .within, progress-le-size (formula-of rule) K) in
+      let before : last-time (records-of log) (seen (take (need rule) p)) (last (take (need rule) p)) ≡ last-of L =
+      rw (was 2 (omega arith), was 3 (omega arith), stands .size, stands .time)
+      (time-seen (records-of log) K L d longer agrees reached) in
+      record {
+        enough = omega (arith, length-now);
+        first-word = now 0 (omega arith) ∙ done .first-word ∙ was 0 (omega arith) ∙ stands .first-word;
+        entries = now 6 (omega arith) ∙ done .entries ∙ was 6 (omega arith) ∙ stands .entries;
+        size = now 2 (omega arith) ∙ done .size ∙ agrees .size;
+        few = omega (arith, passes rule log p (point-refusal (decoded rule) (count rule) log p) refl none .records, agrees .size);
+        time = now 3 (omega arith) ∙ done .time ∙ before;
+        fits = rw (now 3 (omega arith)) (done .fits (rw (was 3 (omega arith)) (stands .fits)));
+        top = rw (take-at ws′ (drop (need rule) p) (need rule) size) top;
+      }
+
+  pub resumed : Resumes rule log p sheet (Given c more) (ws′ ++ drop (need rule) p) sheet′
+  resumed =
+      record {
+        number = rw (ok, le-ltb (length p) (need rule) room) (sym none);
+        point-length = length-now;
+        sheet-length = done .sheet-length;
+        words =
+            record {
+              room = done .room;
+              rest = done .rest;
+              beyond = drop-at ws′ (drop (need rule) p) (need rule) size;
+              count = now 1 (omega arith) ∙ done .count ∙ ap (λ (k : ℕ). k + c) (was 1 (omega arith));
+              size = now 2 (omega arith) ∙ done .size;
+              time =
+                  now 3 (omega arith) ∙
+                  done .time ∙
+                  rw (was 2 (omega arith), was 3 (omega arith));
+              meaning = λ K L d stands longer never agrees.
+                  let top = top-longer (formula-of rule) K L d (take (need rule) p) longer never (stands .top) in
+                  let (giving, count, further) = done .meaning L d never agrees top in
+                  record {
+                    count = count;
+                    bytes = giving .bytes;
+                    more = further;
+                    stands = stands-now K L d stands longer never agrees (giving .top);
+                  };
+            };
+      }
+
+-- the records and the words as they were lent, and the words as they came back
+pub resume-given : (rule log p sheet records : List ℕ) (w n : ℕ) (r : Resumed) (ws′ sheet′ : List ℕ) →
+    Words w ≡ sized-of rule (length p) → n ≡ point-refusal (decoded rule) (count rule) log p → n ≡ 0 → records ≡ records-of log →
+    CarriesOn rule records (part 0 w p) sheet r ws′ sheet′ → Resumes rule log p sheet r (put-back 0 w ws′ p) sheet′
+resume-given rule log p sheet records w n (Given c more) ws′ sheet′ sized numbered zero handed done =
+    let e = enough rule (length p) w sized in
+    let is : w - 0 ≡ need rule = sub-zero w ∙ e .words-are in
+    rw is (resumed rule log p sheet (e .accepted) (e .room) (sym numbered ∙ zero) c more ws′ sheet′ (rw (is, handed) at done))
+resume-given rule log p sheet records w n (Refused m) ws′ sheet′ sized numbered zero handed done = absurd done

@@ -1,0 +1,79 @@
+-- What `measure` answers, read as refusals 1 to 9 or the need.
+use Prim.Native.Nat.{ℕ, _+_, _≤_, _<_}
+use native.Mathlib.Omega.{arith}
+use mathlib.Core.Bool.{Bool, true, false, cond}
+use mathlib.Core.Path.{_≡_, refl, sym, ap}
+use mathlib.Core.List.{List}
+use lib.Dec.{eqb, ltb}
+use borrow.Author.Tests.{eqb-true, eqb-false, ltb-false, ne-eqb, lt-ltb, le-ltb}
+use Rattle.rule.specs.declared.Entry.{Entry}
+use Rattle.rule.specs.declared.Measured.the-variants.{Words as Weighed, Refused}
+use Rattle.rule.specs.Entries.{count, decoded}
+use Rattle.rule.specs.Words.{offset}
+use Rattle.rule.specs.Refusal.{refusal}
+use Rattle.rule.specs.Measure.{answer, measured}
+use Rattle.rule.proofs.Acceptance.{accepted}
+use Rattle.rule.proofs.Outcome.{passes-with, stops-with}
+use Rattle.monitor.specs.Checkpoint.{need}
+use Rattle.monitor.specs.Code.{sized-of, sized-number}
+use Rattle.monitor.specs.Refusal.{open-refusal}
+use Rattle.monitor.specs.declared.check.Sized.the-variants.{Words, Stopped}
+
+-- `measure` refused the rule
+pub stopped : (s : List ℕ) (lent m : ℕ) → answer (Refused m) ≡ measured s → Stopped m ≡ sized-of s lent
+stopped s lent m e =
+    let o = stops-with s m e in
+    let n : refusal s ≡ 0 → ⊥ = λ z. o .not-zero (omega (arith, o .number-is)) in
+    rw (ne-eqb (refusal s) 0 n, o .number-is)
+
+-- the number of words lent is below the need, or not
+pub short : (s : List ℕ) (w r lent : ℕ) → answer (Weighed w r) ≡ measured s → lent < w → Stopped 9 ≡ sized-of s lent
+short s w r lent e h =
+    let o = passes-with s w r e in
+    let l : lent < need s = omega (arith, o .words-are) in
+    rw (o .accepted, lt-ltb lent (need s) l)
+
+pub sized : (s : List ℕ) (w r lent : ℕ) → answer (Weighed w r) ≡ measured s → w ≤ lent → Words w ≡ sized-of s lent
+sized s w r lent e h =
+    let o = passes-with s w r e in
+    let l : need s ≤ lent = omega (arith, o .words-are) in
+    rw (o .accepted, le-ltb lent (need s) l, o .words-are)
+
+-- the number that the answer stands for is the refusal of `open`
+number-by : (b b′ : Bool) (w n : ℕ) → sized-number (cond b (cond b′ (Stopped 9) (Words w)) (Stopped n)) ≡ cond b (cond b′ 9 0) n
+number-by true true w n = refl
+number-by true false w n = refl
+number-by false b′ w n = refl
+
+pub sized-refusal : (s : List ℕ) (lent : ℕ) → sized-number (sized-of s lent) ≡ open-refusal s lent
+sized-refusal s lent = number-by (eqb (refusal s) 0) (ltb lent (need s)) (need s) (refusal s)
+
+-- where there are words, the rule is accepted, they are its need, and enough are lent
+pub record Enough (s : List ℕ) (lent w : ℕ) : Type 0 where
+  pub accepted : refusal s ≡ 0
+  pub words-are : w ≡ need s
+  pub room : need s ≤ lent
+
+enough-by : (b b′ : Bool) (s : List ℕ) (lent w : ℕ) → eqb (refusal s) 0 ≡ b → ltb lent (need s) ≡ b′ →
+    Words w ≡ cond b (cond b′ (Stopped 9) (Words (need s))) (Stopped (refusal s)) → Enough s lent w
+enough-by true true s lent w t t′ e = let z : _≡_ {A = ℕ} 0 1 = cc in absurd (omega arith)
+enough-by true false s lent w t t′ e =
+    record { accepted = eqb-true (refusal s) 0 t; words-are = cc; room = ltb-false lent (need s) t′ }
+enough-by false b′ s lent w t t′ e = let z : _≡_ {A = ℕ} 0 1 = cc in absurd (omega arith)
+
+pub enough : (s : List ℕ) (lent w : ℕ) → Words w ≡ sized-of s lent → Enough s lent w
+enough s lent w e = enough-by (eqb (refusal s) 0) (ltb lent (need s)) s lent w refl refl e
+
+-- where there are none, the number is not 0
+stops-by : (b b′ : Bool) (w n m : ℕ) → eqb n 0 ≡ b → Stopped m ≡ cond b (cond b′ (Stopped 9) (Words w)) (Stopped n) → 0 < m
+stops-by true true w n m t e = let z : m ≡ 9 = cc in omega arith
+stops-by true false w n m t e = let z : _≡_ {A = ℕ} 0 1 = cc in absurd (omega arith)
+stops-by false b′ w n m t e = let z : m ≡ n = cc in let h = eqb-false n 0 t in omega arith
+
+pub stops : (s : List ℕ) (lent m : ℕ) → Stopped m ≡ sized-of s lent → 0 < m
+stops s lent m e = stops-by (eqb (refusal s) 0) (ltb lent (need s)) (need s) (refusal s) m refl e
+
+-- the decoded rule fits into a checkpoint of its need
+pub fits-in : (s : List ℕ) (t : List Entry) (n lent : ℕ) → refusal s ≡ 0 → t ≡ decoded s → n ≡ count s → need s ≤ lent →
+    (n ≤ 128) × (16 + offset t n ≤ lent)
+fits-in s t n lent ok e e′ h = rw (e, e′) (accepted s ok .few-entries, h)

@@ -1,0 +1,116 @@
+-- A fresh checkpoint stands for its rule on a log with no record.
+use Prim.Native.Nat.{ℕ, _+_, _≤_, _<_, zero-le}
+use native.Mathlib.Omega.{arith}
+use mathlib.Core.Path.{_≡_, sym, ap, subst, _∙_}
+use mathlib.Core.List.{List, _++_}
+use lib.ListN.{length, take, drop, length-drop}
+use lib.Seq.{getD-drop, getD-take, take-all, take-at, drop-at, length-front, length-take-le}
+use borrow.Author.Tests.{eq-eqb}
+use Rattle.mtl.specs.Formula.{Formula}
+use Rattle.mtl.specs.Log.{Log}
+use Rattle.rule.specs.declared.Entry.{Entry}
+use Rattle.rule.specs.Accepted.{Accepted}
+use Rattle.rule.specs.Entries.{count, decoded, entry}
+use Rattle.rule.specs.Refusal.{refusal}
+use Rattle.rule.specs.Words.{offset}
+use Rattle.rule.proofs.Acceptance.{accepted}
+use Rattle.engine.specs.Block.{word, FreshBlock}
+use Rattle.engine.specs.State.{words, State}
+use Rattle.engine.proofs.Entries.{fresh-rule, rule-size}
+use Rattle.monitor.specs.Checkpoint.{need, block-at}
+use Rattle.monitor.specs.Code.{Fresh, sized-of, sized-number}
+use Rattle.monitor.specs.Open.{Opens}
+use Rattle.monitor.specs.Stands.{Top, Stands}
+use Rattle.monitor.specs.Verdicts.{formula-or, formula-of}
+use Rattle.monitor.specs.declared.Opened.the-variants.{Done}
+use Rattle.monitor.specs.declared.check.Sized.the-variants.{Words}
+use Rattle.monitor.proofs.Sizes.{enough, sized-refusal}
+
+-- a word of the block of entry j
+in-block : (t : List Entry) (ws : List ℕ) (j i : ℕ) → word (drop (offset t j) (drop 16 ws)) i ≡ word ws (block-at t j + i)
+in-block t ws j i =
+    getD-drop (offset t j) (drop 16 ws) i 0 ∙ getD-drop 16 ws (offset t j + i) 0 ∙ ap (word ws) (omega arith)
+
+module _ (rule ws : List ℕ) (a : Accepted rule) (size : length ws ≡ need rule) (f : Fresh (decoded rule) (count rule) ws) (L : Log) where
+  fresh-block : (j : ℕ) → j < count rule →
+      (let e = entry (decoded rule) j in FreshBlock (e .kind) (e .letter) (e .low) (e .high) (drop (offset (decoded rule) j) (drop 16 ws)))
+  fresh-block j h =
+      let t = decoded rule in
+      record {
+        zeros = λ i l. in-block t ws j i ∙ f .blocks j h i l;
+        copy = record { head = in-block t ws j 14 ∙ f .heads j h; ends = in-block t ws j 15 ∙ f .ends j h };
+      }
+
+  fresh-formula : State (a .the-formula) L 0 (drop 16 ws)
+  fresh-formula =
+      let t = decoded rule in
+      let φ = a .the-formula in
+      let l = length-drop 16 ws in
+      let z = rule-size t (count rule) (a .well-formed) (a .some-entries) (a .spans-all) φ (a .at-last) (drop 16 ws) in
+      let s =
+      fresh-rule
+      t
+      (count rule)
+      (a .well-formed)
+      (a .some-entries)
+      (a .spans-all)
+      φ
+      (a .at-last)
+      (drop 16 ws)
+      (omega arith)
+      fresh-block
+      L
+      in
+      subst (State φ L 0) (take-all (words φ) (drop 16 ws) (omega arith)) s
+
+  fresh-top : Top (formula-of rule) L 0 ws
+  fresh-top =
+      let held = f .header 4 (omega arith) (omega arith) in
+      let said = f .header 5 (omega arith) (omega arith) in
+      record {
+        at = f .header 1 (omega arith) (omega arith);
+        buffer = record { within = rw held zero-le; same = λ i l h. absurd (omega arith) };
+        answer = omega arith;
+        state =
+            rw held (subst (λ (φ : Formula). State φ L 0 (drop 16 ws)) (sym (ap formula-or (a .reads))) fresh-formula);
+      }
+
+pub fresh-stands : (rule p : List ℕ) → refusal rule ≡ 0 → need rule ≤ length p →
+    Fresh (decoded rule) (count rule) (take (need rule) p) → (L : Log) → L .size ≡ 0 → Stands rule L 0 p
+fresh-stands rule p ok room f L none =
+    let at : (i : ℕ) → i < 16 → word p i ≡ word (take (need rule) p) i =
+    λ i h. sym (getD-take (need rule) p i 0 (omega arith))
+    in
+    let two = at 2 (omega arith) ∙ f .header 2 (omega arith) (omega arith) in
+    let three = at 3 (omega arith) ∙ f .header 3 (omega arith) (omega arith) in
+    record {
+      enough = room;
+      first-word = at 0 (omega arith) ∙ f .first-word;
+      entries = at 6 (omega arith) ∙ f .entries;
+      size = omega arith;
+      few = omega arith;
+      time = rw (eq-eqb (L .size) 0 none) three;
+      fits = omega arith;
+      top = fresh-top rule (take (need rule) p) (accepted rule ok) (length-take-le (need rule) p room) f L;
+    }
+
+-- `open`, once a fresh checkpoint stands in the first k words
+pub opens-done : (rule p ws : List ℕ) (w k : ℕ) → Words w ≡ sized-of rule (length p) → k ≡ w → length ws ≡ length (take k p) →
+    Fresh (decoded rule) (count rule) ws → Opens rule p Done (ws ++ drop k p)
+opens-done rule p ws w k e same l f =
+    let n = enough rule (length p) w e in
+    let m = length-take-le k p (omega arith) in
+    let size : length ws ≡ need rule = omega arith in
+    record {
+      number = ap sized-number e ∙ sized-refusal rule (length p);
+      length = length-front p ws k l;
+      words = (
+        drop-at ws (drop k p) (need rule) size ∙ ap (λ (i : ℕ). drop i p) (same ∙ n .words-are),
+        fresh-stands
+            rule
+            (ws ++ drop k p)
+            (n .accepted)
+            (omega (arith, length-front p ws k l))
+            (rw (take-at ws (drop k p) (need rule) size) f),
+      );
+    }

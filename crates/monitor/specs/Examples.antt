@@ -1,0 +1,225 @@
+-- Document 01's "Worked by hand": one table, from the bytes of rules and logs to numbers, verdicts and refusals, proved by computation.
+use Prim.Native.Nat.{ℕ, suc, _+_, _/_, _%_, _^_}
+use mathlib.Core.Bool.{Bool, true, false, cond, _&&_}
+use mathlib.Core.List.{List, [], _∷_, _++_}
+use mathlib.Core.Path.{_≡_, refl}
+use lib.Dec.{eqb}
+use lib.ListN.{length, drop, replicate}
+use Rattle.mtl.specs.Formula.{has-next, reach}
+use Rattle.mtl.specs.Satisfaction.{any, all, sat}
+use Rattle.mtl.specs.Progress.{run, progress}
+use Rattle.rule.specs.Entries.{first-entries}
+use Rattle.rule.specs.Words.{offset}
+use Rattle.rule.specs.Postfix.{push-kind, read}
+use Rattle.rule.specs.Refusal.{refusal, header-refusal, entries-refusal}
+use Rattle.rule.specs.Measure.{measured}
+use Rattle.trace.specs.Format.{record-count, records-of}
+use Rattle.trace.specs.Order.{last-time}
+use Rattle.monitor.specs.Refusal.{before, log-refusal}
+use Rattle.monitor.specs.Verdicts.{verdicts, answered, all-verdicts}
+
+-- BYTES
+
+-- "Numbers wider than a byte are big-endian and unsigned": 32 bits
+abbrev word : ℕ → List ℕ
+word n = n / 16777216 ∷ n / 65536 % 256 ∷ n / 256 % 256 ∷ n % 256 ∷ []
+
+-- "Each entry has 10 bytes: kind (8 bits), letter (8 bits), low (32 bits), high (32 bits)."
+abbrev entry : (kind letter low high : ℕ) → List ℕ
+entry kind letter low high = kind ∷ letter ∷ word low ++ word high
+
+-- the table of kinds: an entry of each, "an unused field is zero"
+abbrev letter : ℕ → List ℕ
+letter k = entry 0 k 0 0
+
+abbrev negation : List ℕ
+negation = entry 1 0 0 0
+
+abbrev previous : (low high : ℕ) → List ℕ
+previous low high = entry 3 0 low high
+
+abbrev next : (low high : ℕ) → List ℕ
+next low high = entry 4 0 low high
+
+abbrev since : (low high : ℕ) → List ℕ
+since low high = entry 5 0 low high
+
+abbrev until : (low high : ℕ) → List ℕ
+until low high = entry 6 0 low high
+
+-- "High 4,294,967,295 means no upper end"
+abbrev no-end : ℕ
+no-end = 4_294_967_295
+
+-- "A rule opens with a three-letter mark, KRL (hexadecimal 4B 52 4C), then a 16-bit version, 1, an 8-bit entry count and two zero bytes."
+abbrev rule : (version count : ℕ) → List ℕ → List ℕ
+rule version count entries = 0x4B ∷ 0x52 ∷ 0x4C ∷ 0 ∷ version ∷ count ∷ 0 ∷ 0 ∷ entries
+
+-- "time in seconds (32 bits), event set (32 bits, letter k is the bit worth 2 to the k)", from the letters of the record
+unfoldable pub event-set : List ℕ → ℕ
+event-set [] = 0
+event-set (k ∷ ks) = 2 ^ k + event-set ks
+
+abbrev at : (time : ℕ) → List ℕ → List ℕ
+at time letters = word time ++ word (event-set letters)
+
+-- "A log opens with KLG (4B 4C 47), a 16-bit version, 1, and three zero bytes."
+abbrev log : List ℕ → List ℕ
+log records = 0x4B ∷ 0x4C ∷ 0x47 ∷ 0 ∷ 1 ∷ 0 ∷ 0 ∷ 0 ∷ records
+
+-- THE TABLE
+
+-- a call: the rule, the untouched log, the log as it is brought, and the verdicts given, the records seen and the last time seen
+-- before it; then the refusal's number or 0, the words and the reach of the rule, A, and the verdicts written on a sheet with
+-- room for all
+pub record Row : Type 0 where
+  pub rule : List ℕ
+  pub untouched : List ℕ
+  pub brought : List ℕ
+  pub given : ℕ
+  pub seen : ℕ
+  pub last : ℕ
+  pub number : ℕ
+  pub words : ℕ
+  pub reach : ℕ
+  pub answered : ℕ
+  pub verdicts : List ℕ
+
+-- the first call on a fresh checkpoint, accepted
+abbrev on-fresh : (rule log : List ℕ) (words reach answered : ℕ) (verdicts : List ℕ) → Row
+on-fresh rule log words reach answered verdicts =
+    record {
+      rule = rule;
+      untouched = log;
+      brought = log;
+      given = 0;
+      seen = 0;
+      last = 0;
+      number = 0;
+      words = words;
+      reach = reach;
+      answered = answered;
+      verdicts = verdicts;
+    }
+
+-- the next call with the same rule, accepted: "The point then has d + c verdicts given, N records seen, and the last record's time"
+abbrev after : Row → (untouched brought : List ℕ) (answered : ℕ) (verdicts : List ℕ) → Row
+after r untouched brought answered verdicts =
+    record {
+      rule = r .rule;
+      untouched = untouched;
+      brought = brought;
+      given = r .given + length (r .verdicts);
+      seen = record-count (records-of (r .brought));
+      last = last-time (records-of (r .brought)) (r .seen) (r .last);
+      number = 0;
+      words = r .words;
+      reach = r .reach;
+      answered = answered;
+      verdicts = verdicts;
+    }
+
+-- a rule that is refused with this number
+abbrev refused : (rule : List ℕ) (number : ℕ) → Row
+refused rule number =
+    record {
+      rule = rule;
+      untouched = log [];
+      brought = log [];
+      given = 0;
+      seen = 0;
+      last = 0;
+      number = number;
+      words = 0;
+      reach = 0;
+      answered = 0;
+      verdicts = [];
+    }
+
+-- two lists of bytes are the same
+unfoldable pub same : List ℕ → List ℕ → Bool
+same [] [] = true
+same [] (y ∷ ys) = false
+same (x ∷ xs) [] = false
+same (x ∷ xs) (y ∷ ys) = eqb x y && same xs ys
+
+-- the number with which the call stops, and what weighing gives
+unfoldable pub computes-refusal : Row → Bool
+computes-refusal r =
+    eqb (before (refusal (r .rule)) (log-refusal (r .brought) (r .given) (r .seen) (r .last))) (r .number)
+    && (eqb (measured (r .rule) .words) (r .words) && eqb (measured (r .rule) .reach) (r .reach))
+
+-- the answered number and the verdicts from `given` on, "judged on the untouched log"; none are left, so the call says caught up
+unfoldable pub computes-verdicts : Row → Bool
+computes-verdicts r =
+    let n = record-count (records-of (r .brought)) in
+    eqb (answered (r .rule) (r .untouched) n) (r .answered)
+    && (same (drop (r .given) (all-verdicts (r .rule) (r .untouched) n)) (r .verdicts)
+    && eqb (r .given + length (r .verdicts)) (r .answered))
+
+unfoldable pub computes : Row → Bool
+computes r = computes-refusal r && cond (eqb (r .number) 0) (computes-verdicts r) true
+
+-- the numbers of the rows that do not compute, the first of the list having number n
+unfoldable pub wrong : ℕ → List Row → List ℕ
+wrong n [] = []
+wrong n (r ∷ rs) = cond (computes r) (wrong (suc n) rs) (n ∷ wrong (suc n) rs)
+
+-- "each byte 1 for yes or 0 for no"
+abbrev yes : ℕ
+yes = 1
+
+abbrev no : ℕ
+no = 0
+
+-- P1's rule, "letter 0, letter 1, until 0 to 2", and its records
+abbrev rule-1 : List ℕ
+rule-1 = rule 1 3 (letter 0 ++ letter 1 ++ until 0 2)
+
+abbrev records-1 : List ℕ
+records-1 =
+    at 10 (0 ∷ []) ++ at 11 (0 ∷ []) ++ at 11 [] ++ at 12 (0 ∷ []) ++ at 13 (1 ∷ []) ++ at 20 (0 ∷ [])
+
+abbrev call-1 : Row
+call-1 = on-fresh rule-1 (log records-1) 70 2 5 (no ∷ no ∷ no ∷ yes ∷ yes ∷ [])
+
+-- two untils over three letters
+abbrev rule-10 : ℕ → List ℕ
+rule-10 high = rule 1 5 (letter 0 ++ letter 1 ++ until 0 3600 ++ letter 2 ++ until 0 high)
+
+unfoldable pub rows : List Row
+rows =
+    -- 1: P1 The run above.
+    call-1
+    -- 2: P2 Carry on after P1 with records 0 to 4 set to all ones and (21, 1) added: yes, yes, caught up.
+    ∷ after call-1 (log (records-1 ++ at 21 (1 ∷ []))) (log (replicate 40 255 ++ at 20 (0 ∷ []) ++ at 21 (1 ∷ []))) 7 (yes ∷ yes ∷ [])
+    -- 3: P3 Letter 0 since, 1 to no end, letter 1, over (5, 1) (5, 0) (6, 0) (7, none): no, no, yes, no.
+    ∷ on-fresh (rule 1 3 (letter 0 ++ letter 1 ++ since 1 no-end))
+    (log (at 5 (1 ∷ []) ++ at 5 (0 ∷ []) ++ at 6 (0 ∷ []) ++ at 7 [])) 65 0 4 (no ∷ no ∷ yes ∷ no ∷ [])
+    -- 4: P4 Previous 0 to 0 of letter 0 over (5, 0) (5, none) (6, 0): no, yes, no.
+    ∷ on-fresh (rule 1 2 (letter 0 ++ previous 0 0)) (log (at 5 (0 ∷ []) ++ at 5 [] ++ at 6 (0 ∷ []))) 48 0 3 (no ∷ yes ∷ no ∷ [])
+    -- 5: P5 Next 1 to 1 of letter 0 over (5, none) (6, 0) (8, 0): yes, no, and position 2 open.
+    ∷ on-fresh (rule 1 2 (letter 0 ++ next 1 1)) (log (at 5 [] ++ at 6 (0 ∷ []) ++ at 8 (0 ∷ []))) 48 no-end 2 (yes ∷ no ∷ [])
+    -- 6: P6 Not of P1's rule over (10, 0): no verdict.
+    ∷ on-fresh (rule 1 4 (letter 0 ++ letter 1 ++ until 0 2 ++ negation)) (log (at 10 (0 ∷ []))) 86 2 0 []
+    -- 7 and 8: P7 P1's rule over (10, 0) (12, 0): none; with (13, 0) added: no, then open.
+    ∷ on-fresh rule-1 (log (at 10 (0 ∷ []) ++ at 12 (0 ∷ []))) 70 2 0 []
+    ∷ on-fresh rule-1 (log (at 10 (0 ∷ []) ++ at 12 (0 ∷ []) ++ at 13 (0 ∷ []))) 70 2 1 (no ∷ [])
+    -- 9: P8 Letter 0 until 0 to 5 of (letter 2 until 0 to 5 letter 3) over (0, 0 and 2) (11, 2): no, then open.
+    ∷ on-fresh (rule 1 5 (letter 0 ++ letter 2 ++ letter 3 ++ until 0 5 ++ until 0 5))
+    (log (at 0 (0 ∷ 2 ∷ []) ++ at 11 (2 ∷ []))) 120 10 1 (no ∷ [])
+    -- 10: P9 A log of 8 bytes: 0 verdicts, caught up.
+    ∷ on-fresh rule-1 (log []) 70 2 0 []
+    -- 11 and 12: P10 Two untils over three letters, highs 3,600 and 446: 8,192 words; with 447: refusal 8.
+    ∷ on-fresh (rule-10 446) (log []) 8192 4046 0 []
+    ∷ refused (rule-10 447) 8
+    -- 13 to 15: High 3,600 passes, 3,601 is refusal 6; two errors, version 2 and count 0, give 2.
+    ∷ on-fresh (rule 1 3 (letter 0 ++ letter 1 ++ until 0 3600)) (log []) 7266 3600 0 []
+    ∷ refused (rule 1 3 (letter 0 ++ letter 1 ++ until 0 3601)) 6
+    ∷ refused (rule 2 0 []) 2
+    ∷ []
+
+-- every row computes; an edit of the definitions that breaks rows has their numbers in its error
+pub every-row : wrong 1 rows ≡ []
+unfolding wrong rows computes computes-refusal computes-verdicts same event-set first-entries offset push-kind read header-refusal entries-refusal has-next reach any all sat run progress verdicts
+every-row = refl
