@@ -1,0 +1,2 @@
+-- The laws behind the proofs of the exported functions.
+pub mod Outcomes

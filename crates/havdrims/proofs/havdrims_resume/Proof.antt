@@ -1,0 +1,83 @@
+-- `havdrims::havdrims_resume` meets its contract: each outcome of `resume` by one law.
+use borrow.Author.Needs.{needs}
+use Rattle.havdrims.proofs.Outcomes.{not-resumed, is-resumed}
+use Rattle.havdrims.proofs.havdrims_resume.Statement.{statement}
+use Rattle.havdrims.proofs.havdrims_resume.Tie as tie
+
+resume-requires : tie.Need-resume-requires
+resume-requires c κs = search needs
+
+enum-known-n : tie.Need-enum-known-n
+enum-known-n c = search needs
+
+enum-known-count : tie.Need-enum-known-count
+enum-known-count c = search needs
+
+cast-more : tie.Need-cast-more
+cast-more c = search needs
+
+same-length : tie.Need-same-length
+same-length c = search needs
+
+same-length-2 : tie.Need-same-length-2
+same-length-2 c = search needs
+
+returns : tie.Need-returns
+returns c =
+    let a = c .before .before .before .before .before .before .before .before .before .before .before .before .before .before .args in
+    let o = c .before .before .before .before .before .before .before .resume in
+    let n = c .before .n .given in
+    not-resumed
+    (a .rule .now)
+    (a .log .now)
+    (a .point .now)
+    (a .sheet .now)
+    (a .given .now)
+    (a .more .now)
+    (o .result)
+    (o .last .1 .1 .0)
+    (o .last .1 .1 .1 .0)
+    (o .ensures)
+    (n .0 .0)
+    (n .1)
+
+same-length-3 : tie.Need-same-length-3
+same-length-3 c = search needs
+
+same-length-4 : tie.Need-same-length-4
+same-length-4 c = search needs
+
+returns-2 : tie.Need-returns-2
+returns-2 c =
+    let a = c .before .before .before .before .before .before .before .before .before .before .before .before .before .before .args in
+    let o = c .before .before .before .before .before .before .before .resume in
+    let n = c .before .count .given in
+    is-resumed
+    (a .rule .now)
+    (a .log .now)
+    (a .point .now)
+    (a .sheet .now)
+    (a .given .now)
+    (a .more .now)
+    (o .result)
+    (o .last .1 .1 .0)
+    (o .last .1 .1 .1 .0)
+    (o .ensures)
+    (n .0 .0)
+    (n .0 .1 .0)
+    (n .1)
+
+pub havdrims-resume-spec : {M : Type 1} → statement M
+havdrims-resume-spec =
+    tie.close
+    (tie.spec
+    resume-requires
+    enum-known-n
+    enum-known-count
+    cast-more
+    same-length
+    same-length-2
+    returns
+    same-length-3
+    same-length-4
+    returns-2)
