@@ -1,8 +1,9 @@
-// Words of a block that hold a bool, and the buffer of an operand.
+// Words of a block that hold a bool, and the buffers of operands.
 ghost use mathlib.Core.Path.{_≡_};
-ghost use Prim.Native.Nat.{_+_, _<_};
+ghost use mathlib.Core.Bool.{_&&_};
+ghost use Prim.Native.Nat.{_+_, _-_, _≤_, _<_};
 ghost use lib.ListN.{length, set};
-ghost use lib.Dec.{eqb};
+ghost use lib.Dec.{eqb, leb};
 ghost use Rattle.engine.specs.Ask.{flag-of, stored};
 
 // 1 for true.
@@ -19,4 +20,22 @@ pub fn store(words: &mut [u64], slot: usize, holds: bool, count: u64)
 {
     words[slot] = count;
     words[slot + 1] = flag(holds);
+}
+
+// The smaller of two buffers' counts.
+pub fn shorter(left: u64, right: u64) -> u64
+    ensures { λ r. ⌜ (r ≤ left) × (r ≤ right) × (0 < left → 0 < right → 0 < r) ⌝ }
+{
+    if left <= right { left } else { right }
+}
+
+// count positions from `at` on lie within the log.
+pub fn has_room(at: u64, count: u64, total: u64) -> bool
+    ensures { λ r. ⌜ r ≡ (leb count total && leb at (total - count)) ⌝ }
+{
+    if count <= total {
+        at <= total - count
+    } else {
+        false
+    }
 }

@@ -1,24 +1,13 @@
 // not and or: they hand their operands' runs on.
 ghost use mathlib.Core.Path.{_≡_};
-ghost use mathlib.Core.Bool.{true, false, _&&_};
-ghost use Prim.Native.Nat.{_-_, _≤_, _<_};
+ghost use mathlib.Core.Bool.{true, false};
+ghost use Prim.Native.Nat.{_≤_, _<_};
 ghost use lib.ListN.{length};
-ghost use lib.Dec.{leb};
 ghost use Rattle.mtl.specs.Formula.{Formula};
 ghost use Rattle.mtl.specs.Formula.Formula.{not as not-formula, or as or-formula};
 ghost use Rattle.engine.specs.Step.{Steps, Ends};
+use super::blocks;
 use super::operator::Step;
-
-// count positions from `at` on lie within the log.
-fn has_room(at: u64, count: u64, total: u64) -> bool
-    ensures { λ r. ⌜ r ≡ (leb count total && leb at (total - count)) ⌝ }
-{
-    if count <= total {
-        at <= total - count
-    } else {
-        false
-    }
-}
 
 pub fn step_not(records: &[u8], block: &mut [u64]) -> Step
     requires { ⌜ 16 ≤ length (now block) ⌝ }
@@ -30,7 +19,7 @@ pub fn step_not(records: &[u8], block: &mut [u64]) -> Step
     if count == 0 {
         return Step::Right;
     }
-    if !has_room(at, count, trace::count(records) as u64) {
+    if !blocks::has_room(at, count, trace::count(records) as u64) {
         return Step::Open;
     }
     let holds = block[4] != 1;
@@ -53,8 +42,8 @@ pub fn step_or(records: &[u8], block: &mut [u64]) -> Step
     if right == 0 {
         return Step::Right;
     }
-    let count = if left <= right { left } else { right };
-    if !has_room(at, count, trace::count(records) as u64) {
+    let count = blocks::shorter(left, right);
+    if !blocks::has_room(at, count, trace::count(records) as u64) {
         return Step::Open;
     }
     let holds = (block[2] == 1) | (block[4] == 1);

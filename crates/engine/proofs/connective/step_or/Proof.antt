@@ -1,12 +1,10 @@
 -- `engine::connective::step_or` meets its contract: a run of the smaller count always has room. Assumes nothing.
-use Prim.Native.Nat.{_≤_}
 use native.Mathlib.Omega.{arith}
-use mathlib.Core.Logic.{⊎-elim}
 use mathlib.Core.Path.{refl}
 use lib.ListN.{length-set}
 use borrow.Author.Needs.{needs}
 use Rattle.mtl.specs.Progress.{progress}
-use Rattle.engine.specs.Block.{taken, left-count, right-count}
+use Rattle.engine.specs.Block.{taken}
 use Rattle.engine.proofs.Words.{fits}
 use Rattle.engine.proofs.Simple.{no-room, has-room, or-run}
 use Rattle.engine.proofs.connective.step_or.Statement.{statement}
@@ -31,11 +29,8 @@ unfolding progress
 returns-2 c =
     ((refl, refl, c .if2 .taken), λ φ ψ L g falls agrees ready. (refl, λ e. let core = ready .core in let w = ready .buffers .0 .within in omega arith))
 
--- the smaller of the two counts
-smaller : (c : tie.Joined3) →
-    (1 ≤ c .if3 .count) × (c .if3 .count ≤ left-count (c .before .before .before .before .before .before .before .before .args .block .now)) ×
-    (c .if3 .count ≤ right-count (c .before .before .before .before .before .before .before .before .args .block .now))
-smaller c = ⊎-elim (λ w. omega arith) (λ w. omega arith) (c .if3 .came)
+shorter-requires : tie.Need-shorter-requires
+shorter-requires c κs = search needs
 
 count-requires : tie.Need-count-requires
 count-requires c κs = search needs
@@ -45,11 +40,11 @@ has-room-requires c κs = search needs
 
 returns-3 : tie.Need-returns-3
 returns-3 c =
-    let small = smaller (c .before .before .before) in (
+    let small = c .before .before .before .shorter .ensures in (
       refl,
       λ φ ψ L g falls agrees ready.
           let most = fits (ready .buffers .0) in
-          absurd (no-room (c .before .has-room .result) _ _ (c .before .before .count .result) (c .before .has-room .ensures) (c .if4 .taken) (omega arith)),
+          absurd (no-room (c .before .has-room .result) _ _ (c .before .before .count .result) (c .before .has-room .ensures) (c .if3 .taken) (omega arith)),
     )
 
 slice-read-holds : tie.Need-slice-read-holds
@@ -60,23 +55,23 @@ slice-read-holds-2 c = search needs
 
 add-block : tie.Need-add-block
 add-block c =
-    let b = c .before .before .before .before .before .before .before .before .before .before .before .before .before .before .args .block .now in
+    let b = c .before .before .before .before .before .before .before .before .before .before .before .before .before .args .block .now in
     omega (
       arith,
-      has-room (c .before .before .before .before .has-room .result) (taken b) (c .before .before .before .before .before .before .if3 .count) (c .before .before .before .before .before .count .result) (c .before .before .before .before .has-room .ensures) (c .before .before .before .if4 .left),
+      has-room (c .before .before .before .has-room .result) (taken b) (c .before .before .before .before .before .shorter .result) (c .before .before .before .before .count .result) (c .before .before .before .has-room .ensures) (c .before .before .if3 .left),
     )
 
 slice-write-block : tie.Need-slice-write-block
 slice-write-block c = search needs
 
 sub-block : tie.Need-sub-block
-sub-block c = smaller (c .before .before .before .before .before .before) .1
+sub-block c = search needs
 
 slice-write-block-2 : tie.Need-slice-write-block-2
 slice-write-block-2 c = simp length-set (omega arith)
 
 sub-block-2 : tie.Need-sub-block-2
-sub-block-2 c = smaller (c .before .before .before .before .before .before) .2
+sub-block-2 c = search needs
 
 slice-write-block-3 : tie.Need-slice-write-block-3
 slice-write-block-3 c = simp length-set (omega arith)
@@ -86,11 +81,11 @@ same-length c = search needs
 
 returns-4 : tie.Need-returns-4
 returns-4 c =
-    let start = c .before .before .before .before .before .before .before .before .before .before .before .before .before .before in
-    let small = smaller (c .before .before .before .before .before .before) in (
+    let start = c .before .before .before .before .before .before .before .before .before .before .before .before .before in
+    let small = c .before .before .before .before .before .shorter .ensures in (
       tt,
       λ φ ψ L g falls agrees ready.
-          or-run (start .args .records .now) (start .args .block .now) (start .pre) L g agrees φ ψ (c .before .before .before .before .before .before .if3 .count) (small .0) (small .1) (small .2) ready,
+          or-run (start .args .records .now) (start .args .block .now) (start .pre) L g agrees φ ψ (c .before .before .before .before .before .shorter .result) (small .2 (omega arith) (omega arith)) (small .0) (small .1) ready,
     )
 
 pub step-or-spec : {M : Type 1} → statement M
@@ -102,6 +97,7 @@ step-or-spec =
     slice-read-right
     returns
     returns-2
+    shorter-requires
     count-requires
     has-room-requires
     returns-3

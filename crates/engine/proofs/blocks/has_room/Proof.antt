@@ -1,7 +1,7 @@
--- `engine::connective::has_room` meets its contract. Assumes nothing.
+-- `engine::blocks::has_room` meets its contract. Assumes nothing.
 use borrow.Author.Tests.{le-leb, lt-leb}
-use Rattle.engine.proofs.connective.has_room.Statement.{statement}
-use Rattle.engine.proofs.connective.has_room.Tie as tie
+use Rattle.engine.proofs.blocks.has_room.Statement.{statement}
+use Rattle.engine.proofs.blocks.has_room.Tie as tie
 
 returns : tie.Need-returns
 returns c = rw (le-leb _ _ (c .if1 .taken))
