@@ -53,17 +53,17 @@ module _ {low high : ℕ} {time : ℕ → ℕ} {left right : ℕ → Bool} {size
   stuck w e (inr (n, inr (q, a, b, c, v))) = let k = w .near q a (omega arith) c in omega arith
 
   module _ {ll lr lt : ℕ} (u : Until low high time left right g p ll lr lt) (some : g < p) where
-    -- the next position to answer
-    pub answered-next : Until low high time left right (g + 1) p ll lr lt
-    answered-next =
+    -- a later position to answer
+    pub answered-later : (i : ℕ) → g ≤ i → i ≤ p → Until low high time left right i p ll lr lt
+    answered-later i from to =
         record {
-          ahead = omega arith;
+          ahead = to;
           last-left = λ h. u .last-left some;
           last-right = λ h. u .last-right some;
           last-time = λ h. u .last-time some;
           left-held = λ k a b. u .left-held k (omega arith) b;
-          right-early = λ k a b r. let f = falls g (g + 1) (omega arith) (omega arith) in let n = u .right-early k (omega arith) b r in omega arith;
-          not-over = λ h. let f = falls g (g + 1) (omega arith) (omega arith) in let n = u .not-over some in omega arith;
+          right-early = λ k a b r. let f = falls g i from (omega arith) in let n = u .right-early k (omega arith) b r in omega arith;
+          not-over = λ h. let f = falls g i from (omega arith) in let n = u .not-over some in omega arith;
         }
 
     -- right held at the last position taken, at least low after g
@@ -85,6 +85,10 @@ module _ {low high : ℕ} {time : ℕ → ℕ} {left right : ℕ → Bool} {size
           let n = unmet (sym (u .last-right some) ∙ (ap right e ∙ r)) in
           omega arith)
           (le-or-lt (k + 2) p)
+
+      -- of a later position the last one is no further off
+      pub unmet-later : (i : ℕ) → g ≤ i → i < p → eqb lr 1 ≡ true → lt - time i < low
+      unmet-later i a b r = let f = falls g i a (omega arith) in let n = unmet r in omega arith
 
       -- left failed there, or position p lies more than high after g
       pub over : (eqb ll 1 ≡ false) ⊎ ((p < size) × (high < time p - time g)) → SettledNo low high time left right size m g

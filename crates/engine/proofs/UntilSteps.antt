@@ -8,7 +8,7 @@ use mathlib.Core.Path.{_≡_, refl, sym, _∙_, ap}
 use native.Mathlib.Omega.{arith}
 use lib.Dec.{eqb}
 use lib.ListN.{length, set}
-use borrow.Author.Tests.{leb-true, leb-false, not-true, not-false}
+use borrow.Author.Tests.{eqb-true, leb-true, leb-false, not-true, not-false}
 use Rattle.mtl.specs.Formula.{Formula}
 use Rattle.mtl.specs.Formula.Formula.{until}
 use Rattle.mtl.specs.Log.{Log, NeverFalls}
@@ -26,10 +26,11 @@ use Rattle.engine.specs.Block.{
   last-left,
   last-right,
   last-time,
+  Until,
   Ready,
 }
 use Rattle.engine.specs.Step.{Agrees, Stepped, Ends}
-use Rattle.engine.specs.Settle.{pick, is-met, is-late, is-over, settle-spec, took, taken-both}
+use Rattle.engine.specs.Settle.{pick, is-met, is-late, is-over, settle-spec, run-length-spec, took, taken-both}
 use Rattle.engine.specs.declared.until.Settled.{Settled}
 use Rattle.engine.specs.declared.until.Settled.the-variants.{Yes, No, Unknown}
 use Rattle.engine.specs.declared.operator.Step.{Step}
@@ -57,11 +58,25 @@ neither : (x y : Bool) → x || y ≡ false → (x ≡ false) × (y ≡ false)
 neither true y e = absurd (true≢false e)
 neither false y e = (refl, e)
 
+-- a run is not empty, and ends before p
+run-bounds : (all : Bool) (g p : ℕ) → g < p → (1 ≤ run-length-spec all g p) × (g + run-length-spec all g p ≤ p)
+run-bounds true g p h = (omega arith, omega arith)
+run-bounds false g p h = (omega arith, omega arith)
+
+-- what holds at g, and up to p where the run has all of them, holds along the run
+along : (P : ℕ → Type 0) (all : Bool) (g p : ℕ) → P g → (all ≡ true → (i : ℕ) → g ≤ i → i < p → P i) →
+    (i : ℕ) → g ≤ i → i < g + run-length-spec all g p → P i
+along P true g p one each i a b = each refl i a (omega arith)
+along P false g p one each i a b = let e : i ≡ g = omega arith in rw e one
+
 -- what each finding leads to
-abbrev pub Found : Formula → Log → ℕ → List ℕ → List ℕ → Settled → Type 0
-Found χ L g s b Yes = Stepped χ L g b (Run true 1) (set b 5 (answered b + 1))
-Found χ L g s b No = Stepped χ L g b (Run false 1) (set b 5 (answered b + 1))
-Found χ L g s b Unknown = (r : Step) (b′ : List ℕ) → taken-both s b r b′ → Stepped χ L g b r b′
+abbrev pub Found : (low : ℕ) → Formula → Log → ℕ → List ℕ → List ℕ → Settled → Type 0
+Found low χ L g s b Yes =
+    (count : ℕ) → count ≡ run-length-spec (eqb low 0) (answered b) (taken b) → Stepped χ L g b (Run true count) (set b 5 (answered b + count))
+Found low χ L g s b No =
+    (count : ℕ) → count ≡ run-length-spec (negate (eqb (last-left b) 1)) (answered b) (taken b) →
+    Stepped χ L g b (Run false count) (set b 5 (answered b + count))
+Found low χ L g s b Unknown = (r : Step) (b′ : List ℕ) → taken-both s b r b′ → Stepped χ L g b r b′
 
 -- the time that is tested besides: that of position p, or the last one's where the log has no position p
 abbrev pub NextTime : (s b : List ℕ) (next : ℕ) → Type 0
@@ -85,14 +100,19 @@ module _ (low high : ℕ) (φ ψ : Formula) (s b : List ℕ) (room : 16 ≤ leng
   abbrev Waits : Type 0
   Waits = logic.Waits low high (L .time) (sat φ L) (sat ψ L) (L .size) g (taken b)
 
-  -- position g is answered: the next one is g + 1
-  answers : (v : Bool) → g < taken b → g < progress (until low high φ ψ) L → sat (until low high φ ψ) L g ≡ v →
-      Stepped (until low high φ ψ) L g b (Run v 1) (set b 5 (answered b + 1))
-  answers v some within e =
-      let at = word-stores (put 5 (answered b + 1) ∷ []) b (omega arith) room in
+  -- position i is answered v
+  abbrev Answered : Bool → ℕ → Type 0
+  Answered v i = (i < progress (until low high φ ψ) L) × (sat (until low high φ ψ) L i ≡ v)
+
+  -- count positions from g on are answered: the next one is g + count
+  answers : (v : Bool) (count : ℕ) → 1 ≤ count → g + count ≤ taken b → ((i : ℕ) → g ≤ i → i < g + count → Answered v i) →
+      Stepped (until low high φ ψ) L g b (Run v count) (set b 5 (answered b + count))
+  answers v count some most each =
+      let at = word-stores (put 5 (answered b + count) ∷ []) b (omega arith) room in
+      let within = each (g + count - 1) (omega arith) (omega arith) .0 in
       let i = ready .core .own .0 in
       let r = ready .core .range in (
-        record { some = omega arith; within = omega arith; same = λ k h h′. let q : k ≡ g = omega arith in ap (sat (until low high φ ψ) L) q ∙ e },
+        record { some = some; within = omega arith; same = λ i a c. each i a c .1 },
         record {
           core =
               record {
@@ -100,9 +120,9 @@ module _ (low high : ℕ) (φ ψ : Formula) (s b : List ℕ) (room : 16 ≤ leng
                 range = omega (arith, at 0, at 1, at 2, at 3, at 4, at 5, at 6, at 7, at 8, at 9, at 10);
                 copy = copied (at 14) (at 15) (ready .core .copy);
                 own = (
-                  at 5 ∙ ap (λ (n : ℕ). n + 1) i,
+                  at 5 ∙ ap (λ (n : ℕ). n + count) i,
                   rw (at 0, at 6, at 7, at 8)
-                      (logic.answered-next (answered-fits φ ψ L) falls behind (ready .core .own .1) some),
+                      (logic.answered-later (answered-fits φ ψ L) falls behind (ready .core .own .1) (omega arith) (g + count) (omega arith) most),
                 );
               };
           buffers = (
@@ -223,23 +243,54 @@ module _ (low high : ℕ) (φ ψ : Formula) (s b : List ℕ) (room : 16 ≤ leng
     unmet : is-met low start (last-right b) (last-time b) ≡ false → eqb (last-right b) 1 ≡ true → last-time b - L .time g < low
     unmet e r = let h = rw r at e in let u = begins in omega (arith, leb-false)
 
-    finds : (r : Settled) → Because (is-met low start (last-right b) (last-time b)) (is-over high start (last-left b) next) r → Found (until low high φ ψ) L g s b r
+    -- what the record says of each position taken from g on
+    known : (i : ℕ) → g ≤ i → i < taken b →
+        Until low high (L .time) (sat φ L) (sat ψ L) i (taken b) (last-left b) (last-right b) (last-time b)
+    known i a c = logic.answered-later (answered-fits φ ψ L) falls behind (ready .core .own .1) some i a (omega arith)
+
+    -- right at the last position taken answers those at least low before it ..
+    yes-at : (i : ℕ) → g ≤ i → i < taken b → eqb (last-right b) 1 ≡ true → low ≤ last-time b - L .time i → Answered true i
+    yes-at i a c r h =
+        let y = logic.met (answered-fits φ ψ L) falls behind (known i a c) c r h in
+        let k : i < answered-operands φ ψ L = omega (arith, behind) in
+        (until-answered low high φ ψ L falls i .1 (k, inl y), until-yes low high φ ψ L falls i k y)
+
+    -- .. and a left that fails there, or the time of position p, those that it did not answer
+    no-at : is-met low start (last-right b) (last-time b) ≡ false → (i : ℕ) → g ≤ i → i < taken b →
+        (eqb (last-left b) 1 ≡ false) ⊎ ((taken b < L .size) × (high < L .time (taken b) - L .time i)) → Answered false i
+    no-at e i a c d =
+        let n = logic.unmet-later (answered-fits φ ψ L) falls behind (ready .core .own .1) some (unmet e) i a c in
+        let y = logic.over (answered-fits φ ψ L) falls behind (known i a c) c n d in
+        let k : i < answered-operands φ ψ L = omega (arith, behind) in
+        (until-answered low high φ ψ L falls i .1 (k, inr y), until-no low high φ ψ L falls i k y)
+
+    -- the run from g on
+    runs : (v all : Bool) → Answered v g → (all ≡ true → (i : ℕ) → g ≤ i → i < taken b → Answered v i) →
+        (count : ℕ) → count ≡ run-length-spec all (answered b) (taken b) →
+        Stepped (until low high φ ψ) L g b (Run v count) (set b 5 (answered b + count))
+    runs v all one each count q =
+        let e : count ≡ run-length-spec all g (taken b) = q ∙ ap (λ (n : ℕ). run-length-spec all n (taken b)) (ready .core .own .0) in
+        let h = run-bounds all g (taken b) some in
+        answers v count (rw e (h .0)) (rw e (h .1)) (rw e (along (Answered v) all g (taken b) one each))
+
+    finds : (r : Settled) → Because (is-met low start (last-right b) (last-time b)) (is-over high start (last-left b) next) r →
+        Found low (until low high φ ψ) L g s b r
     finds Yes e =
         let both = and-iff _ _ .0 e in
         let h = both .1 in
         let u = begins in
-        let y = logic.met (answered-fits φ ψ L) falls behind (ready .core .own .1) some (both .0) (omega (arith, leb-true)) in
-        let k : g < answered-operands φ ψ L = omega (arith, behind, some) in
-        answers true some (until-answered low high φ ψ L falls g .1 (k, inl y)) (until-yes low high φ ψ L falls g k y)
+        runs true (eqb low 0)
+        (yes-at g (omega arith) some (both .0) (omega (arith, leb-true)))
+        (λ z i a c. let zero = eqb-true low 0 z in yes-at i a c (both .0) (omega arith))
     finds No (e, d) =
-        let y = logic.over (answered-fits φ ψ L) falls behind (ready .core .own .1) some (unmet e) (late d) in
-        let k : g < answered-operands φ ψ L = omega (arith, behind, some) in
-        answers false some (until-answered low high φ ψ L falls g .1 (k, inr y)) (until-no low high φ ψ L falls g k y)
+        runs false (negate (eqb (last-left b) 1))
+        (no-at e g (omega arith) some (late d))
+        (λ z i a c. no-at e i a c (inl (not-true _ z)))
     finds Unknown (e, d) =
         takes (logic.waits (answered-fits φ ψ L) falls behind (ready .core .own .1) some (unmet e) (soon d .0) (soon d .1))
 
     -- a step that has looked
     pub settles : (t r : Settled) → t ≡ settle-spec low high start (last-left b) (last-right b) (last-time b) next → t ≡ r →
-        Found (until low high φ ψ) L g s b r
+        Found low (until low high φ ψ) L g s b r
     settles t r q e =
         finds r (rw (sym q ∙ e) at (because (is-met low start (last-right b) (last-time b)) (is-over high start (last-left b) next)))

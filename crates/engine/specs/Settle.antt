@@ -1,6 +1,6 @@
--- until's two halves: what settles the next position to answer, and a position taken from both operands.
+-- until's parts: what settles the next position to answer, for how many from there on, and a position taken from both operands.
 use Prim.Native.Nat.{ℕ, _+_, _-_, _≤_, _<_, _^_}
-use mathlib.Core.Bool.{Bool, true, false, _&&_, _||_}
+use mathlib.Core.Bool.{Bool, true, false, cond, _&&_, _||_}
 use mathlib.Core.Bool.{not as negate}
 use mathlib.Core.Path.{_≡_}
 use mathlib.Core.List.{List}
@@ -32,6 +32,10 @@ is-over high start left next = negate (eqb left 1) || is-late high start next
 abbrev pub settle-spec : (low high start left right last next : ℕ) → Settled
 settle-spec low high start left right last next =
     pick (is-met low start right last) Yes (pick (is-over high start left next) No Unknown)
+
+-- for all positions from g up to p - 1, or for g alone
+abbrev pub run-length-spec : (all : Bool) (g p : ℕ) → ℕ
+run-length-spec all g p = cond all (p - g) 1
 
 -- position `taken` out of both buffers
 abbrev pub took : List ℕ → List ℕ → List ℕ

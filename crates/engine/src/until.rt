@@ -1,13 +1,13 @@
 // until: two reading heads and no history.
 ghost use mathlib.Core.Path.{_≡_};
 ghost use mathlib.Core.Bool.{true, false};
-ghost use Prim.Native.Nat.{_≤_, _<_};
+ghost use Prim.Native.Nat.{_+_, _≤_, _<_, _^_};
 ghost use lib.ListN.{length};
 ghost use Rattle.mtl.specs.Formula.{Formula};
 ghost use Rattle.mtl.specs.Formula.Formula.{until};
 ghost use Rattle.trace.specs.Format.{record-count, time-at};
 ghost use Rattle.engine.specs.Step.{Steps, Ends};
-ghost use Rattle.engine.specs.Settle.{settle-spec, taken-both};
+ghost use Rattle.engine.specs.Settle.{settle-spec, run-length-spec, taken-both};
 use super::operator::Step;
 use super::time;
 
@@ -29,6 +29,17 @@ fn settle(low: u64, high: u64, start: u64, left: u64, right: u64, last: u64, nex
         return Settled::No;
     }
     Settled::Unknown
+}
+
+// For how many positions from g on the finding holds: all that are taken, or g alone.
+fn run_length(all: bool, g: u64, at: u64) -> u64
+    requires { ⌜ g < at ⌝ }
+    ensures { λ r. ⌜ (r ≡ run-length-spec all g at) × (g + r < 2 ^ 64) ⌝ }
+{
+    if all {
+        return at - g;
+    }
+    1
 }
 
 // Takes a position from both operands, or says which of them is wanted.
@@ -72,26 +83,28 @@ pub fn step_until(low: u64, high: u64, records: &[u8], block: &mut [u64]) -> Ste
         return Step::Open;
     }
     let start = trace::time(records, g as usize);
+    let left = block[6];
     let last = block[8];
     let next = if at < total {
         trace::time(records, at as usize)
     } else {
         last
     };
-    let settled = settle(low, high, start, block[6], block[7], last, next);
+    let settled = settle(low, high, start, left, block[7], last, next);
     match settled {
+        // where low is 0, right at the last position taken settles every position from g on
         Settled::Yes => {
-            block[5] = g + 1;
-            Step::Run {
-                holds: true,
-                count: 1,
-            }
+            let count = run_length(low == 0, g, at);
+            block[5] = g + count;
+            Step::Run { holds: true, count }
         }
+        // so does a left that fails there; the time of the next position settles g alone
         Settled::No => {
-            block[5] = g + 1;
+            let count = run_length(left != 1, g, at);
+            block[5] = g + count;
             Step::Run {
                 holds: false,
-                count: 1,
+                count,
             }
         }
         Settled::Unknown => take_both(records, block),

@@ -33,10 +33,10 @@ returns-fresh c =
 found : (c : tie.After-settle) (r : Settled) → c .settle .result ≡ r →
     let a = c .before .before .before .before .before .before .before .before .before .before .before .before .before .args in
     (φ ψ : Formula) (L : Log) (g : ℕ) → NeverFalls L → Agrees (a .records .now) L g → Ready (until (a .low) (a .high) φ ψ) L g (a .block .now) →
-    Found (until (a .low) (a .high) φ ψ) L g (a .records .now) (a .block .now) r
+    Found (a .low) (until (a .low) (a .high) φ ψ) L g (a .records .now) (a .block .now) r
 found c r e φ ψ L g falls agrees ready =
-    let j = c .before .before .before in
-    let k = j .before .before in
+    let j = c .before .before in
+    let k = j .before .before .before in
     let a = k .before .before .before .before .before .before .before .before in
     settles (a .args .low) (a .args .high) φ ψ (a .args .records .now) (a .args .block .now) (a .pre) L g falls agrees ready
     (k .before .before .before .if1 .left)
@@ -50,10 +50,20 @@ found c r e φ ψ L g falls agrees ready =
     e
 
 returns-yes : tie.Need-returns-3
-returns-yes c = (tt, found (c .before .before) Yes (c .enum-told .given .1))
+returns-yes c =
+    let t = c .run-length in (
+      tt,
+      λ φ ψ L g falls agrees ready.
+          found (c .before .before .before) Yes (c .before .enum-told .given .1) φ ψ L g falls agrees ready (t .result) (t .ensures .0),
+    )
 
 returns-no : tie.Need-returns-4
-returns-no c = (tt, found (c .before .before) No (c .enum-told2 .given .1))
+returns-no c =
+    let t = c .run-length2 in (
+      tt,
+      λ φ ψ L g falls agrees ready.
+          found (c .before .before .before) No (c .before .enum-told2 .given .1) φ ψ L g falls agrees ready (t .result) (t .ensures .0),
+    )
 
 returns-waiting : tie.Need-returns-5
 returns-waiting c =
@@ -78,14 +88,16 @@ step-until-spec =
     (λ c. search needs)
     (λ c κs. search needs)
     (λ c. search needs)
-    (λ c κs. search needs)
-    (λ c. search needs)
     (λ c. search needs)
     (λ c κs. search needs)
     (λ c. search needs)
+    (λ c κs. search needs)
+    (λ c. search needs)
+    (λ c κs. search needs)
     (λ c. search needs)
     (λ c. search needs)
     (λ c. search needs)
+    (λ c κs. search needs)
     (λ c. search needs)
     (λ c. search needs)
     (λ c. search needs)
