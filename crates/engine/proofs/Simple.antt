@@ -1,14 +1,14 @@
 -- One step of the letter, not, or, previous and next over their block's words, as the code leaves them. Assumes nothing.
 use Prim.Native.Nat.{ℕ, _+_, _-_, _≤_, _<_, _^_}
 use native.Mathlib.Omega.{arith}
-use mathlib.Core.Bool.{Bool, true, false, _&&_, _||_, false≢true}
+use mathlib.Core.Bool.{Bool, true, false, _&&_, _||_, false≢true, and-false}
 use mathlib.Core.Bool.{not as negate}
 use mathlib.Core.List.{List, [], _∷_}
 use mathlib.Core.Logic.{_↔_, ⊎-elim}
 use mathlib.Core.Path.{_≡_, refl, sym, ap, _∙_}
 use lib.Dec.{leb, ltb, eqb}
 use lib.ListN.{length}
-use borrow.Author.Tests.{lt-ltb, le-ltb, le-leb, leb-true, not-true, not-false}
+use borrow.Author.Tests.{lt-ltb, le-ltb, ltb-true, le-leb, leb-true, not-true, not-false}
 use Rattle.mtl.specs.Formula.{Formula}
 use Rattle.mtl.specs.Formula.Formula.{letter, not, or, previous, next}
 use Rattle.mtl.specs.Log.{Log}
@@ -38,15 +38,22 @@ no-room r at count total told e h = false≢true (sym (not-true r e) ∙ told �
 pub has-room : (r : Bool) (at count total : ℕ) → r ≡ (leb count total && leb at (total - count)) → negate r ≡ false → at + count ≤ total
 has-room r at count total told e = room-iff at count total .0 (sym told ∙ not-false r e)
 
--- the block of a next that has taken a position
-abbrev next-stores : List ℕ → List Store
-next-stores b = put 0 (taken b + 1) ∷ put 3 (right-count b - 1) ∷ []
+-- the block of a next that has taken n positions and has the rest of its buffer left
+abbrev next-stores : List ℕ → (n rest : ℕ) → List Store
+next-stores b n rest = put 0 (taken b + n) ∷ put 3 rest ∷ []
 
-abbrev pub next-block : List ℕ → List ℕ
-next-block b = stores (next-stores b) b
+abbrev pub next-block : List ℕ → (n rest : ℕ) → List ℕ
+next-block b n rest = stores (next-stores b n rest) b
 
-pub next-less : (s b : List ℕ) → 16 ≤ length b → taken b < record-count s → left-to-do s (next-block b) < left-to-do s b
-next-less s b room below = less-to-do s b (next-block b) below (word-stores (next-stores b) b (omega arith) room 0)
+pub next-less : (s b : List ℕ) (rest : ℕ) → 16 ≤ length b → taken b < record-count s → left-to-do s (next-block b 1 rest) < left-to-do s b
+next-less s b rest room below = less-to-do s b (next-block b 1 rest) below (word-stores (next-stores b 1 rest) b (omega arith) room 0)
+
+-- the block of a previous that has taken n positions, the last of them at this time
+abbrev previous-stores : List ℕ → (n rest time : ℕ) → List Store
+previous-stores b n rest time = put 0 (taken b + n) ∷ put 3 rest ∷ put 6 (right-answer b) ∷ put 8 time ∷ []
+
+abbrev pub previous-block : List ℕ → (n rest time : ℕ) → List ℕ
+previous-block b n rest time = stores (previous-stores b n rest time) b
 
 -- a run of one position
 single : (p : ℕ → Bool) (g : ℕ) (v : Bool) → p g ≡ v → (i : ℕ) → g ≤ i → i < g + 1 → p i ≡ v
@@ -142,46 +149,19 @@ module _ (s b : List ℕ) (room : 16 ≤ length b) (L : Log) (g : ℕ) (agrees :
       )
 
   module _ (low high : ℕ) (φ : Formula) (some : 0 < right-count b) where
-    module _ (now : ℕ) (near : Bool) (below : taken b < record-count s) (told : now ≡ time-at s (taken b)) (ready : Ready (previous low high φ) L g b) where
-      -- what previous answers, from what it kept of the position before
-      abbrev previous-answer : Bool
-      previous-answer = ltb 0 (taken b) && near && eqb (last-left b) 1
-
-      now-is : now ≡ L .time g
-      now-is = told ∙ time-of (taken b) g (ready .core .own .at) (omega arith) below
-
-      previous-holds : near ≡ within low high (last-time b) now → sat (previous low high φ) L g ≡ previous-answer
-      unfolding sat
-      previous-holds gap =
-          let own = ready .core .own in
-          let head = own .at in
-          ⊎-elim
-          (λ first. rw (le-ltb 0 g (omega arith), le-ltb 0 (taken b) (omega arith)))
-          (λ past.
-          rw (
-            lt-ltb 0 g (omega arith),
-            lt-ltb 0 (taken b) (omega arith),
-            gap,
-            now-is,
-            own .last-time (omega arith),
-            own .last-answer (omega arith),
-          ))
-          (le-or-lt g 0)
-
-      pub previous-run : now < 2 ^ 32 → near ≡ within low high (last-time b) now →
-          Stepped (previous low high φ) L g b (Run previous-answer 1)
-          (stores (put 0 (taken b + 1) ∷ put 3 (right-count b - 1) ∷ put 6 (right-answer b) ∷ put 8 now ∷ []) b)
+    module _ (ready : Ready (previous low high φ) L g b) where
+      -- n positions of the buffer are taken; the time is that of the last of them
+      previous-ready : (n rest last time : ℕ) → 1 ≤ n → n + rest ≡ right-count b → last + 1 ≡ g + n → time ≡ L .time last → time < 2 ^ 32 →
+          Ready (previous low high φ) L (g + n) (previous-block b n rest time) × Moved (previous low high φ) b (previous-block b n rest time)
       unfolding progress
-      previous-run fits gap =
-          let ws = put 0 (taken b + 1) ∷ put 3 (right-count b - 1) ∷ put 6 (right-answer b) ∷ put 8 now ∷ [] in
-          let at = word-stores ws b (omega arith) room in
+      previous-ready n rest last time one parts end told fits =
+          let at = word-stores (previous-stores b n rest time) b (omega arith) room in
           let core = ready .core in
           let range = core .range in
           let head = core .own .at in
           let right = ready .buffers in
-          let size = agrees .size in
-          let here : g + 1 - 1 ≡ g = omega arith in (
-            record { some = omega arith; within = omega arith; same = single (sat (previous low high φ) L) g _ (previous-holds gap) },
+          let most = progress-le-size φ L in
+          let here : g + n - 1 ≡ last = omega arith in (
             record {
               core = record {
                 reached = omega arith;
@@ -189,8 +169,8 @@ module _ (s b : List ℕ) (room : 16 ≤ length b) (L : Log) (g : ℕ) (agrees :
                 copy = copied (at 14) (at 15) (core .copy);
                 own = record {
                   at = omega (arith, at 0);
-                  last-answer = λ p. rw (here, at 6) (right .same g (omega arith) (omega arith));
-                  last-time = λ p. rw (here, at 8) now-is;
+                  last-answer = λ p. rw (here, at 6) (right .same last (omega arith) (omega arith));
+                  last-time = λ p. rw (here, at 8) told;
                 };
               };
               buffers = later (omega (arith, at 0)) (omega (arith, at 0, at 3)) (at 4) right;
@@ -198,16 +178,87 @@ module _ (s b : List ℕ) (room : 16 ≤ length b) (L : Log) (g : ℕ) (agrees :
             record { left = λ e. absurd (false≢true e); right = λ e. omega (arith, at 0, at 3) },
           )
 
-    module _ (below : taken b < record-count s) (ready : Ready (next low high φ) L g b) where
+      module _ (now : ℕ) (near : Bool) (below : taken b < record-count s) (told : now ≡ time-at s (taken b)) where
+        -- what previous answers, from what it kept of the position before
+        abbrev previous-answer : Bool
+        previous-answer = ltb 0 (taken b) && near && eqb (last-left b) 1
+
+        now-is : now ≡ L .time g
+        now-is = told ∙ time-of (taken b) g (ready .core .own .at) (omega arith) below
+
+        previous-holds : near ≡ within low high (last-time b) now → sat (previous low high φ) L g ≡ previous-answer
+        unfolding sat
+        previous-holds gap =
+            let own = ready .core .own in
+            let head = own .at in
+            ⊎-elim
+            (λ first. rw (le-ltb 0 g (omega arith), le-ltb 0 (taken b) (omega arith)))
+            (λ past.
+            rw (
+              lt-ltb 0 g (omega arith),
+              lt-ltb 0 (taken b) (omega arith),
+              gap,
+              now-is,
+              own .last-time (omega arith),
+              own .last-answer (omega arith),
+            ))
+            (le-or-lt g 0)
+
+        pub previous-run : now < 2 ^ 32 → near ≡ within low high (last-time b) now →
+            Stepped (previous low high φ) L g b (Run previous-answer 1) (previous-block b 1 (right-count b - 1) now)
+        unfolding progress
+        previous-run fits gap =
+            let head = ready .core .own .at in
+            let right = ready .buffers in
+            let moved = previous-ready 1 (right-count b - 1) g now (omega arith) (omega arith) (omega arith) now-is fits in (
+              record { some = omega arith; within = omega arith; same = single (sat (previous low high φ) L) g _ (previous-holds gap) },
+              moved .0,
+              moved .1,
+            )
+
+      -- the operand fails at the position before and at all that are buffered
+      module _ (failed : negate (eqb (last-left b) 1) && negate (eqb (right-answer b) 1) ≡ true) where
+        fails : (i : ℕ) → g ≤ i → i < g + right-count b → 0 < i → sat φ L (i - 1) ≡ false
+        fails i lo hi past =
+            let own = ready .core .own in
+            let head = own .at in
+            let both = and-iff (negate (eqb (last-left b) 1)) (negate (eqb (right-answer b) 1)) .0 failed in
+            ⊎-elim
+            (λ (e : i ≤ g). let same : i ≡ g = omega arith in rw same (own .last-answer (omega arith) ∙ not-true _ (both .0)))
+            (λ (e : g < i). ready .buffers .same (i - 1) (omega arith) (omega arith) ∙ not-true _ (both .1))
+            (le-or-lt i g)
+
+        previous-fails : (i : ℕ) → g ≤ i → i < g + right-count b → sat (previous low high φ) L i ≡ false
+        unfolding sat
+        previous-fails i lo hi =
+            ⊎-elim
+            (λ first. rw (le-ltb 0 i (omega arith)))
+            (λ past. rw (fails i lo hi (omega arith), and-false (within low high (L .time (i - 1)) (L .time i)), and-false (ltb 0 i)))
+            (le-or-lt i 0)
+
+        pub previous-rest : (last time : ℕ) → last + 1 ≡ taken b + right-count b → last < record-count s → time ≡ time-at s last → time < 2 ^ 32 →
+            Stepped (previous low high φ) L g b (Run false (right-count b)) (previous-block b (right-count b) 0 time)
+        unfolding progress
+        previous-rest last time end below told fits =
+            let head = ready .core .own .at in
+            let right = ready .buffers in
+            let moved = previous-ready (right-count b) 0 last time (omega arith) (omega arith) (omega arith) (told ∙ time-of last last refl (omega arith) below) fits in (
+              record { some = omega arith; within = omega arith; same = previous-fails },
+              moved .0,
+              moved .1,
+            )
+
+    module _ (ready : Ready (next low high φ) L g b) where
       -- the operand's answer at `taken` answers the position before
-      next-ready : (n : ℕ) → n ≡ taken b → Ready (next low high φ) L n (next-block b) × Moved (next low high φ) b (next-block b)
+      next-ready : (n rest to : ℕ) → 1 ≤ n → n + rest ≡ right-count b → to + 1 ≡ taken b + n →
+          Ready (next low high φ) L to (next-block b n rest) × Moved (next low high φ) b (next-block b n rest)
       unfolding progress
-      next-ready n e =
-          let at = word-stores (next-stores b) b (omega arith) room in
+      next-ready n rest to one parts end =
+          let at = word-stores (next-stores b n rest) b (omega arith) room in
           let core = ready .core in
           let range = core .range in
           let right = ready .buffers in
-          let size = agrees .size in (
+          let most = progress-le-size φ L in (
             record {
               core = record {
                 reached = omega arith;
@@ -221,17 +272,17 @@ module _ (s b : List ℕ) (room : 16 ≤ length b) (L : Log) (g : ℕ) (agrees :
           )
 
       -- position 0 is passed over
-      pub next-pass : taken b ≡ 0 → Stepped (next low high φ) L g b Again (next-block b)
-      next-pass first = let own = ready .core .own in next-ready g (omega arith)
+      pub next-pass : taken b ≡ 0 → Stepped (next low high φ) L g b Again (next-block b 1 (right-count b - 1))
+      next-pass first = let own = ready .core .own in next-ready 1 (right-count b - 1) g (omega arith) (omega arith) (omega arith)
 
-      module _ (earlier now : ℕ) (near : Bool) (past : 0 < taken b) (before : earlier ≡ time-at s (taken b - 1)) (told : now ≡ time-at s (taken b)) (gap : near ≡ within low high earlier now) where
+      module _ (below : taken b < record-count s) (earlier now : ℕ) (near : Bool) (past : 0 < taken b) (before : earlier ≡ time-at s (taken b - 1)) (told : now ≡ time-at s (taken b)) (gap : near ≡ within low high earlier now) where
         abbrev next-answer : Bool
-        next-answer = near && eqb (right-answer (next-block b)) 1
+        next-answer = near && eqb (right-answer (next-block b 1 (right-count b - 1))) 1
 
         next-holds : sat (next low high φ) L g ≡ next-answer
         unfolding sat
         next-holds =
-            let at = word-stores (next-stores b) b (omega arith) room in
+            let at = word-stores (next-stores b 1 (right-count b - 1)) b (omega arith) room in
             let own = ready .core .own in
             let size = agrees .size in
             let truth = ready .buffers .same (g + 1) (omega arith) (omega arith) in
@@ -246,13 +297,36 @@ module _ (s b : List ℕ) (room : 16 ≤ length b) (L : Log) (g : ℕ) (agrees :
               time-of (taken b) (g + 1) (omega arith) (omega arith) below,
             )
 
-        pub next-run : Stepped (next low high φ) L g b (Run next-answer 1) (next-block b)
+        pub next-run : Stepped (next low high φ) L g b (Run next-answer 1) (next-block b 1 (right-count b - 1))
         unfolding progress
         next-run =
             let own = ready .core .own in
             let right = ready .buffers in
-            let moved = next-ready (g + 1) (omega arith) in (
+            let moved = next-ready 1 (right-count b - 1) (g + 1) (omega arith) (omega arith) (omega arith) in (
               record { some = omega arith; within = omega arith; same = single (sat (next low high φ) L) g _ next-holds },
+              moved .0,
+              moved .1,
+            )
+
+      -- past position 0, the operand fails at all that are buffered
+      module _ (failed : ltb 0 (taken b) && negate (eqb (right-answer b) 1) ≡ true) where
+        next-fails : 0 < taken b → (i : ℕ) → g ≤ i → i < g + right-count b → sat (next low high φ) L i ≡ false
+        unfolding sat
+        next-fails past i lo hi =
+            let own = ready .core .own in
+            let both = and-iff (ltb 0 (taken b)) (negate (eqb (right-answer b) 1)) .0 failed in
+            let no = ready .buffers .same (i + 1) (omega arith) (omega arith) ∙ not-true _ (both .1) in
+            rw (no, and-false (within low high (L .time i) (L .time (i + 1))), and-false (ltb (i + 1) (L .size)))
+
+        pub next-rest : Stepped (next low high φ) L g b (Run false (right-count b)) (next-block b (right-count b) 0)
+        unfolding progress
+        next-rest =
+            let own = ready .core .own in
+            let right = ready .buffers in
+            let both = and-iff (ltb 0 (taken b)) (negate (eqb (right-answer b) 1)) .0 failed in
+            let past = ltb-true 0 (taken b) (both .0) in
+            let moved = next-ready (right-count b) 0 (g + right-count b) (omega arith) (omega arith) (omega arith) in (
+              record { some = omega arith; within = omega arith; same = next-fails past },
               moved .0,
               moved .1,
             )

@@ -1,4 +1,4 @@
-// previous and next: one answer a position.
+// previous and next: one answer a position, and one for a whole run of no.
 ghost use mathlib.Core.Path.{_≡_};
 ghost use mathlib.Core.Bool.{true, false};
 ghost use Prim.Native.Nat.{_≤_, _<_};
@@ -6,6 +6,7 @@ ghost use lib.ListN.{length};
 ghost use Rattle.mtl.specs.Formula.{Formula};
 ghost use Rattle.mtl.specs.Formula.Formula.{previous, next};
 ghost use Rattle.engine.specs.Step.{Steps, Ends};
+use super::blocks;
 use super::operator::Step;
 use super::time;
 
@@ -21,8 +22,21 @@ pub fn step_previous(low: u64, high: u64, records: &[u8], block: &mut [u64]) -> 
     if count == 0 {
         return Step::Right;
     }
-    if trace::count(records) as u64 <= at {
+    if !blocks::has_room(at, count, trace::count(records) as u64) {
         return Step::Open;
+    }
+    // the operand fails at the position before and at all of these
+    if (block[6] != 1) & (answer != 1) {
+        let end = at + count;
+        let last = trace::time(records, (end - 1) as usize);
+        block[0] = end;
+        block[3] = 0;
+        block[6] = answer;
+        block[8] = last;
+        return Step::Run {
+            holds: false,
+            count,
+        };
     }
     let now = trace::time(records, at as usize);
     let holds = (0 < at) & time::within(low, high, block[8], now) & (block[6] == 1);
@@ -44,8 +58,17 @@ pub fn step_next(low: u64, high: u64, records: &[u8], block: &mut [u64]) -> Step
     if count == 0 {
         return Step::Right;
     }
-    if trace::count(records) as u64 <= at {
+    if !blocks::has_room(at, count, trace::count(records) as u64) {
         return Step::Open;
+    }
+    // the operand fails after each of the positions answered
+    if (0 < at) & (block[4] != 1) {
+        block[0] = at + count;
+        block[3] = 0;
+        return Step::Run {
+            holds: false,
+            count,
+        };
     }
     block[0] = at + 1;
     block[3] = count - 1;
