@@ -2,7 +2,7 @@
 use Prim.Native.Nat.{ℕ, _≤_, _<_}
 use mathlib.Core.Bool.{Bool, true, false}
 use mathlib.Core.Logic.{_↔_, Iff·trans}
-use mathlib.Core.Path.{_≡_, refl, sym, _∙_, ap}
+use mathlib.Core.Path.{_≡_, refl, _∙_, ap}
 use mathlib.Core.List.{List}
 use native.Mathlib.Omega.{arith}
 use lib.ListN.{length, getD}
@@ -11,7 +11,7 @@ use Rattle.mtl.proofs.Printed.{sat-iff}
 use Rattle.mtl.proofs.Streams.{stream-iff}
 use Rattle.mtl.proofs.Lengthening.{answers-stay}
 use Rattle.rule.proofs.Acceptance.{accepted}
-use Rattle.monitor.specs.Verdicts.{formula-or, formula-of, verdict, first-records, answered}
+use Rattle.monitor.specs.Verdicts.{formula-of, verdict, first-records, answered}
 use Rattle.monitor.specs.Calls.{Untouched, Call, given-by, brought-by, laid, Calls, Demand2}
 use Rattle.monitor.proofs.VerdictBytes.{length-verdicts, verdict-at}
 use Rattle.monitor.proofs.Demand3.{invariant}
