@@ -197,15 +197,15 @@ module _ (rule log : List ℕ) (untouched : Untouched log) where
           verdicts-more (formula-of rule) new d c sheet′ (omega arith) bytes
 
   -- what holds after every list of calls
-  record Invariant (lent : List ℕ) (h : List Call) (p : List ℕ) : Type 0 where
-    fine : refusal rule ≡ 0
-    stands : Stands rule (first-records log (brought-by h)) (given-by h) p
-    within : brought-by h ≤ record-count records
-    bytes : laid h ≡ verdicts (formula-of rule) (first-records log (brought-by h)) (given-by h)
-    all : AllWhenCaughtUp rule log h
-    each : Each rule log h
-    beyond : drop (need rule) p ≡ drop (need rule) lent
-    length : length p ≡ length lent
+  pub record Invariant (lent : List ℕ) (h : List Call) (p : List ℕ) : Type 0 where
+    pub fine : refusal rule ≡ 0
+    pub stands : Stands rule (first-records log (brought-by h)) (given-by h) p
+    pub within : brought-by h ≤ record-count records
+    pub bytes : laid h ≡ verdicts (formula-of rule) (first-records log (brought-by h)) (given-by h)
+    pub all : AllWhenCaughtUp rule log h
+    pub each : Each rule log h
+    pub beyond : drop (need rule) p ≡ drop (need rule) lent
+    pub length : length p ≡ length lent
 
   -- on an opened checkpoint
   module _ (lent p : List ℕ) (opens : Opens rule lent Done p) where
@@ -215,7 +215,7 @@ module _ (rule log : List ℕ) (untouched : Untouched log) where
     opened-stands : Stands rule (first-records log 0) 0 p
     opened-stands = opens .words .1 (first-records log 0) (first-size 0 (omega arith))
 
-  invariant : (lent : List ℕ) {h : List Call} {p : List ℕ} → Calls rule log lent h p → Invariant lent h p
+  pub invariant : (lent : List ℕ) {h : List Call} {p : List ℕ} → Calls rule log lent h p → Invariant lent h p
   unfolding given-by brought-by laid Each AllWhenCaughtUp verdicts
   invariant lent (opened {p} opens) =
       record {
@@ -308,7 +308,7 @@ demand-3 rule log lent untouched h p calls =
           never-refused rule log untouched (given-by h) n log′ brings (brought-by h) p no-fewer (i .fine) (i .stands) sheet;
       enough = λ words r fresh size opens.
           open-accepts rule words r fresh (i .fine) (le-of-eq (sym (size ∙ exactly-enough rule (i .fine) .1))) opens;
-      beyond = i .beyond;
+      beyond = rw (exactly-enough rule (i .fine) .1) (i .beyond);
       length = i .length;
       one-run = one-run-writes rule log untouched;
     }

@@ -1,18 +1,21 @@
--- Demand 3: one claim about a whole list of calls. Its steps are the records that the calls' `ensures` name, and nothing here
--- names the inside of a checkpoint. proofs/Demand3.antt proves it.
+-- Demands 2 and 3 as claims about a whole list of calls. Its steps are the records that the calls' `ensures` name, and nothing
+-- here names the inside of a checkpoint. proofs/Truth.antt proves demand 2's claim, proofs/Demand3.antt demand 3's.
 use Prim.Native.Nat.{ℕ, _+_, _*_, _-_, _≤_, _<_, min}
 use mathlib.Core.Bool.{Bool, false}
 use mathlib.Core.Path.{_≡_}
 use mathlib.Core.Logic.{_↔_}
 use mathlib.Core.List.{List, [], _∷_, _++_}
+use mathlib.Core.Option.{some}
 use lib.ListN.{length, getD, take, drop}
 use lib.Dec.{ltb}
-use Rattle.mtl.specs.Log.{NeverFalls}
+use Rattle.mtl.specs.Log.{Log, Stream, NeverFalls, StreamNeverFalls, Continues, Begins}
+use Rattle.mtl.specs.Reading.{HoldsIn, HoldsOn}
 use Rattle.trace.specs.Format.{record-count, records-of, malformed}
 use Rattle.trace.specs.Log.{log-of}
+use Rattle.rule.specs.Entries.{count, decoded}
+use Rattle.rule.specs.Postfix.{formula}
 use Rattle.rule.specs.Measure.{measured}
-use Rattle.monitor.specs.Checkpoint.{need}
-use Rattle.monitor.specs.Verdicts.{answered, all-verdicts}
+use Rattle.monitor.specs.Verdicts.{formula-of, first-records, answered, all-verdicts}
 use Rattle.monitor.specs.Open.{Opens}
 use Rattle.monitor.specs.Resume.{Resumes}
 use Rattle.monitor.specs.declared.Opened.{Opened}
@@ -81,7 +84,8 @@ unfoldable pub Each : (rule log : List ℕ) → List Call → Type 0
 Each rule log [] = Unit {0}
 Each rule log (c ∷ older) = AsPromised rule log (given-by older) c × Each rule log older
 
--- "they are all A of them exactly when that call gave 'caught up'. Before the first accepted call nothing is written."
+-- "they are all A of them exactly when that call gave 'caught up'. Before the first accepted call nothing is written.": the
+-- accepted calls' bytes are none then, and a refused call keeps its sheet by `Resumes`
 unfoldable pub AllWhenCaughtUp : (rule log : List ℕ) → List Call → Type 0
 AllWhenCaughtUp rule log [] = laid [] ≡ []
 AllWhenCaughtUp rule log (c ∷ older) = (laid (c ∷ older) ≡ all-verdicts rule log (c .records)) ↔ (c .more ≡ false)
@@ -98,7 +102,22 @@ pub record OneRun (rule log : List ℕ) (n : ℕ) (r : Resumed) (sheet′ : List
   pub left : List ℕ
   pub resumes : Resumes rule brought fresh sheet r left sheet′
 
--- the claim, for every list
+-- DEMAND 2, for every list. "Verdicts are those of metric temporal logic as documents 000 and 002 define it, on the log and on
+-- every accepted lengthening of it"
+pub record Demand2 (rule log : List ℕ) (h : List Call) : Type 0 where
+  -- the rule's entries are this one formula
+  pub reads : formula (decoded rule) (count rule) ≡ some (formula-of rule)
+  -- "each byte 1 for yes or 0 for no"
+  pub binary : (i : ℕ) → i < length (laid h) → getD (laid h) i 0 ≤ 1
+  -- byte i is yes exactly if the formula holds at position i of the records brought, however they are lengthened: by any number
+  -- of records, none among them,
+  pub on-log : (L : Log) → Continues (first-records log (brought-by h)) L → NeverFalls L →
+      (i : ℕ) → i < length (laid h) → (getD (laid h) i 0 ≡ 1) ↔ HoldsIn L (formula-of rule) i
+  -- or to an infinite stream
+  pub on-stream : (σ : Stream) → Begins σ (first-records log (brought-by h)) → StreamNeverFalls σ →
+      (i : ℕ) → i < length (laid h) → (getD (laid h) i 0 ≡ 1) ↔ HoldsOn σ (formula-of rule) i
+
+-- DEMAND 3, for every list
 pub record Demand3 (rule log lent : List ℕ) (h : List Call) (p : List ℕ) : Type 0 where
   -- 1. the bytes laid end to end are the first verdicts of the untouched log as far as the last accepted call brought it
   pub first : laid h ≡ take (length (laid h)) (all-verdicts rule log (brought-by h))
@@ -111,7 +130,7 @@ pub record Demand3 (rule log lent : List ℕ) (h : List Call) (p : List ℕ) : T
       (number : ℕ) (p′ sheet′ : List ℕ) → Resumes rule log′ p sheet (Refused number) p′ sheet′ → ⊥
   -- 5. "A point of exactly the words that weigh gave is enough for every list, and any words behind them are kept."
   pub enough : (words : List ℕ) (r : Opened) (fresh : List ℕ) → length words ≡ measured rule .words → Opens rule words r fresh → r ≡ Done
-  pub beyond : drop (need rule) p ≡ drop (need rule) lent
+  pub beyond : drop (measured rule .words) p ≡ drop (measured rule .words) lent
   pub length : length p ≡ length lent
   -- 6. one run "writes just these", and so the bytes of 1 are its first bytes
   pub one-run : (n : ℕ) (r : Resumed) (sheet′ : List ℕ) → OneRun rule log n r sheet′ →
