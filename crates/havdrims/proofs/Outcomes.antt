@@ -24,7 +24,7 @@ use Rattle.monitor.specs.Open.{Opens, opened-number}
 use Rattle.monitor.specs.Resume.{Resumes, resumed-number, resumed-count, resumed-more}
 use Rattle.monitor.specs.Tally.{tallied, count-of, above-one}
 use Rattle.monitor.specs.Tally.{Answer as Tally, answer as tally-of}
-use Rattle.havdrims.specs.Interface.{or-kept, flag, Measures, Opening, Resuming, Tallies}
+use Rattle.havdrims.specs.Interface.{or-kept, flag, MeasureCall, OpenCall, ResumeCall, TallyCall}
 
 -- a number that is not 0 keeps what stood behind the pointer
 kept : (n old new : ℕ) → (n ≡ 0 → ⊥) → old ≡ or-kept n old new
@@ -35,30 +35,30 @@ byte-is true = refl
 byte-is false = refl
 
 module _ (s : List ℕ) (words reach : ℕ) (o : Measured) (e : measure-of o ≡ measured s) where
-  pub not-measured : (n : ℕ) → o ≡ Unmeasured n → Measures s words reach n words reach
+  pub not-measured : (n : ℕ) → o ≡ Unmeasured n → MeasureCall s words reach n words reach
   not-measured n is =
       let q : measure-of (Unmeasured n) ≡ measured s = ap measure-of (sym is) ∙ e in
       let z = stops-with s n q .not-zero in
       record {
         number = ap (λ (a : Measure). a .number) q;
-        need = kept n words (measured s .words) z;
-        most = kept n reach (measured s .reach) z;
+        words = kept n words (measured s .words) z;
+        reach = kept n reach (measured s .reach) z;
       }
 
-  pub is-measured : (w far : ℕ) → o ≡ Words w far → Measures s words reach 0 w far
+  pub is-measured : (w far : ℕ) → o ≡ Words w far → MeasureCall s words reach 0 w far
   is-measured w far is =
       let q : measure-of (Words w far) ≡ measured s = ap measure-of (sym is) ∙ e in
       record {
         number = ap (λ (a : Measure). a .number) q;
-        need = ap (λ (a : Measure). a .words) q;
-        most = ap (λ (a : Measure). a .reach) q;
+        words = ap (λ (a : Measure). a .words) q;
+        reach = ap (λ (a : Measure). a .reach) q;
       }
 
-pub opening : (s p : List ℕ) (o : Opened) (p′ : List ℕ) → Opens s p o p′ → (n : ℕ) → n ≡ opened-number o → Opening s p n p′
+pub opening : (s p : List ℕ) (o : Opened) (p′ : List ℕ) → Opens s p o p′ → (n : ℕ) → n ≡ opened-number o → OpenCall s p n p′
 opening s p o p′ h n is = record { outcome = o; opens = h; number = is }
 
 module _ (s log p sheet : List ℕ) (given more : ℕ) (o : Resumed) (p′ sheet′ : List ℕ) (h : Resumes s log p sheet o p′ sheet′) where
-  pub not-resumed : (n : ℕ) → o ≡ Refused n → Resuming s log p sheet given more n p′ sheet′ given more
+  pub not-resumed : (n : ℕ) → o ≡ Refused n → ResumeCall s log p sheet given more n p′ sheet′ given more
   not-resumed n is =
       let q : Resumes s log p sheet (Refused n) p′ sheet′ = subst (λ (r : Resumed). Resumes s log p sheet r p′ sheet′) is h in
       let some : 0 < n = q .words .0 in
@@ -67,18 +67,18 @@ module _ (s log p sheet : List ℕ) (given more : ℕ) (o : Resumed) (p′ sheet
         outcome = o;
         resumes = h;
         number = sym (ap resumed-number is);
-        count = kept n given (resumed-count o) z;
-        rest = kept n more (flag (resumed-more o)) z;
+        given = kept n given (resumed-count o) z;
+        more = kept n more (flag (resumed-more o)) z;
       }
 
-  pub is-resumed : (c : ℕ) (m : Bool) → o ≡ Given c m → Resuming s log p sheet given more 0 p′ sheet′ c (boolByte m)
+  pub is-resumed : (c : ℕ) (m : Bool) → o ≡ Given c m → ResumeCall s log p sheet given more 0 p′ sheet′ c (boolByte m)
   is-resumed c m is =
       record {
         outcome = o;
         resumes = h;
         number = sym (ap resumed-number is);
-        count = sym (ap resumed-count is);
-        rest = byte-is m ∙ sym (ap (λ (r : Resumed). flag (resumed-more r)) is);
+        given = sym (ap resumed-count is);
+        more = byte-is m ∙ sym (ap (λ (r : Resumed). flag (resumed-more r)) is);
       }
 
 -- a refused tally has the number 15
@@ -92,7 +92,7 @@ number-by true n noes yeses e = ap (λ (a : Tally). a .number) e
 number-by false n noes yeses e = absurd (true≢false (ap (λ (a : Tally). a .refused) e))
 
 module _ (s : List ℕ) (noes yeses : ℕ) (o : Tallied) (e : tally-of o ≡ tallied s) where
-  pub not-tallied : (n : ℕ) → o ≡ Untallied n → Tallies s noes yeses n noes yeses
+  pub not-tallied : (n : ℕ) → o ≡ Untallied n → TallyCall s noes yeses n noes yeses
   not-tallied n is =
       let q : tally-of (Untallied n) ≡ tallied s = ap tally-of (sym is) ∙ e in
       let f = number-by (any (length s) (above-one s)) n (count-of 0 s (length s)) (count-of 1 s (length s)) q in
@@ -103,7 +103,7 @@ module _ (s : List ℕ) (noes yeses : ℕ) (o : Tallied) (e : tally-of o ≡ tal
         yes-count = kept n yeses (tallied s .yes-count) z;
       }
 
-  pub is-tallied : (x y : ℕ) → o ≡ Counts x y → Tallies s noes yeses 0 x y
+  pub is-tallied : (x y : ℕ) → o ≡ Counts x y → TallyCall s noes yeses 0 x y
   is-tallied x y is =
       let q : tally-of (Counts x y) ≡ tallied s = ap tally-of (sym is) ∙ e in
       record {

@@ -21,24 +21,24 @@ abbrev pub flag : Bool → ℕ
 flag true = 1
 flag false = 0
 
-pub record Measures (rule : List ℕ) (words reach r words′ reach′ : ℕ) : Type 0 where
+pub record MeasureCall (rule : List ℕ) (w far r w′ far′ : ℕ) : Type 0 where
   pub number : r ≡ measured rule .number
-  pub need : words′ ≡ or-kept r words (measured rule .words)
-  pub most : reach′ ≡ or-kept r reach (measured rule .reach)
+  pub words : w′ ≡ or-kept r w (measured rule .words)
+  pub reach : far′ ≡ or-kept r far (measured rule .reach)
 
-pub record Opening (rule p : List ℕ) (r : ℕ) (p′ : List ℕ) : Type 0 where
+pub record OpenCall (rule p : List ℕ) (r : ℕ) (p′ : List ℕ) : Type 0 where
   pub outcome : Opened
   pub opens : Opens rule p outcome p′
   pub number : r ≡ opened-number outcome
 
-pub record Resuming (rule log p sheet : List ℕ) (given more r : ℕ) (p′ sheet′ : List ℕ) (given′ more′ : ℕ) : Type 0 where
+pub record ResumeCall (rule log p sheet : List ℕ) (c m r : ℕ) (p′ sheet′ : List ℕ) (c′ m′ : ℕ) : Type 0 where
   pub outcome : Resumed
   pub resumes : Resumes rule log p sheet outcome p′ sheet′
   pub number : r ≡ resumed-number outcome
-  pub count : given′ ≡ or-kept r given (resumed-count outcome)
-  pub rest : more′ ≡ or-kept r more (flag (resumed-more outcome))
+  pub given : c′ ≡ or-kept r c (resumed-count outcome)
+  pub more : m′ ≡ or-kept r m (flag (resumed-more outcome))
 
-pub record Tallies (sheet : List ℕ) (noes yeses r noes′ yeses′ : ℕ) : Type 0 where
+pub record TallyCall (sheet : List ℕ) (noes yeses r noes′ yeses′ : ℕ) : Type 0 where
   pub number : r ≡ tallied sheet .number
   pub no-count : noes′ ≡ or-kept r noes (tallied sheet .no-count)
   pub yes-count : yeses′ ≡ or-kept r yeses (tallied sheet .yes-count)

@@ -1,1 +1,2 @@
+-- What the exported functions promise.
 pub mod Interface

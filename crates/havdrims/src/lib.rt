@@ -1,17 +1,15 @@
 // The C interface: the library's four calls under plain names. Each answers 0, or the refusal's number, and then every number
 // behind a pointer is as it was. include/havdrims.h says what a C programmer needs to know.
-ghost use mathlib.Core.Path.{_≡_};
-ghost use Rattle.monitor.specs.Open.{Opens, opened-number};
-ghost use Rattle.havdrims.specs.Interface.{Measures, Opening, Resuming, Tallies};
+ghost use Rattle.havdrims.specs.Interface.{MeasureCall, OpenCall, ResumeCall, TallyCall};
 use monitor::Opened;
 use monitor::Resumed;
 use monitor::Tallied;
 use rule::Measured;
 
-// weigh
+// Document 01's weigh.
 #[no_mangle]
 pub extern "C" fn havdrims_measure(rule: &[u8], words: &mut u64, reach: &mut u64) -> u32
-    ensures { λ r. ⌜ Measures (now (rule .entry)) (now (words .entry)) (now (reach .entry)) r (now (words .exit)) (now (reach .exit)) ⌝ }
+    ensures { λ r. ⌜ MeasureCall (now (rule .entry)) (now (words .entry)) (now (reach .entry)) r (now (words .exit)) (now (reach .exit)) ⌝ }
 {
     match rule::measure(rule) {
         Measured::Refused(n) => n,
@@ -26,10 +24,10 @@ pub extern "C" fn havdrims_measure(rule: &[u8], words: &mut u64, reach: &mut u64
     }
 }
 
-// open
+// Writes a fresh checkpoint (point).
 #[no_mangle]
 pub extern "C" fn havdrims_open(rule: &[u8], point: &mut [u64]) -> u32
-    ensures { λ r. ⌜ Opening (now (rule .entry)) (now (point .entry)) r (now (point .exit)) ⌝ }
+    ensures { λ r. ⌜ OpenCall (now (rule .entry)) (now (point .entry)) r (now (point .exit)) ⌝ }
 {
     match monitor::open(rule, point) {
         Opened::Refused(n) => n,
@@ -37,7 +35,7 @@ pub extern "C" fn havdrims_open(rule: &[u8], point: &mut [u64]) -> u32
     }
 }
 
-// carry on
+// Document 01's carry on. `more` becomes 1 or 0.
 #[no_mangle]
 pub extern "C" fn havdrims_resume(
     rule: &[u8],
@@ -47,7 +45,7 @@ pub extern "C" fn havdrims_resume(
     given: &mut u64,
     more: &mut u64,
 ) -> u32
-    ensures { λ r. ⌜ Resuming (now (rule .entry)) (now (log .entry)) (now (point .entry)) (now (sheet .entry)) (now (given .entry)) (now (more .entry)) r (now (point .exit)) (now (sheet .exit)) (now (given .exit)) (now (more .exit)) ⌝ }
+    ensures { λ r. ⌜ ResumeCall (now (rule .entry)) (now (log .entry)) (now (point .entry)) (now (sheet .entry)) (now (given .entry)) (now (more .entry)) r (now (point .exit)) (now (sheet .exit)) (now (given .exit)) (now (more .exit)) ⌝ }
 {
     match monitor::resume(rule, log, point, sheet) {
         Resumed::Refused(n) => n,
@@ -59,10 +57,10 @@ pub extern "C" fn havdrims_resume(
     }
 }
 
-// tally
+// Counts the verdicts of a sheet.
 #[no_mangle]
 pub extern "C" fn havdrims_tally(sheet: &[u8], no: &mut u64, yes: &mut u64) -> u32
-    ensures { λ r. ⌜ Tallies (now (sheet .entry)) (now («no» .entry)) (now («yes» .entry)) r (now («no» .exit)) (now («yes» .exit)) ⌝ }
+    ensures { λ r. ⌜ TallyCall (now (sheet .entry)) (now («no» .entry)) (now («yes» .entry)) r (now («no» .exit)) (now («yes» .exit)) ⌝ }
 {
     match monitor::tally(sheet) {
         Tallied::Refused(n) => n,
