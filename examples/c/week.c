@@ -64,7 +64,7 @@ int main(void) {
     uint8_t sheet[16];
 
     accepted("measure", havdrims_measure(rule, sizeof rule, &words, &reach));
-    printf("a point needs %u words; a record waits at most %u seconds\n", (unsigned)words, (unsigned)reach);
+    printf("a point needs %u words; the rule looks ahead %u seconds\n", (unsigned)words, (unsigned)reach);
     check(words == 246 && reach == 90, "words and reach");
 
     uint64_t *point = calloc(words, sizeof *point);

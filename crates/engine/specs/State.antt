@@ -1,6 +1,5 @@
 -- The state of a whole subformula: its part of the checkpoint is its operands' words, left then right, and its own block.
 use Prim.Native.Nat.{ℕ, _+_, _*_}
-use mathlib.Core.Bool.{Bool, true, false}
 use mathlib.Core.List.{List}
 use lib.ListN.{take, drop}
 use Rattle.mtl.specs.Formula.{Formula}

@@ -10,7 +10,7 @@ use Rattle.mtl.specs.Satisfaction.{sat}
 use Rattle.mtl.specs.Progress.{progress}
 use Rattle.trace.specs.Format.{record-count}
 use Rattle.trace.specs.Log.{log-of}
-use Rattle.engine.specs.Block.{taken, left-count, right-count, Core, Ready}
+use Rattle.engine.specs.Block.{taken, left-count, right-count, Ready}
 use Rattle.engine.specs.declared.operator.Step.{Step}
 use Rattle.engine.specs.declared.operator.Step.the-variants.{Run, Left, Right, Again, Open}
 

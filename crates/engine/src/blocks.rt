@@ -2,8 +2,8 @@
 ghost use mathlib.Core.Path.{_≡_};
 ghost use mathlib.Core.Bool.{_&&_};
 ghost use Prim.Native.Nat.{_+_, _-_, _≤_, _<_};
-ghost use lib.ListN.{length, set};
-ghost use lib.Dec.{eqb, leb};
+ghost use lib.ListN.{length};
+ghost use lib.Dec.{leb};
 ghost use Rattle.engine.specs.Ask.{flag-of, stored};
 
 // 1 for true.

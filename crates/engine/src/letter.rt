@@ -1,6 +1,6 @@
 // A letter: a reading head that gives whole runs.
 ghost use mathlib.Core.Path.{_≡_};
-ghost use mathlib.Core.Bool.{true, false};
+ghost use mathlib.Core.Bool.{false};
 ghost use Prim.Native.Nat.{_≤_, _<_};
 ghost use lib.ListN.{length};
 ghost use Rattle.mtl.specs.Formula.Formula.{letter as letter-formula};

@@ -1,7 +1,7 @@
 // Answers a formula's positions one run after the other, from a log's records and the lent words of a checkpoint.
 ghost use mathlib.Core.Path.{_≡_};
 ghost use mathlib.Core.Bool.{true, false};
-ghost use Prim.Native.Nat.{ℕ, _+_, _*_, _≤_, _<_};
+ghost use Prim.Native.Nat.{_+_, _≤_, _<_};
 ghost use lib.ListN.{length};
 ghost use Rattle.engine.specs.Answer.{Answers};
 ghost use Rattle.engine.specs.Ask.{Asks};

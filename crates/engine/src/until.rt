@@ -5,7 +5,6 @@ ghost use Prim.Native.Nat.{_+_, _≤_, _<_, _^_};
 ghost use lib.ListN.{length};
 ghost use Rattle.mtl.specs.Formula.{Formula};
 ghost use Rattle.mtl.specs.Formula.Formula.{until};
-ghost use Rattle.trace.specs.Format.{record-count, time-at};
 ghost use Rattle.engine.specs.Step.{Steps, Ends};
 ghost use Rattle.engine.specs.Settle.{settle-spec, run-length-spec, taken-both};
 use super::operator::Step;

@@ -7,7 +7,7 @@ use mathlib.Core.List.{List, _++_}
 use mathlib.Core.Logic.{⊎-elim}
 use native.Mathlib.Omega.{arith}
 use native.Mathlib.Nat.{sub-zero}
-use borrow.Author.Tests.{le-ltb, lt-ltb, ne-eqb, eqb-false, not-false}
+use borrow.Author.Tests.{le-ltb, lt-ltb, ne-eqb, eqb-true, eqb-false, not-false}
 use lib.Dec.{eqb, ltb, leb}
 use lib.ListN.{length, take, drop, length-append, length-drop, List·getD-append}
 use lib.Seq.{length-take-le, take-at, drop-at, getD-take}
@@ -32,9 +32,11 @@ use Rattle.monitor.specs.Refusal.{first, before, open-refusal, log-refus
 use Rattle.monitor.specs.Verdicts.{formula-of}
 use Rattle.monitor.specs.Stands.{Top, last-of, Stands}
 use Rattle.monitor.specs.Resume.{Resumes}
-use Rattle.monitor.specs.Code.{sized-of, sized-number, Carried, CarriesOn}
+use Rattle.monitor.specs.Code.{sized-of, sized-number, checked-by, checked-number, Carried, CarriesOn}
 use Rattle.monitor.specs.declared.check.Sized.{Sized}
 use Rattle.monitor.specs.declared.check.Sized.the-variants.{Words, Stopped}
+use Rattle.monitor.specs.declared.check.Checked.{Checked}
+use Rattle.monitor.specs.declared.check.Checked.the-variants.{Passed, Failed}
 use Rattle.monitor.specs.declared.Resumed.{Resumed}
 use Rattle.monitor.specs.declared.Resumed.the-variants.{Given, Refused}
 use Rattle.monitor.proofs.Sizes.{sized-refusal, enough, stops}
@@ -73,12 +75,31 @@ not-stopped rule log p w sized =
     let none : open-refusal rule (length p) ≡ 0 = sym (sized-refusal rule (length p)) ∙ ap sized-number (sym sized) in
     ap (λ (k : ℕ). before k (point-refusal (decoded rule) (count rule) log p)) none
 
+-- the number that the check's answer stands for is the refusal's
+checked-is : (number : ℕ) → checked-number (checked-by number) ≡ number
+checked-is number = go (eqb number 0) refl
+  where
+    go : (b : Bool) → eqb number 0 ≡ b → checked-number (cond b Passed (Failed number)) ≡ number
+    go true zero = sym (eqb-true number 0 zero)
+    go false some = refl
+
+pub passed : (number : ℕ) → Passed ≡ checked-by number → number ≡ 0
+passed number e = sym (ap checked-number e ∙ checked-is number)
+
+failed-by : (b : Bool) (number m : ℕ) → eqb number 0 ≡ b → Failed m ≡ cond b Passed (Failed number) → 0 < m
+failed-by true number m t e = let z : _≡_ {A = ℕ} 0 1 = cc in absurd (omega arith)
+failed-by false number m t e = let z : m ≡ number = cc in let h = eqb-false number 0 t in omega arith
+
 -- refusals 10 to 14
-pub resume-refused : (rule log p sheet : List ℕ) (w n : ℕ) → Words w ≡ sized-of rule (length p) →
-    n ≡ point-refusal (decoded rule) (count rule) log p → (n ≡ 0 → ⊥) → Resumes rule log p sheet (Refused n) p sheet
-resume-refused rule log p sheet w n sized numbered met =
+pub resume-refused : (rule log p sheet : List ℕ) (w : ℕ) (r : Checked) (m n : ℕ) → Words w ≡ sized-of rule (length p) →
+    r ≡ checked-by (point-refusal (decoded rule) (count rule) log p) → r ≡ Failed m → n ≡ checked-number r →
+    Resumes rule log p sheet (Refused n) p sheet
+resume-refused rule log p sheet w r m n sized checked failed numbered =
+    let number = point-refusal (decoded rule) (count rule) log p in
+    let met : 0 < m = failed-by (eqb number 0) number m refl (sym failed ∙ checked) in
+    let is : n ≡ m = numbered ∙ ap checked-number failed in
     record {
-      number = numbered ∙ sym (not-stopped rule log p w sized);
+      number = numbered ∙ ap checked-number checked ∙ checked-is number ∙ sym (not-stopped rule log p w sized);
       point-length = refl;
       sheet-length = refl;
       words = (omega arith, refl, refl);
@@ -103,9 +124,8 @@ header-given p fits =
     let low = leb-iff (given p) (seen p - held-count p) .0 (rooms .1) in
     omega arith
 
-pub passes : (rule log p : List ℕ) (n : ℕ) → n ≡ point-refusal (decoded rule) (count rule) log p → n ≡ 0 → Passes log p
-passes rule log p number numbered zero =
-    let none : point-refusal (decoded rule) (count rule) log p ≡ 0 = sym numbered ∙ zero in
+pub passes : (rule log p : List ℕ) → point-refusal (decoded rule) (count rule) log p ≡ 0 → Passes log p
+passes rule log p none =
     let t = decoded rule in
     let n = count rule in
     let logs = log-refusal log (given p) (seen p) (last p) in
@@ -191,7 +211,7 @@ module _ (rule log p sheet : List ℕ) (ok : refusal rule ≡ 0) (room : need ru
         first-word = now 0 (omega arith) ∙ done .first-word ∙ was 0 (omega arith) ∙ stands .first-word;
         entries = now 6 (omega arith) ∙ done .entries ∙ was 6 (omega arith) ∙ stands .entries;
         size = now 2 (omega arith) ∙ done .size ∙ agrees .size;
-        few = omega (arith, passes rule log p (point-refusal (decoded rule) (count rule) log p) refl none .records, agrees .size);
+        few = omega (arith, passes rule log p none .records, agrees .size);
         time = now 3 (omega arith) ∙ done .time ∙ before;
         fits = rw (now 3 (omega arith)) (done .fits (rw (was 3 (omega arith)) (stands .fits)));
         top = rw (take-at ws′ (drop (need rule) p) (need rule) size) top;
@@ -227,11 +247,11 @@ module _ (rule log p sheet : List ℕ) (ok : refusal rule ≡ 0) (room : need ru
       }
 
 -- the records and the words as they were lent, and the words as they came back
-pub resume-given : (rule log p sheet records : List ℕ) (w n : ℕ) (r : Resumed) (ws′ sheet′ : List ℕ) →
-    Words w ≡ sized-of rule (length p) → n ≡ point-refusal (decoded rule) (count rule) log p → n ≡ 0 → records ≡ records-of log →
+pub resume-given : (rule log p sheet records : List ℕ) (w : ℕ) (r : Resumed) (ws′ sheet′ : List ℕ) →
+    Words w ≡ sized-of rule (length p) → point-refusal (decoded rule) (count rule) log p ≡ 0 → records ≡ records-of log →
     CarriesOn rule records (part 0 w p) sheet r ws′ sheet′ → Resumes rule log p sheet r (put-back 0 w ws′ p) sheet′
-resume-given rule log p sheet records w n (Given c more) ws′ sheet′ sized numbered zero handed done =
+resume-given rule log p sheet records w (Given c more) ws′ sheet′ sized none handed done =
     let e = enough rule (length p) w sized in
     let is : w - 0 ≡ need rule = sub-zero w ∙ e .words-are in
-    rw is (resumed rule log p sheet (e .accepted) (e .room) (sym numbered ∙ zero) c more ws′ sheet′ (rw (is, handed) at done))
-resume-given rule log p sheet records w n (Refused m) ws′ sheet′ sized numbered zero handed done = absurd done
+    rw is (resumed rule log p sheet (e .accepted) (e .room) none c more ws′ sheet′ (rw (is, handed) at done))
+resume-given rule log p sheet records w (Refused m) ws′ sheet′ sized none handed done = absurd done

@@ -1,9 +1,9 @@
 -- The words of a checkpoint (document 01's point): 16 of its own, then each entry's block in entry order. docs/CHECKPOINT.md has the table.
 use Prim.Native.Nat.{ℕ, _+_, _*_, _-_, _^_}
-use mathlib.Core.Bool.{Bool, true, _&&_, _||_}
+use mathlib.Core.Bool.{Bool, _&&_, _||_}
 use mathlib.Core.Bool.{not as negate}
 use mathlib.Core.List.{List}
-use lib.ListN.{getD, drop}
+use lib.ListN.{drop}
 use lib.Dec.{leb, ltb, eqb}
 use Rattle.mtl.specs.Satisfaction.{any}
 use Rattle.rule.specs.declared.Entry.{Entry}

@@ -22,6 +22,8 @@ use Rattle.monitor.specs.Verdicts.{formula-of, verdict}
 use Rattle.monitor.specs.Stands.{Top}
 use Rattle.monitor.specs.declared.check.Sized.{Sized}
 use Rattle.monitor.specs.declared.check.Sized.the-variants.{Words, Stopped}
+use Rattle.monitor.specs.declared.check.Checked.{Checked}
+use Rattle.monitor.specs.declared.check.Checked.the-variants.{Passed, Failed}
 use Rattle.monitor.specs.declared.Resumed.{Resumed}
 use Rattle.monitor.specs.declared.Resumed.the-variants.{Given, Refused}
 
@@ -33,6 +35,14 @@ sized-number (Stopped n) = n
 abbrev pub sized-of : List ℕ → ℕ → Sized
 sized-of rule lent =
     cond (eqb (refusal rule) 0) (cond (ltb lent (need rule)) (Stopped 9) (Words (need rule))) (Stopped (refusal rule))
+
+abbrev pub checked-number : Checked → ℕ
+checked-number Passed = 0
+checked-number (Failed n) = n
+
+-- refusals 10 to 14 by their number, which is 0 where none applies
+abbrev pub checked-by : ℕ → Checked
+checked-by number = cond (eqb number 0) Passed (Failed number)
 
 -- the words of a fresh checkpoint: nothing given, seen or held, and each entry's copy in its block
 pub record Fresh (t : List Entry) (n : ℕ) (ws : List ℕ) : Type 0 where

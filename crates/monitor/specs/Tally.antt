@@ -1,7 +1,7 @@
 -- What `tally` promises: "reads a sheet and gives the count of no and of yes".
 use Prim.Native.Nat.{ℕ, zero, suc, _+_}
 use mathlib.Core.Bool.{Bool, true, false, cond}
-use mathlib.Core.List.{List, [], _∷_}
+use mathlib.Core.List.{List}
 use lib.ListN.{length, getD}
 use lib.Dec.{ltb, eqb}
 use Rattle.mtl.specs.Satisfaction.{any}

@@ -6,8 +6,8 @@ ghost use Rattle.mtl.specs.Satisfaction.{any};
 ghost use Rattle.rule.specs.Entries.{count, decoded};
 ghost use Rattle.rule.specs.Refusal.{refusal};
 ghost use Rattle.rule.specs.Words.{offset};
-ghost use Rattle.monitor.specs.Checkpoint.{copy-head, copy-ends, need, copy-differs, foreign, room, block-in-range, block-outside, header-in-range, outside};
-ghost use Rattle.monitor.specs.Code.{sized-of, sized-number};
+ghost use Rattle.monitor.specs.Checkpoint.{copy-head, copy-ends, need, copy-differs, foreign, room, block-in-range, block-outside, outside};
+ghost use Rattle.monitor.specs.Code.{sized-of, sized-number, checked-by, checked-number};
 ghost use Rattle.monitor.specs.Refusal.{first, point-refusal};
 ghost use Rattle.engine.specs.Block.{cells-of};
 use rule::Entry;
@@ -33,18 +33,34 @@ impl Sized {
     }
 }
 
+// Refusals 10 to 14, or none of them.
+pub enum Checked {
+    Passed,
+    Failed(u32),
+}
+
+impl Checked {
+    pub fn number(self) -> u32
+        ensures { λ r. ⌜ r ≡ checked-number self ⌝ }
+    {
+        match self {
+            Checked::Passed => 0,
+            Checked::Failed(n) => n,
+        }
+    }
+}
+
 pub fn size_of(rule: &[u8], lent: usize) -> Sized
     ensures { λ r. ⌜ r ≡ sized-of (now (rule .entry)) lent ⌝ }
 {
-    match rule::measure(rule) {
-        Measured::Refused(n) => Sized::Stopped(n),
-        Measured::Words { words, reach: _ } => {
-            if lent < words {
-                Sized::Stopped(9)
-            } else {
-                Sized::Words(words)
-            }
-        }
+    let measured = rule::measure(rule);
+    let Measured::Words { words, reach: _ } = measured else {
+        return Sized::Stopped(measured.number());
+    };
+    if lent < words {
+        Sized::Stopped(9)
+    } else {
+        Sized::Words(words)
     }
 }
 
@@ -165,8 +181,8 @@ fn is_outside(entries: [Entry; 128], count: usize, point: &[u64]) -> bool
     !fits | blocks_outside(entries, count, point)
 }
 
-// Refusals 10 to 14, or 0.
-pub fn reason(rule: &[u8], log: &[u8], point: &[u64]) -> u32
+// The number of the first of refusals 10 to 14 that applies, or 0.
+fn reason(rule: &[u8], log: &[u8], point: &[u64]) -> u32
     requires { ⌜ (refusal (now rule) ≡ 0) × (need (now rule) ≤ length (now point)) ⌝ }
     ensures { λ r. ⌜ r ≡ point-refusal (decoded (now (rule .entry))) (count (now (rule .entry))) (now (log .entry)) (now (point .entry)) ⌝ }
 {
@@ -187,4 +203,16 @@ pub fn reason(rule: &[u8], log: &[u8], point: &[u64]) -> u32
         is_foreign(entries, count, point),
         refuse(11, is_outside(entries, count, point), after),
     )
+}
+
+pub fn check_point(rule: &[u8], log: &[u8], point: &[u64]) -> Checked
+    requires { ⌜ (refusal (now rule) ≡ 0) × (need (now rule) ≤ length (now point)) ⌝ }
+    ensures { λ r. ⌜ r ≡ checked-by (point-refusal (decoded (now (rule .entry))) (count (now (rule .entry))) (now (log .entry)) (now (point .entry))) ⌝ }
+{
+    let number = reason(rule, log, point);
+    if number == 0 {
+        Checked::Passed
+    } else {
+        Checked::Failed(number)
+    }
 }

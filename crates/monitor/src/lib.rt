@@ -9,6 +9,7 @@ mod fresh;
 mod give;
 mod sheet;
 
+use check::Checked;
 use check::Sized;
 
 // What `open` answers.
@@ -49,10 +50,10 @@ pub fn resume(rule: &[u8], log: &[u8], point: &mut [u64], sheet: &mut [u8]) -> R
     let Sized::Words(words) = sized else {
         return Resumed::Refused(sized.number());
     };
-    let reason = check::reason(rule, log, point);
-    if reason != 0 {
-        return Resumed::Refused(reason);
-    }
+    let checked = check::check_point(rule, log, point);
+    let Checked::Passed = checked else {
+        return Resumed::Refused(checked.number());
+    };
     give::carry_on(rule, trace::records(log), &mut point[0..words], sheet)
 }
 

@@ -11,6 +11,11 @@ pub fn write_run(sheet: &mut [u8], from: usize, to: usize, verdict: u8)
     requires { ⌜ (from ≤ to) × (to ≤ length (now sheet)) ⌝ }
     ensures { λ _. ⌜ now (sheet .exit) ≡ take from (now (sheet .entry)) ++ (replicate (to - from) verdict ++ drop to (now (sheet .entry))) ⌝ }
 {
+    // most runs on a busy log
+    if to - from == 1 {
+        sheet[from] = verdict;
+        return;
+    }
     let mut i = from;
     while i < to {
         sheet[i] = verdict;

@@ -1,6 +1,6 @@
 -- Progress: document 01's answered number. "Each entry answers a run of positions from 0 up. N is the number of records."
 use Prim.Native.Nat.{ℕ, zero, suc, _-_, min}
-use mathlib.Core.Bool.{Bool, true, false, cond, _&&_, _||_}
+use mathlib.Core.Bool.{Bool, cond, _&&_, _||_}
 use mathlib.Core.Bool.{not as negate}
 use lib.Dec.{leb, ltb, eqb}
 use Rattle.mtl.specs.Formula.{Formula}

@@ -26,6 +26,17 @@ pub enum Measured {
     Refused(u32),
 }
 
+impl Measured {
+    pub fn number(self) -> u32
+        ensures { λ r. ⌜ r ≡ answer self .number ⌝ }
+    {
+        match self {
+            Measured::Words { words: _, reach: _ } => 0,
+            Measured::Refused(n) => n,
+        }
+    }
+}
+
 // What the check of the header answers.
 enum Header {
     Count(usize),

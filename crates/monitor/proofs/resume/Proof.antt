@@ -5,10 +5,12 @@ use mathlib.Core.Path.{_≡_, sym, _∙_}
 use native.Mathlib.Omega.{arith}
 use lib.ListN.{length}
 use lib.Seq.{length-take-le, getD-take}
+use Rattle.rule.specs.Entries.{count, decoded}
+use Rattle.monitor.specs.Refusal.{point-refusal}
 use Rattle.monitor.specs.Code.{sized-of}
 use Rattle.monitor.specs.declared.check.Sized.the-variants.{Words}
 use Rattle.monitor.proofs.Sizes.{Enough, enough}
-use Rattle.monitor.proofs.Resuming.{resume-stopped, resume-refused, resume-given, passes}
+use Rattle.monitor.proofs.Resuming.{resume-stopped, resume-refused, resume-given, passed, passes}
 use Rattle.monitor.proofs.resume.Statement.{statement}
 use Rattle.monitor.proofs.resume.Tie as tie
 
@@ -24,6 +26,12 @@ fit : (d : tie.After-sized) →
 fit d =
     let a = d .before .before .before .before .before .before .before .args in
     enough (a .rule .now) (length (a .point .now)) (d .sized .given .0 .0) (words-of d)
+
+-- no refusal applies where the check passed
+none-of : (d : tie.After-enum-told2) →
+    let a = d .before .before .before .before .before .before .before .before .before .before .before .before .args in
+    point-refusal (decoded (a .rule .now)) (count (a .rule .now)) (a .log .now) (a .point .now) ≡ 0
+none-of d = passed _ (sym (d .enum-told2 .given .1) ∙ d .before .before .check-point .ensures)
 
 size-of-requires : tie.Need-size-of-requires
 size-of-requires c κs = search needs
@@ -52,27 +60,39 @@ returns c =
     (c .before .enum-told .given .1)
     (c .number .ensures)
 
-reason-requires : tie.Need-reason-requires
-reason-requires c κs =
+check-point-requires : tie.Need-check-point-requires
+check-point-requires c κs =
     let e = fit (c .before .before) in
     (e .accepted, e .room)
+
+enum-told-2 : tie.Need-enum-told-2
+enum-told-2 c = search needs
+
+enum-told-3 : tie.Need-enum-told-3
+enum-told-3 c = search needs
+
+number-requires-2 : tie.Need-number-requires-2
+number-requires-2 c κs = search needs
 
 same-length : tie.Need-same-length
 same-length c = search needs
 
 returns-2 : tie.Need-returns-2
 returns-2 c =
-    let a = c .before .before .before .before .before .before .before .before .before .before .before .args in
+    let a = c .before .before .before .before .before .before .before .before .before .before .before .before .before .args in
     resume-refused
     (a .rule .now)
     (a .log .now)
     (a .point .now)
     (a .sheet .now)
-    (c .before .before .before .before .sized .given .0 .0)
-    (c .before .reason .result)
-    (words-of (c .before .before .before .before))
-    (c .before .reason .ensures)
-    (c .if1 .taken)
+    (c .before .before .before .before .before .before .sized .given .0 .0)
+    (c .before .before .before .check-point .result)
+    (c .before .enum-told3 .given .0 .0)
+    (c .number2 .result)
+    (words-of (c .before .before .before .before .before .before))
+    (c .before .before .before .check-point .ensures)
+    (c .before .enum-told3 .given .1)
+    (c .number2 .ensures)
 
 records-requires : tie.Need-records-requires
 records-requires c κs = search needs
@@ -85,15 +105,15 @@ part-carry-on-start c = search needs
 
 part-carry-on-end : tie.Need-part-carry-on-end
 part-carry-on-end c =
-    let e = fit (c .before .before .before .before .before) in
+    let e = fit (c .before .before .before .before .before .before) in
     omega arith
 
 carry-on-requires : tie.Need-carry-on-requires
 carry-on-requires c κs =
-    let a = c .before .before .before .before .before .before .before .before .before .before .before .before .before .before .args in
-    let w = c .before .before .before .before .before .before .before .sized .given .0 .0 in
-    let e = fit (c .before .before .before .before .before .before .before) in
-    let p = passes (a .rule .now) (a .log .now) (a .point .now) (c .before .before .before .before .reason .result) (c .before .before .before .before .reason .ensures) (c .before .before .before .if1 .left) in (
+    let a = c .before .before .before .before .before .before .before .before .before .before .before .before .before .before .before .args in
+    let w = c .before .before .before .before .before .before .before .before .sized .given .0 .0 in
+    let e = fit (c .before .before .before .before .before .before .before .before) in
+    let p = passes (a .rule .now) (a .log .now) (a .point .now) (none-of (c .before .before .before)) in (
       e .accepted,
       omega (arith, length-take-le (w - 0) (a .point .now) (omega arith)),
       omega (arith, getD-take (w - 0) (a .point .now) 1 0 (omega arith)),
@@ -107,8 +127,7 @@ same-length-3 c = search needs
 
 returns-3 : tie.Need-returns-3
 returns-3 c =
-    let a = c .before .before .before .before .before .before .before .before .before .before .before .before .before .before .before .before .before .before .before .args in
-    let w = c .before .before .before .before .before .before .before .before .before .before .before .before .sized .given .0 .0 in
+    let a = c .before .before .before .before .before .before .before .before .before .before .before .before .before .before .before .before .before .before .before .before .args in
     let y = c .before .before .before .before .carry-on in
     resume-given
     (a .rule .now)
@@ -116,14 +135,12 @@ returns-3 c =
     (a .point .now)
     (a .sheet .now)
     (c .before .before .before .before .before .before .before .records .result .now)
-    w
-    (c .before .before .before .before .before .before .before .before .before .reason .result)
+    (c .before .before .before .before .before .before .before .before .before .before .before .before .before .sized .given .0 .0)
     (y .result)
     (y .last .1 .1 .0)
     (y .last .1 .1 .1 .0)
-    (words-of (c .before .before .before .before .before .before .before .before .before .before .before .before))
-    (c .before .before .before .before .before .before .before .before .before .reason .ensures)
-    (c .before .before .before .before .before .before .before .before .if1 .left)
+    (words-of (c .before .before .before .before .before .before .before .before .before .before .before .before .before))
+    (none-of (c .before .before .before .before .before .before .before .before))
     (c .before .before .before .before .before .before .before .records .ensures)
     (y .ensures)
 
@@ -136,7 +153,10 @@ resume-spec =
     enum-told
     number-requires
     returns
-    reason-requires
+    check-point-requires
+    enum-told-2
+    enum-told-3
+    number-requires-2
     same-length
     returns-2
     records-requires

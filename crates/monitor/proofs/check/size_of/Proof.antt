@@ -2,7 +2,9 @@
 use native.Mathlib.Omega.{arith}
 use mathlib.Core.Path.{sym, ap, _∙_}
 use borrow.Author.Needs.{needs}
+use Rattle.rule.specs.declared.Measured.{Measured}
 use Rattle.rule.specs.Measure.{answer}
+use Rattle.monitor.specs.declared.check.Sized.the-variants.{Stopped}
 use Rattle.monitor.proofs.Sizes.{stopped, sized, short}
 use Rattle.monitor.proofs.check.size_of.Statement.{statement}
 use Rattle.monitor.proofs.check.size_of.Tie as tie
@@ -10,25 +12,32 @@ use Rattle.monitor.proofs.check.size_of.Tie as tie
 measure-requires : tie.Need-measure-requires
 measure-requires c κs = search needs
 
-enum-known-n : tie.Need-enum-known-n
-enum-known-n c = search needs
+enum-known-measured : tie.Need-enum-known-measured
+enum-known-measured c = search needs
 
-enum-known-words : tie.Need-enum-known-words
-enum-known-words c = search needs
+enum-told : tie.Need-enum-told
+enum-told c = search needs
+
+number-requires : tie.Need-number-requires
+number-requires c κs = search needs
 
 returns : tie.Need-returns
-returns c = let a = c .before .before .before .before .before .args in stopped (a .rule .now) (a .lent) _ (ap answer (sym (c .before .n .given .1)) ∙ c .before .before .before .measure .ensures)
+returns c =
+    let a = c .before .before .before .before .before .args in
+    let told = c .before .enum-told .given .1 in
+    ap Stopped (c .number .ensures ∙ ap (λ (r : Measured). answer r .number) told)
+    ∙ stopped (a .rule .now) (a .lent) _ (ap answer (sym told) ∙ c .before .before .before .measure .ensures)
 
 returns-2 : tie.Need-returns-2
 returns-2 c =
     let a = c .before .before .before .before .before .before .args in
-    short (a .rule .now) _ _ (a .lent) (ap answer (sym (c .before .before .words .given .1)) ∙ c .before .before .before .before .measure .ensures) (omega arith)
+    short (a .rule .now) _ _ (a .lent) (ap answer (sym (c .before .before .measured .given .1)) ∙ c .before .before .before .before .measure .ensures) (omega arith)
 
 returns-3 : tie.Need-returns-3
 returns-3 c =
     let a = c .before .before .before .before .before .before .args in
-    sized (a .rule .now) _ _ (a .lent) (ap answer (sym (c .before .before .words .given .1)) ∙ c .before .before .before .before .measure .ensures) (omega arith)
+    sized (a .rule .now) _ _ (a .lent) (ap answer (sym (c .before .before .measured .given .1)) ∙ c .before .before .before .before .measure .ensures) (omega arith)
 
 pub size-of-spec : {M : Type 1} → statement M
 size-of-spec =
-    tie.close (tie.spec measure-requires enum-known-n enum-known-words returns returns-2 returns-3)
+    tie.close (tie.spec measure-requires enum-known-measured enum-told number-requires returns returns-2 returns-3)

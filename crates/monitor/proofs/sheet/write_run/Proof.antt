@@ -1,5 +1,5 @@
--- `monitor::sheet::write_run` meets its contract. The invariant: the bytes up to `i` are written.
-use Prim.Native.Nat.{ℕ, _≤_, _-_}
+-- `monitor::sheet::write_run` meets its contract. The loop's invariant: the bytes up to `i` are written.
+use Prim.Native.Nat.{ℕ, _+_, _≤_, _-_}
 use mathlib.Core.Path.{_≡_, refl, ap, _∙_}
 use mathlib.Core.List.{List}
 use native.Mathlib.Omega.{arith}
@@ -15,13 +15,29 @@ Inv-loop sheet₀ from to verdict i₀ sheet i =
 abbrev μ-loop : tie.MeasureT-loop
 μ-loop sheet₀ from to verdict i₀ sheet i = to - i
 
-loop-holds : tie.Need-loop-holds Inv-loop μ-loop
-loop-holds c =
-    let a = c .args in
-    (omega arith, omega arith, refl, written-none (a .from) (a .verdict) (a .sheet .now))
+sub-if1 : tie.Need-sub-if1 Inv-loop μ-loop
+sub-if1 c = omega arith
 
 slice-write-sheet : tie.Need-slice-write-sheet Inv-loop μ-loop
 slice-write-sheet c = omega arith
+
+same-length : tie.Need-same-length Inv-loop μ-loop
+same-length c = simp length-set (omega arith)
+
+returns : tie.Need-returns Inv-loop μ-loop
+returns c =
+    let a = c .before .args in
+    let next : a .from + 1 ≡ a .to = omega arith in
+    rw next at (ap (λ (s : List ℕ). set s (a .from) (a .verdict)) (written-none (a .from) (a .verdict) (a .sheet .now)) ∙
+    written-more (a .from) (a .from) (a .verdict) (a .sheet .now) (omega arith) (omega arith) (omega arith))
+
+loop-holds : tie.Need-loop-holds Inv-loop μ-loop
+loop-holds c =
+    let a = c .before .args in
+    (omega arith, omega arith, refl, written-none (a .from) (a .verdict) (a .sheet .now))
+
+slice-write-sheet-2 : tie.Need-slice-write-sheet-2 Inv-loop μ-loop
+slice-write-sheet-2 c = omega arith
 
 add-i : tie.Need-add-i Inv-loop μ-loop
 add-i c = omega arith
@@ -31,7 +47,7 @@ loop-less c = omega arith
 
 loop-again : tie.Need-loop-again Inv-loop μ-loop
 loop-again c =
-    let a = c .before .before .args in
+    let a = c .before .before .before .args in
     let l = c .before .loop in (
       omega arith,
       omega arith,
@@ -40,13 +56,13 @@ loop-again c =
           written-more (a .from) (l .i) (a .verdict) (a .sheet .now) (omega arith) (omega arith) (omega arith),
     )
 
-same-length : tie.Need-same-length Inv-loop μ-loop
-same-length c = omega arith
+same-length-2 : tie.Need-same-length-2 Inv-loop μ-loop
+same-length-2 c = omega arith
 
-returns : tie.Need-returns Inv-loop μ-loop
-returns c =
+returns-2 : tie.Need-returns-2 Inv-loop μ-loop
+returns-2 c =
     let l = c .before .loop in
-    let last : l .i ≡ c .before .before .args .to = omega arith in
+    let last : l .i ≡ c .before .before .before .args .to = omega arith in
     rw last at (l .inv .3)
 
 pub write-run-spec : {M : Type 1} → statement M
@@ -55,10 +71,14 @@ write-run-spec =
     (tie.spec
     Inv-loop
     μ-loop
-    loop-holds
+    sub-if1
     slice-write-sheet
+    same-length
+    returns
+    loop-holds
+    slice-write-sheet-2
     add-i
     loop-less
     loop-again
-    same-length
-    returns)
+    same-length-2
+    returns-2)
