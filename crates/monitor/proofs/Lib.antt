@@ -1,5 +1,5 @@
 -- The laws behind the proofs of the monitor's functions, and the theorems about lists of calls.
--- Offsets, Copies, Sizes, Starts: the checks and a fresh checkpoint. Tallies: tally. Written, Holding, Giving, Carrying, Resuming:
+-- Offsets, Copies, Sizes, Starts: the checks and a fresh checkpoint. Tallies: tally. Written, Holding, Giving, Proceeding, Resuming:
 -- the verdicts of a call. VerdictBytes, OwnCheckpoint, SameRule, Demand3, Truth: lists of calls.
 pub mod Offsets
 pub mod Copies
@@ -9,7 +9,7 @@ pub mod Tallies
 pub mod Written
 pub mod Holding
 pub mod Giving
-pub mod Carrying
+pub mod Proceeding
 pub mod Resuming
 pub mod VerdictBytes
 pub mod OwnCheckpoint

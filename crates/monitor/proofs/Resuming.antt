@@ -32,7 +32,7 @@ use Rattle.monitor.specs.Refusal.{first, before, open-refusal, log-refus
 use Rattle.monitor.specs.Verdicts.{formula-of}
 use Rattle.monitor.specs.Stands.{Top, last-of, Stands}
 use Rattle.monitor.specs.Resume.{Resumes}
-use Rattle.monitor.specs.Code.{sized-of, sized-number, checked-by, checked-number, Carried, CarriesOn}
+use Rattle.monitor.specs.Code.{sized-of, sized-number, checked-by, checked-number, Proceeded, Proceeds}
 use Rattle.monitor.specs.declared.check.Sized.{Sized}
 use Rattle.monitor.specs.declared.check.Sized.the-variants.{Words, Stopped}
 use Rattle.monitor.specs.declared.check.Checked.{Checked}
@@ -184,7 +184,7 @@ module _ (s : List ℕ) (K L : Log) (d : ℕ) (longer : Continues K L) (agrees :
 -- an accepted call: the words that the rule needs are ws′ then, the others are kept
 module _ (rule log p sheet : List ℕ) (ok : refusal rule ≡ 0) (room : need rule ≤ length p)
     (none : point-refusal (decoded rule) (count rule) log p ≡ 0) (c : ℕ) (more : Bool) (ws′ sheet′ : List ℕ)
-    (done : Carried rule (records-of log) (take (need rule) p) sheet c more ws′ sheet′) where
+    (done : Proceeded rule (records-of log) (take (need rule) p) sheet c more ws′ sheet′) where
   size : length ws′ ≡ need rule
   size = done .words-length ∙ length-take-le (need rule) p room
 
@@ -249,7 +249,7 @@ module _ (rule log p sheet : List ℕ) (ok : refusal rule ≡ 0) (room : need ru
 -- the records and the words as they were lent, and the words as they came back
 pub resume-given : (rule log p sheet records : List ℕ) (w : ℕ) (r : Resumed) (ws′ sheet′ : List ℕ) →
     Words w ≡ sized-of rule (length p) → point-refusal (decoded rule) (count rule) log p ≡ 0 → records ≡ records-of log →
-    CarriesOn rule records (part 0 w p) sheet r ws′ sheet′ → Resumes rule log p sheet r (put-back 0 w ws′ p) sheet′
+    Proceeds rule records (part 0 w p) sheet r ws′ sheet′ → Resumes rule log p sheet r (put-back 0 w ws′ p) sheet′
 resume-given rule log p sheet records w (Given c more) ws′ sheet′ sized none handed done =
     let e = enough rule (length p) w sized in
     let is : w - 0 ≡ need rule = sub-zero w ∙ e .words-are in

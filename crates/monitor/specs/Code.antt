@@ -88,7 +88,7 @@ pub record Gave (t s : List ℕ) (k : ℕ) (ws sheet : List ℕ) (c : ℕ) (ws�
       Giving φ L d c ws′ sheet′ × (c < length sheet → progress φ L ≡ d + c)
 
 -- an accepted call on exactly the words that the rule needs
-pub record Carried (rule s ws sheet : List ℕ) (c : ℕ) (more : Bool) (ws′ sheet′ : List ℕ) : Type 0 where
+pub record Proceeded (rule s ws sheet : List ℕ) (c : ℕ) (more : Bool) (ws′ sheet′ : List ℕ) : Type 0 where
   pub room : c ≤ length sheet
   pub rest : drop c sheet′ ≡ drop c sheet
   pub sheet-length : length sheet′ ≡ length sheet
@@ -103,6 +103,6 @@ pub record Carried (rule s ws sheet : List ℕ) (c : ℕ) (more : Bool) (ws′ s
       Giving (formula-of rule) L d c ws′ sheet′ × (c ≡ min (progress (formula-of rule) L - d) (length sheet)) ×
       (more ≡ ltb (d + c) (progress (formula-of rule) L))
 
-abbrev pub CarriesOn : (rule s ws sheet : List ℕ) → Resumed → (ws′ sheet′ : List ℕ) → Type 0
-CarriesOn rule s ws sheet (Given c more) ws′ sheet′ = Carried rule s ws sheet c more ws′ sheet′
-CarriesOn rule s ws sheet (Refused n) ws′ sheet′ = ⊥
+abbrev pub Proceeds : (rule s ws sheet : List ℕ) → Resumed → (ws′ sheet′ : List ℕ) → Type 0
+Proceeds rule s ws sheet (Given c more) ws′ sheet′ = Proceeded rule s ws sheet c more ws′ sheet′
+Proceeds rule s ws sheet (Refused n) ws′ sheet′ = ⊥

@@ -6,7 +6,7 @@ ghost use lib.ListN.{length};
 ghost use Rattle.rule.specs.Refusal.{refusal};
 ghost use Rattle.engine.specs.Table.{RowsOk, column};
 ghost use Rattle.monitor.specs.Checkpoint.{need, given};
-ghost use Rattle.monitor.specs.Code.{Holds, Gave, CarriesOn};
+ghost use Rattle.monitor.specs.Code.{Holds, Gave, Proceeds};
 use super::Resumed;
 use super::sheet;
 
@@ -58,9 +58,9 @@ fn give(
 }
 
 // Gives the verdicts that are settled, as far as the sheet goes, and notes what was seen of the log.
-pub fn carry_on(rule: &[u8], records: &[u8], words: &mut [u64], sheet: &mut [u8]) -> Resumed
+pub fn proceed(rule: &[u8], records: &[u8], words: &mut [u64], sheet: &mut [u8]) -> Resumed
     requires { ⌜ (refusal (now rule) ≡ 0) × (length (now words) ≡ need (now rule)) × (given (now words) ≤ 1000000) ⌝ }
-    ensures { λ r. ⌜ CarriesOn (now (rule .entry)) (now (records .entry)) (now (words .entry)) (now (sheet .entry)) r (now (words .exit)) (now (sheet .exit)) ⌝ }
+    ensures { λ r. ⌜ Proceeds (now (rule .entry)) (now (records .entry)) (now (words .entry)) (now (sheet .entry)) r (now (words .exit)) (now (sheet .exit)) ⌝ }
 {
     let entries = rule::entries(rule);
     let count = rule::entry_count(rule);

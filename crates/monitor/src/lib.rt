@@ -54,7 +54,7 @@ pub fn resume(rule: &[u8], log: &[u8], point: &mut [u64], sheet: &mut [u8]) -> R
     let Checked::Passed = checked else {
         return Resumed::Refused(checked.number());
     };
-    give::carry_on(rule, trace::records(log), &mut point[0..words], sheet)
+    give::proceed(rule, trace::records(log), &mut point[0..words], sheet)
 }
 
 // Counts the verdicts of a sheet.

@@ -1,4 +1,4 @@
--- `monitor::resume` meets its contract: a refusal has written nothing, and an accepted call lends `carry_on` the words that the rule needs.
+-- `monitor::resume` meets its contract: a refusal has written nothing, and an accepted call lends `proceed` the words that the rule needs.
 use borrow.Author.Needs.{needs}
 use Prim.Native.Nat.{_-_}
 use mathlib.Core.Path.{_≡_, sym, _∙_}
@@ -97,19 +97,19 @@ returns-2 c =
 records-requires : tie.Need-records-requires
 records-requires c κs = search needs
 
-sub-carry-on : tie.Need-sub-carry-on
-sub-carry-on c = search needs
+sub-proceed : tie.Need-sub-proceed
+sub-proceed c = search needs
 
-part-carry-on-start : tie.Need-part-carry-on-start
-part-carry-on-start c = search needs
+part-proceed-start : tie.Need-part-proceed-start
+part-proceed-start c = search needs
 
-part-carry-on-end : tie.Need-part-carry-on-end
-part-carry-on-end c =
+part-proceed-end : tie.Need-part-proceed-end
+part-proceed-end c =
     let e = fit (c .before .before .before .before .before .before) in
     omega arith
 
-carry-on-requires : tie.Need-carry-on-requires
-carry-on-requires c κs =
+proceed-requires : tie.Need-proceed-requires
+proceed-requires c κs =
     let a = c .before .before .before .before .before .before .before .before .before .before .before .before .before .before .before .args in
     let w = c .before .before .before .before .before .before .before .before .sized .given .0 .0 in
     let e = fit (c .before .before .before .before .before .before .before .before) in
@@ -128,7 +128,7 @@ same-length-3 c = search needs
 returns-3 : tie.Need-returns-3
 returns-3 c =
     let a = c .before .before .before .before .before .before .before .before .before .before .before .before .before .before .before .before .before .before .before .before .args in
-    let y = c .before .before .before .before .carry-on in
+    let y = c .before .before .before .before .proceed in
     resume-given
     (a .rule .now)
     (a .log .now)
@@ -160,10 +160,10 @@ resume-spec =
     same-length
     returns-2
     records-requires
-    sub-carry-on
-    part-carry-on-start
-    part-carry-on-end
-    carry-on-requires
+    sub-proceed
+    part-proceed-start
+    part-proceed-end
+    proceed-requires
     same-length-2
     same-length-3
     returns-3)

@@ -27,7 +27,7 @@ use Rattle.engine.proofs.Rows.{rows-ok, has-at, column-is-part}
 use Rattle.monitor.specs.Checkpoint.{need}
 use Rattle.monitor.specs.Verdicts.{formula-of}
 use Rattle.monitor.specs.Stands.{Top}
-use Rattle.monitor.specs.Code.{Holding, Holds, Gave, Carried}
+use Rattle.monitor.specs.Code.{Holding, Holds, Gave, Proceeded}
 use Rattle.monitor.proofs.Giving.{agrees-later}
 
 -- the table of an accepted rule: its last entry is the rule's formula
@@ -102,12 +102,12 @@ counted φ L d c room true ws′ fits short some top =
 counted φ L d c room false ws′ fits short some (top, is-open) =
     record { top = top; count = omega arith; more = sym (le-ltb (d + c) (progress φ L) (omega arith)) }
 
-pub carried : (rule table s : List ℕ) (k : ℕ) (ws sheet : List ℕ) (c : ℕ) (ws₁ sheet₁ : List ℕ) (more : Bool) (ws₂ : List ℕ)
+pub proceeded : (rule table s : List ℕ) (k : ℕ) (ws sheet : List ℕ) (c : ℕ) (ws₁ sheet₁ : List ℕ) (more : Bool) (ws₂ : List ℕ)
     (time size : ℕ) → Tabled rule table k → 16 ≤ length ws → ((i : ℕ) → getD s i 0 < 256) →
     Gave table s k ws sheet c ws₁ sheet₁ → Holds table s k ws₁ more ws₂ →
     time ≡ last-time s (word ws₂ 2) (word ws₂ 3) → size ≡ record-count s →
-    Carried rule s ws sheet c more (noted time size ws₂) sheet₁
-carried rule table s k ws sheet c ws₁ sheet₁ more ws₂ time size tab room byte gave held timed sized =
+    Proceeded rule s ws sheet c more (noted time size ws₂) sheet₁
+proceeded rule table s k ws sheet c ws₁ sheet₁ more ws₂ time size tab room byte gave held timed sized =
     let wide : 16 ≤ length ws₂ = omega (arith, held .words-length, gave .words-length) in
     let seen-same = kept 2 (omega arith) (λ e. omega arith) (λ e. omega arith) (λ e. omega arith) in
     let last-same = kept 3 (omega arith) (λ e. omega arith) (λ e. omega arith) (λ e. omega arith) in

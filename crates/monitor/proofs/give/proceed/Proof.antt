@@ -1,13 +1,13 @@
--- `monitor::give::carry_on` meets its contract: what `give` and `hold` promise for the rule's formula, and the log's end noted.
+-- `monitor::give::proceed` meets its contract: what `give` and `hold` promise for the rule's formula, and the log's end noted.
 use borrow.Author.Needs.{needs}
 use Prim.Native.Nat.{_-_}
 use mathlib.Core.Path.{sym, _∙_}
 use native.Mathlib.Omega.{arith}
 use lib.ListN.{length-set}
 use Rattle.rule.proofs.Acceptance.{accepted}
-use Rattle.monitor.proofs.Carrying.{Tabled, tabled, carried}
-use Rattle.monitor.proofs.give.carry_on.Statement.{statement}
-use Rattle.monitor.proofs.give.carry_on.Tie as tie
+use Rattle.monitor.proofs.Proceeding.{Tabled, tabled, proceeded}
+use Rattle.monitor.proofs.give.proceed.Statement.{statement}
+use Rattle.monitor.proofs.give.proceed.Tie as tie
 
 -- the rule's table, once it is laid out
 table-of : (d : tie.After-lay-out) →
@@ -87,7 +87,7 @@ returns c =
     let d = c .before .before .before .before .before .before .before .before .before .before .before .before .before .before .before .before .before in
     let g = c .before .before .before .before .before .before .before .before .before .before .before .before .before .give in
     let h = c .before .before .before .before .before .before .hold in
-    carried
+    proceeded
     (a .rule .now)
     (d .lay-out .result)
     (a .records .now)
@@ -109,8 +109,8 @@ returns c =
     (c .before .last-time .ensures)
     (c .count .ensures)
 
-pub carry-on-spec : {M : Type 1} → statement M
-carry-on-spec =
+pub proceed-spec : {M : Type 1} → statement M
+proceed-spec =
     tie.close
     (tie.spec
     entries-requires
