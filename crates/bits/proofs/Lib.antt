@@ -1,0 +1,2 @@
+-- Laws on words of answers that the layers above cite.
+pub mod Laws

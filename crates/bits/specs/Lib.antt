@@ -1,0 +1,2 @@
+-- Words of answers.
+pub mod Packed

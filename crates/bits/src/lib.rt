@@ -1,0 +1,41 @@
+// Words of answers: bit i of a word, the one worth 2 to the i, answers the i-th of up to 64 positions.
+ghost use mathlib.Core.Path.{_≡_};
+ghost use Prim.Native.Nat.{_+_, _*_, _/_, _%_, _<_, _^_};
+ghost use Rattle.bits.specs.Packed.{bit, number, with-bit, moved-up};
+
+// 1 for true.
+pub fn flag(x: bool) -> u64
+    ensures { λ r. ⌜ r ≡ number x ⌝ }
+{
+    if x { 1 } else { 0 }
+}
+
+// Bit i.
+pub fn test(word: u64, i: u64) -> bool
+    requires { ⌜ i < 64 ⌝ }
+    ensures { λ r. ⌜ r ≡ bit word i ⌝ }
+{
+    (word >> i) % 2 == 1
+}
+
+// The bits behind the first n.
+pub fn rest(word: u64, n: u64) -> u64
+    ensures { λ r. ⌜ r ≡ word / 2 ^ n ⌝ }
+{
+    if n < 64 { word >> n } else { 0 }
+}
+
+// A word of n bits with one more behind them.
+pub fn push(word: u64, n: u64, x: bool) -> u64
+    requires { ⌜ (n < 64) × (word < 2 ^ n) ⌝ }
+    ensures { λ r. ⌜ (r ≡ with-bit word n x) × (r < 2 ^ (n + 1)) ⌝ }
+{
+    word + (flag(x) << n)
+}
+
+// The bits moved up by one, with x below them. The last of 64 is lost.
+pub fn move_up(word: u64, x: bool) -> u64
+    ensures { λ r. ⌜ r ≡ moved-up word x ⌝ }
+{
+    (word << 1) + flag(x)
+}
