@@ -1,58 +1,189 @@
 -- Words of answers: taken apart, put together, and combined bit by bit. Assumes nothing.
-use Prim.Native.Nat.{ℕ, _+_, _*_, _-_, _/_, _%_, _≤_, _<_, _^_}
-use mathlib.Core.Bool.{Bool, _&&_, _||_}
+use Prim.Native.Nat.{ℕ, zero, suc, _+_, _*_, _-_, _/_, _%_, _≤_, _<_, _^_}
+use native.Mathlib.Nat.{add-mul-div-right, add-mul-mod-self-right, div-eq-of-lt, eq-or-lt-of-le, pow-suc}
+use native.Mathlib.Numerals.{add-one}
+use native.Mathlib.Omega.{arith}
+use mathlib.Core.Bool.{Bool, true, false, _&&_, _||_}
 use mathlib.Core.Bool.{not as negate}
-use mathlib.Core.Path.{_≡_}
-use lib.Bits.{bitAnd, bitOr}
+use mathlib.Core.Logic.{⊎-elim}
+use mathlib.Core.Path.{_≡_, refl, sym, ap, ap₂, _∙_}
+use borrow.Author.Tests.{eq-eqb, ne-eqb}
+use lib.Bits.{bitAnd, bitOr, and-shr, and-mod, or-shr, or-mod}
+use lib.Dec.{eqb}
+use lib.Pow.{field, mod-mod-pow, pow-add, pow-pos, shr-shr}
 use Rattle.bits.specs.Packed.{bit, number, with-bit, moved-up, Packed}
+
+pub number-lt : (x : Bool) → number x < 2
+number-lt true = omega arith
+number-lt false = omega arith
+
+number-digit : (d : ℕ) → d < 2 → number (eqb d 1) ≡ d
+number-digit zero h = refl
+number-digit (suc zero) h = refl
+number-digit (suc (suc d)) h = absurd (omega arith)
+
+-- a bit as a number
+pub number-bit : (w i : ℕ) → number (bit w i) ≡ w / 2 ^ i % 2
+number-bit w i = number-digit (w / 2 ^ i % 2) (omega arith)
 
 -- bit 0, and the bits of a half
 pub bit-first : (w : ℕ) (x : Bool) → bit (w * 2 + number x) 0 ≡ x
-bit-first = ?
-
-pub bit-next : (w : ℕ) (x : Bool) (i : ℕ) → bit (w * 2 + number x) (i + 1) ≡ bit w i
-bit-next = ?
+bit-first w true = eq-eqb ((w * 2 + 1) / 2 ^ 0 % 2) 1 (omega arith)
+bit-first w false = ne-eqb ((w * 2 + 0) / 2 ^ 0 % 2) 1 (omega arith)
 
 pub bit-rest : (w n i : ℕ) → bit (w / 2 ^ n) i ≡ bit w (n + i)
-bit-rest = ?
+bit-rest w n i = ap (λ (v : ℕ). eqb (v % 2) 1) (shr-shr w n i)
+
+-- the bits behind the first, one place further down
+bit-half : (w i : ℕ) → bit w (suc i) ≡ bit (w / 2) i
+bit-half w i = ap (bit w) (omega arith) ∙ sym (bit-rest w 1 i)
+
+half : (w : ℕ) (x : Bool) → (w * 2 + number x) / 2 ≡ w
+half w true = omega arith
+half w false = omega arith
+
+pub bit-next : (w : ℕ) (x : Bool) (i : ℕ) → bit (w * 2 + number x) (i + 1) ≡ bit w i
+bit-next w x i = ap (bit (w * 2 + number x)) (add-one i) ∙ bit-half (w * 2 + number x) i ∙ ap (λ (v : ℕ). bit v i) (half w x)
 
 pub with-bit-lt : (w n : ℕ) (x : Bool) → w < 2 ^ n → with-bit w n x < 2 ^ (n + 1)
-with-bit-lt = ?
+with-bit-lt w n true h = omega (arith, pow-add 2 n 1)
+with-bit-lt w n false h = omega (arith, pow-add 2 n 1)
+
+-- no bit below n is lost by a remainder
+bit-mod : (w n i : ℕ) → i < n → bit (w % 2 ^ n) i ≡ bit w i
+bit-mod w n i h =
+    let j = n - (1 + i) in
+    let e : n ≡ (j + 1) + i = omega arith in
+    ap (λ (m : ℕ). bit (w % 2 ^ m) i) e
+    ∙ ap (λ (v : ℕ). eqb (v % 2) 1) (field w (j + 1) i)
+    ∙ ap (λ (v : ℕ). eqb v 1) (mod-mod-pow (w / 2 ^ i) j 1)
+
+-- a bit behind the first n is above them
+bit-below : (w n y i : ℕ) → i < n → bit (w + y * 2 ^ n) i ≡ bit w i
+bit-below w n y i h =
+    sym (bit-mod (w + y * 2 ^ n) n i h) ∙ ap (λ (v : ℕ). bit v i) (add-mul-mod-self-right w y (2 ^ n)) ∙ bit-mod w n i h
+
+bit-number : (x : Bool) → eqb ((0 + number x) % 2) 1 ≡ x
+bit-number true = refl
+bit-number false = refl
+
+bit-top : (w n : ℕ) (x : Bool) → w < 2 ^ n → bit (with-bit w n x) n ≡ x
+bit-top w n x h =
+    ap (λ (v : ℕ). eqb (v % 2) 1) (add-mul-div-right w (number x) (pow-pos n) ∙ ap (λ (v : ℕ). v + number x) (div-eq-of-lt h))
+    ∙ bit-number x
 
 -- no positions
 pub packed-none : (f : ℕ → Bool) (p w : ℕ) → Packed f p 0 w
-packed-none = ?
+packed-none f p w = record { few = omega arith; same = λ i h. absurd (omega arith) }
 
 -- the first m of them
 pub packed-first : (f : ℕ → Bool) (p n w m : ℕ) → m ≤ n → Packed f p n w → Packed f p m w
-packed-first = ?
+packed-first f p n w m h k = record { few = omega arith; same = λ i l. k .same i (omega arith) }
 
 -- those behind the first m
 pub packed-rest : (f : ℕ → Bool) (p n w m : ℕ) → m ≤ n → Packed f p n w → Packed f (p + m) (n - m) (w / 2 ^ m)
-packed-rest = ?
+packed-rest f p n w m h k = record {
+  few = omega arith;
+  same = λ i l. ap f (omega arith) ∙ k .same (m + i) (omega arith) ∙ sym (bit-rest w m i);
+}
 
 -- one more in front of them, or behind them
 pub packed-front : (f : ℕ → Bool) (p n w : ℕ) (x : Bool) → n < 64 → f p ≡ x → Packed f (p + 1) n w → Packed f p (n + 1) (w * 2 + number x)
-packed-front = ?
+packed-front f p n w x h e k = record { few = omega arith; same = at }
+  where
+    at : (i : ℕ) → i < n + 1 → f (p + i) ≡ bit (w * 2 + number x) i
+    at zero l = ap f (omega arith) ∙ e ∙ sym (bit-first w x)
+    at (suc i) l =
+        ap f (omega arith) ∙ k .same i (omega arith) ∙ sym (bit-next w x i) ∙ ap (bit (w * 2 + number x)) (add-one i)
 
 pub packed-push : (f : ℕ → Bool) (p n w : ℕ) (x : Bool) → n < 64 → w < 2 ^ n → f (p + n) ≡ x → Packed f p n w → Packed f p (n + 1) (with-bit w n x)
-packed-push = ?
+packed-push f p n w x h small e k = record {
+  few = omega arith;
+  same = λ i l.
+      ⊎-elim
+      (λ top. ap (λ (j : ℕ). f (p + j)) top ∙ e ∙ sym (bit-top w n x small) ∙ ap (bit (with-bit w n x)) (sym top))
+      (λ below. k .same i below ∙ sym (bit-below w n (number x) i below))
+      (eq-or-lt-of-le (omega arith));
+}
 
 -- answers that agree, position by position
 pub packed-same : (f g : ℕ → Bool) (p q n w : ℕ) → ((i : ℕ) → i < n → g (q + i) ≡ f (p + i)) → Packed f p n w → Packed g q n w
-packed-same = ?
+packed-same f g p q n w e k = record { few = k .few; same = λ i l. e i l ∙ k .same i l }
+
+moved-mod : (w : ℕ) (x : Bool) → moved-up w x ≡ (w * 2 + number x) % 2 ^ 64
+moved-mod w true = omega arith
+moved-mod w false = omega arith
 
 -- g is x at p, and from there on what f is one position before
 pub packed-moved : (f g : ℕ → Bool) (p n w : ℕ) (x : Bool) → w < 2 ^ 64 → g p ≡ x → ((i : ℕ) → i + 1 < n → g (p + (i + 1)) ≡ f (p + i)) →
     Packed f p n w → Packed g p n (moved-up w x)
-packed-moved = ?
+packed-moved f g p n w x h e moved k = record { few = k .few; same = λ i l. at i l ∙ sym (kept i (omega arith)) }
+  where
+    kept : (i : ℕ) → i < 64 → bit (moved-up w x) i ≡ bit (w * 2 + number x) i
+    kept i l = ap (λ (v : ℕ). bit v i) (moved-mod w x) ∙ bit-mod (w * 2 + number x) 64 i l
+
+    at : (i : ℕ) → i < n → g (p + i) ≡ bit (w * 2 + number x) i
+    at zero l = ap g (omega arith) ∙ e ∙ sym (bit-first w x)
+    at (suc i) l =
+        ap g (omega arith) ∙ moved i (omega arith) ∙ k .same i (omega arith) ∙ sym (bit-next w x i)
+        ∙ ap (bit (w * 2 + number x)) (add-one i)
 
 -- the connectives, bit by bit
+
+not-digits : (x y : ℕ) → x + y ≡ 1 → eqb x 1 ≡ negate (eqb y 1)
+not-digits zero y e = sym (ap negate (eq-eqb y 1 (omega arith)))
+not-digits (suc x) y e = eq-eqb (suc x) 1 (omega arith) ∙ sym (ap negate (ne-eqb y 1 (omega arith)))
+
+bit-not : (k w i : ℕ) → w < 2 ^ k → i < k → bit (2 ^ k - 1 - w) i ≡ negate (bit w i)
+bit-not zero w i h l = absurd (omega arith)
+bit-not (suc k) w zero h l = not-digits ((2 ^ suc k - 1 - w) / 2 ^ 0 % 2) (w / 2 ^ 0 % 2) (omega (arith, pow-suc 2 k))
+bit-not (suc k) w (suc i) h l =
+    let less : w / 2 < 2 ^ k = omega (arith, pow-suc 2 k) in
+    bit-half (2 ^ suc k - 1 - w) i
+    ∙ ap (λ (v : ℕ). bit v i) (omega (arith, pow-suc 2 k))
+    ∙ bit-not k (w / 2) i less (omega arith)
+    ∙ sym (ap negate (bit-half w i))
+
 pub packed-not : (f : ℕ → Bool) (p n w : ℕ) → w < 2 ^ 64 → Packed f p n w → Packed (λ i. negate (f i)) p n (2 ^ 64 - 1 - w)
-packed-not = ?
+packed-not f p n w h k = record {
+  few = k .few;
+  same = λ i l. ap negate (k .same i l) ∙ sym (bit-not 64 w i h (omega arith));
+}
+
+or-digits : (x y : ℕ) → x < 2 → y < 2 → eqb (bitOr x y) 1 ≡ eqb x 1 || eqb y 1
+or-digits zero y h l = refl
+or-digits (suc zero) zero h l = refl
+or-digits (suc zero) (suc zero) h l = refl
+or-digits (suc zero) (suc (suc y)) h l = absurd (omega arith)
+or-digits (suc (suc x)) y h l = absurd (omega arith)
+
+bit-or : (v w i : ℕ) → bit (bitOr v w) i ≡ bit v i || bit w i
+bit-or v w i =
+    ap (λ (u : ℕ). eqb (u % 2) 1) (or-shr v w i)
+    ∙ ap (λ (u : ℕ). eqb u 1) (or-mod (v / 2 ^ i) (w / 2 ^ i) 1)
+    ∙ or-digits (v / 2 ^ i % 2) (w / 2 ^ i % 2) (omega arith) (omega arith)
 
 pub packed-or : (f g : ℕ → Bool) (p n v w : ℕ) → Packed f p n v → Packed g p n w → Packed (λ i. f i || g i) p n (bitOr v w)
-packed-or = ?
+packed-or f g p n v w a b = record {
+  few = a .few;
+  same = λ i l. ap₂ (λ (x y : Bool). x || y) (a .same i l) (b .same i l) ∙ sym (bit-or v w i);
+}
+
+and-digits : (x y : ℕ) → x < 2 → y < 2 → eqb (bitAnd x y) 1 ≡ eqb x 1 && eqb y 1
+and-digits zero y h l = refl
+and-digits (suc zero) zero h l = refl
+and-digits (suc zero) (suc zero) h l = refl
+and-digits (suc zero) (suc (suc y)) h l = absurd (omega arith)
+and-digits (suc (suc x)) y h l = absurd (omega arith)
+
+bit-and : (v w i : ℕ) → bit (bitAnd v w) i ≡ bit v i && bit w i
+bit-and v w i =
+    ap (λ (u : ℕ). eqb (u % 2) 1) (and-shr v w i)
+    ∙ ap (λ (u : ℕ). eqb u 1) (and-mod (v / 2 ^ i) (w / 2 ^ i) 1)
+    ∙ and-digits (v / 2 ^ i % 2) (w / 2 ^ i % 2) (omega arith) (omega arith)
 
 pub packed-and : (f g : ℕ → Bool) (p n v w : ℕ) → Packed f p n v → Packed g p n w → Packed (λ i. f i && g i) p n (bitAnd v w)
-packed-and = ?
+packed-and f g p n v w a b = record {
+  few = a .few;
+  same = λ i l. ap₂ (λ (x y : Bool). x && y) (a .same i l) (b .same i l) ∙ sym (bit-and v w i);
+}

@@ -7,13 +7,9 @@ pub mod Uniform
 pub mod Fill
 pub mod Drive
 pub mod Words
-pub mod Simple
 pub mod ByKind
 pub mod Cells
 pub mod Witnesses
-pub mod Turn
-pub mod UntilLogic
-pub mod UntilSteps
 pub mod Longer
 pub mod Rows
 pub mod Entries

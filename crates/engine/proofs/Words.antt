@@ -1,5 +1,5 @@
 -- The words of a block after a chain of stores at literal indices. Assumes nothing.
-use Prim.Native.Nat.{ℕ, zero, suc, _+_, _≤_, _<_}
+use Prim.Native.Nat.{ℕ, zero, suc, _+_, _-_, _/_, _≤_, _<_, _^_, min}
 use native.Mathlib.Omega.{arith}
 use mathlib.Core.Bool.{Bool, true, false, cond}
 use mathlib.Core.List.{List, [], _∷_}
@@ -10,7 +10,9 @@ use lib.Seq.{getD-set-same, getD-set-other}
 use borrow.Author.Tests.{eqb-true, eqb-false}
 use Rattle.mtl.specs.Formula.{Formula}
 use Rattle.mtl.specs.Log.{Log}
+use Rattle.mtl.specs.Satisfaction.{sat}
 use Rattle.mtl.proofs.Until.{progress-le-size}
+use Rattle.bits.proofs.Laws.{packed-rest}
 use Rattle.trace.specs.Format.{record-count}
 use Rattle.engine.specs.Block.{word, taken, left-count, right-count, Copied, Buffer}
 use Rattle.engine.specs.Step.{empty, left-to-do}
@@ -59,21 +61,32 @@ word-stores (w ∷ ws) b i l k =
 pub copied : {kind letter low high : ℕ} {b b′ : List ℕ} → word b′ 14 ≡ word b 14 → word b′ 15 ≡ word b 15 → Copied kind letter low high b → Copied kind letter low high b′
 copied e f copy = record { head = e ∙ copy .head; ends = f ∙ copy .ends }
 
--- what is left of a buffer after some of its positions are taken
-pub later : {φ : Formula} {L : Log} {p count answer p′ count′ answer′ : ℕ} → p ≤ p′ → p′ + count′ ≤ p + count → answer′ ≡ answer →
-    Buffer φ L p count answer → Buffer φ L p′ count′ answer′
-later l h e b =
+-- what is left of a buffer after n of its positions are taken
+pub later : {φ : Formula} {L : Log} {p count bits p′ count′ bits′ : ℕ} (n : ℕ) → n ≤ count → p′ ≡ p + n → count′ ≡ count - n → bits′ ≡ bits / 2 ^ n →
+    Buffer φ L p count bits → Buffer φ L p′ count′ bits′
+later {φ = φ} {L = L} {p = p} {count = count} {bits = bits} n h at less rest b =
     let w = b .within in
-    record { within = omega arith; same = λ i lo hi. rw e (b .same i (omega arith) (omega arith)) }
+    record { within = omega arith; packed = rw (at, less, rest) (packed-rest (sat φ L) p count bits n h (b .packed)) }
 
 -- a buffer's positions lie within the log
-pub fits : {φ : Formula} {L : Log} {p count answer : ℕ} → Buffer φ L p count answer → p + count ≤ L .size
+pub fits : {φ : Formula} {L : Log} {p count bits : ℕ} → Buffer φ L p count bits → p + count ≤ L .size
 fits {φ = φ} {L = L} b = omega (arith, b .within, progress-le-size φ L)
 
 empty-most : (n : ℕ) → empty n ≤ 1
 empty-most zero = omega arith
 empty-most (suc n) = omega arith
 
--- a position taken leaves less to do
-pub less-to-do : (s b b′ : List ℕ) → taken b < record-count s → taken b′ ≡ taken b + 1 → left-to-do s b′ < left-to-do s b
-less-to-do s b b′ h e = omega (arith, empty-most (left-count b′), empty-most (right-count b′))
+-- positions taken leave less to do
+pub less-to-do : (s b b′ : List ℕ) (n : ℕ) → 0 < n → taken b + n ≤ record-count s → taken b′ ≡ taken b + n → left-to-do s b′ < left-to-do s b
+less-to-do s b b′ n some h e = omega (arith, empty-most (left-count b′), empty-most (right-count b′))
+
+-- what `available` gives: as many of count positions as there is room for, in the log and in one word
+pub record Available (at count total n : ℕ) : Type 0 where
+  pub most : n ≤ count
+  pub few : n ≤ 64
+  pub inside : 0 < n → at + n ≤ total
+  pub all : count ≤ 64 → at + count ≤ total → n ≡ count
+
+pub available : (at count total n : ℕ) → n ≡ min (min count (total - at)) 64 → Available at count total n
+available at count total n e =
+    record { most = omega arith; few = omega arith; inside = λ h. omega arith; all = λ h k. omega arith }

@@ -7,7 +7,7 @@ use lib.ListN.{length, take, drop, set}
 use Rattle.mtl.specs.Formula.{Formula}
 use Rattle.mtl.specs.Log.{Log, NeverFalls}
 use Rattle.mtl.specs.Progress.{progress}
-use Rattle.engine.specs.Step.{Agrees, Runs}
+use Rattle.engine.specs.Step.{Agrees, Gives}
 use Rattle.engine.specs.State.{State}
 use Rattle.engine.specs.Table.{Has}
 
@@ -18,20 +18,16 @@ part from to ws = take (to - from) (drop from ws)
 abbrev pub back : (from to : ℕ) → List ℕ → List ℕ → List ℕ
 back from to ys ws = take from ws ++ (ys ++ drop to ws)
 
-abbrev pub flag-of : Bool → ℕ
-flag-of true = 1
-flag-of false = 0
+-- a batch put into the buffer at slot
+abbrev pub stored : List ℕ → (slot bits count : ℕ) → List ℕ
+stored ws slot bits count = set (set ws slot count) (slot + 1) bits
 
--- a run put into the buffer at slot
-abbrev pub stored : List ℕ → ℕ → Bool → ℕ → List ℕ
-stored ws slot holds count = set (set ws slot count) (slot + 1) (flag-of holds)
-
--- the operand's own words are ys afterwards; filled: its run stands in the buffer; not filled: it is open
+-- the operand's own words are ys afterwards; filled: its batch stands in the buffer; not filled: it is open
 abbrev pub Filled : List ℕ → List ℕ → ℕ → (from to slot : ℕ) → List ℕ → Bool → List ℕ → List ℕ → Type 0
 Filled t s o from to slot ws true ws′ ys =
-    (holds : Bool) × (count : ℕ) × (1 ≤ count) × (ws′ ≡ stored (back from to ys ws) slot holds count) ×
+    (bits : ℕ) × (count : ℕ) × (1 ≤ count) × (ws′ ≡ stored (back from to ys ws) slot bits count) ×
     ((φ : Formula) (L : Log) (q : ℕ) → Has φ t o → NeverFalls L → Agrees s L q → State φ L q (part from to ws) →
-    Runs φ L q holds count × State φ L (q + count) ys)
+    Gives φ L q bits count × State φ L (q + count) ys)
 Filled t s o from to slot ws false ws′ ys =
     (ws′ ≡ back from to ys ws) ×
     ((φ : Formula) (L : Log) (q : ℕ) → Has φ t o → NeverFalls L → Agrees s L q → State φ L q (part from to ws) →

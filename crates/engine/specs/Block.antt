@@ -1,15 +1,16 @@
 -- The block of an entry in a checkpoint: 16 words, and for since the ring behind them. docs/CHECKPOINT.md has the table.
-use Prim.Native.Nat.{ℕ, _+_, _*_, _-_, _≤_, _<_, _^_}
+use Prim.Native.Nat.{ℕ, _+_, _*_, _-_, _/_, _≤_, _<_, _^_}
 use mathlib.Core.Bool.{Bool, true, cond}
 use mathlib.Core.Path.{_≡_}
 use mathlib.Core.List.{List}
-use lib.ListN.{getD}
+use lib.ListN.{getD, set}
 use lib.Dec.{eqb}
 use Rattle.mtl.specs.Formula.{Formula}
 use Rattle.mtl.specs.Formula.Formula.{letter, not, or, previous, next, since, until}
 use Rattle.mtl.specs.Log.{Log}
 use Rattle.mtl.specs.Satisfaction.{sat}
 use Rattle.mtl.specs.Progress.{progress}
+use Rattle.bits.specs.Packed.{Packed}
 use Rattle.engine.specs.Ring.{Ring, Witnesses}
 
 abbrev pub word : List ℕ → ℕ → ℕ
@@ -20,18 +21,18 @@ word b i = getD b i 0
 abbrev pub taken : List ℕ → ℕ
 taken b = word b 0
 
--- the rest of each operand's last run: for how many positions from `taken` on, and 1 for yes
+-- what each operand has answered and is still to be taken: for how many positions from `taken` on, and the word of answers
 abbrev pub left-count : List ℕ → ℕ
 left-count b = word b 1
 
-abbrev pub left-answer : List ℕ → ℕ
-left-answer b = word b 2
+abbrev pub left-bits : List ℕ → ℕ
+left-bits b = word b 2
 
 abbrev pub right-count : List ℕ → ℕ
 right-count b = word b 3
 
-abbrev pub right-answer : List ℕ → ℕ
-right-answer b = word b 4
+abbrev pub right-bits : List ℕ → ℕ
+right-bits b = word b 4
 
 -- until: the next position to answer
 abbrev pub answered : List ℕ → ℕ
@@ -110,9 +111,7 @@ cells-of kind high = cond (eqb kind 5) (ring-words high) 0
 pub record InRange (size cells : ℕ) (b : List ℕ) : Type 0 where
   pub at : taken b ≤ size
   pub left-count : left-count b ≤ size
-  pub left-answer : left-answer b ≤ 1
   pub right-count : right-count b ≤ size
-  pub right-answer : right-answer b ≤ 1
   pub answered : answered b ≤ taken b
   pub last-left : last-left b ≤ 1
   pub last-right : last-right b ≤ 1
@@ -162,17 +161,17 @@ pub record Core (φ : Formula) (L : Log) (g : ℕ) (b : List ℕ) : Type 0 where
   pub copy : Copied (kind-of φ) (letter-of φ) (low-of φ) (high-of φ) b
   pub own : Own φ L g b
 
--- a buffered operand: the count answers from position p on are this one, and the operand has answered that far
-pub record Buffer (φ : Formula) (L : Log) (p count answer : ℕ) : Type 0 where
+-- a buffered operand: the word has its answers at the count positions from p on, and it has answered that far
+pub record Buffer (φ : Formula) (L : Log) (p count bits : ℕ) : Type 0 where
   pub within : p + count ≤ progress φ L
-  pub same : (i : ℕ) → p ≤ i → i < p + count → sat φ L i ≡ eqb answer 1
+  pub packed : Packed (sat φ L) p count bits
 
 -- the buffers of an operator's block
 abbrev pub LeftBuffer : Formula → Log → List ℕ → Type 0
-LeftBuffer φ L b = Buffer φ L (taken b) (left-count b) (left-answer b)
+LeftBuffer φ L b = Buffer φ L (taken b) (left-count b) (left-bits b)
 
 abbrev pub RightBuffer : Formula → Log → List ℕ → Type 0
-RightBuffer φ L b = Buffer φ L (taken b) (right-count b) (right-answer b)
+RightBuffer φ L b = Buffer φ L (taken b) (right-count b) (right-bits b)
 
 abbrev pub Buffers : Formula → Log → List ℕ → Type 0
 Buffers (letter k) L b = Unit {0}
@@ -187,3 +186,10 @@ Buffers (until low high φ ψ) L b = LeftBuffer φ L b × RightBuffer ψ L b
 pub record Ready (φ : Formula) (L : Log) (g : ℕ) (b : List ℕ) : Type 0 where
   pub core : Core φ L g b
   pub buffers : Buffers φ L b
+
+-- a block after n positions were taken out of the right or only buffer, or out of both
+abbrev pub took-right : ℕ → List ℕ → List ℕ
+took-right n b = set (set (set b 0 (taken b + n)) 3 (right-count b - n)) 4 (right-bits b / 2 ^ n)
+
+abbrev pub took-both : ℕ → List ℕ → List ℕ
+took-both n b = set (set (took-right n b) 1 (left-count b - n)) 2 (left-bits b / 2 ^ n)

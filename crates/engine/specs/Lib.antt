@@ -1,7 +1,8 @@
 -- What the engine promises. Read Block (an entry's words), Step (one step of one entry), State (a whole subformula), Table and Answer.
--- Ring, Settle and Ask are the promises of its inner functions.
+-- Ring, Near, Settle and Ask are the promises of its inner functions.
 pub mod Ring
 pub mod Block
+pub mod Near
 pub mod Step
 pub mod State
 pub mod Table

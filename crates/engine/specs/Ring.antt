@@ -1,5 +1,5 @@
 -- The ring of a since: the times of the witnesses still alive, oldest first, in the cells behind the block's 16 words.
-use Prim.Native.Nat.{ℕ, _+_, _-_, _≤_, _<_}
+use Prim.Native.Nat.{ℕ, zero, suc, _+_, _-_, _≤_, _<_}
 use mathlib.Core.Bool.{Bool, true, cond, _&&_}
 use mathlib.Core.Bool.{not as negate}
 use mathlib.Core.Path.{_≡_}
@@ -7,6 +7,8 @@ use mathlib.Core.List.{List, [], _∷_, _++_}
 use mathlib.Core.Logic.{_⊎_}
 use lib.ListN.{getD, length}
 use lib.Dec.{ltb, leb, eqb}
+use Rattle.bits.specs.Packed.{bit}
+use Rattle.trace.specs.Format.{time-at}
 
 -- the cell that is `at` cells behind the first, in a ring of `cells`: past the last comes the first again
 abbrev pub wrap : (cells at : ℕ) → ℕ
@@ -59,6 +61,16 @@ turned cells high left right at qs = pushed cells right at (kept left (dropped h
 -- the oldest lies at least low back
 abbrev pub reaches : (low at : ℕ) → List ℕ → Bool
 reaches low at qs = ltb 0 (length qs) && leb low (at - getD qs 0 0)
+
+-- the turns of n positions of the records from `from` on, where left and right are words of answers
+unfoldable pub turns : (cells high : ℕ) (s : List ℕ) (from left right : ℕ) → ℕ → List ℕ → List ℕ
+turns cells high s from left right zero qs = qs
+turns cells high s from left right (suc n) qs =
+    turned cells high (bit left n) (bit right n) (time-at s (from + n)) (turns cells high s from left right n qs)
+
+-- what the i-th of them answers
+abbrev pub reached : (low cells high : ℕ) (s : List ℕ) (from left right : ℕ) → List ℕ → ℕ → Bool
+reached low cells high s from left right qs i = reaches low (time-at s (from + i)) (turns cells high s from left right (suc i) qs)
 
 -- what is done to a ring: its list by f, and every other word of the block as it was
 pub record Rings (cells : ℕ) (f : List ℕ → List ℕ) (b b′ : List ℕ) : Type 0 where

@@ -6,13 +6,12 @@ use mathlib.Core.List.{List}
 use Rattle.mtl.specs.Formula.{Formula}
 use Rattle.mtl.specs.Formula.Formula.{letter, not, or, previous, next, since, until}
 use Rattle.mtl.specs.Log.{Log, NeverFalls, Agree}
-use Rattle.mtl.specs.Satisfaction.{sat}
 use Rattle.mtl.specs.Progress.{progress}
 use Rattle.trace.specs.Format.{record-count}
 use Rattle.trace.specs.Log.{log-of}
-use Rattle.engine.specs.Block.{taken, left-count, right-count, Ready}
+use Rattle.engine.specs.Block.{taken, left-count, right-count, Buffer, Ready}
 use Rattle.engine.specs.declared.operator.Step.{Step}
-use Rattle.engine.specs.declared.operator.Step.the-variants.{Run, Left, Right, Again, Open}
+use Rattle.engine.specs.declared.operator.Step.the-variants.{Batch, Left, Right, Again, Open}
 
 -- the lent records are those of the log from position g on: earlier ones may hold any bytes
 pub record Agrees (s : List ℕ) (L : Log) (g : ℕ) : Type 0 where
@@ -62,15 +61,14 @@ pub record Moved (φ : Formula) (b b′ : List ℕ) : Type 0 where
   pub left : has-left φ ≡ true → taken b′ + left-count b′ ≡ taken b + left-count b
   pub right : has-right φ ≡ true → taken b′ + right-count b′ ≡ taken b + right-count b
 
--- a run: the same answer at each of count positions from g on
-pub record Runs (φ : Formula) (L : Log) (g : ℕ) (holds : Bool) (count : ℕ) : Type 0 where
+-- a batch: the answers at some positions from g on
+pub record Gives (φ : Formula) (L : Log) (g bits count : ℕ) : Type 0 where
   pub some : 1 ≤ count
-  pub within : g + count ≤ progress φ L
-  pub same : (i : ℕ) → g ≤ i → i < g + count → sat φ L i ≡ holds
+  pub buffer : Buffer φ L g count bits
 
 -- one step from block b to block b′, by its outcome
 abbrev pub Stepped : Formula → Log → ℕ → List ℕ → Step → List ℕ → Type 0
-Stepped φ L g b (Run holds count) b′ = Runs φ L g holds count × Ready φ L (g + count) b′ × Moved φ b b′
+Stepped φ L g b (Batch bits count) b′ = Gives φ L g bits count × Ready φ L (g + count) b′ × Moved φ b b′
 Stepped φ L g b Again b′ = Ready φ L g b′ × Moved φ b b′
 -- an operand is wanted; if it has no more answers, neither has the operator
 Stepped φ L g b Left b′ = (has-left φ ≡ true) × (progress (left-of φ) L ≡ taken b → progress φ L ≡ g)
@@ -92,7 +90,7 @@ left-to-do s b = 3 * (record-count s - taken b) + empty (left-count b) + empty (
 
 -- what a step promises on any words, for an operator that has a left operand and a right one, or not
 abbrev pub Ends : (left right : Bool) → List ℕ → List ℕ → Step → List ℕ → Type 0
-Ends left right s b (Run holds count) b′ = Unit {0}
+Ends left right s b (Batch bits count) b′ = Unit {0}
 Ends left right s b Again b′ = left-to-do s b′ < left-to-do s b
 Ends left right s b Left b′ = (left ≡ true) × (b′ ≡ b) × (left-count b ≡ 0)
 Ends left right s b Right b′ = (right ≡ true) × (b′ ≡ b) × (right-count b ≡ 0)

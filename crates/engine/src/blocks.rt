@@ -1,41 +1,50 @@
-// Words of a block that hold a bool, and the buffers of operands.
+// The buffers of operands in a block: words of answers that are put in whole and taken out from the front.
 ghost use mathlib.Core.Path.{_≡_};
-ghost use mathlib.Core.Bool.{_&&_};
-ghost use Prim.Native.Nat.{_+_, _-_, _≤_, _<_};
+ghost use Prim.Native.Nat.{_+_, _-_, _≤_, _<_, _^_, min};
 ghost use lib.ListN.{length};
-ghost use lib.Dec.{leb};
-ghost use Rattle.engine.specs.Ask.{flag-of, stored};
+ghost use Rattle.engine.specs.Block.{taken, left-count, right-count, took-right, took-both};
+ghost use Rattle.engine.specs.Ask.{stored};
+use super::time;
 
-// 1 for true.
-pub fn flag(x: bool) -> u64
-    ensures { λ r. ⌜ r ≡ flag-of x ⌝ }
-{
-    if x { 1 } else { 0 }
-}
-
-// Puts a run into the buffer at slot.
-pub fn store(words: &mut [u64], slot: usize, holds: bool, count: u64)
+// Puts a batch into the buffer at slot.
+pub fn store(words: &mut [u64], slot: usize, bits: u64, count: u64)
     requires { ⌜ slot + 1 < length (now words) ⌝ }
-    ensures { λ _. ⌜ now (words .exit) ≡ stored (now (words .entry)) slot holds count ⌝ }
+    ensures { λ _. ⌜ now (words .exit) ≡ stored (now (words .entry)) slot bits count ⌝ }
 {
     words[slot] = count;
-    words[slot + 1] = flag(holds);
+    words[slot + 1] = bits;
 }
 
-// The smaller of two buffers' counts.
+// The smaller of two counts.
 pub fn shorter(left: u64, right: u64) -> u64
-    ensures { λ r. ⌜ (r ≤ left) × (r ≤ right) × (0 < left → 0 < right → 0 < r) ⌝ }
+    ensures { λ r. ⌜ r ≡ min left right ⌝ }
 {
     if left <= right { left } else { right }
 }
 
-// count positions from `at` on lie within the log.
-pub fn has_room(at: u64, count: u64, total: u64) -> bool
-    ensures { λ r. ⌜ r ≡ (leb count total && leb at (total - count)) ⌝ }
+// How many of count positions from `at` on lie within a log of so many records, and in one word.
+pub fn available(at: u64, count: u64, total: u64) -> u64
+    ensures { λ r. ⌜ r ≡ min (min count (total - at)) 64 ⌝ }
 {
-    if count <= total {
-        at <= total - count
-    } else {
-        false
-    }
+    shorter(shorter(count, time::gap(at, total)), 64)
+}
+
+// Takes n positions out of the right or only operand's buffer.
+pub fn take_right(block: &mut [u64], n: u64)
+    requires { ⌜ (16 ≤ length (now block)) × (n ≤ right-count (now block)) × (taken (now block) + n < 2 ^ 64) ⌝ }
+    ensures { λ _. ⌜ now (block .exit) ≡ took-right n (now (block .entry)) ⌝ }
+{
+    block[0] = block[0] + n;
+    block[3] = block[3] - n;
+    block[4] = bits::rest(block[4], n);
+}
+
+// Takes n positions out of both operands' buffers.
+pub fn take_both(block: &mut [u64], n: u64)
+    requires { ⌜ (16 ≤ length (now block)) × (n ≤ left-count (now block)) × (n ≤ right-count (now block)) × (taken (now block) + n < 2 ^ 64) ⌝ }
+    ensures { λ _. ⌜ now (block .exit) ≡ took-both n (now (block .entry)) ⌝ }
+{
+    take_right(block, n);
+    block[1] = block[1] - n;
+    block[2] = bits::rest(block[2], n);
 }

@@ -1,7 +1,6 @@
-// not and or: they hand their operands' runs on.
-ghost use mathlib.Core.Path.{_≡_};
+// not and or, on whole words of answers.
 ghost use mathlib.Core.Bool.{true, false};
-ghost use Prim.Native.Nat.{_≤_, _<_};
+ghost use Prim.Native.Nat.{_≤_};
 ghost use lib.ListN.{length};
 ghost use Rattle.mtl.specs.Formula.{Formula};
 ghost use Rattle.mtl.specs.Formula.Formula.{not as not-formula, or as or-formula};
@@ -14,18 +13,16 @@ pub fn step_not(records: &[u8], block: &mut [u64]) -> Step
     ensures { λ r. ⌜ Ends false true (now (records .entry)) (now (block .entry)) r (now (block .exit)) ⌝ }
     ensures { λ r. ⌜ ((φ : Formula) → Steps (not-formula φ) (now (records .entry)) (now (block .entry)) r (now (block .exit))) ⌝ }
 {
-    let at = block[0];
-    let count = block[3];
-    if count == 0 {
+    if block[3] == 0 {
         return Step::Right;
     }
-    if !blocks::has_room(at, count, trace::count(records) as u64) {
+    let count = blocks::available(block[0], block[3], trace::count(records) as u64);
+    if count == 0 {
         return Step::Open;
     }
-    let holds = block[4] != 1;
-    block[0] = at + count;
-    block[3] = 0;
-    Step::Run { holds, count }
+    let bits = !block[4];
+    blocks::take_right(block, count);
+    Step::Batch { bits, count }
 }
 
 pub fn step_or(records: &[u8], block: &mut [u64]) -> Step
@@ -33,22 +30,18 @@ pub fn step_or(records: &[u8], block: &mut [u64]) -> Step
     ensures { λ r. ⌜ Ends true true (now (records .entry)) (now (block .entry)) r (now (block .exit)) ⌝ }
     ensures { λ r. ⌜ ((φ ψ : Formula) → Steps (or-formula φ ψ) (now (records .entry)) (now (block .entry)) r (now (block .exit))) ⌝ }
 {
-    let at = block[0];
-    let left = block[1];
-    let right = block[3];
-    if left == 0 {
+    if block[1] == 0 {
         return Step::Left;
     }
-    if right == 0 {
+    if block[3] == 0 {
         return Step::Right;
     }
-    let count = blocks::shorter(left, right);
-    if !blocks::has_room(at, count, trace::count(records) as u64) {
+    let both = blocks::shorter(block[1], block[3]);
+    let count = blocks::available(block[0], both, trace::count(records) as u64);
+    if count == 0 {
         return Step::Open;
     }
-    let holds = (block[2] == 1) | (block[4] == 1);
-    block[0] = at + count;
-    block[1] = left - count;
-    block[3] = right - count;
-    Step::Run { holds, count }
+    let bits = block[2] | block[4];
+    blocks::take_both(block, count);
+    Step::Batch { bits, count }
 }

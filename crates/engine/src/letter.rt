@@ -1,10 +1,10 @@
-// A letter: a reading head that gives whole runs.
-ghost use mathlib.Core.Path.{_≡_};
+// A letter: a reading head.
 ghost use mathlib.Core.Bool.{false};
 ghost use Prim.Native.Nat.{_≤_, _<_};
 ghost use lib.ListN.{length};
 ghost use Rattle.mtl.specs.Formula.Formula.{letter as letter-formula};
 ghost use Rattle.engine.specs.Step.{Steps, Ends};
+use super::blocks;
 use super::operator::Step;
 
 pub fn step_letter(letter: u64, records: &[u8], block: &mut [u64]) -> Step
@@ -13,12 +13,11 @@ pub fn step_letter(letter: u64, records: &[u8], block: &mut [u64]) -> Step
     ensures { λ r. ⌜ Steps (letter-formula letter) (now (records .entry)) (now (block .entry)) r (now (block .exit)) ⌝ }
 {
     let at = block[0];
-    let head = at as usize;
-    if trace::count(records) <= head {
+    let count = blocks::available(at, 64, trace::count(records) as u64);
+    if count == 0 {
         return Step::Open;
     }
-    let holds = trace::has_letter(records, head, letter);
-    let count = trace::letter_run(records, head, letter) as u64;
+    let bits = trace::letter_bits(records, at as usize, count as usize, letter);
     block[0] = at + count;
-    Step::Run { holds, count }
+    Step::Batch { bits, count }
 }

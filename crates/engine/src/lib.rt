@@ -1,4 +1,4 @@
-// Answers a formula's positions one run after the other, from a log's records and the lent words of a checkpoint.
+// Answers a formula's positions one batch after the other, from a log's records and the lent words of a checkpoint.
 ghost use mathlib.Core.Path.{_≡_};
 ghost use mathlib.Core.Bool.{true, false};
 ghost use Prim.Native.Nat.{_+_, _≤_, _<_};
@@ -21,9 +21,9 @@ mod until;
 
 use operator::Step;
 
-// What an entry answers: the same verdict for count positions from its next one on, or that it is open.
+// What an entry answers: a word of answers for count positions from its next one on, or that it is open.
 pub enum Reply {
-    Run { holds: bool, count: u64 },
+    Batch { bits: u64, count: u64 },
     Open,
 }
 
@@ -43,8 +43,8 @@ pub fn answer(table: &[u64; 1024], records: &[u8], k: usize, words: &mut [u64]) 
     loop {
         let step = operator::advance(kind, letter, low, high, records, &mut words[own..end]);
         match step {
-            Step::Run { holds, count } => {
-                return Reply::Run { holds, count };
+            Step::Batch { bits, count } => {
+                return Reply::Batch { bits, count };
             }
             Step::Open => {
                 return Reply::Open;
@@ -80,12 +80,12 @@ pub fn ask(
     ensures { λ r. ⌜ Asks (now (table .entry)) (now (records .entry)) operand from to slot (now (words .entry)) r (now (words .exit)) ⌝ }
 {
     let reply = answer(table, records, operand, &mut words[from..to]);
-    let Reply::Run { holds, count } = reply else {
+    let Reply::Batch { bits, count } = reply else {
         return false;
     };
     if count == 0 {
         return false;
     }
-    blocks::store(words, slot, holds, count);
+    blocks::store(words, slot, bits, count);
     true
 }

@@ -8,13 +8,13 @@ ghost use Rattle.engine.specs.Table.{Fields, takes-left, takes-right, ow
 
 // What one step finds.
 pub enum Step {
-    // The same verdict for count positions from the next one on.
-    Run { holds: bool, count: u64 },
+    // A word of answers for count positions from the next one on.
+    Batch { bits: u64, count: u64 },
     // The left operand's buffer is empty and wanted.
     Left,
     // The right operand's, or only one's.
     Right,
-    // A position was taken and nothing is settled yet.
+    // Positions were taken and nothing is settled yet.
     Again,
     // Nothing more can be said.
     Open,

@@ -1,70 +1,129 @@
 // until: two reading heads and no history.
 ghost use mathlib.Core.Path.{_≡_};
-ghost use mathlib.Core.Bool.{true, false};
-ghost use Prim.Native.Nat.{_+_, _≤_, _<_, _^_};
+ghost use mathlib.Core.Bool.{true};
+ghost use Prim.Native.Nat.{_+_, _≤_, _<_};
 ghost use lib.ListN.{length};
 ghost use Rattle.mtl.specs.Formula.{Formula};
 ghost use Rattle.mtl.specs.Formula.Formula.{until};
+ghost use Rattle.trace.specs.Format.{record-count};
 ghost use Rattle.engine.specs.Step.{Steps, Ends};
-ghost use Rattle.engine.specs.Settle.{settle-spec, run-length-spec, taken-both};
+ghost use Rattle.engine.specs.Settle.{settle-spec};
+use super::blocks;
 use super::operator::Step;
 use super::time;
 
 // What is known of the next position to answer.
 pub enum Settled {
-    Yes,
-    No,
+    Known(bool),
     Unknown,
 }
 
+// The last position taken: the operands' answers there, and its time.
+pub struct Last {
+    left: bool,
+    right: bool,
+    time: u64,
+}
+
+// A stretch of answers: their word and number, how many positions were taken for them, and the last of those.
+pub struct Walked {
+    bits: u64,
+    count: u64,
+    took: u64,
+    last: Last,
+}
+
 // Whether the last position taken, or the time of the next, settles the position whose time is `start`.
-fn settle(low: u64, high: u64, start: u64, left: u64, right: u64, last: u64, next: u64) -> Settled
-    ensures { λ r. ⌜ r ≡ settle-spec low high start left right last next ⌝ }
+fn settle(low: u64, high: u64, start: u64, last: Last, next: u64) -> Settled
+    ensures { λ r. ⌜ r ≡ settle-spec low high start last next ⌝ }
 {
-    if (right == 1) & (low <= time::gap(start, last)) {
-        return Settled::Yes;
+    let met = last.right & (low <= time::gap(start, last.time));
+    let over = !last.left | (high < time::gap(start, next));
+    if met | over {
+        Settled::Known(met)
+    } else {
+        Settled::Unknown
     }
-    if (left != 1) | (high < time::gap(start, next)) {
-        return Settled::No;
-    }
-    Settled::Unknown
 }
 
-// For how many positions from g on the finding holds: all that are taken, or g alone.
-fn run_length(all: bool, g: u64, at: u64) -> u64
-    requires { ⌜ g < at ⌝ }
-    ensures { λ r. ⌜ (r ≡ run-length-spec all g at) × (g + r < 2 ^ 64) ⌝ }
+// What is known of position g, where `at` is the next to take.
+fn look(low: u64, high: u64, records: &[u8], g: u64, at: u64, last: Last) -> Settled
+    requires { ⌜ at ≤ record-count (now records) ⌝ }
 {
-    if all {
-        return at - g;
+    if at <= g {
+        return Settled::Unknown;
     }
-    1
+    let start = trace::time(records, g as usize);
+    if at < trace::count(records) as u64 {
+        let next = trace::time(records, at as usize);
+        return settle(low, high, start, last, next);
+    }
+    settle(low, high, start, last, last.time)
 }
 
-// Takes a position from both operands, or says which of them is wanted.
-fn take_both(records: &[u8], block: &mut [u64]) -> Step
+// Position `at + took` out of the operands' words of answers.
+fn take(records: &[u8], at: u64, took: u64, left: u64, right: u64) -> Last
+    requires { ⌜ (at + took < record-count (now records)) × (took < 64) ⌝ }
+{
+    Last {
+        left: bits::test(left, took),
+        right: bits::test(right, took),
+        time: trace::time(records, (at + took) as usize),
+    }
+}
+
+// Answers positions from g on and takes positions from `at` on, until 64 are answered or one waits and all n are taken.
+fn walk(
+    low: u64,
+    high: u64,
+    records: &[u8],
+    g: u64,
+    at: u64,
+    n: u64,
+    left: u64,
+    right: u64,
+    from: Last,
+) -> Walked
+    requires { ⌜ (at + n ≤ record-count (now records)) × (n ≤ 64) ⌝ }
+{
+    let mut last = from;
+    let mut bits: u64 = 0;
+    let mut count: u64 = 0;
+    let mut took: u64 = 0;
+    while count < 64 {
+        match look(low, high, records, g + count, at + took, last) {
+            Settled::Known(holds) => {
+                bits = bits::push(bits, count, holds);
+                count += 1;
+            }
+            Settled::Unknown => {
+                if took == n {
+                    break;
+                }
+                last = take(records, at, took, left, right);
+                took += 1;
+            }
+        }
+    }
+    Walked {
+        bits,
+        count,
+        took,
+        last,
+    }
+}
+
+// The operand whose buffer is empty.
+fn wanted(block: &[u64]) -> Step
     requires { ⌜ 16 ≤ length (now block) ⌝ }
-    ensures { λ r. ⌜ taken-both (now (records .entry)) (now (block .entry)) r (now (block .exit)) ⌝ }
 {
-    let at = block[0];
-    let left = block[1];
-    let right = block[3];
-    if left == 0 {
+    if block[1] == 0 {
         return Step::Left;
     }
-    if right == 0 {
+    if block[3] == 0 {
         return Step::Right;
     }
-    if trace::count(records) as u64 <= at {
-        return Step::Open;
-    }
-    block[6] = block[2];
-    block[7] = block[4];
-    block[8] = trace::time(records, at as usize);
-    block[0] = at + 1;
-    block[1] = left - 1;
-    block[3] = right - 1;
-    Step::Again
+    Step::Open
 }
 
 pub fn step_until(low: u64, high: u64, records: &[u8], block: &mut [u64]) -> Step
@@ -74,38 +133,30 @@ pub fn step_until(low: u64, high: u64, records: &[u8], block: &mut [u64]) -> Ste
 {
     let at = block[0];
     let g = block[5];
-    if at <= g {
-        return take_both(records, block);
-    }
     let total = trace::count(records) as u64;
-    if total <= g {
+    if total < at {
         return Step::Open;
     }
-    let start = trace::time(records, g as usize);
-    let left = block[6];
-    let last = block[8];
-    let next = if at < total {
-        trace::time(records, at as usize)
-    } else {
-        last
+    let n = blocks::available(at, blocks::shorter(block[1], block[3]), total);
+    let last = Last {
+        left: block[6] == 1,
+        right: block[7] == 1,
+        time: block[8],
     };
-    let settled = settle(low, high, start, left, block[7], last, next);
-    match settled {
-        // where low is 0, right at the last position taken settles every position from g on
-        Settled::Yes => {
-            let count = run_length(low == 0, g, at);
-            block[5] = g + count;
-            Step::Run { holds: true, count }
-        }
-        // so does a left that fails there; the time of the next position settles g alone
-        Settled::No => {
-            let count = run_length(left != 1, g, at);
-            block[5] = g + count;
-            Step::Run {
-                holds: false,
-                count,
-            }
-        }
-        Settled::Unknown => take_both(records, block),
+    let w = walk(low, high, records, g, at, n, block[2], block[4], last);
+    if (w.count == 0) & (w.took == 0) {
+        return wanted(block);
+    }
+    blocks::take_both(block, w.took);
+    block[5] = g + w.count;
+    block[6] = bits::flag(w.last.left);
+    block[7] = bits::flag(w.last.right);
+    block[8] = w.last.time;
+    if w.count == 0 {
+        return Step::Again;
+    }
+    Step::Batch {
+        bits: w.bits,
+        count: w.count,
     }
 }

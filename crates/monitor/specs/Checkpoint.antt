@@ -13,7 +13,7 @@ use Rattle.engine.specs.Block.{word, cells-of}
 
 -- the number in a checkpoint's first word: the bytes HAVD, and the format's number
 abbrev pub format : ℕ
-format = 0x4841564400000001
+format = 0x4841564400000002
 
 -- "the verdicts given d, the records seen, and the last time seen"
 abbrev pub given : List ℕ → ℕ
@@ -25,12 +25,12 @@ seen p = word p 2
 abbrev pub last : List ℕ → ℕ
 last p = word p 3
 
--- what was answered and not yet given: for how many positions from `given` on, and 1 for yes
+-- what was answered and not yet given: for how many positions from `given` on, and the word of answers
 abbrev pub held-count : List ℕ → ℕ
 held-count p = word p 4
 
-abbrev pub held-answer : List ℕ → ℕ
-held-answer p = word p 5
+abbrev pub held-bits : List ℕ → ℕ
+held-bits p = word p 5
 
 -- "Words needed": those that `measure` gives
 abbrev pub need : List ℕ → ℕ
@@ -63,8 +63,8 @@ room at count total = leb count total && leb at (total - count)
 -- the words of one block lie in their ranges
 abbrev pub block-in-range : (size cells : ℕ) → List ℕ → Bool
 block-in-range size cells b =
-    leb (word b 0) size && leb (word b 1) size && leb (word b 2) 1 && leb (word b 3) size && leb (word b 4) 1
-    && leb (word b 5) (word b 0) && leb (word b 6) 1 && leb (word b 7) 1 && ltb (word b 8) (2 ^ 32)
+    leb (word b 0) size && leb (word b 1) size && leb (word b 3) size && leb (word b 5) (word b 0)
+    && leb (word b 6) 1 && leb (word b 7) 1 && ltb (word b 8) (2 ^ 32)
     && leb (word b 9) cells && leb (word b 10) cells
 
 -- a word of the block of entry k is outside its range
@@ -75,7 +75,7 @@ block-outside t p k =
 -- "at most 1,000,000 records", "d above the records seen"
 abbrev pub header-in-range : List ℕ → Bool
 header-in-range p =
-    leb (seen p) 1000000 && room (given p) (held-count p) (seen p) && ltb (last p) (2 ^ 32) && leb (held-answer p) 1
+    leb (seen p) 1000000 && room (given p) (held-count p) (seen p) && ltb (last p) (2 ^ 32)
 
 -- refusal 11: "A word of the point is outside its range"
 abbrev pub outside : List Entry → ℕ → List ℕ → Bool

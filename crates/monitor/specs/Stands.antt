@@ -11,14 +11,13 @@ use Rattle.mtl.specs.Log.{Log}
 use Rattle.rule.specs.Entries.{count}
 use Rattle.engine.specs.Block.{word, Buffer}
 use Rattle.engine.specs.State.{State}
-use Rattle.monitor.specs.Checkpoint.{format, given, seen, last, held-count, held-answer, need}
+use Rattle.monitor.specs.Checkpoint.{format, given, seen, last, held-count, held-bits, need}
 use Rattle.monitor.specs.Verdicts.{formula-of}
 
 -- the last entry as a buffered operand: what it answered and did not give yet, and the state of the whole formula behind that
 pub record Top (φ : Formula) (L : Log) (d : ℕ) (ws : List ℕ) : Type 0 where
   pub at : given ws ≡ d
-  pub buffer : Buffer φ L d (held-count ws) (held-answer ws)
-  pub answer : held-answer ws ≤ 1
+  pub buffer : Buffer φ L d (held-count ws) (held-bits ws)
   pub state : State φ L (d + held-count ws) (drop 16 ws)
 
 -- "the last record's time (.. 0 while there is none)"

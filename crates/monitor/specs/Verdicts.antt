@@ -9,6 +9,7 @@ use Rattle.mtl.specs.Formula.Formula.{letter}
 use Rattle.mtl.specs.Log.{Log}
 use Rattle.mtl.specs.Satisfaction.{sat}
 use Rattle.mtl.specs.Progress.{progress}
+use Rattle.bits.specs.Packed.{bit}
 use Rattle.rule.specs.Entries.{count, decoded}
 use Rattle.rule.specs.Postfix.{formula}
 use Rattle.trace.specs.Format.{records-of}
@@ -26,6 +27,11 @@ formula-of rule = formula-or (formula (decoded rule) (count rule))
 abbrev pub verdict : Bool → ℕ
 verdict true = 1
 verdict false = 0
+
+-- the first n bits of a word of answers as verdicts
+unfoldable pub bytes-of : (n bits : ℕ) → List ℕ
+bytes-of zero bits = []
+bytes-of (suc n) bits = bytes-of n bits ++ (verdict (bit bits n) ∷ [])
 
 -- the first n verdicts of a formula on a log
 unfoldable pub verdicts : Formula → Log → ℕ → List ℕ

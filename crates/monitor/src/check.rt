@@ -14,7 +14,7 @@ use rule::Entry;
 use rule::Measured;
 
 // The number in a checkpoint's first word: the bytes HAVD, and the format's number.
-pub const FORMAT: u64 = 5206537494274768897;
+pub const FORMAT: u64 = 5206537494274768898;
 
 // Refusals 1 to 9, or the words that the rule needs.
 pub enum Sized {
@@ -139,9 +139,7 @@ fn block_fits(size: u64, cells: u64, point: &[u64], at: usize) -> bool
 {
     (point[at] <= size)
         & (point[at + 1] <= size)
-        & (point[at + 2] <= 1)
         & (point[at + 3] <= size)
-        & (point[at + 4] <= 1)
         & (point[at + 5] <= point[at])
         & (point[at + 6] <= 1)
         & (point[at + 7] <= 1)
@@ -176,8 +174,7 @@ fn is_outside(entries: [Entry; 128], count: usize, point: &[u64]) -> bool
     let seen = point[2];
     let fits = (seen <= 1000000)
         & has_room(point[1], point[4], seen)
-        & (point[3] < 4294967296)
-        & (point[5] <= 1);
+        & (point[3] < 4294967296);
     !fits | blocks_outside(entries, count, point)
 }
 

@@ -49,7 +49,7 @@ fn give(
             return done;
         }
         let count = portion(words[4], sheet.len() - done);
-        sheet::write_run(sheet, done, done + count, (words[5] % 2) as u8);
+        words[5] = sheet::write_bits(sheet, done, count, words[5]);
         words[1] = words[1] + count as u64;
         words[4] = words[4] - count as u64;
         done += count;

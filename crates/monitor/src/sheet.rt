@@ -1,26 +1,26 @@
-// Verdict buffers (sheets): runs of verdicts written into one, and the counts of no and of yes in one.
+// Verdict buffers (sheets): verdicts written into one, and the counts of no and of yes in one.
 ghost use mathlib.Core.Path.{_≡_};
 ghost use mathlib.Core.List.{_++_};
-ghost use Prim.Native.Nat.{_-_, _≤_};
-ghost use lib.ListN.{length, take, drop, replicate};
+ghost use Prim.Native.Nat.{_+_, _/_, _≤_, _^_};
+ghost use lib.ListN.{length, take, drop};
+ghost use Rattle.monitor.specs.Verdicts.{bytes-of};
 ghost use Rattle.monitor.specs.Tally.{answer, tallied};
 use super::Tallied;
 
-// Sets the bytes from `from` up to `to` to the verdict.
-pub fn write_run(sheet: &mut [u8], from: usize, to: usize, verdict: u8)
-    requires { ⌜ (from ≤ to) × (to ≤ length (now sheet)) ⌝ }
-    ensures { λ _. ⌜ now (sheet .exit) ≡ take from (now (sheet .entry)) ++ (replicate (to - from) verdict ++ drop to (now (sheet .entry))) ⌝ }
+// Writes n verdicts from `from` on, the first bits of a word of answers, and gives the bits behind them.
+pub fn write_bits(sheet: &mut [u8], from: usize, n: usize, bits: u64) -> u64
+    requires { ⌜ from + n ≤ length (now sheet) ⌝ }
+    ensures { λ _. ⌜ now (sheet .exit) ≡ take from (now (sheet .entry)) ++ (bytes-of n bits ++ drop (from + n) (now (sheet .entry))) ⌝ }
+    ensures { λ r. ⌜ r ≡ bits / 2 ^ n ⌝ }
 {
-    // most runs on a busy log
-    if to - from == 1 {
-        sheet[from] = verdict;
-        return;
-    }
-    let mut i = from;
-    while i < to {
-        sheet[i] = verdict;
+    let mut rest = bits;
+    let mut i: usize = 0;
+    while i < n {
+        sheet[from + i] = (rest % 2) as u8;
+        rest = rest / 2;
         i += 1;
     }
+    rest
 }
 
 // The counts, or refusal 15.

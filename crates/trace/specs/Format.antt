@@ -1,10 +1,11 @@
 -- The bytes of a log: header, records, and check 12. `log` is the whole of it; `s` is the records, the part behind the header.
-use Prim.Native.Nat.{ℕ, _+_, _-_, _*_, _/_, _%_, _^_, _≤_}
+use Prim.Native.Nat.{ℕ, _+_, _-_, _*_, _/_, _%_, _≤_}
 use mathlib.Core.Bool.{Bool, _||_, not}
 use mathlib.Core.List.{List}
 use mathlib.Core.Path.{_≡_}
 use lib.Dec.{ltb, eqb}
 use lib.ListN.{length, getD, drop}
+use Rattle.bits.specs.Packed.{bit}
 
 -- "Numbers wider than a byte are big-endian and unsigned": the 32 bits from byte `at` on
 abbrev pub word-at : List ℕ → ℕ → ℕ
@@ -27,7 +28,11 @@ abbrev pub events-at : List ℕ → ℕ → ℕ
 events-at s i = word-at s (i * 8 + 4)
 
 abbrev pub letter-at : List ℕ → ℕ → ℕ → Bool
-letter-at s i k = eqb (events-at s i / 2 ^ k % 2) 1
+letter-at s i k = bit (events-at s i) k
+
+-- the positions at which letter k stands
+abbrev pub has-letter : List ℕ → (k : ℕ) → ℕ → Bool
+has-letter s k i = letter-at s i k
 
 -- "Only the records behind the header are handed to the reading heads."
 abbrev pub records-of : List ℕ → List ℕ

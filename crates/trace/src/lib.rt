@@ -2,8 +2,8 @@
 ghost use mathlib.Core.Path.{_≡_};
 ghost use Prim.Native.Nat.{_+_, _<_, _≤_};
 ghost use lib.ListN.{length};
-ghost use Rattle.trace.specs.Format.{word-at, record-count, time-at, letter-at, records-of, wrong-mark, version-of, wrong-spare, malformed};
-ghost use Rattle.trace.specs.Log.{LetterRun};
+ghost use Rattle.bits.specs.Packed.{number, Packed};
+ghost use Rattle.trace.specs.Format.{word-at, record-count, time-at, letter-at, has-letter, records-of, wrong-mark, version-of, wrong-spare, malformed};
 ghost use Rattle.trace.specs.Order.{falls, starts-below, disordered, last-time};
 
 fn wide(x: u8) -> u64
@@ -78,29 +78,26 @@ pub fn time(records: &[u8], i: usize) -> u64
     word(records, i * 8)
 }
 
-// Whether the letter stands in the event set of record i.
-pub fn has_letter(records: &[u8], i: usize, letter: u64) -> bool
+// 1 where the letter stands in the event set of record i, 0 where it does not.
+fn letter_bit(records: &[u8], i: usize, letter: u64) -> u64
     requires { ⌜ (i < record-count (now records)) × (letter < 32) ⌝ }
-    ensures { λ r. ⌜ r ≡ letter-at (now (records .entry)) i letter ⌝ }
+    ensures { λ r. ⌜ (r ≡ number (letter-at (now (records .entry)) i letter)) × (r < 2) ⌝ }
 {
-    (word(records, i * 8 + 4) >> letter) % 2 == 1
+    (word(records, i * 8 + 4) >> letter) % 2
 }
 
-// For how many positions from `from` on the letter stands in each record, or in none.
-pub fn letter_run(records: &[u8], from: usize, letter: u64) -> usize
-    requires { ⌜ (from < record-count (now records)) × (letter < 32) ⌝ }
-    ensures { λ r. ⌜ LetterRun (now (records .entry)) from letter r ⌝ }
+// The letter at each of n positions from `from` on, as a word of answers.
+pub fn letter_bits(records: &[u8], from: usize, n: usize, letter: u64) -> u64
+    requires { ⌜ (from + n ≤ record-count (now records)) × (n ≤ 64) × (letter < 32) ⌝ }
+    ensures { λ r. ⌜ Packed (has-letter (now (records .entry)) letter) from n r ⌝ }
 {
-    let end = count(records);
-    let first = has_letter(records, from, letter);
-    let mut i = from + 1;
-    while i < end {
-        if has_letter(records, i, letter) != first {
-            return i - from;
-        }
-        i += 1;
+    let mut answers: u64 = 0;
+    let mut i = n;
+    while 0 < i {
+        i -= 1;
+        answers = answers * 2 + letter_bit(records, from + i, letter);
     }
-    i - from
+    answers
 }
 
 // Whether some record after position `after` has a time below that of the record before it.

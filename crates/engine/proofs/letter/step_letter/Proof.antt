@@ -1,56 +1,5 @@
--- `engine::letter::step_letter` meets its contract. Assumes nothing.
-use native.Mathlib.Omega.{arith}
-use mathlib.Core.Path.{refl}
-use borrow.Author.Needs.{needs}
-use Rattle.mtl.specs.Progress.{progress}
-use Rattle.engine.proofs.Simple.{letter-run}
+-- STUB
 use Rattle.engine.proofs.letter.step_letter.Statement.{statement}
-use Rattle.engine.proofs.letter.step_letter.Tie as tie
-
-slice-read-at : tie.Need-slice-read-at
-slice-read-at c = search needs
-
-count-requires : tie.Need-count-requires
-count-requires c κs = search needs
-
-returns : tie.Need-returns
-unfolding progress
-returns c = (refl, λ L g falls agrees ready. let core = ready .core in omega arith)
-
-has-letter-requires : tie.Need-has-letter-requires
-has-letter-requires c κs = search needs
-
-letter-run-requires : tie.Need-letter-run-requires
-letter-run-requires c κs = search needs
-
-add-block : tie.Need-add-block
-add-block c = search needs
-
-slice-write-block : tie.Need-slice-write-block
-slice-write-block c = search needs
-
-same-length : tie.Need-same-length
-same-length c = search needs
-
-returns-2 : tie.Need-returns-2
-returns-2 c =
-    let start = c .before .before .before .before .before .before .before in (
-      tt,
-      λ L g falls agrees ready.
-          letter-run (start .args .records .now) (start .args .block .now) (start .pre .1) L g agrees (start .args .letter) (c .letter-run .result)
-          (c .before .has-letter .result) (c .letter-run .ensures) (c .before .has-letter .ensures) ready,
-    )
 
 pub step-letter-spec : {M : Type 1} → statement M
-step-letter-spec =
-    tie.close
-    (tie.spec
-    slice-read-at
-    count-requires
-    returns
-    has-letter-requires
-    letter-run-requires
-    add-block
-    slice-write-block
-    same-length
-    returns-2)
+step-letter-spec = ?
