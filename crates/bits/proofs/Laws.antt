@@ -50,7 +50,7 @@ with-bit-lt w n true h = omega (arith, pow-add 2 n 1)
 with-bit-lt w n false h = omega (arith, pow-add 2 n 1)
 
 -- no bit below n is lost by a remainder
-bit-mod : (w n i : ℕ) → i < n → bit (w % 2 ^ n) i ≡ bit w i
+pub bit-mod : (w n i : ℕ) → i < n → bit (w % 2 ^ n) i ≡ bit w i
 bit-mod w n i h =
     let j = n - (1 + i) in
     let e : n ≡ (j + 1) + i = omega arith in

@@ -172,9 +172,7 @@ fn is_outside(entries: [Entry; 128], count: usize, point: &[u64]) -> bool
     ensures { λ r. ⌜ r ≡ outside entries count (now (point .entry)) ⌝ }
 {
     let seen = point[2];
-    let fits = (seen <= 1000000)
-        & has_room(point[1], point[4], seen)
-        & (point[3] < 4294967296);
+    let fits = (seen <= 1000000) & has_room(point[1], point[4], seen) & (point[3] < 4294967296);
     !fits | blocks_outside(entries, count, point)
 }
 

@@ -83,7 +83,8 @@ fn letter_bit(records: &[u8], i: usize, letter: u64) -> u64
     requires { ⌜ (i < record-count (now records)) × (letter < 32) ⌝ }
     ensures { λ r. ⌜ (r ≡ number (letter-at (now (records .entry)) i letter)) × (r < 2) ⌝ }
 {
-    (word(records, i * 8 + 4) >> letter) % 2
+    let byte = records[i * 8 + (7 - (letter / 8) as usize)];
+    (wide(byte) >> (letter % 8)) % 2
 }
 
 // The letter at each of n positions from `from` on, as a word of answers.
@@ -109,16 +110,15 @@ pub fn times_fall(records: &[u8], after: usize) -> bool
         return false;
     }
     let mut last = time(records, after);
+    let mut fell = false;
     let mut i = after + 1;
     while i < end {
         let next = time(records, i);
-        if next < last {
-            return true;
-        }
+        fell = fell | (next < last);
         last = next;
         i += 1;
     }
-    false
+    fell
 }
 
 // Whether the first new record's time is below the last time seen.

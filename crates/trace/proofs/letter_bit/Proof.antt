@@ -1,29 +1,52 @@
--- `trace::letter_bit` meets its contract: the word read is the record's event set.
+-- `trace::letter_bit` meets its contract: the byte read is the one of the event set that has the letter's bit.
 -- Assumes nothing.
+use Prim.Native.Nat.{ℕ, zero, suc, _+_, _-_, _*_, _/_, _%_, _<_, _^_}
 use native.Mathlib.Omega.{arith}
-use mathlib.Core.Path.{sym}
+use mathlib.Core.List.{List}
+use mathlib.Core.Path.{_≡_, sym, ap, _∙_}
+use lib.ListN.{getD}
 use borrow.Author.Needs.{needs}
-use Rattle.bits.proofs.Laws.{number-bit}
-use Rattle.trace.specs.Format.{events-at}
+use Rattle.bits.specs.Packed.{bit, number}
+use Rattle.bits.proofs.Laws.{bit-mod, bit-rest, number-bit}
+use Rattle.trace.specs.Format.{word-at, letter-at}
 use Rattle.trace.proofs.letter_bit.Statement.{statement}
 use Rattle.trace.proofs.letter_bit.Tie as tie
 
-mul-word : tie.Need-mul-word
-mul-word c = search needs
+module _ (s : List ℕ) (bytes : (i : ℕ) → getD s i 0 < 256) where
+  -- byte j of four, counted from the last
+  byte-of : (at j : ℕ) → j < 4 → word-at s at / 2 ^ (j * 8) % 2 ^ 8 ≡ getD s (at + (3 - j)) 0
+  byte-of at zero h = omega (arith, bytes (at + 3))
+  byte-of at (suc zero) h = omega (arith, bytes (at + 2), bytes (at + 3))
+  byte-of at (suc (suc zero)) h = omega (arith, bytes (at + 1), bytes (at + 2), bytes (at + 3))
+  byte-of at (suc (suc (suc zero))) h =
+      let first : word-at s at / 2 ^ 24 % 2 ^ 8 ≡ getD s at 0 = omega (arith, bytes at, bytes (at + 1), bytes (at + 2), bytes (at + 3)) in
+      first ∙ ap (λ (n : ℕ). getD s n 0) (omega arith)
+  byte-of at (suc (suc (suc (suc j)))) h = absurd (omega arith)
 
-add-word : tie.Need-add-word
-add-word c = search needs
-
-word-requires : tie.Need-word-requires
-word-requires c κs = search needs
-
-shr-result : tie.Need-shr-result
-shr-result c = search needs
+  bit-of : (i k : ℕ) → k < 32 → bit (getD s (i * 8 + (7 - k / 8)) 0) (k % 8) ≡ letter-at s i k
+  bit-of i k h =
+      let w = word-at s (i * 8 + 4) in
+      ap (λ (n : ℕ). bit (getD s n 0) (k % 8)) (omega arith)
+      ∙ ap (λ (v : ℕ). bit v (k % 8)) (sym (byte-of (i * 8 + 4) (k / 8) (omega arith)))
+      ∙ bit-mod (w / 2 ^ (k / 8 * 8)) 8 (k % 8) (omega arith)
+      ∙ bit-rest w (k / 8 * 8) (k % 8)
+      ∙ ap (bit w) (omega arith)
 
 returns : tie.Need-returns
 returns c =
-    let a = c .before .before .args in
-    (rw (c .word .ensures .0) (sym (number-bit (events-at (a .records .now) (a .i)) (a .letter))), omega arith)
+    let a = c .before .before .before .args in
+    let s = a .records .now in
+    let told = bit-of s (λ i. c .before .shared-slice-known2 .given i .fits) (a .i) (a .letter) (omega arith) in
+    (rw (c .wide .ensures .0) (sym (number-bit (getD s (a .i * 8 + (7 - a .letter / 8)) 0) (a .letter % 8)) ∙ ap number told), omega arith)
 
 pub letter-bit-spec : {M : Type 1} → statement M
-letter-bit-spec = tie.close (tie.spec mul-word add-word word-requires shr-result returns)
+letter-bit-spec =
+    tie.close
+    (tie.spec
+    (λ c. search needs)
+    (λ c. search needs)
+    (λ c. search needs)
+    (λ c. search needs)
+    (λ c κs. search needs)
+    (λ c. search needs)
+    returns)
