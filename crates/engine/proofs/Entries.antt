@@ -12,7 +12,9 @@ use lib.Seq.{take-take, drop-drop, getD-take, getD-drop, length-take-le}
 use Rattle.mtl.specs.Formula.{Formula}
 use Rattle.mtl.specs.Formula.Formula.{letter, not, or, previous, next, since, until}
 use Rattle.mtl.specs.Log.{Log}
+use Rattle.mtl.specs.Satisfaction.{sat}
 use Rattle.mtl.proofs.Bounded.{le-or-lt}
+use Rattle.bits.proofs.Laws.{packed-none}
 use Rattle.rule.specs.declared.Entry.{Entry}
 use Rattle.rule.specs.Entries.{entry}
 use Rattle.rule.specs.Words.{own, offset}
@@ -64,9 +66,7 @@ range-same b b′ same r =
       arith,
       same 0 (omega arith),
       same 1 (omega arith),
-      same 2 (omega arith),
       same 3 (omega arith),
-      same 4 (omega arith),
       same 5 (omega arith),
       same 6 (omega arith),
       same 7 (omega arith),
@@ -157,9 +157,7 @@ module _ (φ : Formula) (L : Log) (b : List ℕ) (fresh : FreshBlock (kind-of φ
               arith,
               fresh .zeros 0 (omega arith),
               fresh .zeros 1 (omega arith),
-              fresh .zeros 2 (omega arith),
               fresh .zeros 3 (omega arith),
-              fresh .zeros 4 (omega arith),
               fresh .zeros 5 (omega arith),
               fresh .zeros 6 (omega arith),
               fresh .zeros 7 (omega arith),
@@ -171,8 +169,8 @@ module _ (φ : Formula) (L : Log) (b : List ℕ) (fresh : FreshBlock (kind-of φ
         own = is;
       }
 
-empty-buffer : (φ : Formula) (L : Log) (p count answer : ℕ) → p ≡ 0 → count ≡ 0 → Buffer φ L p count answer
-empty-buffer φ L p count answer e f = record { within = omega arith; same = λ i g h. absurd (omega arith) }
+empty-buffer : (φ : Formula) (L : Log) (p count bits : ℕ) → p ≡ 0 → count ≡ 0 → Buffer φ L p count bits
+empty-buffer φ L p count bits e f = record { within = omega arith; packed = rw f (packed-none (sat φ L) p bits) }
 
 ring-least : (high : ℕ) → 1 ≤ ring-words high
 ring-least high = least (eqb high 4294967295)
