@@ -1,7 +1,6 @@
 -- A batch stored in an operand's buffer: the operator's block still stands where it stood.
 use Prim.Native.Nat.{ℕ, _+_, _-_, _≤_}
-use mathlib.Core.Bool.{Bool, true, false}
-use mathlib.Core.Path.{_≡_, refl, sym, ap, _∙_}
+use mathlib.Core.Path.{_≡_, sym, ap, _∙_}
 use mathlib.Core.List.{List}
 use native.Mathlib.Omega.{arith}
 use lib.Dec.{eqb, lit≤}
@@ -11,7 +10,7 @@ use Rattle.mtl.specs.Formula.{Formula}
 use Rattle.mtl.specs.Formula.Formula.{letter, not, or, previous, next, since, until}
 use Rattle.mtl.specs.Log.{Log}
 use Rattle.mtl.proofs.Until.{progress-le-size}
-use Rattle.engine.specs.Block.{word, taken, Own, Ready, Buffer}
+use Rattle.engine.specs.Block.{word, taken, Own, Ready}
 use Rattle.engine.specs.Step.{Gives}
 use Rattle.engine.specs.Ask.{stored}
 use Rattle.engine.proofs.Parts.{Side, other, by-side, slot}
