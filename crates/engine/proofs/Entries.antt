@@ -408,6 +408,7 @@ state-ranges t n ok W (since low high φ ψ) k h (e, b, f, f′) L g s =
 state-ranges t n ok W (until low high φ ψ) k h (e, b, f, f′) L g s =
     ranged-two t n ok W (until low high φ ψ) φ ψ k h e refl f f′ L g s (state-ranges t n ok W φ (left t k) (omega arith) f L)
     (state-ranges t n ok W ψ (k - 1) (omega arith) f′ L)
+
 -- THEOREMS, of a whole rule: its formula is the one that ends at its last entry.
 module _ (t : List Entry) (n : ℕ) (ok : WellFormed t n) (some : 0 < n) (whole : span t (n - 1) ≡ n) (φ : Formula) (last : FormulaAt t (n - 1) φ)
     (W : List ℕ) where
