@@ -14,14 +14,14 @@ use Rattle.mtl.specs.Progress.{progress}
 use Rattle.mtl.proofs.Bounded.{true-and-false}
 use Rattle.trace.specs.Format.{record-count}
 use Rattle.engine.specs.Block.{word, taken, ring-words, Ready}
-use Rattle.engine.specs.Step.{Agrees, Runs, Moved, Stepped, Steps, Ends, empty, left-to-do}
+use Rattle.engine.specs.Step.{Agrees, Gives, Moved, Stepped, Steps, Ends, empty, left-to-do}
 use Rattle.engine.specs.State.{State}
 use Rattle.engine.specs.Table.{Has, Row, RowOk, RowsOk, Fields, column, takes-left, takes-right, own-words}
 use Rattle.engine.specs.Answer.{Answers}
 use Rattle.engine.specs.Ask.{part, back, stored, Asks}
 use Rattle.engine.specs.declared.operator.Step.{Step}
-use Rattle.engine.specs.declared.operator.Step.the-variants.{Run, Left, Right, Again, Open}
-use Rattle.engine.specs.declared.Reply.the-variants.{Run as Verdict, Open as NoVerdict}
+use Rattle.engine.specs.declared.operator.Step.the-variants.{Batch, Left, Right, Again, Open}
+use Rattle.engine.specs.declared.Reply.the-variants.{Batch as Answered, Open as Unanswered}
 use Rattle.engine.proofs.Parts.{part-end, length-part, put-back, back-from, drop-back-last, back-same, Side, other, by-side, start, stop, slot, lent, lent-own, Asked, asked, asked-stored}
 use Rattle.engine.proofs.Parts.Side.{on-left, on-right}
 use Rattle.engine.proofs.Uniform.{View, view, unview, has, of, entry, Stands-at, operand, view-of, answered-taken, row, operand-rows}
@@ -200,9 +200,9 @@ module _ {t s : List ℕ} {k left a c end : ℕ} {ws₀ ws b′ : List ℕ} wher
           stay : (x : Side) → lent x a c (put-back (a + c) end b′ ws) ≡ lent x a c ws
           stay x = lent-own x a c end ws b′ (turn .last) (omega (arith, turn .room)) (turn .size)
 
-  pub run-turn : {h : Bool} {n : ℕ} → Turn t s k left a c end ws₀ ws (Run h n) b′ →
-      Answers t s k ws₀ (Verdict h n) (put-back (a + c) end b′ ws)
-  run-turn {h} {n} turn φ L g entered never agrees state =
+  pub batch-turn : {bits n : ℕ} → Turn t s k left a c end ws₀ ws (Batch bits n) b′ →
+      Answers t s k ws₀ (Answered bits n) (put-back (a + c) end b′ ws)
+  batch-turn {bits} {n} turn φ L g entered never agrees state =
       let v = viewed turn φ L g entered never agrees state in
       let st = stepped turn φ L g entered never agrees v in
       (st .0, moved-on turn φ L g entered (g + n) v (st .1) (st .2))
@@ -217,7 +217,7 @@ module _ {t s : List ℕ} {k left a c end : ℕ} {ws₀ ws b′ : List ℕ} wher
       left-to-do s (drop (a + c) (put-back (a + c) end b′ ws)) < left-to-do s (drop (a + c) ws)
   again-less turn = rw (own-put turn) (turn .ends)
 
-  pub open-turn : Turn t s k left a c end ws₀ ws Open b′ → Answers t s k ws₀ NoVerdict (put-back (a + c) end b′ ws)
+  pub open-turn : Turn t s k left a c end ws₀ ws Open b′ → Answers t s k ws₀ Unanswered (put-back (a + c) end b′ ws)
   open-turn turn φ L g entered never agrees state =
       let v = viewed turn φ L g entered never agrees state in (
         stepped turn φ L g entered never agrees v,
@@ -290,16 +290,16 @@ module _ {t s : List ℕ} {k left a c end : ℕ} {ws₀ ws b′ : List ℕ} (sid
       unchanged
       asks
 
-  framed : (ys : List ℕ) (h : Bool) (n : ℕ) → length ys ≡ stop side a c - start side a →
+  framed : (ys : List ℕ) (bits n : ℕ) → length ys ≡ stop side a c - start side a →
       Asked
       side
       a
       c
       ws
       ys
-      (stored (back (start side a) (stop side a c) ys ws) (a + c + slot side) h n)
-      (stored (drop (a + c) ws) (slot side) h n)
-  framed ys h n kept =
+      (stored (back (start side a) (stop side a c) ys ws) (a + c + slot side) bits n)
+      (stored (drop (a + c) ws) (slot side) bits n)
+  framed ys bits n kept =
       asked-stored
       side
       a
@@ -308,13 +308,13 @@ module _ {t s : List ℕ} {k left a c end : ℕ} {ws₀ ws b′ : List ℕ} (sid
       ys
       (back (start side a) (stop side a c) ys ws)
       (drop (a + c) ws)
-      h
+      bits
       n
       (asked side a c ws ys inside kept)
 
   pub open-asked : (x : Bool) (ws′ : List ℕ) → negate x ≡ true →
       Asks t s (entry side left k) (start side a) (stop side a c) (a + c + slot side) (put-back (a + c) end b′ ws) x ws′ →
-      Answers t s k ws₀ NoVerdict ws′
+      Answers t s k ws₀ Unanswered ws′
   open-asked true ws′ e asks φ L g entered never agrees state = absurd (true-and-false e refl)
   open-asked false ws′ e asks φ L g entered never agrees state =
       let got = asks-same false ws′ asks in
@@ -353,15 +353,15 @@ module _ {t s : List ℕ} {k left a c end : ℕ} {ws₀ ws b′ : List ℕ} (sid
   filled true ws′ e asks φ L g entered never agrees state =
       let got = asks-same true ws′ asks in
       let ys = got .0 in
-      let h = got .2 .0 in
+      let bits = got .2 .0 in
       let n = got .2 .1 in
       let b = drop (a + c) ws in
-      let new = stored b (slot side) h n in
-      let after = stored (back (start side a) (stop side a c) ys ws) (a + c + slot side) h n in
-      let frame = framed ys h n (got .1) in
+      let new = stored b (slot side) bits n in
+      let after = stored (back (start side a) (stop side a c) ys ws) (a + c + slot side) bits n in
+      let frame = framed ys bits n (got .1) in
       let v = viewed turn φ L g entered never agrees state in
       let st = wanting side φ L g b (stepped turn φ L g entered never agrees v) in
-      let it = ask-at (λ φ L q. Runs φ L q h n × State φ L (q + n) ys) (got .2 .4) φ L g entered never agrees v (st .0) in
+      let it = ask-at (λ φ L q. Gives φ L q bits n × State φ L (q + n) ys) (got .2 .4) φ L g entered never agrees v (st .0) in
       rw (got .2 .3)
       (state-of
       turn
@@ -373,13 +373,13 @@ module _ {t s : List ℕ} {k left a c end : ℕ} {ws₀ ws b′ : List ℕ} (sid
       after
       new
       (frame .own)
-      (ready-filled side b long h n φ L g (v .own) (it .0))
+      (ready-filled side b long bits n φ L g (v .own) (it .0))
       (by-side
       (λ x. Stands-at x a c φ L new after)
       side
-      (λ e. rw (frame .here, stored-at side b long h n, stored-count side b long h n) (it .1))
+      (λ e. rw (frame .here, stored-at side b long bits n, stored-count side b long bits n) (it .1))
       (λ e.
-      rw (frame .there, stored-at side b long h n, stored-count-other side b long h n) (operand v (other side) e))))
+      rw (frame .there, stored-at side b long bits n, stored-count-other side b long bits n) (operand v (other side) e))))
 
   pub filled-less : (x : Bool) (ws′ : List ℕ) → negate x ≡ false →
       Asks t s (entry side left k) (start side a) (stop side a c) (a + c + slot side) (put-back (a + c) end b′ ws) x ws′ →
@@ -387,17 +387,17 @@ module _ {t s : List ℕ} {k left a c end : ℕ} {ws₀ ws b′ : List ℕ} (sid
   filled-less false ws′ e asks = absurd (true-and-false refl e)
   filled-less true ws′ e asks =
       let got = asks-same true ws′ asks in
-      let h = got .2 .0 in
+      let bits = got .2 .0 in
       let n = got .2 .1 in
       let b = drop (a + c) ws in
       rw (
         got .2 .3,
-        framed (got .0) h n (got .1) .own,
-        to-do side s (stored b (slot side) h n),
+        framed (got .0) bits n (got .1) .own,
+        to-do side s (stored b (slot side) bits n),
         to-do side s b,
-        stored-at side b long h n,
-        stored-count side b long h n,
-        stored-count-other side b long h n,
+        stored-at side b long bits n,
+        stored-count side b long bits n,
+        stored-count-other side b long bits n,
         none,
         empty-some n (got .2 .2),
       )
@@ -405,12 +405,12 @@ module _ {t s : List ℕ} {k left a c end : ℕ} {ws₀ ws b′ : List ℕ} (sid
 
 -- an operand's answer, as what was asked for: its words are ys now
 module _ (t s : List ℕ) (o from to slot : ℕ) (ws ys : List ℕ) (ordered : from ≤ to) (inside : to ≤ length ws) (kept : length ys ≡ length (part from to ws)) where
-  pub asked-open : Answers t s o (part from to ws) NoVerdict ys → Asks t s o from to slot ws false (put-back from to ys ws)
+  pub asked-open : Answers t s o (part from to ws) Unanswered ys → Asks t s o from to slot ws false (put-back from to ys ws)
   asked-open answers = (ys, kept ∙ length-part from to ws inside, (back-from from to ys ws ordered, answers))
 
-  pub asked-none : (h : Bool) (n : ℕ) → n ≡ 0 → Answers t s o (part from to ws) (Verdict h n) ys →
+  pub asked-none : (bits n : ℕ) → n ≡ 0 → Answers t s o (part from to ws) (Answered bits n) ys →
       Asks t s o from to slot ws false (put-back from to ys ws)
-  asked-none h n e answers = (
+  asked-none bits n e answers = (
     ys,
     kept ∙ length-part from to ws inside,
     (
@@ -421,16 +421,16 @@ module _ (t s : List ℕ) (o from to slot : ℕ) (ws ys : List ℕ) (ordered : f
     ),
   )
 
-  pub asked-run : (h : Bool) (n : ℕ) → (n ≡ 0 → ⊥) → Answers t s o (part from to ws) (Verdict h n) ys → (ws′ : List ℕ) →
-      ws′ ≡ stored (put-back from to ys ws) slot h n → Asks t s o from to slot ws true ws′
-  asked-run h n some answers ws′ e = (
+  pub asked-batch : (bits n : ℕ) → (n ≡ 0 → ⊥) → Answers t s o (part from to ws) (Answered bits n) ys → (ws′ : List ℕ) →
+      ws′ ≡ stored (put-back from to ys ws) slot bits n → Asks t s o from to slot ws true ws′
+  asked-batch bits n some answers ws′ e = (
     ys,
     kept ∙ length-part from to ws inside,
     (
-      h,
+      bits,
       n,
       pos-of-ne-zero some,
-      e ∙ ap (λ (l : List ℕ). stored l slot h n) (back-from from to ys ws ordered),
+      e ∙ ap (λ (l : List ℕ). stored l slot bits n) (back-from from to ys ws ordered),
       answers,
     ),
   )

@@ -12,7 +12,9 @@ use lib.Seq.{take-take, drop-drop, getD-take, getD-drop, length-take-le}
 use Rattle.mtl.specs.Formula.{Formula}
 use Rattle.mtl.specs.Formula.Formula.{letter, not, or, previous, next, since, until}
 use Rattle.mtl.specs.Log.{Log}
+use Rattle.mtl.specs.Satisfaction.{sat}
 use Rattle.mtl.proofs.Bounded.{le-or-lt}
+use Rattle.bits.proofs.Laws.{packed-none}
 use Rattle.rule.specs.declared.Entry.{Entry}
 use Rattle.rule.specs.Entries.{entry}
 use Rattle.rule.specs.Words.{own, offset}
@@ -64,9 +66,7 @@ range-same b b′ same r =
       arith,
       same 0 (omega arith),
       same 1 (omega arith),
-      same 2 (omega arith),
       same 3 (omega arith),
-      same 4 (omega arith),
       same 5 (omega arith),
       same 6 (omega arith),
       same 7 (omega arith),
@@ -75,7 +75,7 @@ range-same b b′ same r =
       same 10 (omega arith),
     )
 
--- WHERE AN ENTRY'S OPERANDS STAND
+-- WHERE AN ENTRY'S OWN BLOCK STANDS
 
 pub own-least : (e : Entry) → 16 ≤ own e
 own-least e = least (eqb (e .kind) 5) (eqb (e .kind) 6) (cond (eqb (e .high) 4294967295) 1 (e .high + 1)) (e .high)
@@ -107,44 +107,6 @@ module _ (t : List Entry) (W : List ℕ) where
         let l′ = length-drop (a + c) (part-words t k W) in
         omega arith
 
--- the only operand's part
-module _ (t : List Entry) (W : List ℕ) (k c : ℕ) (u : Unary t k) (words : c ≡ part t (k - 1)) where
-  one-first : first t (k - 1) ≡ first t k
-  one-first = let b = u .below in let s = u .span-is in omega arith
-
-  one-part : part t k ≡ 0 + c + own (entry t k)
-  one-part = let p = u .part-is in omega arith
-
-  one-right : take c (drop 0 (part-words t k W)) ≡ part-words t (k - 1) W
-  one-right =
-      let p = u .part-is in
-      part-of-part W (offset t (first t k)) (part t k) 0 c (offset t (first t (k - 1))) (rw one-first (omega arith)) (omega arith) ∙
-      ap (λ x. take x (drop (offset t (first t (k - 1))) W)) words
-
--- both operands' parts
-module _ (t : List Entry) (W : List ℕ) (k a c : ℕ) (u : Binary t k) (lefts : a ≡ part t (left t k)) (rights : c ≡ part t (k - 1)) where
-  two-first : first t (left t k) ≡ first t k
-  two-first = let b = u .below in let s = u .span-is in omega arith
-
-  two-next : first t (k - 1) ≡ suc (left t k)
-  two-next = let b = u .below in omega arith
-
-  two-part : part t k ≡ a + c + own (entry t k)
-  two-part = let p = u .part-is in omega arith
-
-  two-left : take a (part-words t k W) ≡ part-words t (left t k) W
-  two-left =
-      let p = u .part-is in
-      part-of-part W (offset t (first t k)) (part t k) 0 a (offset t (first t (left t k))) (rw two-first (omega arith)) (omega arith) ∙
-      ap (λ x. take x (drop (offset t (first t (left t k))) W)) lefts
-
-  two-right : take c (drop a (part-words t k W)) ≡ part-words t (k - 1) W
-  two-right =
-      let p = u .part-is in
-      let e : offset t (first t k) + a ≡ offset t (first t (k - 1)) = rw (two-next, ← two-first, lefts) (part-ends t W (left t k)) in
-      part-of-part W (offset t (first t k)) (part t k) a c (offset t (first t (k - 1))) e (omega arith) ∙
-      ap (λ x. take x (drop (offset t (first t (k - 1))) W)) rights
-
 -- A FRESH BLOCK
 
 module _ (φ : Formula) (L : Log) (b : List ℕ) (fresh : FreshBlock (kind-of φ) (letter-of φ) (low-of φ) (high-of φ) b) where
@@ -157,9 +119,7 @@ module _ (φ : Formula) (L : Log) (b : List ℕ) (fresh : FreshBlock (kind-of φ
               arith,
               fresh .zeros 0 (omega arith),
               fresh .zeros 1 (omega arith),
-              fresh .zeros 2 (omega arith),
               fresh .zeros 3 (omega arith),
-              fresh .zeros 4 (omega arith),
               fresh .zeros 5 (omega arith),
               fresh .zeros 6 (omega arith),
               fresh .zeros 7 (omega arith),
@@ -171,8 +131,8 @@ module _ (φ : Formula) (L : Log) (b : List ℕ) (fresh : FreshBlock (kind-of φ
         own = is;
       }
 
-empty-buffer : (φ : Formula) (L : Log) (p count answer : ℕ) → p ≡ 0 → count ≡ 0 → Buffer φ L p count answer
-empty-buffer φ L p count answer e f = record { within = omega arith; same = λ i g h. absurd (omega arith) }
+empty-buffer : (φ : Formula) (L : Log) (p count bits : ℕ) → p ≡ 0 → count ≡ 0 → Buffer φ L p count bits
+empty-buffer φ L p count bits e f = record { within = omega arith; packed = rw f (packed-none (sat φ L) p bits) }
 
 ring-least : (high : ℕ) → 1 ≤ ring-words high
 ring-least high = least (eqb high 4294967295)
@@ -269,68 +229,7 @@ module _ (t : List Entry) (n : ℕ) (W : List ℕ) (room : offset t n ≤ length
         right = subst (λ p. Right p (take c (drop a (part-words t k W)))) (omega arith) (subst (Right 0) (sym f) r);
       }
 
--- every block of the entries from f to k is fresh
-abbrev pub FreshFrom : List Entry → List ℕ → ℕ → ℕ → Type 0
-FreshFrom t W f k =
-    (j : ℕ) → f ≤ j → j ≤ k → FreshBlock (entry t j .kind) (entry t j .letter) (entry t j .low) (entry t j .high) (drop (offset t j) W)
-
--- THEOREM: the words that open writes have the state at 0, on every log.
-pub fresh-state : (t : List Entry) (n : ℕ) → WellFormed t n → (W : List ℕ) → offset t n ≤ length W → (φ : Formula) (k : ℕ) → k < n →
-    FormulaAt t k φ → FreshFrom t W (first t k) k → (L : Log) → State φ L 0 (part-words t k W)
-unfolding FormulaAt State
-fresh-state t n ok W room (letter l) k h e fresh L =
-    let p = ok .leaf k h (ap (λ x. operands (x .kind)) e) in
-    let s = p .span-is in
-    let q = p .part-is in
-    fresh-parts t n W room (letter l) k 0 0 h e (omega arith) (fresh k (omega arith) (omega arith)) L Absent Absent _ _ refl refl tt tt
-fresh-state t n ok W room (not φ) k h (e, b, f) fresh L =
-    let u = ok .unary k h (ap (λ x. operands (x .kind)) e) in
-    let w = sym (words-at t n ok φ (k - 1) (omega arith) f) in
-    let i = one-first t W k (words φ) u w in
-    fresh-parts t n W room (not φ) k 0 (words φ) h e (one-part t W k (words φ) u w) (fresh k (omega arith) (omega arith)) L Absent (State φ L)
-    _ _ refl (one-right t W k (words φ) u w) tt
-    (fresh-state t n ok W room φ (k - 1) (omega arith) f (λ j g l. fresh j (omega arith) (omega arith)) L)
-fresh-state t n ok W room (or φ ψ) k h (e, b, f, g) fresh L =
-    let u = ok .binary k h (ap (λ x. operands (x .kind)) e) in
-    let w = sym (words-at t n ok φ (left t k) (omega arith) f) in
-    let w′ = sym (words-at t n ok ψ (k - 1) (omega arith) g) in
-    let i = two-first t W k (words φ) (words ψ) u w w′ in
-    fresh-parts t n W room (or φ ψ) k (words φ) (words ψ) h e (two-part t W k (words φ) (words ψ) u w w′) (fresh k (omega arith) (omega arith)) L
-    (State φ L) (State ψ L) _ _ (two-left t W k (words φ) (words ψ) u w w′) (two-right t W k (words φ) (words ψ) u w w′)
-    (fresh-state t n ok W room φ (left t k) (omega arith) f (λ j l l′. fresh j (omega arith) (omega arith)) L)
-    (fresh-state t n ok W room ψ (k - 1) (omega arith) g (λ j l l′. fresh j (omega arith) (omega arith)) L)
-fresh-state t n ok W room (previous low high φ) k h (e, b, f) fresh L =
-    let u = ok .unary k h (ap (λ x. operands (x .kind)) e) in
-    let w = sym (words-at t n ok φ (k - 1) (omega arith) f) in
-    let i = one-first t W k (words φ) u w in
-    fresh-parts t n W room (previous low high φ) k 0 (words φ) h e (one-part t W k (words φ) u w) (fresh k (omega arith) (omega arith)) L Absent (State φ L)
-    _ _ refl (one-right t W k (words φ) u w) tt
-    (fresh-state t n ok W room φ (k - 1) (omega arith) f (λ j g l. fresh j (omega arith) (omega arith)) L)
-fresh-state t n ok W room (next low high φ) k h (e, b, f) fresh L =
-    let u = ok .unary k h (ap (λ x. operands (x .kind)) e) in
-    let w = sym (words-at t n ok φ (k - 1) (omega arith) f) in
-    let i = one-first t W k (words φ) u w in
-    fresh-parts t n W room (next low high φ) k 0 (words φ) h e (one-part t W k (words φ) u w) (fresh k (omega arith) (omega arith)) L Absent (State φ L)
-    _ _ refl (one-right t W k (words φ) u w) tt
-    (fresh-state t n ok W room φ (k - 1) (omega arith) f (λ j g l. fresh j (omega arith) (omega arith)) L)
-fresh-state t n ok W room (since low high φ ψ) k h (e, b, f, g) fresh L =
-    let u = ok .binary k h (ap (λ x. operands (x .kind)) e) in
-    let w = sym (words-at t n ok φ (left t k) (omega arith) f) in
-    let w′ = sym (words-at t n ok ψ (k - 1) (omega arith) g) in
-    let i = two-first t W k (words φ) (words ψ) u w w′ in
-    fresh-parts t n W room (since low high φ ψ) k (words φ) (words ψ) h e (two-part t W k (words φ) (words ψ) u w w′) (fresh k (omega arith) (omega arith)) L
-    (State φ L) (State ψ L) _ _ (two-left t W k (words φ) (words ψ) u w w′) (two-right t W k (words φ) (words ψ) u w w′)
-    (fresh-state t n ok W room φ (left t k) (omega arith) f (λ j l l′. fresh j (omega arith) (omega arith)) L)
-    (fresh-state t n ok W room ψ (k - 1) (omega arith) g (λ j l l′. fresh j (omega arith) (omega arith)) L)
-fresh-state t n ok W room (until low high φ ψ) k h (e, b, f, g) fresh L =
-    let u = ok .binary k h (ap (λ x. operands (x .kind)) e) in
-    let w = sym (words-at t n ok φ (left t k) (omega arith) f) in
-    let w′ = sym (words-at t n ok ψ (k - 1) (omega arith) g) in
-    let i = two-first t W k (words φ) (words ψ) u w w′ in
-    fresh-parts t n W room (until low high φ ψ) k (words φ) (words ψ) h e (two-part t W k (words φ) (words ψ) u w w′) (fresh k (omega arith) (omega arith)) L
-    (State φ L) (State ψ L) _ _ (two-left t W k (words φ) (words ψ) u w w′) (two-right t W k (words φ) (words ψ) u w w′)
-    (fresh-state t n ok W room φ (left t k) (omega arith) f (λ j l l′. fresh j (omega arith) (omega arith)) L)
-    (fresh-state t n ok W room ψ (k - 1) (omega arith) g (λ j l l′. fresh j (omega arith) (omega arith)) L)
+-- A BLOCK IN ITS RANGES
 
 -- the block of entry j is in its ranges, and holds the entry's copy
 pub record Ranged (t : List Entry) (W : List ℕ) (size j : ℕ) : Type 0 where
@@ -359,96 +258,156 @@ own-ranged t W φ L g k a c is all ready j l l′ =
           (copied-same (drop (a + c) (part-words t k W)) (drop (offset t k) W) same (core .copy));
     })
 
+-- BLOCK BY BLOCK
+
+-- every block of the entries from f to k is fresh, or in its ranges
+abbrev pub FreshFrom : List Entry → List ℕ → ℕ → ℕ → Type 0
+FreshFrom t W f k =
+    (j : ℕ) → f ≤ j → j ≤ k → FreshBlock (entry t j .kind) (entry t j .letter) (entry t j .low) (entry t j .high) (drop (offset t j) W)
+
+abbrev pub RangedFrom : List Entry → List ℕ → (size : ℕ) → ℕ → ℕ → Type 0
+RangedFrom t W size f k = (j : ℕ) → f ≤ j → j ≤ k → Ranged t W size j
+
+-- an entry of χ with one operand φ
+module _ (t : List Entry) (n : ℕ) (ok : WellFormed t n) (W : List ℕ) (χ φ : Formula) (k : ℕ) (h : k < n) (is : entry t k ≡ root χ)
+    (one : operands (root χ .kind) ≡ 1) (at : FormulaAt t (k - 1) φ) (L : Log) where
+  unary : Unary t k
+  unary = ok .unary k h (ap (λ x. operands (x .kind)) is ∙ one)
+
+  one-words : words φ ≡ part t (k - 1)
+  one-words = sym (words-at t n ok φ (k - 1) (omega arith) at)
+
+  one-first : first t (k - 1) ≡ first t k
+  one-first = omega (arith, unary .below, unary .span-is)
+
+  one-part : part t k ≡ 0 + words φ + own (entry t k)
+  one-part = omega (arith, unary .part-is, one-words)
+
+  one-right : take (words φ) (drop 0 (part-words t k W)) ≡ part-words t (k - 1) W
+  one-right =
+      part-of-part W (offset t (first t k)) (part t k) 0 (words φ) (offset t (first t (k - 1))) (rw one-first (omega arith)) (omega (arith, one-part)) ∙
+      ap (λ x. take x (drop (offset t (first t (k - 1))) W)) one-words
+
+  fresh-one : offset t n ≤ length W → FreshFrom t W (first t k) k →
+      (FreshFrom t W (first t (k - 1)) (k - 1) → State φ L 0 (part-words t (k - 1) W)) →
+      Parts (Ready χ L 0) Absent (State φ L) 0 (words φ) (part-words t k W)
+  fresh-one room fresh right =
+      fresh-parts t n W room χ k 0 (words φ) h is one-part (fresh k (omega (arith, unary .span-is)) (omega arith)) L Absent (State φ L) _ _ refl one-right tt
+      (right (λ j l l′. fresh j (omega (arith, one-first)) (omega arith)))
+
+  ranged-one : (g : ℕ) → Parts (Ready χ L g) Absent (State φ L) 0 (words φ) (part-words t k W) →
+      ((p : ℕ) → State φ L p (part-words t (k - 1) W) → RangedFrom t W (L .size) (first t (k - 1)) (k - 1)) →
+      RangedFrom t W (L .size) (first t k) k
+  ranged-one g s right j from to =
+      ⊎-elim
+      (λ (l : k ≤ j). own-ranged t W χ L g k 0 (words φ) is one-part (s .own) j l to)
+      (λ (l : j < k). right _ (subst (State φ L _) one-right (s .right)) j (omega (arith, one-first)) (omega arith))
+      (le-or-lt k j)
+
+-- an entry of χ with two operands φ and ψ
+module _ (t : List Entry) (n : ℕ) (ok : WellFormed t n) (W : List ℕ) (χ φ ψ : Formula) (k : ℕ) (h : k < n) (is : entry t k ≡ root χ)
+    (two : operands (root χ .kind) ≡ 2) (at-left : FormulaAt t (left t k) φ) (at-right : FormulaAt t (k - 1) ψ) (L : Log) where
+  binary : Binary t k
+  binary = ok .binary k h (ap (λ x. operands (x .kind)) is ∙ two)
+
+  two-lefts : words φ ≡ part t (left t k)
+  two-lefts = sym (words-at t n ok φ (left t k) (omega arith) at-left)
+
+  two-rights : words ψ ≡ part t (k - 1)
+  two-rights = sym (words-at t n ok ψ (k - 1) (omega arith) at-right)
+
+  two-first : first t (left t k) ≡ first t k
+  two-first = omega (arith, binary .below, binary .span-is)
+
+  two-next : first t (k - 1) ≡ suc (left t k)
+  two-next = omega (arith, binary .below)
+
+  two-part : part t k ≡ words φ + words ψ + own (entry t k)
+  two-part = omega (arith, binary .part-is, two-lefts, two-rights)
+
+  two-left : take (words φ) (part-words t k W) ≡ part-words t (left t k) W
+  two-left =
+      part-of-part W (offset t (first t k)) (part t k) 0 (words φ) (offset t (first t (left t k))) (rw two-first (omega arith)) (omega (arith, two-part)) ∙
+      ap (λ x. take x (drop (offset t (first t (left t k))) W)) two-lefts
+
+  two-right : take (words ψ) (drop (words φ) (part-words t k W)) ≡ part-words t (k - 1) W
+  two-right =
+      let e : offset t (first t k) + words φ ≡ offset t (first t (k - 1)) = rw (two-next, ← two-first, two-lefts) (part-ends t W (left t k)) in
+      part-of-part W (offset t (first t k)) (part t k) (words φ) (words ψ) (offset t (first t (k - 1))) e (omega (arith, two-part)) ∙
+      ap (λ x. take x (drop (offset t (first t (k - 1))) W)) two-rights
+
+  fresh-two : offset t n ≤ length W → FreshFrom t W (first t k) k →
+      (FreshFrom t W (first t (left t k)) (left t k) → State φ L 0 (part-words t (left t k) W)) →
+      (FreshFrom t W (first t (k - 1)) (k - 1) → State ψ L 0 (part-words t (k - 1) W)) →
+      Parts (Ready χ L 0) (State φ L) (State ψ L) (words φ) (words ψ) (part-words t k W)
+  fresh-two room fresh lefts rights =
+      fresh-parts t n W room χ k (words φ) (words ψ) h is two-part (fresh k (omega (arith, binary .span-is)) (omega arith)) L (State φ L) (State ψ L) _ _ two-left two-right
+      (lefts (λ j l l′. fresh j (omega (arith, two-first)) (omega arith)))
+      (rights (λ j l l′. fresh j (omega (arith, two-first, two-next)) (omega arith)))
+
+  ranged-two : (g : ℕ) → Parts (Ready χ L g) (State φ L) (State ψ L) (words φ) (words ψ) (part-words t k W) →
+      ((p : ℕ) → State φ L p (part-words t (left t k) W) → RangedFrom t W (L .size) (first t (left t k)) (left t k)) →
+      ((p : ℕ) → State ψ L p (part-words t (k - 1) W) → RangedFrom t W (L .size) (first t (k - 1)) (k - 1)) →
+      RangedFrom t W (L .size) (first t k) k
+  ranged-two g s lefts rights j from to =
+      ⊎-elim
+      (λ (l : k ≤ j). own-ranged t W χ L g k (words φ) (words ψ) is two-part (s .own) j l to)
+      (λ (l : j < k).
+      ⊎-elim
+      (λ (m : j ≤ left t k). lefts _ (subst (State φ L _) two-left (s .left)) j (omega (arith, two-first)) m)
+      (λ (m : left t k < j). rights _ (subst (State ψ L _) two-right (s .right)) j (omega (arith, two-next)) (omega arith))
+      (le-or-lt j (left t k)))
+      (le-or-lt k j)
+
+-- THEOREM: the words that open writes have the state at 0, on every log.
+pub fresh-state : (t : List Entry) (n : ℕ) → WellFormed t n → (W : List ℕ) → offset t n ≤ length W → (φ : Formula) (k : ℕ) → k < n →
+    FormulaAt t k φ → (L : Log) → FreshFrom t W (first t k) k → State φ L 0 (part-words t k W)
+unfolding FormulaAt State
+fresh-state t n ok W room (letter l) k h e L fresh =
+    let p = ok .leaf k h (ap (λ x. operands (x .kind)) e) in
+    let s = p .span-is in
+    let q = p .part-is in
+    fresh-parts t n W room (letter l) k 0 0 h e (omega arith) (fresh k (omega arith) (omega arith)) L Absent Absent _ _ refl refl tt tt
+fresh-state t n ok W room (not φ) k h (e, b, f) L fresh =
+    fresh-one t n ok W (not φ) φ k h e refl f L room fresh (fresh-state t n ok W room φ (k - 1) (omega arith) f L)
+fresh-state t n ok W room (or φ ψ) k h (e, b, f, f′) L fresh =
+    fresh-two t n ok W (or φ ψ) φ ψ k h e refl f f′ L room fresh (fresh-state t n ok W room φ (left t k) (omega arith) f L)
+    (fresh-state t n ok W room ψ (k - 1) (omega arith) f′ L)
+fresh-state t n ok W room (previous low high φ) k h (e, b, f) L fresh =
+    fresh-one t n ok W (previous low high φ) φ k h e refl f L room fresh (fresh-state t n ok W room φ (k - 1) (omega arith) f L)
+fresh-state t n ok W room (next low high φ) k h (e, b, f) L fresh =
+    fresh-one t n ok W (next low high φ) φ k h e refl f L room fresh (fresh-state t n ok W room φ (k - 1) (omega arith) f L)
+fresh-state t n ok W room (since low high φ ψ) k h (e, b, f, f′) L fresh =
+    fresh-two t n ok W (since low high φ ψ) φ ψ k h e refl f f′ L room fresh (fresh-state t n ok W room φ (left t k) (omega arith) f L)
+    (fresh-state t n ok W room ψ (k - 1) (omega arith) f′ L)
+fresh-state t n ok W room (until low high φ ψ) k h (e, b, f, f′) L fresh =
+    fresh-two t n ok W (until low high φ ψ) φ ψ k h e refl f f′ L room fresh (fresh-state t n ok W room φ (left t k) (omega arith) f L)
+    (fresh-state t n ok W room ψ (k - 1) (omega arith) f′ L)
+
 -- THEOREM: where the words have the state, every block is in its ranges and holds its entry's copy.
 pub state-ranges : (t : List Entry) (n : ℕ) → WellFormed t n → (W : List ℕ) (φ : Formula) (k : ℕ) → k < n → FormulaAt t k φ →
-    (L : Log) (g : ℕ) → State φ L g (part-words t k W) → (j : ℕ) → first t k ≤ j → j ≤ k → Ranged t W (L .size) j
+    (L : Log) (g : ℕ) → State φ L g (part-words t k W) → RangedFrom t W (L .size) (first t k) k
 unfolding FormulaAt State
-state-ranges t n ok W (letter l) k h e L g s j from to =
+state-ranges t n ok W (letter l) k h e L g s =
     let p = ok .leaf k h (ap (λ x. operands (x .kind)) e) in
     let q = p .span-is in
     let q′ = p .part-is in
-    own-ranged t W (letter l) L g k 0 0 e (omega arith) (s .own) j (omega arith) to
-state-ranges t n ok W (not φ) k h (e, b, f) L g s j from to =
-    let u = ok .unary k h (ap (λ x. operands (x .kind)) e) in
-    let w = sym (words-at t n ok φ (k - 1) (omega arith) f) in
-    let i = one-first t W k (words φ) u w in
-    ⊎-elim
-    (λ (l : k ≤ j). own-ranged t W (not φ) L g k 0 (words φ) e (one-part t W k (words φ) u w) (s .own) j l to)
-    (λ (l : j < k).
-    state-ranges t n ok W φ (k - 1) (omega arith) f L _ (subst (State φ L _) (one-right t W k (words φ) u w) (s .right)) j (omega arith) (omega arith))
-    (le-or-lt k j)
-state-ranges t n ok W (or φ ψ) k h (e, b, f, f′) L g s j from to =
-    let u = ok .binary k h (ap (λ x. operands (x .kind)) e) in
-    let w = sym (words-at t n ok φ (left t k) (omega arith) f) in
-    let w′ = sym (words-at t n ok ψ (k - 1) (omega arith) f′) in
-    let i = two-first t W k (words φ) (words ψ) u w w′ in
-    let i′ = two-next t W k (words φ) (words ψ) u w w′ in
-    ⊎-elim
-    (λ (l : k ≤ j). own-ranged t W (or φ ψ) L g k (words φ) (words ψ) e (two-part t W k (words φ) (words ψ) u w w′) (s .own) j l to)
-    (λ (l : j < k).
-    ⊎-elim
-    (λ (m : j ≤ left t k).
-    state-ranges t n ok W φ (left t k) (omega arith) f L _
-    (subst (State φ L _) (two-left t W k (words φ) (words ψ) u w w′) (s .left)) j (omega arith) m)
-    (λ (m : left t k < j).
-    state-ranges t n ok W ψ (k - 1) (omega arith) f′ L _
-    (subst (State ψ L _) (two-right t W k (words φ) (words ψ) u w w′) (s .right)) j (omega arith) (omega arith))
-    (le-or-lt j (left t k)))
-    (le-or-lt k j)
-state-ranges t n ok W (previous low high φ) k h (e, b, f) L g s j from to =
-    let u = ok .unary k h (ap (λ x. operands (x .kind)) e) in
-    let w = sym (words-at t n ok φ (k - 1) (omega arith) f) in
-    let i = one-first t W k (words φ) u w in
-    ⊎-elim
-    (λ (l : k ≤ j). own-ranged t W (previous low high φ) L g k 0 (words φ) e (one-part t W k (words φ) u w) (s .own) j l to)
-    (λ (l : j < k).
-    state-ranges t n ok W φ (k - 1) (omega arith) f L _ (subst (State φ L _) (one-right t W k (words φ) u w) (s .right)) j (omega arith) (omega arith))
-    (le-or-lt k j)
-state-ranges t n ok W (next low high φ) k h (e, b, f) L g s j from to =
-    let u = ok .unary k h (ap (λ x. operands (x .kind)) e) in
-    let w = sym (words-at t n ok φ (k - 1) (omega arith) f) in
-    let i = one-first t W k (words φ) u w in
-    ⊎-elim
-    (λ (l : k ≤ j). own-ranged t W (next low high φ) L g k 0 (words φ) e (one-part t W k (words φ) u w) (s .own) j l to)
-    (λ (l : j < k).
-    state-ranges t n ok W φ (k - 1) (omega arith) f L _ (subst (State φ L _) (one-right t W k (words φ) u w) (s .right)) j (omega arith) (omega arith))
-    (le-or-lt k j)
-state-ranges t n ok W (since low high φ ψ) k h (e, b, f, f′) L g s j from to =
-    let u = ok .binary k h (ap (λ x. operands (x .kind)) e) in
-    let w = sym (words-at t n ok φ (left t k) (omega arith) f) in
-    let w′ = sym (words-at t n ok ψ (k - 1) (omega arith) f′) in
-    let i = two-first t W k (words φ) (words ψ) u w w′ in
-    let i′ = two-next t W k (words φ) (words ψ) u w w′ in
-    ⊎-elim
-    (λ (l : k ≤ j). own-ranged t W (since low high φ ψ) L g k (words φ) (words ψ) e (two-part t W k (words φ) (words ψ) u w w′) (s .own) j l to)
-    (λ (l : j < k).
-    ⊎-elim
-    (λ (m : j ≤ left t k).
-    state-ranges t n ok W φ (left t k) (omega arith) f L _
-    (subst (State φ L _) (two-left t W k (words φ) (words ψ) u w w′) (s .left)) j (omega arith) m)
-    (λ (m : left t k < j).
-    state-ranges t n ok W ψ (k - 1) (omega arith) f′ L _
-    (subst (State ψ L _) (two-right t W k (words φ) (words ψ) u w w′) (s .right)) j (omega arith) (omega arith))
-    (le-or-lt j (left t k)))
-    (le-or-lt k j)
-state-ranges t n ok W (until low high φ ψ) k h (e, b, f, f′) L g s j from to =
-    let u = ok .binary k h (ap (λ x. operands (x .kind)) e) in
-    let w = sym (words-at t n ok φ (left t k) (omega arith) f) in
-    let w′ = sym (words-at t n ok ψ (k - 1) (omega arith) f′) in
-    let i = two-first t W k (words φ) (words ψ) u w w′ in
-    let i′ = two-next t W k (words φ) (words ψ) u w w′ in
-    ⊎-elim
-    (λ (l : k ≤ j). own-ranged t W (until low high φ ψ) L g k (words φ) (words ψ) e (two-part t W k (words φ) (words ψ) u w w′) (s .own) j l to)
-    (λ (l : j < k).
-    ⊎-elim
-    (λ (m : j ≤ left t k).
-    state-ranges t n ok W φ (left t k) (omega arith) f L _
-    (subst (State φ L _) (two-left t W k (words φ) (words ψ) u w w′) (s .left)) j (omega arith) m)
-    (λ (m : left t k < j).
-    state-ranges t n ok W ψ (k - 1) (omega arith) f′ L _
-    (subst (State ψ L _) (two-right t W k (words φ) (words ψ) u w w′) (s .right)) j (omega arith) (omega arith))
-    (le-or-lt j (left t k)))
-    (le-or-lt k j)
+    λ j from to. own-ranged t W (letter l) L g k 0 0 e (omega arith) (s .own) j (omega arith) to
+state-ranges t n ok W (not φ) k h (e, b, f) L g s =
+    ranged-one t n ok W (not φ) φ k h e refl f L g s (state-ranges t n ok W φ (k - 1) (omega arith) f L)
+state-ranges t n ok W (or φ ψ) k h (e, b, f, f′) L g s =
+    ranged-two t n ok W (or φ ψ) φ ψ k h e refl f f′ L g s (state-ranges t n ok W φ (left t k) (omega arith) f L)
+    (state-ranges t n ok W ψ (k - 1) (omega arith) f′ L)
+state-ranges t n ok W (previous low high φ) k h (e, b, f) L g s =
+    ranged-one t n ok W (previous low high φ) φ k h e refl f L g s (state-ranges t n ok W φ (k - 1) (omega arith) f L)
+state-ranges t n ok W (next low high φ) k h (e, b, f) L g s =
+    ranged-one t n ok W (next low high φ) φ k h e refl f L g s (state-ranges t n ok W φ (k - 1) (omega arith) f L)
+state-ranges t n ok W (since low high φ ψ) k h (e, b, f, f′) L g s =
+    ranged-two t n ok W (since low high φ ψ) φ ψ k h e refl f f′ L g s (state-ranges t n ok W φ (left t k) (omega arith) f L)
+    (state-ranges t n ok W ψ (k - 1) (omega arith) f′ L)
+state-ranges t n ok W (until low high φ ψ) k h (e, b, f, f′) L g s =
+    ranged-two t n ok W (until low high φ ψ) φ ψ k h e refl f f′ L g s (state-ranges t n ok W φ (left t k) (omega arith) f L)
+    (state-ranges t n ok W ψ (k - 1) (omega arith) f′ L)
 
 -- THEOREMS, of a whole rule: its formula is the one that ends at its last entry.
 module _ (t : List Entry) (n : ℕ) (ok : WellFormed t n) (some : 0 < n) (whole : span t (n - 1) ≡ n) (φ : Formula) (last : FormulaAt t (n - 1) φ)
@@ -470,7 +429,7 @@ module _ (t : List Entry) (n : ℕ) (ok : WellFormed t n) (some : 0 < n) (whole 
       ((j : ℕ) → j < n → FreshBlock (entry t j .kind) (entry t j .letter) (entry t j .low) (entry t j .high) (drop (offset t j) W)) →
       (L : Log) → State φ L 0 (take (words φ) W)
   fresh-rule room fresh L =
-      rw rule-words at (fresh-state t n ok W room φ (n - 1) (omega arith) last (λ j l l′. fresh j (omega arith)) L)
+      rw rule-words at (fresh-state t n ok W room φ (n - 1) (omega arith) last L (λ j l l′. fresh j (omega arith)))
 
   pub rule-ranges : (L : Log) (g : ℕ) → State φ L g (take (words φ) W) → (j : ℕ) → j < n → Ranged t W (L .size) j
   rule-ranges L g s j h =

@@ -1,7 +1,6 @@
--- A run stored in an operand's buffer: the operator's block still stands where it stood.
+-- A batch stored in an operand's buffer: the operator's block still stands where it stood.
 use Prim.Native.Nat.{ℕ, _+_, _-_, _≤_}
-use mathlib.Core.Bool.{Bool, true, false}
-use mathlib.Core.Path.{_≡_, refl, sym, ap, _∙_}
+use mathlib.Core.Path.{_≡_, sym, ap, _∙_}
 use mathlib.Core.List.{List}
 use native.Mathlib.Omega.{arith}
 use lib.Dec.{eqb, lit≤}
@@ -11,9 +10,9 @@ use Rattle.mtl.specs.Formula.{Formula}
 use Rattle.mtl.specs.Formula.Formula.{letter, not, or, previous, next, since, until}
 use Rattle.mtl.specs.Log.{Log}
 use Rattle.mtl.proofs.Until.{progress-le-size}
-use Rattle.engine.specs.Block.{word, taken, Own, Ready, Buffer}
-use Rattle.engine.specs.Step.{Runs}
-use Rattle.engine.specs.Ask.{flag-of, stored}
+use Rattle.engine.specs.Block.{word, taken, Own, Ready}
+use Rattle.engine.specs.Step.{Gives}
+use Rattle.engine.specs.Ask.{stored}
 use Rattle.engine.proofs.Parts.{Side, other, by-side, slot}
 use Rattle.engine.proofs.Parts.Side.{on-left, on-right}
 use Rattle.engine.proofs.Uniform.{of, Buffered, buffered, all-buffered}
@@ -55,18 +54,12 @@ own-kept (until low high φ ψ) L g b b′ e o = (
 )
 
 -- a block with other buffers
-pub record Counted (size : ℕ) (b : List ℕ) (side : Side) : Type 0 where
-  pub count : word b (slot side) ≤ size
-  pub answer : word b (slot side + 1) ≤ 1
+abbrev Counted : ℕ → List ℕ → Side → Type 0
+Counted size b side = word b (slot side) ≤ size
 
 counted : (φ : Formula) (L : Log) (g : ℕ) (b : List ℕ) → Ready φ L g b → (side : Side) → Counted (L .size) b side
 counted φ L g b r =
-    let range = r .core .range in
-    by-side
-    (Counted (L .size) b)
-    on-left
-    (record { count = range .left-count; answer = range .left-answer })
-    (record { count = range .right-count; answer = range .right-answer })
+    by-side (Counted (L .size) b) on-left (r .core .range .left-count) (r .core .range .right-count)
 
 rebuffered : (φ : Formula) (L : Log) (g : ℕ) (b b′ : List ℕ) → Rebuffered b b′ → Ready φ L g b →
     ((side : Side) → Counted (L .size) b′ side) → ((side : Side) → Buffered φ L b′ side) → Ready φ L g b′
@@ -79,10 +72,8 @@ rebuffered φ L g b b′ e r counts buffers =
             range =
                 record {
                   at = rw (e .at) (range .at);
-                  left-count = counts on-left .count;
-                  left-answer = counts on-left .answer;
-                  right-count = counts on-right .count;
-                  right-answer = counts on-right .answer;
+                  left-count = counts on-left;
+                  right-count = counts on-right;
                   answered = rw (e .rest 5 (lit≤ tt), e .at) (range .answered);
                   last-left = rw (e .rest 6 (lit≤ tt)) (range .last-left);
                   last-right = rw (e .rest 7 (lit≤ tt)) (range .last-right);
@@ -100,18 +91,6 @@ rebuffered φ L g b b′ e r counts buffers =
       buffers = all-buffered φ L b′ buffers;
     }
 
-flag-bit : (h : Bool) → flag-of h ≤ 1
-flag-bit true = lit≤ tt
-flag-bit false = lit≤ tt
-
-flag-is : (h : Bool) → eqb (flag-of h) 1 ≡ h
-flag-is true = refl
-flag-is false = refl
-
--- a run, as a buffer
-buffer-of : (φ : Formula) (L : Log) (p : ℕ) (h : Bool) (n : ℕ) → Runs φ L p h n → Buffer φ L p n (flag-of h)
-buffer-of φ L p h n r = record { within = r .within; same = λ i ge lt. r .same i ge lt ∙ sym (flag-is h) }
-
 -- the buffers are words 1 to 4 and do not overlap
 record Slots (side : Side) : Type 0 where
   low : 1 ≤ slot side
@@ -126,42 +105,41 @@ slots on-left =
 slots on-right =
     record { low = lit≤ tt; high = lit≤ tt; first = λ e. omega arith; second = λ e. omega arith; third = λ e. omega arith }
 
--- the words of a block b after a run is stored in a buffer of it
-module _ (side : Side) (b : List ℕ) (room : 16 ≤ length b) (h : Bool) (n : ℕ) where
-  stored-other : (i : ℕ) → (i ≡ slot side → ⊥) → (i ≡ slot side + 1 → ⊥) → word (stored b (slot side) h n) i ≡ word b i
+-- the words of a block b after a batch is stored in a buffer of it
+module _ (side : Side) (b : List ℕ) (room : 16 ≤ length b) (bits n : ℕ) where
+  stored-other : (i : ℕ) → (i ≡ slot side → ⊥) → (i ≡ slot side + 1 → ⊥) → word (stored b (slot side) bits n) i ≡ word b i
   stored-other i ne ne′ =
-      getD-set-other (set b (slot side) n) (slot side + 1) i (flag-of h) 0 ne′ ∙ getD-set-other b (slot side) i n 0 ne
+      getD-set-other (set b (slot side) n) (slot side + 1) i bits 0 ne′ ∙ getD-set-other b (slot side) i n 0 ne
 
-  pub stored-at : taken (stored b (slot side) h n) ≡ taken b
+  pub stored-at : taken (stored b (slot side) bits n) ≡ taken b
   stored-at =
       let s = slots side in
       stored-other 0 (λ e. omega arith) (λ e. omega arith)
 
-  pub stored-count : word (stored b (slot side) h n) (slot side) ≡ n
+  pub stored-count : word (stored b (slot side) bits n) (slot side) ≡ n
   stored-count =
       let s = slots side in
-      getD-set-other (set b (slot side) n) (slot side + 1) (slot side) (flag-of h) 0 (λ e. omega arith) ∙
+      getD-set-other (set b (slot side) n) (slot side + 1) (slot side) bits 0 (λ e. omega arith) ∙
       getD-set-same b (slot side) n 0 (omega arith)
 
-  stored-answer : word (stored b (slot side) h n) (slot side + 1) ≡ flag-of h
-  stored-answer =
+  stored-bits : word (stored b (slot side) bits n) (slot side + 1) ≡ bits
+  stored-bits =
       let s = slots side in
-      getD-set-same (set b (slot side) n) (slot side + 1) (flag-of h) 0 (simp length-set (omega arith))
+      getD-set-same (set b (slot side) n) (slot side + 1) bits 0 (simp length-set (omega arith))
 
-  pub stored-count-other : word (stored b (slot side) h n) (slot (other side)) ≡ word b (slot (other side))
+  pub stored-count-other : word (stored b (slot side) bits n) (slot (other side)) ≡ word b (slot (other side))
   stored-count-other = stored-other (slot (other side)) (slots side .first) (slots side .second)
 
-  stored-answer-other : word (stored b (slot side) h n) (slot (other side) + 1) ≡ word b (slot (other side) + 1)
-  stored-answer-other =
+  stored-bits-other : word (stored b (slot side) bits n) (slot (other side) + 1) ≡ word b (slot (other side) + 1)
+  stored-bits-other =
       let s = slots side in
       stored-other (slot (other side) + 1) (s .third) (λ e. s .first (omega arith))
 
-  pub ready-filled : (φ : Formula) (L : Log) (g : ℕ) → Ready φ L g b → Runs (of side φ) L (taken b) h n →
-      Ready φ L g (stored b (slot side) h n)
-  ready-filled φ L g r runs =
+  pub ready-filled : (φ : Formula) (L : Log) (g : ℕ) → Ready φ L g b → Gives (of side φ) L (taken b) bits n →
+      Ready φ L g (stored b (slot side) bits n)
+  ready-filled φ L g r gives =
       let s = slots side in
-      let b′ = stored b (slot side) h n in
-      let kept = counted φ L g b r (other side) in
+      let b′ = stored b (slot side) bits n in
       rebuffered
       φ
       L
@@ -177,17 +155,11 @@ module _ (side : Side) (b : List ℕ) (room : 16 ≤ length b) (h : Bool) (n : �
       (by-side
       (Counted (L .size) b′)
       side
-      (record {
-        count = rw stored-count (omega (arith, runs .within, progress-le-size (of side φ) L));
-        answer = rw stored-answer (flag-bit h);
-      })
-      (record {
-        count = rw stored-count-other (kept .count);
-        answer = rw stored-answer-other (kept .answer);
-      }))
+      (rw stored-count (omega (arith, gives .buffer .within, progress-le-size (of side φ) L)))
+      (rw stored-count-other (counted φ L g b r (other side))))
       (by-side
       (Buffered φ L b′)
       side
-      (λ e. rw (stored-at, stored-count, stored-answer) (buffer-of (of side φ) L (taken b) h n runs))
+      (λ e. rw (stored-at, stored-count, stored-bits) (gives .buffer))
       (λ e.
-      rw (stored-at, stored-count-other, stored-answer-other) (buffered φ L b (r .buffers) (other side) e)))
+      rw (stored-at, stored-count-other, stored-bits-other) (buffered φ L b (r .buffers) (other side) e)))

@@ -12,6 +12,7 @@ use Rattle.mtl.specs.Satisfaction.{sat}
 use Rattle.mtl.specs.Progress.{progress}
 use Rattle.mtl.proofs.Until.{progress-le-size}
 use Rattle.mtl.proofs.Lengthening.{progress-grows, answers-stay}
+use Rattle.bits.proofs.Laws.{packed-same}
 use Rattle.engine.specs.Ring.{Witness, Witnesses}
 use Rattle.engine.specs.Block.{taken, kind-of, high-of, cells-of, InRange, Remembers, Until, Own, Buffer, Buffers, Ready}
 use Rattle.engine.specs.State.{words, left-words, right-words, Parts, Absent, State}
@@ -86,11 +87,14 @@ module _ (K L : Log) (longer : Continues K L) (falls : NeverFalls L) where
   sat-stays : (φ : Formula) (n : ℕ) → n ≤ progress φ K → (k : ℕ) → k < n → sat φ K k ≡ sat φ L k
   sat-stays φ n h k l = answers-stay φ K L longer falls k (omega arith)
 
-  buffer-longer : (φ : Formula) (p count answer : ℕ) → Buffer φ K p count answer → Buffer φ L p count answer
-  buffer-longer φ p count answer b =
+  buffer-longer : (φ : Formula) (p count bits : ℕ) → Buffer φ K p count bits → Buffer φ L p count bits
+  buffer-longer φ p count bits b =
       let g = progress-grows φ K L longer falls in
       let w = b .within in
-      record { within = omega arith; same = λ i l h. sym (answers-stay φ K L longer falls i (omega arith)) ∙ b .same i l h }
+      record {
+        within = omega arith;
+        packed = packed-same (sat φ K) (sat φ L) p p count bits (λ i l. sym (answers-stay φ K L longer falls (p + i) (omega arith))) (b .packed);
+      }
 
   range-longer : (cells : ℕ) (b : List ℕ) → InRange (K .size) cells b → InRange (L .size) cells b
   range-longer cells b r = let l = longer .longer in omega arith

@@ -1,13 +1,12 @@
--- Laws on a part of a list that is lent and put back, and on a run stored in a buffer.
+-- Laws on a part of a list that is lent and put back, and on a batch stored in a buffer.
 use Prim.Native.Nat.{ℕ, _+_, _-_, _≤_, zero-le}
-use mathlib.Core.Bool.{Bool}
 use mathlib.Core.Path.{_≡_, sym, ap, _∙_}
 use mathlib.Core.List.{List, _++_, append-assoc, append-nil}
 use native.Mathlib.Omega.{arith}
 use native.Mathlib.Nat.{sub-zero}
 use lib.ListN.{length, take, drop, set, length-append, length-drop, take-append-drop, drop-of-length-le}
 use lib.Seq.{length-take-le, take-all, take-append-le, drop-append-le, drop-drop, drop-at, take-at, take-set-le, drop-set-add}
-use Rattle.engine.specs.Ask.{part, back, flag-of, stored}
+use Rattle.engine.specs.Ask.{part, back, stored}
 
 -- a part up to the list's end
 pub part-end : (from to : ℕ) (ws : List ℕ) → length ws ≡ to → part from to ws ≡ drop from ws
@@ -75,26 +74,26 @@ back-same from to ws ordered last =
     back-from from to (part from to ws) ws ordered ∙
     rw (part-end from to ws last, drop-of-length-le ws past, append-nil, take-append-drop)
 
--- a run stored behind a part leaves the part
-module _ (ws : List ℕ) (holds : Bool) (count : ℕ) where
-  pub take-stored : (slot i : ℕ) → i ≤ slot → take i (stored ws slot holds count) ≡ take i ws
+-- a batch stored behind a part leaves the part
+module _ (ws : List ℕ) (bits count : ℕ) where
+  pub take-stored : (slot i : ℕ) → i ≤ slot → take i (stored ws slot bits count) ≡ take i ws
   take-stored slot i le =
-      take-set-le i (set ws slot count) (slot + 1) (flag-of holds) (omega arith) ∙ take-set-le i ws slot count le
+      take-set-le i (set ws slot count) (slot + 1) bits (omega arith) ∙ take-set-le i ws slot count le
 
-  pub drop-stored : (from j : ℕ) → drop from (stored ws (from + j) holds count) ≡ stored (drop from ws) j holds count
+  pub drop-stored : (from j : ℕ) → drop from (stored ws (from + j) bits count) ≡ stored (drop from ws) j bits count
   drop-stored from j =
       let sum : from + j + 1 ≡ from + (j + 1) = omega arith in
-      ap (λ (n : ℕ). drop from (set (set ws (from + j) count) n (flag-of holds))) sum ∙
-      drop-set-add from (set ws (from + j) count) (j + 1) (flag-of holds) ∙
-      ap (λ (l : List ℕ). set l (j + 1) (flag-of holds)) (drop-set-add from ws j count)
+      ap (λ (n : ℕ). drop from (set (set ws (from + j) count) n bits)) sum ∙
+      drop-set-add from (set ws (from + j) count) (j + 1) bits ∙
+      ap (λ (l : List ℕ). set l (j + 1) bits) (drop-set-add from ws j count)
 
-pub part-stored : (ws : List ℕ) (holds : Bool) (count slot from size : ℕ) → from + size ≤ slot →
-    take size (drop from (stored ws slot holds count)) ≡ take size (drop from ws)
-part-stored ws holds count slot from size le =
+pub part-stored : (ws : List ℕ) (bits count slot from size : ℕ) → from + size ≤ slot →
+    take size (drop from (stored ws slot bits count)) ≡ take size (drop from ws)
+part-stored ws bits count slot from size le =
     let sum : from + (slot - from) ≡ slot = omega arith in
-    ap (λ (n : ℕ). take size (drop from (stored ws n holds count))) (sym sum) ∙
-    ap (λ (l : List ℕ). take size l) (drop-stored ws holds count from (slot - from)) ∙
-    take-stored (drop from ws) holds count (slot - from) size (omega arith)
+    ap (λ (n : ℕ). take size (drop from (stored ws n bits count))) (sym sum) ∙
+    ap (λ (l : List ℕ). take size l) (drop-stored ws bits count from (slot - from)) ∙
+    take-stored (drop from ws) bits count (slot - from) size (omega arith)
 
 -- an operator's two operands
 pub data Side : Type 0 where
@@ -185,18 +184,18 @@ asked side a c ws ys room kept =
     beside on-right kept =
         part-before a (a + c) ys ws (omega arith) room kept 0 (a - 0) (omega arith)
 
--- and after a run was stored in its buffer
-pub asked-stored : (side : Side) (a c : ℕ) (ws ys ws′ b : List ℕ) (holds : Bool) (count : ℕ) → Asked side a c ws ys ws′ b →
-    Asked side a c ws ys (stored ws′ (a + c + slot side) holds count) (stored b (slot side) holds count)
-asked-stored side a c ws ys ws′ b holds count e =
+-- and after a batch was stored in its buffer
+pub asked-stored : (side : Side) (a c : ℕ) (ws ys ws′ b : List ℕ) (bits count : ℕ) → Asked side a c ws ys ws′ b →
+    Asked side a c ws ys (stored ws′ (a + c + slot side) bits count) (stored b (slot side) bits count)
+asked-stored side a c ws ys ws′ b bits count e =
     record {
       own =
-          drop-stored ws′ holds count (a + c) (slot side) ∙ ap (λ (l : List ℕ). stored l (slot side) holds count) (e .own);
+          drop-stored ws′ bits count (a + c) (slot side) ∙ ap (λ (l : List ℕ). stored l (slot side) bits count) (e .own);
       here = before side ∙ e .here;
       there = before (other side) ∙ e .there;
     }
   where
-    before : (x : Side) → lent x a c (stored ws′ (a + c + slot side) holds count) ≡ lent x a c ws′
+    before : (x : Side) → lent x a c (stored ws′ (a + c + slot side) bits count) ≡ lent x a c ws′
     before x =
         let w = within x a c in
-        part-stored ws′ holds count (a + c + slot side) (start x a) (stop x a c - start x a) (omega arith)
+        part-stored ws′ bits count (a + c + slot side) (start x a) (stop x a c - start x a) (omega arith)

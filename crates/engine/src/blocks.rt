@@ -34,9 +34,11 @@ pub fn take_right(block: &mut [u64], n: u64)
     requires { ⌜ (16 ≤ length (now block)) × (n ≤ right-count (now block)) × (taken (now block) + n < 2 ^ 64) ⌝ }
     ensures { λ _. ⌜ now (block .exit) ≡ took-right n (now (block .entry)) ⌝ }
 {
+    let count = block[3] - n;
+    let bits = bits::rest(block[4], n);
     block[0] = block[0] + n;
-    block[3] = block[3] - n;
-    block[4] = bits::rest(block[4], n);
+    block[3] = count;
+    block[4] = bits;
 }
 
 // Takes n positions out of both operands' buffers.
@@ -44,7 +46,9 @@ pub fn take_both(block: &mut [u64], n: u64)
     requires { ⌜ (16 ≤ length (now block)) × (n ≤ left-count (now block)) × (n ≤ right-count (now block)) × (taken (now block) + n < 2 ^ 64) ⌝ }
     ensures { λ _. ⌜ now (block .exit) ≡ took-both n (now (block .entry)) ⌝ }
 {
+    let count = block[1] - n;
+    let bits = bits::rest(block[2], n);
     take_right(block, n);
-    block[1] = block[1] - n;
-    block[2] = bits::rest(block[2], n);
+    block[1] = count;
+    block[2] = bits;
 }

@@ -14,7 +14,7 @@ use Rattle.engine.specs.Ask.{part}
 use Rattle.engine.specs.declared.Reply.{Reply}
 use Rattle.engine.proofs.Parts.{length-part}
 use Rattle.engine.proofs.Parts.Side.{on-left, on-right}
-use Rattle.engine.proofs.Drive.{Stands, Reading, Turn, bound, room, may-step, may-ask, turn-of, told, run-turn, again-turn, again-less, open-turn, taking, open-asked, filled, filled-less, asked-open, asked-none, asked-run}
+use Rattle.engine.proofs.Drive.{Stands, Reading, Turn, bound, room, may-step, may-ask, turn-of, told, batch-turn, again-turn, again-less, open-turn, taking, open-asked, filled, filled-less, asked-open, asked-none, asked-batch}
 use Rattle.engine.proofs.answer.Reads as answer
 use Rattle.engine.proofs.answer.Kinds as answer-kinds
 use Rattle.engine.proofs.+answer+ask.Lts-answer as answer-lts
@@ -143,10 +143,10 @@ pub +answer+ask-spec : {M : Type 1} → statement M
     (λ c. omega (arith, bound (answer-reading t (c .before)), room (answer-reading t (c .before))))
     (λ c. omega (arith, c .loop .inv .0))
     (λ c κs. may-step (answer-reading t (c .before .before)) (c .before .loop .words) (c .before .loop .inv .0))
-    -- it gave a run
+    -- it gave a batch
     (λ c. search needs)
     (λ c. c .before .before .before .before .words .given .1 ∙ c .before .before .before .before .before .before .before .loop .inv .0)
-    (λ c. run-turn (told (c .before .step .given .1) (answer-turn t (c .before .before .before))))
+    (λ c. batch-turn (told (c .before .step .given .1) (answer-turn t (c .before .before .before))))
     -- it is open
     (λ c. search needs)
     (λ c. c .before .before .before .words .given .1 ∙ c .before .before .before .before .before .before .loop .inv .0)
@@ -202,7 +202,7 @@ pub +answer+ask-spec : {M : Type 1} → statement M
     (less, (s .pre .1 .0, s .pre .1 .1, size)))
     (λ c. search needs)
     (λ c. search needs)
-    -- it is open; its run is empty; its run is stored
+    -- it is open; its batch is empty; its batch is stored
     (λ c. c .before .before .before .words .given .1)
     (λ c.
     let s = c .before .before .before .before .before .before .before .before in
@@ -245,7 +245,7 @@ pub +answer+ask-spec : {M : Type 1} → statement M
     let s = c .before .before .before .before .before .before .before .before .before .before .before .before .before .before in
     let a = s .args in
     let y = c .before .before .before .before .before .before .before .before .before .before .answer in
-    asked-run
+    asked-batch
     (a .table .now)
     (a .records .now)
     (a .operand)
