@@ -131,9 +131,6 @@ module _ (φ : Formula) (L : Log) (b : List ℕ) (fresh : FreshBlock (kind-of φ
         own = is;
       }
 
-empty-buffer : (φ : Formula) (L : Log) (p count bits : ℕ) → p ≡ 0 → count ≡ 0 → Buffer φ L p count bits
-empty-buffer φ L p count bits e f = record { within = omega arith; packed = rw f (packed-none (sat φ L) p bits) }
-
 ring-least : (high : ℕ) → 1 ≤ ring-words high
 ring-least high = least (eqb high 4294967295)
   where
@@ -183,12 +180,12 @@ fresh-own (until low high φ ψ) L b zeros room =
 
 fresh-buffers : (φ : Formula) (L : Log) (b : List ℕ) → taken b ≡ 0 → left-count b ≡ 0 → right-count b ≡ 0 → Buffers φ L b
 fresh-buffers (letter k) L b z l r = tt
-fresh-buffers (not φ) L b z l r = empty-buffer φ L _ _ _ z r
-fresh-buffers (or φ ψ) L b z l r = (empty-buffer φ L _ _ _ z l, empty-buffer ψ L _ _ _ z r)
-fresh-buffers (previous low high φ) L b z l r = empty-buffer φ L _ _ _ z r
-fresh-buffers (next low high φ) L b z l r = empty-buffer φ L _ _ _ z r
-fresh-buffers (since low high φ ψ) L b z l r = (empty-buffer φ L _ _ _ z l, empty-buffer ψ L _ _ _ z r)
-fresh-buffers (until low high φ ψ) L b z l r = (empty-buffer φ L _ _ _ z l, empty-buffer ψ L _ _ _ z r)
+fresh-buffers (not φ) L b z l r = empty-buffer φ L _ _ _ (omega arith) r
+fresh-buffers (or φ ψ) L b z l r = (empty-buffer φ L _ _ _ (omega arith) l, empty-buffer ψ L _ _ _ (omega arith) r)
+fresh-buffers (previous low high φ) L b z l r = empty-buffer φ L _ _ _ (omega arith) r
+fresh-buffers (next low high φ) L b z l r = empty-buffer φ L _ _ _ (omega arith) r
+fresh-buffers (since low high φ ψ) L b z l r = (empty-buffer φ L _ _ _ (omega arith) l, empty-buffer ψ L _ _ _ (omega arith) r)
+fresh-buffers (until low high φ ψ) L b z l r = (empty-buffer φ L _ _ _ (omega arith) l, empty-buffer ψ L _ _ _ (omega arith) r)
 
 -- the entry's fields in a formula's names
 entry-fields : (P : (kind letter low high : ℕ) → Type 0) (φ : Formula) (e : Entry) → e ≡ root φ →

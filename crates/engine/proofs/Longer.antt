@@ -87,7 +87,7 @@ module _ (K L : Log) (longer : Continues K L) (falls : NeverFalls L) where
   sat-stays : (φ : Formula) (n : ℕ) → n ≤ progress φ K → (k : ℕ) → k < n → sat φ K k ≡ sat φ L k
   sat-stays φ n h k l = answers-stay φ K L longer falls k (omega arith)
 
-  buffer-longer : (φ : Formula) (p count bits : ℕ) → Buffer φ K p count bits → Buffer φ L p count bits
+  pub buffer-longer : (φ : Formula) (p count bits : ℕ) → Buffer φ K p count bits → Buffer φ L p count bits
   buffer-longer φ p count bits b =
       let g = progress-grows φ K L longer falls in
       let w = b .within in

@@ -1,20 +1,21 @@
 -- The verdicts of one call, portion by portion: what holds between two portions, and what holds at the end.
-use Prim.Native.Nat.{ℕ, zero, suc, _+_, _-_, _≤_, _<_, _%_, zero-le}
+use Prim.Native.Nat.{ℕ, _+_, _-_, _/_, _≤_, _<_, _^_, zero-le}
 use mathlib.Core.Bool.{true, false}
 use mathlib.Core.Path.{_≡_, refl, sym, ap, _∙_}
-use mathlib.Core.List.{List}
+use mathlib.Core.List.{List, [], _∷_}
 use mathlib.Core.Logic.{⊎-elim}
 use native.Mathlib.Omega.{arith}
-use lib.Dec.{eqb}
 use lib.ListN.{length, drop, set, length-set}
-use lib.Seq.{drop-drop, drop-set-lt, getD-set-same, getD-set-other}
+use lib.Seq.{drop-drop, drop-set-lt}
+use borrow.Author.Tests.{ne-eqb}
 use Rattle.mtl.specs.Formula.{Formula}
 use Rattle.mtl.specs.Log.{Log, NeverFalls}
 use Rattle.mtl.proofs.Bounded.{le-or-lt}
 use Rattle.engine.specs.Block.{word}
 use Rattle.engine.specs.Step.{Agrees}
 use Rattle.engine.specs.Table.{Has}
-use Rattle.monitor.specs.Checkpoint.{given, held-count, held-answer}
+use Rattle.engine.proofs.Words.{Store, put, stores, after, word-stores, later}
+use Rattle.monitor.specs.Checkpoint.{given, held-count, held-bits}
 use Rattle.monitor.specs.Verdicts.{verdict}
 use Rattle.monitor.specs.Stands.{Top}
 use Rattle.monitor.specs.Code.{Holds, Giving, Gave}
@@ -50,82 +51,65 @@ going-none t s k ws sheet =
     }
 
 -- the header after n of the verdicts held were given
+abbrev spent-stores : ℕ → List ℕ → List Store
+spent-stores n ws = put 1 (given ws + n) ∷ put 4 (held-count ws - n) ∷ put 5 (held-bits ws / 2 ^ n) ∷ []
+
 abbrev pub spent : ℕ → List ℕ → List ℕ
-spent n ws = set (set ws 1 (word ws 1 + n)) 4 (word (set ws 1 (word ws 1 + n)) 4 - n)
+spent n ws = stores (spent-stores n ws) ws
 
 module _ (n : ℕ) (ws : List ℕ) (room : 16 ≤ length ws) where
   pub length-spent : length (spent n ws) ≡ length ws
   length-spent = simp length-set
 
-  header-spent : (i : ℕ) → (i ≡ 1 → ⊥) → (i ≡ 4 → ⊥) → word (spent n ws) i ≡ word ws i
-  header-spent i ne ne′ =
-      getD-set-other (set ws 1 (word ws 1 + n)) 4 i (word (set ws 1 (word ws 1 + n)) 4 - n) 0 ne′ ∙
-      getD-set-other ws 1 i (word ws 1 + n) 0 ne
+  word-spent : (i : ℕ) → word (spent n ws) i ≡ after (spent-stores n ws) (word ws) i
+  word-spent = word-stores (spent-stores n ws) ws (omega arith) room
 
-  given-spent : given (spent n ws) ≡ given ws + n
-  given-spent =
-      getD-set-other (set ws 1 (word ws 1 + n)) 4 1 (word (set ws 1 (word ws 1 + n)) 4 - n) 0 (λ e. omega arith) ∙
-      getD-set-same ws 1 (word ws 1 + n) 0 (omega arith)
-
-  count-spent : held-count (spent n ws) ≡ held-count ws - n
-  count-spent =
-      getD-set-same (set ws 1 (word ws 1 + n)) 4 (word (set ws 1 (word ws 1 + n)) 4 - n) 0 (simp length-set (omega arith)) ∙
-      ap (λ (m : ℕ). m - n) (getD-set-other ws 1 4 (word ws 1 + n) 0 (λ e. omega arith))
+  header-spent : (i : ℕ) → (i ≡ 1 → ⊥) → (i ≡ 4 → ⊥) → (i ≡ 5 → ⊥) → word (spent n ws) i ≡ word ws i
+  header-spent i ne ne′ ne″ = word-spent i ∙ rw (ne-eqb i 1 ne, ne-eqb i 4 ne′, ne-eqb i 5 ne″) refl
 
   drop-spent : drop 16 (spent n ws) ≡ drop 16 ws
   drop-spent =
-      drop-set-lt 16 (set ws 1 (word ws 1 + n)) 4 (word (set ws 1 (word ws 1 + n)) 4 - n) (omega arith) ∙
-      drop-set-lt 16 ws 1 (word ws 1 + n) (omega arith)
+      drop-set-lt 16 (set (set ws 1 (given ws + n)) 4 (held-count ws - n)) 5 (held-bits ws / 2 ^ n) (omega arith) ∙
+      drop-set-lt 16 (set ws 1 (given ws + n)) 4 (held-count ws - n) (omega arith) ∙
+      drop-set-lt 16 ws 1 (given ws + n) (omega arith)
 
   -- the words then stand for the later position
   top-spent : (φ : Formula) (L : Log) (d : ℕ) → n ≤ held-count ws → Top φ L d ws → Top φ L (d + n) (spent n ws)
   top-spent φ L d some top =
-      let answer = header-spent 5 (λ e. omega arith) (λ e. omega arith) in
       let place : d + held-count ws ≡ d + n + (held-count ws - n) = omega arith in
-      let fits = top .buffer .within in
       record {
-        at = given-spent ∙ ap (λ (m : ℕ). m + n) (top .at);
-        buffer =
-            rw (count-spent, answer)
-            (record { within = omega arith; same = λ i low high. top .buffer .same i (omega arith) (omega arith) });
-        answer = rw answer (top .answer);
-        state = rw (count-spent, drop-spent) (rw place at (top .state));
+        at = word-spent 1 ∙ ap (λ (m : ℕ). m + n) (top .at);
+        buffer = later n some refl (word-spent 4) (word-spent 5) (top .buffer);
+        state = rw (word-spent 4, drop-spent) (rw place at (top .state));
       }
-
--- the byte of an answer that is held
-bit-verdict : (answer : ℕ) → answer ≤ 1 → answer % 2 ≡ verdict (eqb answer 1)
-bit-verdict zero fits = refl
-bit-verdict (suc zero) fits = refl
-bit-verdict (suc (suc n)) fits = absurd (omega arith)
 
 module _ {t s : List ℕ} {k : ℕ} {ws sheet : List ℕ} {done : ℕ} {ws₁ sheet₁ ws₂ : List ℕ}
     (going : Going t s k ws sheet done ws₁ sheet₁) where
   -- one portion more
   pub portion-more : (n : ℕ) → 16 ≤ length ws → Holds t s k ws₁ true ws₂ → n ≤ held-count ws₂ → done + n ≤ length sheet →
-      Going t s k ws sheet (done + n) (spent n ws₂) (written done (done + n) (held-answer ws₂ % 2) sheet₁)
+      Going t s k ws sheet (done + n) (spent n ws₂) (written done n (held-bits ws₂) sheet₁)
   portion-more n room held some fits =
       let wide : 16 ≤ length ws₂ = omega (arith, held .words-length, going .words-length) in
       let inside : done + n ≤ length sheet₁ = omega (arith, going .sheet-length) in
-      let ordered : done ≤ done + n = omega arith in
-      let v = held-answer ws₂ % 2 in
+      let bits = held-bits ws₂ in
       record {
         room = fits;
         rest =
-            drop-written done (done + n) v sheet₁ ordered inside ∙
+            drop-written done n bits sheet₁ inside ∙
             sym (drop-drop n done sheet₁) ∙
             ap (λ (l : List ℕ). drop n l) (going .rest) ∙
             drop-drop n done sheet;
-        sheet-length = length-written done (done + n) v sheet₁ ordered inside ∙ going .sheet-length;
+        sheet-length = length-written done n bits sheet₁ inside ∙ going .sheet-length;
         words-length = length-spent n ws₂ wide ∙ held .words-length ∙ going .words-length;
         count =
             omega (
               arith,
-              given-spent n ws₂ wide,
+              word-spent n ws₂ wide 1,
               held .header 1 (omega arith) (λ e. omega arith) (λ e. omega arith),
               going .count,
             );
         header = λ i low ne ne′ ne″.
-            header-spent n ws₂ wide i ne ne′ ∙ held .header i low ne′ ne″ ∙ going .header i low ne ne′ ne″;
+            header-spent n ws₂ wide i ne ne′ ne″ ∙ held .header i low ne′ ne″ ∙ going .header i low ne ne′ ne″;
         meaning = λ φ L d has never agrees top.
             let so-far = going .meaning φ L d has never agrees top in
             let next =
@@ -136,10 +120,11 @@ module _ {t s : List ℕ} {k : ℕ} {ws sheet : List ℕ} {done : ℕ} {ws₁ sh
               bytes = λ i below.
                   ⊎-elim
                   (λ late.
-                  written-at done (done + n) v sheet₁ ordered inside i late below ∙
-                  bit-verdict (held-answer ws₂) (next .answer) ∙
-                  ap verdict (sym (next .buffer .same (d + i) (omega arith) (omega arith))))
-                  (λ early. written-before done (done + n) v sheet₁ ordered inside i early ∙ so-far .bytes i early)
+                  let place : done + (i - done) ≡ i = omega arith in
+                  let there : d + done + (i - done) ≡ d + i = omega arith in
+                  rw place at (written-at done n bits sheet₁ inside (i - done) (omega arith)) ∙
+                  ap verdict (sym (rw there at (next .buffer .packed .same (i - done) (omega arith)))))
+                  (λ early. written-before done n bits sheet₁ inside i early ∙ so-far .bytes i early)
                   (le-or-lt done i);
             };
       }

@@ -4,30 +4,17 @@ use mathlib.Core.Bool.{Bool, true, false}
 use mathlib.Core.Path.{_≡_, refl, _∙_}
 use mathlib.Core.List.{List, _++_}
 use native.Mathlib.Omega.{arith}
-use lib.Dec.{eqb, lit≤}
 use lib.ListN.{length, take, drop, set, length-append, length-drop, length-set, List·getD-append}
 use lib.Seq.{length-take-le, drop-set-lt, getD-take, getD-set-same, getD-set-other}
 use Rattle.mtl.specs.Formula.{Formula}
 use Rattle.mtl.specs.Log.{Log}
-use Rattle.mtl.specs.Progress.{progress}
-use Rattle.engine.specs.Block.{word, Buffer}
+use Rattle.engine.specs.Block.{word}
 use Rattle.engine.specs.State.{State}
-use Rattle.engine.specs.Ask.{part, back, flag-of, stored, Asks}
+use Rattle.engine.specs.Ask.{part, back, stored, Asks}
 use Rattle.engine.proofs.Parts.{part-end, drop-back-last}
-use Rattle.monitor.specs.Checkpoint.{held-count, held-answer}
+use Rattle.engine.proofs.Words.{empty-buffer}
+use Rattle.monitor.specs.Checkpoint.{held-count, held-bits}
 use Rattle.monitor.specs.Code.{Holds}
-
-flag-bit : (holds : Bool) → flag-of holds ≤ 1
-flag-bit true = lit≤ tt
-flag-bit false = lit≤ tt
-
-flag-is : (holds : Bool) → holds ≡ eqb (flag-of holds) 1
-flag-is true = refl
-flag-is false = refl
-
--- an empty buffer
-no-run : (φ : Formula) (L : Log) (d answer : ℕ) → progress φ L ≡ d → Buffer φ L d 0 answer
-no-run φ L d answer is-open = record { within = omega arith; same = λ i low high. absurd (omega arith) }
 
 -- nothing to do where something is held
 pub already-held : (t s : List ℕ) (k : ℕ) (ws : List ℕ) → 0 < held-count ws → Holds t s k ws true ws
@@ -58,54 +45,51 @@ module _ (ws ys : List ℕ) (room : 16 ≤ length ws) (kept : length ys ≡ leng
   drop-asked : drop 16 asked ≡ ys
   drop-asked = drop-back-last 16 (length ws) ys ws room refl
 
-  module _ (holds : Bool) (count : ℕ) where
+  module _ (bits count : ℕ) where
     abbrev filled : List ℕ
-    filled = stored asked 4 holds count
+    filled = stored asked 4 bits count
 
     length-filled : length filled ≡ length ws
     length-filled = simp length-set length-asked
 
     header-filled : (i : ℕ) → i < 16 → (i ≡ 4 → ⊥) → (i ≡ 5 → ⊥) → word filled i ≡ word ws i
     header-filled i low ne ne′ =
-        getD-set-other (set asked 4 count) 5 i (flag-of holds) 0 ne′ ∙
+        getD-set-other (set asked 4 count) 5 i bits 0 ne′ ∙
         getD-set-other asked 4 i count 0 ne ∙
         header-asked i low
 
     count-filled : held-count filled ≡ count
     count-filled =
-        getD-set-other (set asked 4 count) 5 4 (flag-of holds) 0 (λ e. omega arith) ∙
+        getD-set-other (set asked 4 count) 5 4 bits 0 (λ e. omega arith) ∙
         getD-set-same asked 4 count 0 (omega (arith, length-asked))
 
-    answer-filled : held-answer filled ≡ flag-of holds
-    answer-filled = getD-set-same (set asked 4 count) 5 (flag-of holds) 0 (simp length-set (omega (arith, length-asked)))
+    bits-filled : held-bits filled ≡ bits
+    bits-filled = getD-set-same (set asked 4 count) 5 bits 0 (simp length-set (omega (arith, length-asked)))
 
     drop-filled : drop 16 filled ≡ ys
     drop-filled =
-        drop-set-lt 16 (set asked 4 count) 5 (flag-of holds) (omega arith) ∙
+        drop-set-lt 16 (set asked 4 count) 5 bits (omega arith) ∙
         drop-set-lt 16 asked 4 count (omega arith) ∙
         drop-asked
 
 -- what asking the last entry does to the header
 pub asked-holds : (t s : List ℕ) (k : ℕ) (ws : List ℕ) (r : Bool) (ws′ : List ℕ) → 16 ≤ length ws → held-count ws ≡ 0 →
     Asks t s k 16 (length ws) 4 ws r ws′ → Holds t s k ws r ws′
-asked-holds t s k ws true ws′ room empty (ys, kept, (holds, count, some, is, means)) =
+asked-holds t s k ws true ws′ room empty (ys, kept, (bits, count, some, is, means)) =
     rw is
     (record {
-      words-length = length-filled ws ys room kept holds count;
-      header = header-filled ws ys room kept holds count;
-      some = λ e. omega (arith, count-filled ws ys room kept holds count);
+      words-length = length-filled ws ys room kept bits count;
+      header = header-filled ws ys room kept bits count;
+      some = λ e. omega (arith, count-filled ws ys room kept bits count);
       none = λ e. let z : _≡_ {A = ℕ} 0 1 = cc in absurd (omega arith);
       meaning = λ φ L d has never agrees top.
           let place : d + held-count ws ≡ d = omega arith in
           let at : State φ L d (part 16 (length ws) ws) = rw (part-end 16 (length ws) ws refl) (rw place at (top .state)) in
-          let (runs, next) = means φ L d has never agrees at in
+          let (gives, next) = means φ L d has never agrees at in
           record {
-            at = header-filled ws ys room kept holds count 1 (omega arith) (λ e. omega arith) (λ e. omega arith) ∙ top .at;
-            buffer =
-                rw (count-filled ws ys room kept holds count, answer-filled ws ys room kept holds count)
-                (record { within = runs .within; same = λ i low high. runs .same i low high ∙ flag-is holds });
-            answer = rw (answer-filled ws ys room kept holds count) (flag-bit holds);
-            state = rw (count-filled ws ys room kept holds count, drop-filled ws ys room kept holds count) next;
+            at = header-filled ws ys room kept bits count 1 (omega arith) (λ e. omega arith) (λ e. omega arith) ∙ top .at;
+            buffer = rw (count-filled ws ys room kept bits count, bits-filled ws ys room kept bits count) (gives .buffer);
+            state = rw (count-filled ws ys room kept bits count, drop-filled ws ys room kept bits count) next;
           };
     })
 asked-holds t s k ws false ws′ room empty (ys, kept, (is, means)) =
@@ -120,12 +104,10 @@ asked-holds t s k ws false ws′ room empty (ys, kept, (is, means)) =
           let at : State φ L d (part 16 (length ws) ws) = rw (part-end 16 (length ws) ws refl) (rw place at (top .state)) in
           let (is-open, next) = means φ L d has never agrees at in
           let none : held-count (back 16 (length ws) ys ws) ≡ 0 = header-asked ws ys room kept 4 (omega arith) ∙ empty in
-          let same = header-asked ws ys room kept 5 (omega arith) in
           let still : d + 0 ≡ d = omega arith in (
             record {
               at = header-asked ws ys room kept 1 (omega arith) ∙ top .at;
-              buffer = rw none (no-run φ L d (held-answer (back 16 (length ws) ys ws)) is-open);
-              answer = rw same (top .answer);
+              buffer = rw none (empty-buffer φ L d 0 (held-bits (back 16 (length ws) ys ws)) (omega arith) refl);
               state = rw (none, still, drop-asked ws ys room kept) next;
             },
             is-open,

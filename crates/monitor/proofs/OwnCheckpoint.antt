@@ -20,7 +20,7 @@ use Rattle.engine.specs.Block.{word, cells-of}
 use Rattle.engine.specs.State.{words, State}
 use Rattle.engine.proofs.Rows.{offset-grows}
 use Rattle.engine.proofs.Entries.{Ranged, rule-size, rule-ranges, own-least}
-use Rattle.monitor.specs.Checkpoint.{format, given, seen, last, held-count, held-answer, need, block-at, copy-differs, foreign, block-outside, outside}
+use Rattle.monitor.specs.Checkpoint.{format, given, seen, last, held-count, need, block-at, copy-differs, foreign, block-outside, outside}
 use Rattle.monitor.specs.Verdicts.{formula-or, formula-of}
 use Rattle.monitor.specs.Stands.{Stands}
 
@@ -101,9 +101,7 @@ module _ (rule : List ℕ) (K : Log) (d : ℕ) (p : List ℕ) (fine : refusal ru
       rw (
         le-leb (word b 0) (seen p) (omega (arith, same-word j 0 h (omega arith))),
         le-leb (word b 1) (seen p) (omega (arith, same-word j 1 h (omega arith))),
-        le-leb (word b 2) 1 (omega (arith, same-word j 2 h (omega arith))),
         le-leb (word b 3) (seen p) (omega (arith, same-word j 3 h (omega arith))),
-        le-leb (word b 4) 1 (omega (arith, same-word j 4 h (omega arith))),
         le-leb (word b 5) (word b 0) (omega (arith, same-word j 0 h (omega arith), same-word j 5 h (omega arith))),
         le-leb (word b 6) 1 (omega (arith, same-word j 6 h (omega arith))),
         le-leb (word b 7) 1 (omega (arith, same-word j 7 h (omega arith))),
@@ -120,12 +118,10 @@ module _ (rule : List ℕ) (K : Log) (d : ℕ) (p : List ℕ) (fine : refusal ru
       let within = stands .top .buffer .within in
       let below = progress-le-size (formula-of rule) K in
       let at = stands .top .at in
-      let answer = stands .top .answer in
       rw (
         le-leb (seen p) 1000000 (omega arith),
         le-leb (held-count p) (seen p) (omega (arith, own-word 4 (omega arith))),
         le-leb (given p) (seen p - held-count p) (omega (arith, own-word 1 (omega arith), own-word 4 (omega arith))),
         lt-ltb (last p) (2 ^ 32) (stands .fits),
-        le-leb (held-answer p) 1 (omega (arith, own-word 5 (omega arith))),
         any-false-iff (count rule) (block-outside (decoded rule) p) .1 in-range,
       )

@@ -79,11 +79,10 @@ module _ (time size : ℕ) (ws : List ℕ) (room : 16 ≤ length ws) where
   top-noted : (φ : Formula) (L : Log) (d : ℕ) → Top φ L d ws → Top φ L d (noted time size ws)
   top-noted φ L d top =
       let held = noted-other 4 (λ e. omega arith) (λ e. omega arith) in
-      let answer = noted-other 5 (λ e. omega arith) (λ e. omega arith) in
+      let bits = noted-other 5 (λ e. omega arith) (λ e. omega arith) in
       record {
         at = noted-other 1 (λ e. omega arith) (λ e. omega arith) ∙ top .at;
-        buffer = rw (held, answer) (top .buffer);
-        answer = rw answer (top .answer);
+        buffer = rw (held, bits) (top .buffer);
         state = rw (held, drop-noted) (top .state);
       }
 

@@ -16,7 +16,6 @@ use Rattle.mtl.specs.Log.{Log, NeverFalls, Continues}
 use Rattle.mtl.specs.Satisfaction.{any}
 use Rattle.mtl.proofs.Bounded.{and-iff, leb-iff, le-or-lt}
 use Rattle.mtl.proofs.Until.{progress-le-size}
-use Rattle.mtl.proofs.Lengthening.{progress-grows, answers-stay}
 use Rattle.rule.specs.Entries.{count, decoded}
 use Rattle.rule.specs.Refusal.{refusal}
 use Rattle.trace.specs.Format.{record-count, records-of, malformed}
@@ -25,9 +24,9 @@ use Rattle.trace.proofs.Laws.{well-formed-records}
 use Rattle.engine.specs.Block.{word}
 use Rattle.engine.specs.Step.{Agrees}
 use Rattle.engine.specs.Ask.{part}
-use Rattle.engine.proofs.Longer.{state-longer}
+use Rattle.engine.proofs.Longer.{buffer-longer, state-longer}
 use Rattle.engine.proofs.Parts.{put-back}
-use Rattle.monitor.specs.Checkpoint.{given, seen, last, held-count, need, room, foreign, block-outside, outside, header-in-range}
+use Rattle.monitor.specs.Checkpoint.{given, seen, last, held-count, held-bits, need, room, foreign, block-outside, outside, header-in-range}
 use Rattle.monitor.specs.Refusal.{first, before, open-refusal, log-refusal, point-refusal, resume-refusal}
 use Rattle.monitor.specs.Verdicts.{formula-of}
 use Rattle.monitor.specs.Stands.{Top, last-of, Stands}
@@ -141,15 +140,9 @@ passes rule log p none =
 -- the header and the state survive a longer log
 top-longer : (φ : Formula) (K L : Log) (d : ℕ) (ws : List ℕ) → Continues K L → NeverFalls L → Top φ K d ws → Top φ L d ws
 top-longer φ K L d ws longer never top =
-    let within = top .buffer .within in
     record {
       at = top .at;
-      buffer =
-          record {
-            within = omega (arith, progress-grows φ K L longer never);
-            same = λ i low high. sym (answers-stay φ K L longer never i (omega arith)) ∙ top .buffer .same i low high;
-          };
-      answer = top .answer;
+      buffer = buffer-longer K L longer never φ d (held-count ws) (held-bits ws) (top .buffer);
       state = state-longer φ K L longer never (d + held-count ws) (drop 16 ws) (top .state);
     }
 

@@ -17,7 +17,8 @@ use Rattle.rule.proofs.Acceptance.{accepted}
 use Rattle.engine.specs.Block.{word, FreshBlock}
 use Rattle.engine.specs.State.{words, State}
 use Rattle.engine.proofs.Entries.{fresh-rule, rule-size}
-use Rattle.monitor.specs.Checkpoint.{need, block-at}
+use Rattle.engine.proofs.Words.{empty-buffer}
+use Rattle.monitor.specs.Checkpoint.{held-count, held-bits, need, block-at}
 use Rattle.monitor.specs.Code.{Fresh, sized-of, sized-number}
 use Rattle.monitor.specs.Open.{Opens}
 use Rattle.monitor.specs.Stands.{Top, Stands}
@@ -66,11 +67,9 @@ module _ (rule ws : List ℕ) (a : Accepted rule) (size : length ws ≡ need rul
   fresh-top : Top (formula-of rule) L 0 ws
   fresh-top =
       let held = f .header 4 (omega arith) (omega arith) in
-      let said = f .header 5 (omega arith) (omega arith) in
       record {
         at = f .header 1 (omega arith) (omega arith);
-        buffer = record { within = rw held zero-le; same = λ i l h. absurd (omega arith) };
-        answer = omega arith;
+        buffer = empty-buffer (formula-of rule) L 0 (held-count ws) (held-bits ws) zero-le held;
         state =
             rw held (subst (λ (φ : Formula). State φ L 0 (drop 16 ws)) (sym (ap formula-or (a .reads))) fresh-formula);
       }

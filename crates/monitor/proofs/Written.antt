@@ -1,64 +1,82 @@
--- Laws on a sheet after a run of verdicts was written into it.
-use Prim.Native.Nat.{ℕ, suc, _+_, _-_, _≤_, _<_}
-use mathlib.Core.Path.{_≡_, sym, ap, _∙_}
-use mathlib.Core.List.{List, _∷_, _++_, append-assoc}
-use native.Mathlib.Omega.{arith}
+-- Laws on a sheet after verdicts were written into it.
+use Prim.Native.Nat.{ℕ, zero, suc, _+_, _-_, _≤_, _<_}
+use mathlib.Core.Path.{_≡_, refl, sym, ap, _∙_}
+use mathlib.Core.List.{List, [], _∷_, _++_, append-assoc}
+use mathlib.Core.Logic.{⊎-elim}
+use native.Mathlib.Nat.{not-suc-le-zero}
 use native.Mathlib.Numerals.{add-one}
-use lib.ListN.{length, getD, take, drop, set, replicate, length-append, length-drop, length-replicate, getD-replicate, replicate-append-replicate, take-append-drop, List·getD-append}
-use lib.Seq.{length-take-le, drop-cons, set-at, drop-at, getD-take, getD-append-add}
+use native.Mathlib.Omega.{arith}
+use lib.ListN.{length, getD, take, drop, set, length-append, length-drop, take-append-drop, List·getD-append}
+use lib.Seq.{length-take-le, drop-cons, set-at, drop-at, getD-take, getD-at, getD-append-add}
+use Rattle.mtl.proofs.Bounded.{le-or-lt}
+use Rattle.bits.specs.Packed.{bit}
+use Rattle.monitor.specs.Verdicts.{verdict, bytes-of}
 
--- the sheet with the bytes from `from` up to `to` set to the verdict
-abbrev pub written : (from to verdict : ℕ) → List ℕ → List ℕ
-written from to verdict sheet = take from sheet ++ (replicate (to - from) verdict ++ drop to sheet)
+length-bytes : (n bits : ℕ) → length (bytes-of n bits) ≡ n
+unfolding bytes-of
+length-bytes zero bits = refl
+length-bytes (suc n) bits =
+    let e = length-bytes n bits in
+    let sum = length-append (bytes-of n bits) (verdict (bit bits n) ∷ []) in
+    omega arith
 
-pub written-none : (from verdict : ℕ) (sheet : List ℕ) → sheet ≡ written from from verdict sheet
-written-none from verdict sheet =
-    let none : from - from ≡ 0 = omega arith in
+byte-at : (n bits i : ℕ) → i < n → getD (bytes-of n bits) i 0 ≡ verdict (bit bits i)
+unfolding bytes-of
+byte-at zero bits i h = absurd (not-suc-le-zero h)
+byte-at (suc n) bits i h =
+    let e = length-bytes n bits in
+    ⊎-elim
+    (λ (l : n ≤ i). let same : i ≡ n = omega arith in rw same (getD-at (bytes-of n bits) (verdict (bit bits n)) [] 0 n e))
+    (λ (l : i < n). List·getD-append (bytes-of n bits) (verdict (bit bits n) ∷ []) 0 i (omega arith) ∙ byte-at n bits i l)
+    (le-or-lt n i)
+
+-- the sheet with n verdicts from `from` on
+abbrev pub written : (from n bits : ℕ) → List ℕ → List ℕ
+written from n bits sheet = take from sheet ++ (bytes-of n bits ++ drop (from + n) sheet)
+
+pub written-none : (from bits : ℕ) (sheet : List ℕ) → sheet ≡ written from 0 bits sheet
+unfolding bytes-of
+written-none from bits sheet =
+    let none : from + 0 ≡ from = omega arith in
     rw none (sym (take-append-drop from sheet))
 
-module _ (from to verdict : ℕ) (sheet : List ℕ) (ordered : from ≤ to) (inside : to ≤ length sheet) where
+module _ (from n bits : ℕ) (sheet : List ℕ) (inside : from + n ≤ length sheet) where
   front : length (take from sheet) ≡ from
   front = length-take-le from sheet (omega arith)
 
-  front-run : length (take from sheet ++ replicate (to - from) verdict) ≡ to
-  front-run = simp (length-append, front, length-replicate) (omega arith)
+  front-bytes : length (take from sheet ++ bytes-of n bits) ≡ from + n
+  front-bytes = simp (length-append, front, length-bytes) (omega arith)
 
-  pub length-written : length (written from to verdict sheet) ≡ length sheet
-  length-written = simp (length-append, front, length-replicate, length-drop) (omega arith)
+  pub length-written : length (written from n bits sheet) ≡ length sheet
+  length-written = simp (length-append, front, length-bytes, length-drop) (omega arith)
 
-  pub drop-written : drop to (written from to verdict sheet) ≡ drop to sheet
-  drop-written =
-      rw (← append-assoc)
-      (drop-at (take from sheet ++ replicate (to - from) verdict) (drop to sheet) to front-run)
+  pub drop-written : drop (from + n) (written from n bits sheet) ≡ drop (from + n) sheet
+  drop-written = rw (← append-assoc) (drop-at (take from sheet ++ bytes-of n bits) (drop (from + n) sheet) (from + n) front-bytes)
 
-  pub written-before : (i : ℕ) → i < from → getD (written from to verdict sheet) i 0 ≡ getD sheet i 0
+  pub written-before : (i : ℕ) → i < from → getD (written from n bits sheet) i 0 ≡ getD sheet i 0
   written-before i below =
-      List·getD-append (take from sheet) (replicate (to - from) verdict ++ drop to sheet) 0 i (omega (arith, front)) ∙
+      List·getD-append (take from sheet) (bytes-of n bits ++ drop (from + n) sheet) 0 i (omega (arith, front)) ∙
       getD-take from sheet i 0 below
 
-  pub written-at : (i : ℕ) → from ≤ i → i < to → getD (written from to verdict sheet) i 0 ≡ verdict
-  written-at i low high =
-      let place : i ≡ length (take from sheet) + (i - from) = omega (arith, front) in
-      ap (λ (n : ℕ). getD (written from to verdict sheet) n 0) place ∙
-      getD-append-add (take from sheet) (replicate (to - from) verdict ++ drop to sheet) (i - from) 0 ∙
-      List·getD-append
-      (replicate (to - from) verdict)
-      (drop to sheet)
-      0
-      (i - from)
-      (omega (arith, length-replicate (to - from) verdict)) ∙
-      getD-replicate (to - from) (i - from) verdict 0 (omega arith)
+  pub written-at : (i : ℕ) → i < n → getD (written from n bits sheet) (from + i) 0 ≡ verdict (bit bits i)
+  written-at i below =
+      let place : from + i ≡ length (take from sheet) + i = omega (arith, front) in
+      ap (λ (k : ℕ). getD (written from n bits sheet) k 0) place ∙
+      getD-append-add (take from sheet) (bytes-of n bits ++ drop (from + n) sheet) i 0 ∙
+      List·getD-append (bytes-of n bits) (drop (from + n) sheet) 0 i (omega (arith, length-bytes n bits)) ∙
+      byte-at n bits i below
 
-  pub written-more : to < length sheet → set (written from to verdict sheet) to verdict ≡ written from (to + 1) verdict sheet
+  pub written-more : from + n < length sheet →
+      set (written from n bits sheet) (from + n) (verdict (bit bits n)) ≡ written from (n + 1) bits sheet
+  unfolding bytes-of
   written-more more =
-      let run = replicate (to - from) verdict in
-      let count : to + 1 - from ≡ to - from + 1 = omega arith in
-      let longer : run ++ (verdict ∷ drop (suc to) sheet) ≡ replicate (to + 1 - from) verdict ++ drop (to + 1) sheet =
-      rw (count, ← replicate-append-replicate (to - from) 1 verdict, append-assoc, add-one) in
-      ap (λ (l : List ℕ). set (take from sheet ++ (run ++ l)) to verdict) (drop-cons sheet to 0 more) ∙
-      ap
-      (λ (l : List ℕ). set l to verdict)
-      (sym (append-assoc (take from sheet) run (getD sheet to 0 ∷ drop (suc to) sheet))) ∙
-      set-at (take from sheet ++ run) (getD sheet to 0) (drop (suc to) sheet) verdict to front-run ∙
-      append-assoc (take from sheet) run (verdict ∷ drop (suc to) sheet) ∙
+      let v = verdict (bit bits n) in
+      let bytes = bytes-of n bits in
+      let next : from + (n + 1) ≡ suc (from + n) = omega arith in
+      let longer : bytes ++ (v ∷ drop (suc (from + n)) sheet) ≡ bytes-of (n + 1) bits ++ drop (from + (n + 1)) sheet =
+      rw (next, add-one n, append-assoc) in
+      ap (λ (l : List ℕ). set (take from sheet ++ (bytes ++ l)) (from + n) v) (drop-cons sheet (from + n) 0 more) ∙
+      ap (λ (l : List ℕ). set l (from + n) v) (sym (append-assoc (take from sheet) bytes (getD sheet (from + n) 0 ∷ drop (suc (from + n)) sheet))) ∙
+      set-at (take from sheet ++ bytes) (getD sheet (from + n) 0) (drop (suc (from + n)) sheet) v (from + n) front-bytes ∙
+      append-assoc (take from sheet) bytes (v ∷ drop (suc (from + n)) sheet) ∙
       ap (λ (l : List ℕ). take from sheet ++ l) longer

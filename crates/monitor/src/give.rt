@@ -48,10 +48,13 @@ fn give(
         if !hold(table, top, records, words) {
             return done;
         }
-        let count = portion(words[4], sheet.len() - done);
-        words[5] = sheet::write_bits(sheet, done, count, words[5]);
-        words[1] = words[1] + count as u64;
-        words[4] = words[4] - count as u64;
+        let given = words[1];
+        let held = words[4];
+        let count = portion(held, sheet.len() - done);
+        let rest = sheet::write_bits(sheet, done, count, words[5]);
+        words[1] = given + count as u64;
+        words[4] = held - count as u64;
+        words[5] = rest;
         done += count;
     }
     done
