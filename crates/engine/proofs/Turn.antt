@@ -106,31 +106,39 @@ module _ (low high : ℕ) (time : ℕ → ℕ) (left right : ℕ → Bool) (g n 
             packed,
       )
 
-module _ (low high : ℕ) (φ ψ : Formula) (s b : List ℕ) where
-  pub since-left : Steps (since low high φ ψ) s b Left b
+module _ (low high : ℕ) (s b : List ℕ) where
+  pub since-left : (φ ψ : Formula) → Steps (since low high φ ψ) s b Left b
   unfolding progress
-  since-left L g falls agrees ready = (refl, λ e. let h = ready .core .reached in let at = ready .core .own .at in omega arith)
+  since-left φ ψ L g falls agrees ready = (refl, λ e. let h = ready .core .reached in let at = ready .core .own .at in omega arith)
 
-  pub since-right : Steps (since low high φ ψ) s b Right b
+  pub since-right : (φ ψ : Formula) → Steps (since low high φ ψ) s b Right b
   unfolding progress
-  since-right L g falls agrees ready = (refl, λ e. let h = ready .core .reached in let at = ready .core .own .at in omega arith)
+  since-right φ ψ L g falls agrees ready = (refl, λ e. let h = ready .core .reached in let at = ready .core .own .at in omega arith)
 
   -- n positions are taken: as many as both buffers have
-  module _ (n : ℕ) (some-left : 0 < left-count b) (some-right : 0 < right-count b)
+  module _ (n : ℕ) (some-left : 0 < left-count b) (some-right : 0 < right-count b) (room : 16 ≤ length b)
       (av : Available (taken b) (min (left-count b) (right-count b)) (record-count s) n) where
     -- no buffer reaches past the log
-    pub since-open : n ≡ 0 → Steps (since low high φ ψ) s b Open b
-    since-open none L g falls agrees ready =
+    pub since-open : n ≡ 0 → (φ ψ : Formula) → Steps (since low high φ ψ) s b Open b
+    since-open none φ ψ L g falls agrees ready =
         let size = agrees .size in
         let inside = fits (ready .buffers .0) in
         let all = av .all (omega (arith, ready .buffers .0 .packed .few)) (omega arith) in
         absurd (omega arith)
 
     -- d is the block after their turns
-    module _ (some : 0 < n) (room : 16 ≤ length b) (byte : (i : ℕ) → getD s i 0 < 256) (answers : ℕ) (d : List ℕ) (long : length d ≡ length b)
-        (turn : Rings (ring-words high) (turns (ring-words high) high s (taken b) (left-bits b) (right-bits b) n) b d)
-        (packed : (qs : List ℕ) → Ring (ring-words high) b qs →
-        Packed (reached low (ring-words high) high s (taken b) (left-bits b) (right-bits b) qs) 0 n answers) where
+    module _ (some : 0 < n) (d : List ℕ) (long : length d ≡ length b)
+        (turn : Rings (ring-words high) (turns (ring-words high) high s (taken b) (left-bits b) (right-bits b) n) b d) where
+      turned-word : (i : ℕ) → i < 9 → word d i ≡ word b i
+      turned-word i h = turn .others i (omega arith) (omega arith) (omega arith)
+
+      -- what the taking requires
+      pub takable : record-count s < 2 ^ 64 → (16 ≤ length d) × (n ≤ left-count d) × (n ≤ right-count d) × (taken d + n < 2 ^ 64)
+      takable fit =
+          let most = av .most in
+          let inside = av .inside some in
+          omega (arith, turned-word 0 (omega arith), turned-word 1 (omega arith), turned-word 3 (omega arith))
+
       abbrev both-stores : List Store
       both-stores =
           put 0 (taken d + n) ∷ put 3 (right-count d - n) ∷ put 4 (right-bits d / 2 ^ n) ∷ put 1 (left-count d - n) ∷ put 2 (left-bits d / 2 ^ n) ∷ []
@@ -146,76 +154,76 @@ module _ (low high : ℕ) (φ ψ : Formula) (s b : List ℕ) where
       kept : (i : ℕ) → (4 < i) × (i < 16) × (i ≡ 9 → ⊥) × (i ≡ 10 → ⊥) → word (took-both n d) i ≡ word b i
       kept i (h, k, n9, n10) = behind i h ∙ turn .others i k n9 n10
 
-      turned-word : (i : ℕ) → i < 9 → word d i ≡ word b i
-      turned-word i h = turn .others i (omega arith) (omega arith) (omega arith)
+      module _ (byte : (i : ℕ) → getD s i 0 < 256) (answers : ℕ)
+          (packed : (qs : List ℕ) → Ring (ring-words high) b qs →
+          Packed (reached low (ring-words high) high s (taken b) (left-bits b) (right-bits b) qs) 0 n answers) where
+        module _ (φ ψ : Formula) (L : Log) (falls : NeverFalls L) (agrees : Agrees s L (taken b)) (ready : Ready (since low high φ ψ) L (taken b) b) where
+          within-progress : taken b + n ≤ progress (since low high φ ψ) L
+          unfolding progress
+          within-progress = let most = av .most in omega (arith, ready .buffers .0 .within, ready .buffers .1 .within)
 
-      module _ (L : Log) (falls : NeverFalls L) (agrees : Agrees s L (taken b)) (ready : Ready (since low high φ ψ) L (taken b) b) where
-        within-progress : taken b + n ≤ progress (since low high φ ψ) L
-        unfolding progress
-        within-progress = let most = av .most in omega (arith, ready .buffers .0 .within, ready .buffers .1 .within)
+          at-taken : Gives (since low high φ ψ) L (taken b) answers n × Ready (since low high φ ψ) L (taken b + n) (took-both n d) × Moved (since low high φ ψ) b (took-both n d)
+          unfolding sat
+          at-taken =
+              let core = ready .core in
+              let own = core .own in
+              let range = core .range in
+              let bl = ready .buffers .0 in
+              let br = ready .buffers .1 in
+              let most = av .most in
+              let inside = fits bl in
+              let e0 = turned-word 0 (omega arith) in
+              let e1 = turned-word 1 (omega arith) in
+              let e3 = turned-word 3 (omega arith) in
+              let w0 = words 0 in
+              let w1 = words 1 in
+              let w3 = words 3 in
+              let (alive, answer) =
+              turns-answer low high (L .time) (sat φ L) (sat ψ L) (taken b) n
+              (λ i j h k. falls i j h (omega arith))
+              s
+              (time-bound s byte)
+              (λ i h. sym (agrees .same (taken b + i) (omega arith) (omega arith) .time))
+              (left-bits b)
+              (right-bits b)
+              (packed-first (sat φ L) (taken b) (left-count b) (left-bits b) n (omega arith) (bl .packed))
+              (packed-first (sat ψ L) (taken b) (right-count b) (right-bits b) n (omega arith) (br .packed))
+              (own .times)
+              (own .alive)
+              answers
+              (packed (own .times) (own .ring)) in
+              let ring = ring-kept (ring-words high) d (took-both n d) _ (simp length-set) (λ i h. behind i (omega arith)) (turn .ring (own .times) (own .ring)) in
+              let start = ring .start in
+              let count = ring .count in
+              let cells = ring .fits in (
+                record { some = some; buffer = record { within = within-progress; packed = answer } },
+                record {
+                  core =
+                      record {
+                        reached = within-progress;
+                        range =
+                            record {
+                              at = omega arith;
+                              left-count = let r = range .left-count in omega arith;
+                              right-count = let r = range .right-count in omega arith;
+                              answered = let e = kept 5 (omega arith) in let r = range .answered in omega arith;
+                              last-left = rw (kept 6 (omega arith)) (range .last-left);
+                              last-right = rw (kept 7 (omega arith)) (range .last-right);
+                              last-time = rw (kept 8 (omega arith)) (range .last-time);
+                              start = omega arith;
+                              count = omega arith;
+                            };
+                        copy = copied (kept 14 (omega arith)) (kept 15 (omega arith)) (core .copy);
+                        own = record { at = omega arith; times = _; ring = ring; alive = alive };
+                      };
+                  buffers = (
+                    later n (omega arith) (omega arith) (omega arith) (words 2 ∙ ap (λ (x : ℕ). x / 2 ^ n) (turned-word 2 (omega arith))) bl,
+                    later n (omega arith) (omega arith) (omega arith) (words 4 ∙ ap (λ (x : ℕ). x / 2 ^ n) (turned-word 4 (omega arith))) br,
+                  );
+                },
+                record { left = λ h. omega arith; right = λ h. omega arith },
+              )
 
-        at-taken : Gives (since low high φ ψ) L (taken b) answers n × Ready (since low high φ ψ) L (taken b + n) (took-both n d) × Moved (since low high φ ψ) b (took-both n d)
-        unfolding sat
-        at-taken =
-            let core = ready .core in
-            let own = core .own in
-            let range = core .range in
-            let bl = ready .buffers .0 in
-            let br = ready .buffers .1 in
-            let most = av .most in
-            let inside = fits bl in
-            let e0 = turned-word 0 (omega arith) in
-            let e1 = turned-word 1 (omega arith) in
-            let e3 = turned-word 3 (omega arith) in
-            let w0 = words 0 in
-            let w1 = words 1 in
-            let w3 = words 3 in
-            let (alive, answer) =
-            turns-answer low high (L .time) (sat φ L) (sat ψ L) (taken b) n
-            (λ i j h k. falls i j h (omega arith))
-            s
-            (time-bound s byte)
-            (λ i h. sym (agrees .same (taken b + i) (omega arith) (omega arith) .time))
-            (left-bits b)
-            (right-bits b)
-            (packed-first (sat φ L) (taken b) (left-count b) (left-bits b) n (omega arith) (bl .packed))
-            (packed-first (sat ψ L) (taken b) (right-count b) (right-bits b) n (omega arith) (br .packed))
-            (own .times)
-            (own .alive)
-            answers
-            (packed (own .times) (own .ring)) in
-            let ring = ring-kept (ring-words high) d (took-both n d) _ (simp length-set) (λ i h. behind i (omega arith)) (turn .ring (own .times) (own .ring)) in
-            let start = ring .start in
-            let count = ring .count in
-            let cells = ring .fits in (
-              record { some = some; buffer = record { within = within-progress; packed = answer } },
-              record {
-                core =
-                    record {
-                      reached = within-progress;
-                      range =
-                          record {
-                            at = omega arith;
-                            left-count = let r = range .left-count in omega arith;
-                            right-count = let r = range .right-count in omega arith;
-                            answered = let e = kept 5 (omega arith) in let r = range .answered in omega arith;
-                            last-left = rw (kept 6 (omega arith)) (range .last-left);
-                            last-right = rw (kept 7 (omega arith)) (range .last-right);
-                            last-time = rw (kept 8 (omega arith)) (range .last-time);
-                            start = omega arith;
-                            count = omega arith;
-                          };
-                      copy = copied (kept 14 (omega arith)) (kept 15 (omega arith)) (core .copy);
-                      own = record { at = omega arith; times = _; ring = ring; alive = alive };
-                    };
-                buffers = (
-                  later n (omega arith) (omega arith) (omega arith) (words 2 ∙ ap (λ (x : ℕ). x / 2 ^ n) (turned-word 2 (omega arith))) bl,
-                  later n (omega arith) (omega arith) (omega arith) (words 4 ∙ ap (λ (x : ℕ). x / 2 ^ n) (turned-word 4 (omega arith))) br,
-                );
-              },
-              record { left = λ h. omega arith; right = λ h. omega arith },
-            )
-
-      pub since-batch : Steps (since low high φ ψ) s b (Batch answers n) (took-both n d)
-      since-batch L g falls agrees ready =
-          let at = ready .core .own .at in rw (← at) (at-taken L falls (rw (← at) at agrees) (rw (← at) at ready))
+        pub since-batch : (φ ψ : Formula) → Steps (since low high φ ψ) s b (Batch answers n) (took-both n d)
+        since-batch φ ψ L g falls agrees ready =
+            let at = ready .core .own .at in rw (← at) (at-taken φ ψ L falls (rw (← at) at agrees) (rw (← at) at ready))
