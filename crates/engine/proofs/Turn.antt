@@ -5,7 +5,7 @@ use native.Mathlib.Numerals.{add-one}
 use native.Mathlib.Omega.{arith}
 use mathlib.Core.Bool.{Bool}
 use mathlib.Core.List.{List, [], _∷_}
-use mathlib.Core.Path.{_≡_, refl, sym, ap, subst, _∙_}
+use mathlib.Core.Path.{_≡_, refl, sym, ap, _∙_}
 use lib.ListN.{length, getD, length-set}
 use borrow.Author.Tests.{ne-eqb}
 use Rattle.mtl.specs.Formula.{Formula}
@@ -13,7 +13,6 @@ use Rattle.mtl.specs.Formula.Formula.{since}
 use Rattle.mtl.specs.Log.{Log, NeverFalls}
 use Rattle.mtl.specs.Satisfaction.{sat, since-at}
 use Rattle.mtl.specs.Progress.{progress}
-use Rattle.mtl.proofs.Until.{progress-le-size}
 use Rattle.bits.specs.Packed.{bit, with-bit, Packed}
 use Rattle.bits.proofs.Laws.{with-bit-lt, packed-none, packed-first, packed-push, packed-same}
 use Rattle.trace.specs.Format.{record-count, time-at}
@@ -22,7 +21,7 @@ use Rattle.engine.specs.Block.{word, taken, left-count, left-bits, right
 use Rattle.engine.specs.Ring.{Ring, Rings, Witnesses, turned, turns, reaches, reached}
 use Rattle.engine.specs.Step.{Agrees, Gives, Moved, Steps}
 use Rattle.engine.specs.declared.operator.Step.the-variants.{Batch, Left, Right, Open}
-use Rattle.engine.proofs.Words.{Store, put, stores, word-stores, after, copied, later, fits, Available}
+use Rattle.engine.proofs.Words.{Store, put, word-stores, after, copied, later, fits, Available}
 use Rattle.engine.proofs.Witnesses.{turn-keeps, oldest-decides}
 use Rattle.engine.proofs.Cells.{ring-kept, followed}
 

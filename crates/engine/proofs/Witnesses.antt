@@ -12,7 +12,7 @@ use lib.ListN.{length, getD, drop, length-append, length-drop, List·getD-append
 use lib.Seq.{getD-drop, getD-append-seam}
 use borrow.Author.Tests.{leb-true, ltb-true, ltb-false, le-leb, lt-ltb, eqb-true, eq-eqb}
 use Rattle.mtl.specs.Satisfaction.{since-at}
-use Rattle.mtl.proofs.Bounded.{true-and-false, false-iff, same-test, and-iff, le-or-lt, since-at-iff}
+use Rattle.mtl.proofs.Bounded.{true-and-false, same-test, and-iff, since-at-iff}
 use Rattle.engine.specs.Block.{ring-words}
 use Rattle.engine.specs.Ring.{Witness, Witnesses, dropped, kept, newest-is, turned, reaches}
 

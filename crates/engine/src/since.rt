@@ -63,7 +63,16 @@ pub fn step_since(low: u64, high: u64, records: &[u8], block: &mut [u64]) -> Ste
     }
     let left = block[2];
     let right = block[4];
-    let bits = turn_all(low, high, records, at as usize, count as usize, left, right, block);
+    let bits = turn_all(
+        low,
+        high,
+        records,
+        at as usize,
+        count as usize,
+        left,
+        right,
+        block,
+    );
     blocks::take_both(block, count);
     Step::Batch { bits, count }
 }
