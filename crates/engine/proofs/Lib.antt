@@ -10,6 +10,7 @@ pub mod Words
 pub mod ByKind
 pub mod Cells
 pub mod Witnesses
+pub mod Turn
 pub mod Longer
 pub mod Rows
 pub mod Entries

@@ -12,7 +12,7 @@ use lib.ListN.{length, getD, drop, length-append, length-drop, List·getD-append
 use lib.Seq.{getD-drop, getD-append-seam}
 use borrow.Author.Tests.{leb-true, ltb-true, ltb-false, le-leb, lt-ltb, eqb-true, eq-eqb}
 use Rattle.mtl.specs.Satisfaction.{since-at}
-use Rattle.mtl.proofs.Bounded.{true-and-false, false-iff, same-test, and-iff, le-or-lt, since-at-iff}
+use Rattle.mtl.proofs.Bounded.{true-and-false, same-test, and-iff, since-at-iff}
 use Rattle.engine.specs.Block.{ring-words}
 use Rattle.engine.specs.Ring.{Witness, Witnesses, dropped, kept, newest-is, turned, reaches}
 
@@ -200,17 +200,16 @@ module _ (high : ℕ) (time : ℕ → ℕ) where
       push true true true er ef en = unchanged times w (λ r. already en)
       push true true false er ef en = added en er
 
-    -- one position's turn keeps the times of the witnesses
-    turned-witnesses : (times : List ℕ) → Witnesses high time left right g times →
+    -- THEOREM: one position's turn keeps the times of the witnesses, and the oldest of them decides since at g.
+    pub turn-keeps : (times : List ℕ) → Witnesses high time left right g times →
         Witnesses high time left right (g + 1) (turned (ring-words high) high (left g) (right g) (time g) times)
-    turned-witnesses times w =
+    turn-keeps times w =
         let es = kept (left g) (dropped high (time g) times) in
         push es (earlier times (left g) refl w) (right g) (ltb (length es) (ring-words high)) (newest-is (time g) es) refl refl refl
 
-    -- the oldest of them decides since at g
-    reaches-since : (low : ℕ) (times : List ℕ) → Witnesses high time left right (g + 1) times →
+    pub oldest-decides : (low : ℕ) (times : List ℕ) → Witnesses high time left right (g + 1) times →
         reaches low (time g) times ≡ since-at low high time left right g
-    reaches-since low times w =
+    oldest-decides low times w =
         let last : g + 1 - 1 ≡ g = omega arith in
         let both = and-iff (ltb 0 (length times)) (leb low (time g - getD times 0 0)) in
         let some = since-at-iff low high time left right g in
@@ -231,17 +230,6 @@ module _ (high : ℕ) (time : ℕ → ℕ) where
               both .1 (lt-ltb 0 (length times) (omega arith), le-leb low (time g - getD times 0 0) (omega arith)),
         )
 
-    -- THEOREM: one position's turn keeps the times of the witnesses, and the oldest of them decides since at g.
-    module _ (cells : ℕ) (l r : Bool) (now : ℕ) (ec : cells ≡ ring-words high) (el : left g ≡ l) (er : right g ≡ r) (et : time g ≡ now)
-        (times : List ℕ) (w : Witnesses high time left right g times) where
-      pub turn-keeps : Witnesses high time left right (g + 1) (turned cells high l r now times)
-      turn-keeps = rw (ec, ← el, ← er, ← et) (turned-witnesses times w)
-
-      pub turn-decides : (low : ℕ) → reaches low now (turned cells high l r now times) ≡ since-at low high time left right g
-      turn-decides low =
-          rw (ec, ← el, ← er, ← et)
-          (reaches-since low (turned (ring-words high) high (left g) (right g) (time g) times) (turned-witnesses times w))
-
 -- none are known before the first position
 pub no-witnesses : (high : ℕ) (time : ℕ → ℕ) (left right : ℕ → Bool) → Witnesses high time left right 0 []
 no-witnesses high time left right =
@@ -250,42 +238,3 @@ no-witnesses high time left right =
       sound = λ i h. absurd (omega arith);
       complete = λ j v b. absurd (let h = v .before in omega arith);
     }
-
--- right fails at n positions from g on, and there is no witness at g or left fails there
-module _ (high : ℕ) (time : ℕ → ℕ) (left right : ℕ → Bool) (g n : ℕ) (falls : (i j : ℕ) → i ≤ j → j < g + n → time i ≤ time j)
-    (fails : (i : ℕ) → g ≤ i → i < g + n → right i ≡ false) (times : List ℕ) (w : Witnesses high time left right g times)
-    (none : (length times ≡ 0) ⊎ (left g ≡ false)) where
-  -- a witness at m would be one at g
-  none-at : (m j : ℕ) → g < m → m ≤ g + n → Witness left right m j → time (m - 1) - time j ≤ high → ⊥
-  none-at m j lo hi v near =
-      let before = v .before in
-      ⊎-elim
-      (λ late. true-and-false (v .held) (fails j late (omega arith)))
-      (λ early.
-      ⊎-elim
-      (λ e.
-      let f = falls (g - 1) (m - 1) (omega arith) (omega arith) in
-      let v′ : Witness left right g j = record { before = early; held = v .held; since = λ k a b. v .since k a (omega arith) } in
-      let (i, h, s) = w .complete j v′ (omega arith) in
-      omega arith)
-      (true-and-false (v .since g early lo))
-      none)
-      (le-or-lt g j)
-
-  -- THEOREM: none is alive after them, and since is false at each of them.
-  pub none-left : 0 < n → Witnesses high time left right (g + n) []
-  none-left some =
-      record {
-        rising = λ i j h h′. absurd (omega arith);
-        sound = λ i h. absurd (omega arith);
-        complete = λ j v b. absurd (none-at (g + n) j (omega arith) (omega arith) v b);
-      }
-
-  pub none-decides : (low i : ℕ) → g ≤ i → i < g + n → since-at low high time left right i ≡ false
-  none-decides low i lo hi =
-      let last : i + 1 - 1 ≡ i = omega arith in
-      false-iff (since-at low high time left right i) .1
-      (λ e.
-      let (j, h, (within, r, held)) = since-at-iff low high time left right i .0 e in
-      let v : Witness left right (i + 1) j = record { before = omega arith; held = r; since = λ k a c. held k a (omega arith) } in
-      none-at (i + 1) j (omega arith) (omega arith) v (rw last (within .1)))
