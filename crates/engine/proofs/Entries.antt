@@ -12,20 +12,19 @@ use lib.Seq.{take-take, drop-drop, getD-take, getD-drop, length-take-le}
 use Rattle.mtl.specs.Formula.{Formula}
 use Rattle.mtl.specs.Formula.Formula.{letter, not, or, previous, next, since, until}
 use Rattle.mtl.specs.Log.{Log}
-use Rattle.mtl.specs.Satisfaction.{sat}
 use Rattle.mtl.proofs.Bounded.{le-or-lt}
-use Rattle.bits.proofs.Laws.{packed-none}
 use Rattle.rule.specs.declared.Entry.{Entry}
 use Rattle.rule.specs.Entries.{entry}
 use Rattle.rule.specs.Words.{own, offset}
 use Rattle.rule.specs.Postfix.{root}
 use Rattle.rule.specs.Operands.{operands, span, left, part, FormulaAt, Unary, Binary}
 use Rattle.rule.specs.Accepted.{WellFormed}
-use Rattle.engine.specs.Block.{word, taken, left-count, right-count, ring-words, kind-of, letter-of, low-of, high-of, Copied, FreshBlock, cells-of, InRange, Own, Core, Buffer, Buffers, Ready}
+use Rattle.engine.specs.Block.{word, taken, left-count, right-count, ring-words, kind-of, letter-of, low-of, high-of, Copied, FreshBlock, cells-of, InRange, Own, Core, Buffers, Ready}
 use Rattle.engine.specs.State.{words, Parts, Absent, State}
 use Rattle.engine.specs.Table.{own-words}
 use Rattle.engine.specs.Layout.{first}
 use Rattle.engine.proofs.Rows.{offset-grows, words-at, fields-of}
+use Rattle.engine.proofs.Words.{empty-buffer}
 
 -- the words of the subformula that ends at entry k
 abbrev pub part-words : List Entry → ℕ → List ℕ → List ℕ
