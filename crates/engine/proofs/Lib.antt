@@ -7,6 +7,8 @@ pub mod Uniform
 pub mod Fill
 pub mod Drive
 pub mod Words
+pub mod Taking
+pub mod Simple
 pub mod ByKind
 pub mod Cells
 pub mod Witnesses
