@@ -1,5 +1,5 @@
 -- An operator's block after positions were taken out of its buffers, whatever else its operator stored. Assumes nothing.
-use Prim.Native.Nat.{ℕ, _+_, _-_, _/_, _≤_, _^_, min}
+use Prim.Native.Nat.{ℕ, _+_, _-_, _/_, _≤_, _<_, _^_, min}
 use native.Mathlib.Omega.{arith}
 use mathlib.Core.Bool.{true, false, false≢true}
 use mathlib.Core.List.{List}
@@ -13,7 +13,7 @@ use Rattle.bits.proofs.Laws.{packed-first}
 use Rattle.trace.specs.Format.{record-count}
 use Rattle.engine.specs.Block.{word, taken, left-count, left-bits, right-count, right-bits, kind-of, high-of, cells-of, InRange, Own, Core, Buffer, LeftBuffer, RightBuffer, Buffers, Ready}
 use Rattle.engine.specs.Step.{Agrees, Moved, has-left}
-use Rattle.engine.proofs.Words.{copied, later, fits}
+use Rattle.engine.proofs.Words.{available, copied, later, fits}
 
 -- `available` gives all of a buffer
 pub all-of : {s : List ℕ} {φ : Formula} {L : Log} {g p count bits : ℕ} → Agrees s L g → Buffer φ L p count bits →
@@ -22,6 +22,20 @@ all-of agrees buffer n e =
     let size = agrees .size in
     let few = buffer .packed .few in
     omega (arith, fits buffer)
+
+-- what `available` gives of the shorter of two buffers, where that is anything
+pub record Shared (at l r total n : ℕ) : Type 0 where
+  pub left : n ≤ l
+  pub right : n ≤ r
+  pub some : 0 < n
+  pub inside : at + n ≤ total
+
+pub shared : (at l r total both n : ℕ) → both ≡ min l r → n ≡ min (min both (total - at)) 64 → (n ≡ 0 → ⊥) → Shared at l r total n
+shared at l r total both n e f some =
+    let a = available at both total n f in
+    let most = a .most in
+    let more : 0 < n = omega arith in
+    record { left = omega arith; right = omega arith; some = more; inside = a .inside more }
 
 -- the first n of its answers
 pub first-of : {φ : Formula} {L : Log} {p count bits : ℕ} (n : ℕ) → n ≤ count → Buffer φ L p count bits → Packed (sat φ L) p n bits
