@@ -24,14 +24,7 @@ use Rattle.engine.specs.Near.{near-at}
 use Rattle.engine.specs.Step.{Agrees, Stepped, Moved, left-to-do}
 use Rattle.engine.specs.declared.operator.Step.the-variants.{Batch, Again}
 use Rattle.engine.proofs.Words.{Store, put, stores, word-stores, copied, less-to-do, fits}
-use Rattle.engine.proofs.Taking.{first-of, taken-right, taken-both}
-
--- the stores of take_right and take_both
-abbrev right-stores : ℕ → List ℕ → List Store → List Store
-right-stores n b more = put 0 (taken b + n) ∷ put 3 (right-count b - n) ∷ put 4 (right-bits b / 2 ^ n) ∷ more
-
-abbrev both-stores : ℕ → List ℕ → List Store
-both-stores n b = right-stores n b (put 1 (left-count b - n) ∷ put 2 (left-bits b / 2 ^ n) ∷ [])
+use Rattle.engine.proofs.Taking.{right-stores, both-stores, first-of, taken-right, taken-both}
 
 -- the block of a previous that has taken n positions, the last of them at this time
 abbrev previous-stores : ℕ → List ℕ → ℕ → List Store
@@ -52,7 +45,7 @@ module _ (s b : List ℕ) (room : 16 ≤ length b) (n : ℕ) (some : 0 < n) wher
         let size = agrees .size in
         let head = core .own in
         let same : (i : ℕ) → i < n → L .letters (g + i) k ≡ has-letter s k (taken b + i) =
-            λ i h. sym (agrees .same (g + i) (omega arith) (omega arith) .letters k) ∙ ap (has-letter s k) (omega arith)
+        λ i h. sym (agrees .same (g + i) (omega arith) (omega arith) .letters k) ∙ ap (has-letter s k) (omega arith)
         in (
           record {
             some = some;
@@ -81,20 +74,20 @@ module _ (s b : List ℕ) (room : 16 ≤ length b) (n : ℕ) (some : 0 < n) wher
         let right = ready .buffers in
         let most = progress-le-size φ L in
         let moved =
-            taken-right
-            (not φ)
-            core
-            n
-            (g + n)
-            (took-right n b)
-            (omega arith)
-            (omega (arith, at 0, at 1, at 3, at 5, at 6, at 7, at 8, at 9, at 10))
-            (omega (arith, at 0))
-            refl
-            (λ x. x)
-            h
-            (record { at = at 0; count = at 3; bits = at 4; head = at 14; ends = at 15 })
-            right
+        taken-right
+        (not φ)
+        core
+        n
+        (g + n)
+        (took-right n b)
+        (omega arith)
+        (omega (arith, at 0, at 1, at 3, at 5, at 6, at 7, at 8, at 9, at 10))
+        (omega (arith, at 0))
+        refl
+        (λ x. x)
+        h
+        (record { at = at 0; count = at 3; bits = at 4; head = at 14; ends = at 15 })
+        right
         in (
           record {
             some = some;
@@ -108,7 +101,7 @@ module _ (s b : List ℕ) (room : 16 ≤ length b) (n : ℕ) (some : 0 < n) wher
         Stepped (or φ ψ) L g b (Batch (bitOr (left-bits b) (right-bits b)) n) (took-both n b)
     unfolding sat progress
     or-batch φ ψ l r ready =
-        let at = word-stores (both-stores n b) b (omega arith) room in
+        let at = word-stores (both-stores n b []) b (omega arith) room in
         let core = ready .core in
         let range = core .range in
         let head = core .own in
@@ -116,25 +109,25 @@ module _ (s b : List ℕ) (room : 16 ≤ length b) (n : ℕ) (some : 0 < n) wher
         let right = ready .buffers .1 in
         let most = progress-le-size φ L in
         let moved =
-            taken-both
-            (or φ ψ)
-            core
-            n
-            (g + n)
-            (took-both n b)
-            (omega arith)
-            (omega (arith, at 0, at 1, at 3, at 5, at 6, at 7, at 8, at 9, at 10))
-            (omega (arith, at 0))
-            (λ x. x)
-            l
-            r
-            (record {
-              right = record { at = at 0; count = at 3; bits = at 4; head = at 14; ends = at 15 };
-              count = at 1;
-              bits = at 2;
-            })
-            left
-            right
+        taken-both
+        (or φ ψ)
+        core
+        n
+        (g + n)
+        (took-both n b)
+        (omega arith)
+        (omega (arith, at 0, at 1, at 3, at 5, at 6, at 7, at 8, at 9, at 10))
+        (omega (arith, at 0))
+        (λ x. x)
+        l
+        r
+        (record {
+          right = record { at = at 0; count = at 3; bits = at 4; head = at 14; ends = at 15 };
+          count = at 1;
+          bits = at 2;
+        })
+        left
+        right
         in (
           record {
             some = some;
@@ -216,24 +209,24 @@ module _ (s b : List ℕ) (room : 16 ≤ length b) (n : ℕ) (some : 0 < n) wher
             let size = agrees .size in
             let here : g + n - 1 ≡ taken b + (n - 1) = omega arith in
             let moved =
-                taken-right
-                (previous low high φ)
-                core
-                n
-                (g + n)
-                (stores (previous-stores n b time) b)
-                (omega arith)
-                (omega (arith, at 0, at 1, at 3, at 5, at 6, at 7, at 8, at 9, at 10))
-                (record {
-                  at = omega (arith, at 0);
-                  last-answer = λ p. rw (here, at 6) (right .packed .same (n - 1) (omega arith));
-                  last-time = λ p. rw (here, at 8) (told ∙ agrees .same (taken b + (n - 1)) (omega arith) (omega arith) .time);
-                })
-                refl
-                (λ x. x)
-                h
-                (record { at = at 0; count = at 3; bits = at 4; head = at 14; ends = at 15 })
-                right
+            taken-right
+            (previous low high φ)
+            core
+            n
+            (g + n)
+            (stores (previous-stores n b time) b)
+            (omega arith)
+            (omega (arith, at 0, at 1, at 3, at 5, at 6, at 7, at 8, at 9, at 10))
+            (record {
+              at = omega (arith, at 0);
+              last-answer = λ p. rw (here, at 6) (right .packed .same (n - 1) (omega arith));
+              last-time = λ p. rw (here, at 8) (told ∙ agrees .same (taken b + (n - 1)) (omega arith) (omega arith) .time);
+            })
+            refl
+            (λ x. x)
+            h
+            (record { at = at 0; count = at 3; bits = at 4; head = at 14; ends = at 15 })
+            right
             in (
               record { some = some; buffer = record { within = omega arith; packed = previous-packed near word inside packed } },
               moved .0,
@@ -281,10 +274,10 @@ module _ (s b : List ℕ) (room : 16 ≤ length b) (n : ℕ) (some : 0 < n) wher
             let both = packed-and is-near (sat φ L) p n near (right-bits b) packed (first-of n h right) in
             let earlier : before ≡ L .time (p - 1) = told ∙ agrees .same (p - 1) (omega arith) (omega arith) .time in
             let same : (i : ℕ) → i < n → sat (next low high φ) L (g + i) ≡ is-near (p + i) && sat φ L (p + i) =
-                λ i l.
-                let here : g + i + 1 ≡ p + i = omega arith in
-                let back : p + i - 1 ≡ g + i = omega arith in
-                rw (here, lt-ltb (p + i) (L .size) (omega arith), near-is before p (p + i) (λ e. earlier) (omega arith) (omega arith) (omega arith), back)
+            λ i l.
+            let here : g + i + 1 ≡ p + i = omega arith in
+            let back : p + i - 1 ≡ g + i = omega arith in
+            rw (here, lt-ltb (p + i) (L .size) (omega arith), near-is before p (p + i) (λ e. earlier) (omega arith) (omega arith) (omega arith), back)
             in
             let moved = next-ready (g + n) (omega arith) in (
               record {

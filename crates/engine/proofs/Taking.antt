@@ -2,7 +2,7 @@
 use Prim.Native.Nat.{ℕ, _+_, _-_, _/_, _≤_, _<_, _^_, min}
 use native.Mathlib.Omega.{arith}
 use mathlib.Core.Bool.{true, false, false≢true}
-use mathlib.Core.List.{List}
+use mathlib.Core.List.{List, _∷_}
 use mathlib.Core.Path.{_≡_, sym, _∙_}
 use Rattle.mtl.specs.Formula.{Formula}
 use Rattle.mtl.specs.Log.{Log}
@@ -13,7 +13,14 @@ use Rattle.bits.proofs.Laws.{packed-first}
 use Rattle.trace.specs.Format.{record-count}
 use Rattle.engine.specs.Block.{word, taken, left-count, left-bits, right-count, right-bits, kind-of, high-of, cells-of, InRange, Own, Core, Buffer, LeftBuffer, RightBuffer, Buffers, Ready}
 use Rattle.engine.specs.Step.{Agrees, Moved, has-left}
-use Rattle.engine.proofs.Words.{available, copied, later, fits}
+use Rattle.engine.proofs.Words.{Store, put, available, copied, later, fits}
+
+-- the stores of take_right and take_both, and more
+abbrev pub right-stores : ℕ → List ℕ → List Store → List Store
+right-stores n b more = put 0 (taken b + n) ∷ put 3 (right-count b - n) ∷ put 4 (right-bits b / 2 ^ n) ∷ more
+
+abbrev pub both-stores : ℕ → List ℕ → List Store → List Store
+both-stores n b more = right-stores n b (put 1 (left-count b - n) ∷ put 2 (left-bits b / 2 ^ n) ∷ more)
 
 -- `available` gives all of a buffer
 pub all-of : {s : List ℕ} {φ : Formula} {L : Log} {g p count bits : ℕ} → Agrees s L g → Buffer φ L p count bits →

@@ -16,22 +16,20 @@ slice-read-if1 c = search needs
 
 returns : tie.Need-returns
 unfolding progress
-returns c =
-    (
-      (refl, refl, c .if1 .taken),
-      λ φ ψ L g falls agrees ready. (refl, λ e. let core = ready .core in let w = ready .buffers .1 .within in omega arith),
-    )
+returns c = (
+  (refl, refl, c .if1 .taken),
+  λ φ ψ L g falls agrees ready. (refl, λ e. let core = ready .core in let w = ready .buffers .1 .within in omega arith),
+)
 
 slice-read-if2 : tie.Need-slice-read-if2
 slice-read-if2 c = search needs
 
 returns-2 : tie.Need-returns-2
 unfolding progress
-returns-2 c =
-    (
-      (refl, refl, c .if2 .taken),
-      λ φ ψ L g falls agrees ready. (refl, λ e. let core = ready .core in let w = ready .buffers .0 .within in omega arith),
-    )
+returns-2 c = (
+  (refl, refl, c .if2 .taken),
+  λ φ ψ L g falls agrees ready. (refl, λ e. let core = ready .core in let w = ready .buffers .0 .within in omega arith),
+)
 
 slice-read-shorter : tie.Need-slice-read-shorter
 slice-read-shorter c = search needs
@@ -72,8 +70,8 @@ take-both-requires : tie.Need-take-both-requires
 take-both-requires c κs =
     let b = c .before .before .before .before .before .before .before .before .before .before .before .before .before .before .before .before .args .block .now in
     let n =
-        shared (taken b) (left-count b) (right-count b) (c .before .before .before .before .before .count .result) (c .before .before .before .before .before .before .before .shorter .result) (c .before .before .before .before .available .result)
-        (c .before .before .before .before .before .before .before .shorter .ensures) (c .before .before .before .before .available .ensures) (c .before .before .before .if3 .left)
+    shared (taken b) (left-count b) (right-count b) (c .before .before .before .before .before .count .result) (c .before .before .before .before .before .before .before .shorter .result) (c .before .before .before .before .available .result)
+    (c .before .before .before .before .before .before .before .shorter .ensures) (c .before .before .before .before .available .ensures) (c .before .before .before .if3 .left)
     in
     (c .before .before .before .before .before .before .before .before .before .before .before .before .before .before .before .before .pre, n .left, n .right, lt-of-le-of-lt (n .inside) (omega arith))
 
@@ -85,8 +83,8 @@ returns-4 c =
     let start = c .before .before .before .before .before .before .before .before .before .before .before .before .before .before .before .before .before .before .before in
     let b = start .args .block .now in
     let n =
-        shared (taken b) (left-count b) (right-count b) (c .before .before .before .before .before .before .before .before .count .result) (c .before .before .before .before .before .before .before .before .before .before .shorter .result) (c .before .before .before .before .before .before .before .available .result)
-        (c .before .before .before .before .before .before .before .before .before .before .shorter .ensures) (c .before .before .before .before .before .before .before .available .ensures) (c .before .before .before .before .before .before .if3 .left)
+    shared (taken b) (left-count b) (right-count b) (c .before .before .before .before .before .before .before .before .count .result) (c .before .before .before .before .before .before .before .before .before .before .shorter .result) (c .before .before .before .before .before .before .before .available .result)
+    (c .before .before .before .before .before .before .before .before .before .before .shorter .ensures) (c .before .before .before .before .before .before .before .available .ensures) (c .before .before .before .before .before .before .if3 .left)
     in (
       tt,
       λ φ ψ L g falls agrees ready.
