@@ -1,7 +1,7 @@
 -- One step of the letter, not, or, previous and next over their block's words, as the code leaves them. Assumes nothing.
 use Prim.Native.Nat.{ℕ, _+_, _-_, _/_, _%_, _≤_, _<_, _^_}
 use native.Mathlib.Omega.{arith}
-use mathlib.Core.Bool.{Bool, true, false, _&&_, _||_, cond, false≢true, and-false}
+use mathlib.Core.Bool.{Bool, false, _&&_, false≢true, and-false}
 use mathlib.Core.List.{List, [], _∷_}
 use mathlib.Core.Logic.{⊎-elim}
 use mathlib.Core.Path.{_≡_, refl, sym, ap, _∙_}
@@ -17,11 +17,11 @@ use Rattle.mtl.specs.Progress.{progress}
 use Rattle.mtl.proofs.Bounded.{le-or-lt}
 use Rattle.mtl.proofs.Until.{progress-le-size}
 use Rattle.bits.specs.Packed.{moved-up, Packed}
-use Rattle.bits.proofs.Laws.{packed-first, packed-same, packed-moved, packed-not, packed-or, packed-and}
+use Rattle.bits.proofs.Laws.{packed-same, packed-moved, packed-not, packed-or, packed-and}
 use Rattle.trace.specs.Format.{record-count, time-at, has-letter}
-use Rattle.engine.specs.Block.{taken, left-count, left-bits, right-count, right-bits, last-left, last-time, Ready, took-right, took-both}
+use Rattle.engine.specs.Block.{taken, left-count, left-bits, right-count, right-bits, last-left, last-time, Core, Own, RightBuffer, Buffers, Ready, took-right, took-both}
 use Rattle.engine.specs.Near.{near-at}
-use Rattle.engine.specs.Step.{Agrees, Stepped, Moved, left-to-do}
+use Rattle.engine.specs.Step.{Agrees, Stepped, Moved, has-left, left-to-do}
 use Rattle.engine.specs.declared.operator.Step.the-variants.{Batch, Again}
 use Rattle.engine.proofs.Words.{Store, put, stores, word-stores, copied, less-to-do, fits}
 use Rattle.engine.proofs.Taking.{right-stores, both-stores, first-of, taken-right, taken-both}
@@ -31,8 +31,11 @@ abbrev previous-stores : ℕ → List ℕ → ℕ → List Store
 previous-stores n b time = right-stores n b (put 6 (right-bits b / 2 ^ (n - 1) % 2) ∷ put 8 time ∷ [])
 
 module _ (s b : List ℕ) (room : 16 ≤ length b) (n : ℕ) (some : 0 < n) where
+  right-at : taken (took-right n b) ≡ taken b + n
+  right-at = word-stores (right-stores n b []) b (omega arith) room 0
+
   pub right-less : taken b + n ≤ record-count s → left-to-do s (took-right n b) < left-to-do s b
-  right-less inside = less-to-do s b (took-right n b) n some inside (word-stores (right-stores n b []) b (omega arith) room 0)
+  right-less inside = less-to-do s b (took-right n b) n some inside right-at
 
   module _ (L : Log) (g : ℕ) (agrees : Agrees s L g) where
     pub letter-batch : (k bits : ℕ) → taken b + n ≤ record-count s → Packed (has-letter s k) (taken b) n bits → Ready (letter k) L g b →
@@ -63,32 +66,26 @@ module _ (s b : List ℕ) (room : 16 ≤ length b) (n : ℕ) (some : 0 < n) wher
           record { left = λ e. absurd (false≢true e); right = λ e. absurd (false≢true e) },
         )
 
+    -- not and next store nothing more; φ is either, and ψ its operand
+    right-ready : (φ ψ : Formula) → has-left φ ≡ false → (RightBuffer ψ L (took-right n b) → Buffers φ L (took-right n b)) → Core φ L g b →
+        RightBuffer ψ L b → n ≤ right-count b → (g′ : ℕ) → g′ ≤ progress φ L → Own φ L g′ (took-right n b) →
+        Ready φ L g′ (took-right n b) × Moved φ b (took-right n b)
+    right-ready φ ψ single whole core right h g′ reached own =
+        let at = word-stores (right-stores n b []) b (omega arith) room in
+        let range = core .range in
+        let most = fits right in
+        taken-right φ core n g′ (took-right n b) reached (omega (arith, at 0, at 1, at 3, at 5, at 6, at 7, at 8, at 9, at 10)) own single whole h
+        (record { at = at 0; count = at 3; bits = at 4; head = at 14; ends = at 15 })
+        right
+
     pub not-batch : (φ : Formula) → n ≤ right-count b → right-bits b < 2 ^ 64 → Ready (not φ) L g b →
         Stepped (not φ) L g b (Batch (2 ^ 64 - 1 - right-bits b) n) (took-right n b)
     unfolding sat progress
     not-batch φ h word ready =
-        let at = word-stores (right-stores n b []) b (omega arith) room in
         let core = ready .core in
-        let range = core .range in
         let head = core .own in
         let right = ready .buffers in
-        let most = progress-le-size φ L in
-        let moved =
-        taken-right
-        (not φ)
-        core
-        n
-        (g + n)
-        (took-right n b)
-        (omega arith)
-        (omega (arith, at 0, at 1, at 3, at 5, at 6, at 7, at 8, at 9, at 10))
-        (omega (arith, at 0))
-        refl
-        (λ x. x)
-        h
-        (record { at = at 0; count = at 3; bits = at 4; head = at 14; ends = at 15 })
-        right
-        in (
+        let moved = right-ready (not φ) φ refl (λ x. x) core right h (g + n) (omega arith) (omega (arith, right-at)) in (
           record {
             some = some;
             buffer = record { within = omega arith; packed = rw head at (packed-not (sat φ L) (taken b) n (right-bits b) word (first-of n h right)) };
@@ -238,25 +235,8 @@ module _ (s b : List ℕ) (room : 16 ≤ length b) (n : ℕ) (some : 0 < n) wher
         next-ready : (to : ℕ) → to + 1 ≡ taken b + n → Ready (next low high φ) L to (took-right n b) × Moved (next low high φ) b (took-right n b)
         unfolding progress
         next-ready to end =
-            let at = word-stores (right-stores n b []) b (omega arith) room in
-            let core = ready .core in
-            let range = core .range in
             let right = ready .buffers in
-            let most = progress-le-size φ L in
-            taken-right
-            (next low high φ)
-            core
-            n
-            to
-            (took-right n b)
-            (omega arith)
-            (omega (arith, at 0, at 1, at 3, at 5, at 6, at 7, at 8, at 9, at 10))
-            (omega (arith, at 0))
-            refl
-            (λ x. x)
-            h
-            (record { at = at 0; count = at 3; bits = at 4; head = at 14; ends = at 15 })
-            right
+            right-ready (next low high φ) φ refl (λ x. x) (ready .core) right h to (omega arith) (omega (arith, right-at))
 
         -- position 0 is passed over
         pub next-pass : taken b ≡ 0 → n ≡ 1 → Stepped (next low high φ) L g b Again (took-right n b)

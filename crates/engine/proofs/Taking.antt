@@ -1,7 +1,7 @@
 -- An operator's block after positions were taken out of its buffers, whatever else its operator stored. Assumes nothing.
 use Prim.Native.Nat.{ℕ, _+_, _-_, _/_, _≤_, _<_, _^_, min}
 use native.Mathlib.Omega.{arith}
-use mathlib.Core.Bool.{true, false, false≢true}
+use mathlib.Core.Bool.{false, false≢true}
 use mathlib.Core.List.{List, _∷_}
 use mathlib.Core.Path.{_≡_, sym, _∙_}
 use Rattle.mtl.specs.Formula.{Formula}

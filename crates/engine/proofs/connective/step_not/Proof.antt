@@ -1,10 +1,10 @@
 -- `engine::connective::step_not` meets its contract: a buffer is taken whole. Assumes nothing.
 use native.Mathlib.Omega.{arith}
 use mathlib.Core.Path.{refl, _∙_}
+use borrow.Author.Needs.{needs}
 use Rattle.mtl.specs.Progress.{progress}
 use Rattle.engine.proofs.Simple.{not-batch}
 use Rattle.engine.proofs.Taking.{all-of}
-use borrow.Author.Needs.{needs}
 use Rattle.engine.proofs.connective.step_not.Statement.{statement}
 use Rattle.engine.proofs.connective.step_not.Tie as tie
 
@@ -28,11 +28,7 @@ available-requires : tie.Need-available-requires
 available-requires c κs = search needs
 
 returns-2 : tie.Need-returns-2
-returns-2 c =
-    let start = c .before .before .before .before .before .before .before .before .before in (
-      refl,
-      λ φ L g falls agrees ready. absurd (omega (arith, all-of agrees (ready .buffers) (c .before .available .result) (rw (c .before .before .count .ensures) at (c .before .available .ensures)))),
-    )
+returns-2 c = (refl, λ φ L g falls agrees ready. absurd (omega (arith, all-of agrees (ready .buffers) (c .before .available .result) (rw (c .before .before .count .ensures) at (c .before .available .ensures)))))
 
 slice-read-bits : tie.Need-slice-read-bits
 slice-read-bits c = search needs

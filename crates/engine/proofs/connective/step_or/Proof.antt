@@ -2,14 +2,20 @@
 use native.Mathlib.Nat.{lt-of-le-of-lt}
 use native.Mathlib.Omega.{arith}
 use mathlib.Core.Path.{refl}
+use borrow.Author.Needs.{needs}
 use Rattle.mtl.specs.Progress.{progress}
 use Rattle.engine.specs.Block.{taken, left-count, right-count}
 use Rattle.engine.proofs.Words.{fits}
-use Rattle.engine.proofs.Taking.{shared}
+use Rattle.engine.proofs.Taking.{Shared, shared}
 use Rattle.engine.proofs.Simple.{or-batch}
-use borrow.Author.Needs.{needs}
 use Rattle.engine.proofs.connective.step_or.Statement.{statement}
 use Rattle.engine.proofs.connective.step_or.Tie as tie
+
+-- some positions are taken: both operands have answered them, and they lie within the log
+taking : (c : tie.Else3) →
+    let b = c .before .before .before .before .before .before .before .before .before .before .before .before .before .args .block .now in
+    Shared (taken b) (left-count b) (right-count b) (c .before .before .count .result) (c .before .available .result)
+taking c = shared _ _ _ _ _ _ (c .before .before .before .before .shorter .ensures) (c .before .available .ensures) (c .if3 .left)
 
 slice-read-if1 : tie.Need-slice-read-if1
 slice-read-if1 c = search needs
@@ -68,11 +74,7 @@ slice-read-bits-2 c = search needs
 
 take-both-requires : tie.Need-take-both-requires
 take-both-requires c κs =
-    let b = c .before .before .before .before .before .before .before .before .before .before .before .before .before .before .before .before .args .block .now in
-    let n =
-    shared (taken b) (left-count b) (right-count b) (c .before .before .before .before .before .count .result) (c .before .before .before .before .before .before .before .shorter .result) (c .before .before .before .before .available .result)
-    (c .before .before .before .before .before .before .before .shorter .ensures) (c .before .before .before .before .available .ensures) (c .before .before .before .if3 .left)
-    in
+    let n = taking (c .before .before .before) in
     (c .before .before .before .before .before .before .before .before .before .before .before .before .before .before .before .before .pre, n .left, n .right, lt-of-le-of-lt (n .inside) (omega arith))
 
 same-length : tie.Need-same-length
@@ -81,15 +83,12 @@ same-length c = search needs
 returns-4 : tie.Need-returns-4
 returns-4 c =
     let start = c .before .before .before .before .before .before .before .before .before .before .before .before .before .before .before .before .before .before .before in
-    let b = start .args .block .now in
-    let n =
-    shared (taken b) (left-count b) (right-count b) (c .before .before .before .before .before .before .before .before .count .result) (c .before .before .before .before .before .before .before .before .before .before .shorter .result) (c .before .before .before .before .before .before .before .available .result)
-    (c .before .before .before .before .before .before .before .before .before .before .shorter .ensures) (c .before .before .before .before .before .before .before .available .ensures) (c .before .before .before .before .before .before .if3 .left)
-    in (
+    let n = taking (c .before .before .before .before .before .before) in (
       tt,
       λ φ ψ L g falls agrees ready.
           rw (c .before .before .take-both .ensures)
-          (or-batch (start .args .records .now) b (start .pre) (c .before .before .before .before .before .before .before .available .result) (n .some) L g agrees φ ψ (n .left) (n .right) ready),
+          (or-batch (start .args .records .now) (start .args .block .now) (start .pre) (c .before .before .before .before .before .before .before .available .result) (n .some) L g agrees
+          φ ψ (n .left) (n .right) ready),
     )
 
 pub step-or-spec : {M : Type 1} → statement M

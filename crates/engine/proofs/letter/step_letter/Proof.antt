@@ -1,9 +1,9 @@
 -- `engine::letter::step_letter` meets its contract. Assumes nothing.
 use native.Mathlib.Omega.{arith}
 use mathlib.Core.Path.{refl}
+use borrow.Author.Needs.{needs}
 use Rattle.mtl.specs.Progress.{progress}
 use Rattle.engine.proofs.Simple.{letter-batch}
-use borrow.Author.Needs.{needs}
 use Rattle.engine.proofs.letter.step_letter.Statement.{statement}
 use Rattle.engine.proofs.letter.step_letter.Tie as tie
 

@@ -3,13 +3,13 @@ use Prim.Native.Nat.{ℕ, _+_, _-_, _≤_, _<_}
 use native.Mathlib.Nat.{pos-of-ne-zero}
 use native.Mathlib.Omega.{arith}
 use mathlib.Core.Path.{refl}
+use borrow.Author.Needs.{needs}
 use Rattle.mtl.specs.Progress.{progress}
 use Rattle.trace.specs.Format.{record-count}
 use Rattle.engine.specs.Block.{taken, right-count}
 use Rattle.engine.proofs.Words.{available}
 use Rattle.engine.proofs.Simple.{right-less, next-pass, next-batch}
 use Rattle.engine.proofs.Taking.{all-of}
-use borrow.Author.Needs.{needs}
 use Rattle.engine.proofs.neighbour.step_next.Statement.{statement}
 use Rattle.engine.proofs.neighbour.step_next.Tie as tie
 
@@ -48,11 +48,7 @@ available-requires : tie.Need-available-requires
 available-requires c κs = search needs
 
 returns-2 : tie.Need-returns-2
-returns-2 c =
-    let start = c .before .before .before .before .before .before .before .before .before in (
-      refl,
-      λ φ L g falls agrees ready. absurd (omega (arith, all-of agrees (ready .buffers) (c .before .available .result) (rw (c .before .before .count .ensures) at (c .before .available .ensures)))),
-    )
+returns-2 c = (refl, λ φ L g falls agrees ready. absurd (omega (arith, all-of agrees (ready .buffers) (c .before .available .result) (rw (c .before .before .count .ensures) at (c .before .available .ensures)))))
 
 take-right-requires : tie.Need-take-right-requires
 take-right-requires c κs = search needs

@@ -2,10 +2,10 @@
 use native.Mathlib.Omega.{arith}
 use mathlib.Core.Path.{refl, _∙_}
 use lib.ListN.{length-set}
+use borrow.Author.Needs.{needs}
 use Rattle.mtl.specs.Progress.{progress}
 use Rattle.engine.proofs.Simple.{previous-batch}
 use Rattle.engine.proofs.Taking.{all-of}
-use borrow.Author.Needs.{needs}
 use Rattle.engine.proofs.neighbour.step_previous.Statement.{statement}
 use Rattle.engine.proofs.neighbour.step_previous.Tie as tie
 
@@ -29,11 +29,7 @@ available-requires : tie.Need-available-requires
 available-requires c κs = search needs
 
 returns-2 : tie.Need-returns-2
-returns-2 c =
-    let start = c .before .before .before .before .before .before .before .before .before in (
-      refl,
-      λ φ L g falls agrees ready. absurd (omega (arith, all-of agrees (ready .buffers) (c .before .available .result) (rw (c .before .before .count .ensures) at (c .before .available .ensures)))),
-    )
+returns-2 c = (refl, λ φ L g falls agrees ready. absurd (omega (arith, all-of agrees (ready .buffers) (c .before .available .result) (rw (c .before .before .count .ensures) at (c .before .available .ensures)))))
 
 slice-read-operand : tie.Need-slice-read-operand
 slice-read-operand c = search needs
