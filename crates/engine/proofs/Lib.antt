@@ -10,6 +10,8 @@ pub mod Words
 pub mod ByKind
 pub mod Cells
 pub mod Witnesses
+pub mod UntilLogic
+pub mod UntilSteps
 pub mod Longer
 pub mod Rows
 pub mod Entries
