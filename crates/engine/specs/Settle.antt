@@ -1,5 +1,5 @@
 -- until's parts: what settles the next position to answer, and a walk that answers and takes many of them.
-use Prim.Native.Nat.{ℕ, _+_, _-_, _≤_, _<_, _^_}
+use Prim.Native.Nat.{ℕ, _+_, _-_, _≤_, _<_, _^_, max}
 use mathlib.Core.Bool.{Bool, true, false, cond, _&&_, _||_}
 use mathlib.Core.Bool.{not as negate}
 use mathlib.Core.List.{List}
@@ -67,7 +67,7 @@ pub record Within (g at n bits count took : ℕ) (from last : Last) : Type 0 whe
   pub few : count ≤ 64
   pub small : bits < 2 ^ count
   pub most : took ≤ n
-  pub behind : 0 < count → g + count ≤ at + took
+  pub behind : g + count ≤ max g (at + took)
   pub bound : from .time < 2 ^ 32 → last .time < 2 ^ 32
 
 -- a walk ends with 64 answers, or where a position waits and all n are taken
