@@ -20,6 +20,7 @@ use Rattle.bits.specs.Packed.{number, with-bit, Packed}
 use Rattle.bits.proofs.Laws.{number-lt, packed-none, packed-first, packed-push}
 use Rattle.trace.specs.Format.{record-count, time-at}
 use Rattle.engine.specs.Block.{
+  word,
   taken,
   left-count,
   left-bits,
@@ -33,7 +34,7 @@ use Rattle.engine.specs.Block.{
   Buffer,
   Ready,
 }
-use Rattle.engine.specs.Step.{Agrees, Stepped, Ends}
+use Rattle.engine.specs.Step.{Agrees, Moved, Stepped, Ends}
 use Rattle.engine.specs.Settle.{pick, is-met, is-over, next-time, look-spec, take-spec, Reached, Walks, Within, Waiting, walked, Wants}
 use Rattle.engine.specs.declared.until.Last.{Last}
 use Rattle.engine.specs.declared.until.Walked.{Walked}
@@ -42,7 +43,7 @@ use Rattle.engine.specs.declared.until.Settled.the-variants.{Known, Unkn
 use Rattle.engine.specs.declared.operator.Step.{Step}
 use Rattle.engine.specs.declared.operator.Step.the-variants.{Batch, Left, Right, Again, Open}
 use Rattle.engine.proofs.UntilLogic as logic
-use Rattle.engine.proofs.Words.{Store, put, word-stores, copied, later, fits, less-to-do, Available}
+use Rattle.engine.proofs.Words.{Store, put, after, word-stores, copied, later, fits, less-to-do, Available}
 
 -- an answer as a word, and back
 is-number : (x : Bool) → eqb (number x) 1 ≡ x
@@ -222,3 +223,125 @@ module _ (low high : ℕ) (s : List ℕ) (g at n left right : ℕ) (from : Last)
                 (agrees .same (at + took) (omega arith) (omega (arith, fits a)) .time));
         answers = r .answers;
       }
+
+-- the last position taken, as the block has it
+abbrev pub last-of : List ℕ → Last
+last-of b = record { left = eqb (last-left b) 1; right = eqb (last-right b) 1; time = last-time b }
+
+-- the stores of `walked`
+abbrev walked-stores : Walked → List ℕ → List Store
+walked-stores w b =
+    put 0 (taken b + w .took) ∷ put 3 (right-count b - w .took) ∷ put 4 (right-bits b / 2 ^ w .took) ∷ put 1 (left-count b - w .took) ∷
+    put 2 (left-bits b / 2 ^ w .took) ∷ put 5 (answered b + w .count) ∷ put 6 (number (w .last .left)) ∷ put 7 (number (w .last .right)) ∷
+    put 8 (w .last .time) ∷ []
+
+-- an operand is wanted, and the block is as it was
+pub wanted-ends : (s b : List ℕ) (r : Step) → Wants b r → Ends true true s b r b
+wanted-ends s b (Batch bits count) t = absurd t
+wanted-ends s b Again t = absurd t
+wanted-ends s b Left t = (refl, refl, t)
+wanted-ends s b Right t = (refl, refl, t .1)
+wanted-ends s b Open t = refl
+
+-- a step on block b that has walked over n positions
+module _ (low high : ℕ) (s b : List ℕ) (room : 16 ≤ length b) (n : ℕ) (w : Walked)
+    (some : Available (taken b) (min (left-count b) (right-count b)) (record-count s) n)
+    (within : Within (answered b) (taken b) n (w .bits) (w .count) (w .took) (last-of b) (w .last)) where
+  abbrev b′ : List ℕ
+  b′ = walked w b
+
+  at : (k : ℕ) → word b′ k ≡ after (walked-stores w b) (word b) k
+  at = word-stores (walked-stores w b) b (omega arith) room
+
+  -- what is left to do falls with every position taken
+  pub took-ends : 0 < w .took → Ends true true s b Again b′
+  took-ends h = less-to-do s b b′ (w .took) h (let i = some .inside (omega arith) in omega arith) (at 0)
+
+  module _ (walks : Walks low high s (answered b) (taken b) n (left-bits b) (right-bits b) (last-of b) (w .bits) (w .count) (w .took) (w .last))
+      (φ ψ : Formula) (L : Log) (g : ℕ) (falls : NeverFalls L) (agrees : Agrees s L g) (ready : Ready (until low high φ ψ) L g b) where
+    -- the first n positions of a buffer
+    first : {χ : Formula} {count bits : ℕ} → n ≤ count → Buffer χ L (taken b) count bits → Buffer χ L (taken b) n bits
+    first {χ = χ} {count = count} {bits = bits} h x =
+        let i = x .within in
+        record { within = omega arith; packed = packed-first (sat χ L) (taken b) count bits n h (x .packed) }
+
+    lefts : Buffer φ L (taken b) n (left-bits b)
+    lefts = first (omega arith) (ready .buffers .0)
+
+    rights : Buffer ψ L (taken b) n (right-bits b)
+    rights = first (omega arith) (ready .buffers .1)
+
+    start : Reached low high φ ψ L g (taken b) 0 0 0 (last-of b)
+    start =
+        let r = ready .core .range in
+        let i = ready .core .reached in
+        let e : g + 0 ≡ g = omega arith in
+        let f : taken b + 0 ≡ taken b = omega arith in
+        record {
+          heads = rw (e, f, number-is (last-left b) (r .last-left), number-is (last-right b) (r .last-right)) (ready .core .own .1);
+          answers = record { within = omega arith; packed = packed-none (sat (until low high φ ψ) L) g 0 };
+        }
+
+    reached : Reached low high φ ψ L g (taken b) (w .bits) (w .count) (w .took) (w .last)
+    reached = (rw (ready .core .own .0) at walks) φ ψ L falls agrees lefts rights start
+
+    -- the block after it
+    stands : Ready (until low high φ ψ) L (g + w .count) b′ × Moved (until low high φ ψ) b b′
+    stands =
+        let r = ready .core .range in
+        let x = reached .heads .ahead in
+        let y = reached .answers .within in
+        let i = ready .core .own .0 in
+        let k = lefts .within in
+        let l = number-lt (w .last .left) in
+        let m = number-lt (w .last .right) in
+        let t = within .bound (r .last-time) in (
+          record {
+            core =
+                record {
+                  reached = y;
+                  range = omega (arith, at 0, at 1, at 3, at 5, at 6, at 7, at 8, at 9, at 10, fits lefts);
+                  copy = copied (at 14) (at 15) (ready .core .copy);
+                  own = (at 5 ∙ ap (λ (q : ℕ). q + w .count) i, rw (at 0, at 6, at 7, at 8) (reached .heads));
+                };
+            buffers = (
+              later (w .took) (omega arith) (at 0) (at 1) (at 2) (ready .buffers .0),
+              later (w .took) (omega arith) (at 0) (at 3) (at 4) (ready .buffers .1),
+            );
+          },
+          record { left = λ _. omega (arith, at 0, at 1); right = λ _. omega (arith, at 0, at 3) },
+        )
+
+    pub answers-some : 0 < w .count → Stepped (until low high φ ψ) L g b (Batch (w .bits) (w .count)) b′
+    answers-some h = (record { some = h; buffer = reached .answers }, stands .0, stands .1)
+
+    pub takes-some : w .count ≡ 0 → Stepped (until low high φ ψ) L g b Again b′
+    takes-some e = let f : g + w .count ≡ g = omega arith in (rw f at (stands .0), stands .1)
+
+    -- with nothing to take, g stays open
+    module _ (none : w .count ≡ 0) (nothing : w .took ≡ 0)
+        (waiting : Waiting low high s (answered b) (taken b) n (w .count) (w .took) (w .last)) where
+      none-left : answered-operands φ ψ L ≡ taken b → progress (until low high φ ψ) L ≡ g
+      none-left e =
+          let r = ready .core .reached in
+          let behind : taken b + w .took ≤ answered-operands φ ψ L = omega arith in
+          let waits =
+          finds low high φ ψ s L g falls agrees (g + w .count) (taken b + w .took) (omega arith) behind (w .last) (reached .heads) Unknown
+          (rw (ready .core .own .0) at (waiting .unknown)) in
+          let never : g + w .count < progress (until low high φ ψ) L → ⊥ =
+          λ l.
+          logic.stuck (answered-fits φ ψ L) falls behind waits (omega arith) (until-answered low high φ ψ L falls (g + w .count) .0 l .1) in
+          omega arith
+
+      pub wants : (r : Step) → Wants b r → Stepped (until low high φ ψ) L g b r b
+      wants (Batch bits count) t = absurd t
+      wants Again t = absurd t
+      wants Left t = (refl, λ e. none-left (let r = ready .buffers .1 .within in omega arith))
+      wants Right t = (refl, λ e. none-left (let r = ready .buffers .0 .within in omega arith))
+      wants Open t =
+          let l = ready .buffers .0 in
+          let r = ready .buffers .1 in
+          let z = waiting .all in
+          let f = l .packed .few in
+          let k = some .all (omega arith) (omega (arith, fits l, agrees .size)) in
+          absurd (omega arith)
