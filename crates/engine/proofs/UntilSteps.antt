@@ -8,7 +8,7 @@ use mathlib.Core.Path.{_≡_, refl, sym, _∙_, ap}
 use native.Mathlib.Omega.{arith}
 use lib.Dec.{eqb, leb, ltb}
 use lib.ListN.{length, set}
-use borrow.Author.Tests.{leb-true, leb-false, lt-ltb, le-ltb, not-true, not-false}
+use borrow.Author.Tests.{eqb-true, eq-eqb, leb-true, leb-false, lt-ltb, le-ltb, not-true, not-false}
 use Rattle.mtl.specs.Formula.{Formula}
 use Rattle.mtl.specs.Formula.Formula.{until}
 use Rattle.mtl.specs.Log.{Log, NeverFalls}
@@ -235,6 +235,14 @@ walked-stores w b =
     put 2 (left-bits b / 2 ^ w .took) ∷ put 5 (answered b + w .count) ∷ put 6 (number (w .last .left)) ∷ put 7 (number (w .last .right)) ∷
     put 8 (w .last .time) ∷ []
 
+-- the tests for a walk that has answered and taken nothing
+pub none-done : (count took : ℕ) → eqb count 0 && eqb took 0 ≡ true → (count ≡ 0) × (took ≡ 0)
+none-done count took e = let both = and-iff (eqb count 0) (eqb took 0) .0 e in (eqb-true count 0 (both .0), eqb-true took 0 (both .1))
+
+pub some-done : (count took : ℕ) → eqb count 0 && eqb took 0 ≡ false → count ≡ 0 → 0 < took
+some-done count zero e z = absurd (true≢false (sym (and-iff (eqb count 0) true .1 (eq-eqb count 0 z, refl)) ∙ e))
+some-done count (suc took) e z = omega arith
+
 -- an operand is wanted, and the block is as it was
 pub wanted-ends : (s b : List ℕ) (r : Step) → Wants b r → Ends true true s b r b
 wanted-ends s b (Batch bits count) t = absurd t
@@ -252,6 +260,15 @@ module _ (low high : ℕ) (s b : List ℕ) (room : 16 ≤ length b) (n : ℕ) (w
 
   at : (k : ℕ) → word b′ k ≡ after (walked-stores w b) (word b) k
   at = word-stores (walked-stores w b) b (omega arith) room
+
+  -- the walk's end fits the block
+  pub put-back-fits : taken b ≤ record-count s → record-count s < 2 ^ 64 → answered b < 2 ^ 64 →
+      (16 ≤ length b) × (w .took ≤ left-count b) × (w .took ≤ right-count b) × (taken b + w .took < 2 ^ 64) ×
+      (answered b + w .count < 2 ^ 64)
+  put-back-fits h fit g =
+      let inside : taken b + w .took ≤ record-count s =
+      ⊎-elim (λ z. omega arith) (λ p. let i = some .inside p in omega arith) (le-or-lt n 0) in
+      (room, omega arith, omega arith, omega arith, omega arith)
 
   -- what is left to do falls with every position taken
   pub took-ends : 0 < w .took → Ends true true s b Again b′
