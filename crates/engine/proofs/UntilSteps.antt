@@ -7,7 +7,7 @@ use mathlib.Core.Logic.{_⊎_, inl, inr, ⊎-elim}
 use mathlib.Core.Path.{_≡_, refl, sym, _∙_, ap}
 use native.Mathlib.Omega.{arith}
 use lib.Dec.{eqb, leb, ltb}
-use lib.ListN.{length, set}
+use lib.ListN.{length}
 use borrow.Author.Tests.{eqb-true, eq-eqb, leb-true, leb-false, lt-ltb, le-ltb, not-true, not-false}
 use Rattle.mtl.specs.Formula.{Formula}
 use Rattle.mtl.specs.Formula.Formula.{until}
@@ -16,7 +16,7 @@ use Rattle.mtl.specs.Satisfaction.{sat}
 use Rattle.mtl.specs.Progress.{progress}
 use Rattle.mtl.proofs.Bounded.{and-iff, or-iff, le-or-lt}
 use Rattle.mtl.proofs.Until.{answered-operands, answered-fits, until-answered, until-yes, until-no}
-use Rattle.bits.specs.Packed.{number, with-bit, Packed}
+use Rattle.bits.specs.Packed.{number, with-bit}
 use Rattle.bits.proofs.Laws.{number-lt, packed-none, packed-first, packed-push}
 use Rattle.trace.specs.Format.{record-count, time-at}
 use Rattle.engine.specs.Block.{
@@ -217,10 +217,10 @@ module _ (low high : ℕ) (s : List ℕ) (g at n left right : ℕ) (from : Last)
       record {
         heads =
             rw next
-                (logic.taken-next (answered-fits φ ψ L) falls (operands a b) w (omega arith)
-                (a .packed .same took h ∙ sym (is-number _))
-                (b .packed .same took h ∙ sym (is-number _))
-                (agrees .same (at + took) (omega arith) (omega (arith, fits a)) .time));
+            (logic.taken-next (answered-fits φ ψ L) falls (operands a b) w (omega arith)
+            (a .packed .same took h ∙ sym (is-number _))
+            (b .packed .same took h ∙ sym (is-number _))
+            (agrees .same (at + took) (omega arith) (omega (arith, fits a)) .time));
         answers = r .answers;
       }
 
@@ -252,14 +252,19 @@ wanted-ends s b Right t = (refl, refl, t .1)
 wanted-ends s b Open t = refl
 
 -- a step on block b that has walked over n positions
-module _ (low high : ℕ) (s b : List ℕ) (room : 16 ≤ length b) (n : ℕ) (w : Walked)
-    (some : Available (taken b) (min (left-count b) (right-count b)) (record-count s) n)
-    (within : Within (answered b) (taken b) n (w .bits) (w .count) (w .took) (last-of b) (w .last)) where
+pub record Went (low high : ℕ) (s b : List ℕ) (n : ℕ) (w : Walked) : Type 0 where
+  pub room : 16 ≤ length b
+  pub some : Available (taken b) (min (left-count b) (right-count b)) (record-count s) n
+  pub within : Within (answered b) (taken b) n (w .bits) (w .count) (w .took) (last-of b) (w .last)
+  pub waiting : w .count < 64 → Waiting low high s (answered b) (taken b) n (w .count) (w .took) (w .last)
+  pub walks : Walks low high s (answered b) (taken b) n (left-bits b) (right-bits b) (last-of b) (w .bits) (w .count) (w .took) (w .last)
+
+module _ {low high : ℕ} {s b : List ℕ} {n : ℕ} {w : Walked} (went : Went low high s b n w) where
   abbrev b′ : List ℕ
   b′ = walked w b
 
   at : (k : ℕ) → word b′ k ≡ after (walked-stores w b) (word b) k
-  at = word-stores (walked-stores w b) b (omega arith) room
+  at = word-stores (walked-stores w b) b (omega arith) (went .room)
 
   -- the walk's end fits the block
   pub put-back-fits : taken b ≤ record-count s → record-count s < 2 ^ 64 → answered b < 2 ^ 64 →
@@ -267,15 +272,14 @@ module _ (low high : ℕ) (s b : List ℕ) (room : 16 ≤ length b) (n : ℕ) (w
       (answered b + w .count < 2 ^ 64)
   put-back-fits h fit g =
       let inside : taken b + w .took ≤ record-count s =
-      ⊎-elim (λ z. omega arith) (λ p. let i = some .inside p in omega arith) (le-or-lt n 0) in
-      (room, omega arith, omega arith, omega arith, omega arith)
+      ⊎-elim (λ z. omega arith) (λ p. let i = went .some .inside p in omega arith) (le-or-lt n 0) in
+      (went .room, omega arith, omega arith, omega arith, omega arith)
 
   -- what is left to do falls with every position taken
   pub took-ends : 0 < w .took → Ends true true s b Again b′
-  took-ends h = less-to-do s b b′ (w .took) h (let i = some .inside (omega arith) in omega arith) (at 0)
+  took-ends h = less-to-do s b b′ (w .took) h (let i = went .some .inside (omega arith) in omega arith) (at 0)
 
-  module _ (walks : Walks low high s (answered b) (taken b) n (left-bits b) (right-bits b) (last-of b) (w .bits) (w .count) (w .took) (w .last))
-      (φ ψ : Formula) (L : Log) (g : ℕ) (falls : NeverFalls L) (agrees : Agrees s L g) (ready : Ready (until low high φ ψ) L g b) where
+  module _ (φ ψ : Formula) (L : Log) (g : ℕ) (falls : NeverFalls L) (agrees : Agrees s L g) (ready : Ready (until low high φ ψ) L g b) where
     -- the first n positions of a buffer
     first : {χ : Formula} {count bits : ℕ} → n ≤ count → Buffer χ L (taken b) count bits → Buffer χ L (taken b) n bits
     first {χ = χ} {count = count} {bits = bits} h x =
@@ -300,7 +304,7 @@ module _ (low high : ℕ) (s b : List ℕ) (room : 16 ≤ length b) (n : ℕ) (w
         }
 
     reached : Reached low high φ ψ L g (taken b) (w .bits) (w .count) (w .took) (w .last)
-    reached = (rw (ready .core .own .0) at walks) φ ψ L falls agrees lefts rights start
+    reached = (rw (ready .core .own .0) at (went .walks)) φ ψ L falls agrees lefts rights start
 
     -- the block after it
     stands : Ready (until low high φ ψ) L (g + w .count) b′ × Moved (until low high φ ψ) b b′
@@ -312,7 +316,7 @@ module _ (low high : ℕ) (s b : List ℕ) (room : 16 ≤ length b) (n : ℕ) (w
         let k = lefts .within in
         let l = number-lt (w .last .left) in
         let m = number-lt (w .last .right) in
-        let t = within .bound (r .last-time) in (
+        let t = went .within .bound (r .last-time) in (
           record {
             core =
                 record {
@@ -336,15 +340,14 @@ module _ (low high : ℕ) (s b : List ℕ) (room : 16 ≤ length b) (n : ℕ) (w
     takes-some e = let f : g + w .count ≡ g = omega arith in (rw f at (stands .0), stands .1)
 
     -- with nothing to take, g stays open
-    module _ (none : w .count ≡ 0) (nothing : w .took ≡ 0)
-        (waiting : Waiting low high s (answered b) (taken b) n (w .count) (w .took) (w .last)) where
+    module _ (none : w .count ≡ 0) (nothing : w .took ≡ 0) where
       none-left : answered-operands φ ψ L ≡ taken b → progress (until low high φ ψ) L ≡ g
       none-left e =
           let r = ready .core .reached in
           let behind : taken b + w .took ≤ answered-operands φ ψ L = omega arith in
           let waits =
           finds low high φ ψ s L g falls agrees (g + w .count) (taken b + w .took) (omega arith) behind (w .last) (reached .heads) Unknown
-          (rw (ready .core .own .0) at (waiting .unknown)) in
+          (rw (ready .core .own .0) at (went .waiting (omega arith) .unknown)) in
           let never : g + w .count < progress (until low high φ ψ) L → ⊥ =
           λ l.
           logic.stuck (answered-fits φ ψ L) falls behind waits (omega arith) (until-answered low high φ ψ L falls (g + w .count) .0 l .1) in
@@ -358,7 +361,7 @@ module _ (low high : ℕ) (s b : List ℕ) (room : 16 ≤ length b) (n : ℕ) (w
       wants Open t =
           let l = ready .buffers .0 in
           let r = ready .buffers .1 in
-          let z = waiting .all in
+          let z = went .waiting (omega arith) .all in
           let f = l .packed .few in
-          let k = some .all (omega arith) (omega (arith, fits l, agrees .size)) in
+          let k = went .some .all (omega arith) (omega (arith, fits l, agrees .size)) in
           absurd (omega arith)

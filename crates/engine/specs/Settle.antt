@@ -53,7 +53,7 @@ take-spec s at i left right = record { left = bit left i; right = bit right i; t
 -- count positions from g on are answered, and took ones from `at` on are taken
 pub record Reached (low high : ℕ) (φ ψ : Formula) (L : Log) (g at bits count took : ℕ) (last : Last) : Type 0 where
   pub heads :
-    Until low high (L .time) (sat φ L) (sat ψ L) (g + count) (at + took) (number (last .left)) (number (last .right)) (last .time)
+      Until low high (L .time) (sat φ L) (sat ψ L) (g + count) (at + took) (number (last .left)) (number (last .right)) (last .time)
   pub answers : Buffer (until-formula low high φ ψ) L g count bits
 
 -- what a walk promises where it starts from a block that stands for the formula on some log

@@ -162,7 +162,17 @@ pub fn step_until(low: u64, high: u64, records: &[u8], block: &mut [u64]) -> Ste
         right: block[7] == 1,
         time: block[8],
     };
-    let w = walk(low, high, records, block[5], at, n, block[2], block[4], last);
+    let w = walk(
+        low,
+        high,
+        records,
+        block[5],
+        at,
+        n,
+        block[2],
+        block[4],
+        last,
+    );
     if (w.count == 0) & (w.took == 0) {
         return wanted(block);
     }
