@@ -14,6 +14,8 @@ pub mod ByKind
 pub mod Cells
 pub mod Witnesses
 pub mod Turn
+pub mod UntilLogic
+pub mod UntilSteps
 pub mod Longer
 pub mod Rows
 pub mod Entries

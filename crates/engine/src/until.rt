@@ -1,13 +1,14 @@
 // until: two reading heads and no history.
 ghost use mathlib.Core.Path.{_≡_};
 ghost use mathlib.Core.Bool.{true};
-ghost use Prim.Native.Nat.{_+_, _≤_, _<_};
+ghost use Prim.Native.Nat.{_+_, _≤_, _<_, _^_};
 ghost use lib.ListN.{length};
 ghost use Rattle.mtl.specs.Formula.{Formula};
 ghost use Rattle.mtl.specs.Formula.Formula.{until};
 ghost use Rattle.trace.specs.Format.{record-count};
+ghost use Rattle.engine.specs.Block.{taken, left-count, right-count, answered};
 ghost use Rattle.engine.specs.Step.{Steps, Ends};
-ghost use Rattle.engine.specs.Settle.{settle-spec};
+ghost use Rattle.engine.specs.Settle.{settle-spec, look-spec, take-spec, Walks, Within, Waiting, walked, Wants};
 use super::blocks;
 use super::operator::Step;
 use super::time;
@@ -49,6 +50,7 @@ fn settle(low: u64, high: u64, start: u64, last: Last, next: u64) -> Settled
 // What is known of position g, where `at` is the next to take.
 fn look(low: u64, high: u64, records: &[u8], g: u64, at: u64, last: Last) -> Settled
     requires { ⌜ at ≤ record-count (now records) ⌝ }
+    ensures { λ r. ⌜ r ≡ look-spec low high (now (records .entry)) g at last ⌝ }
 {
     if at <= g {
         return Settled::Unknown;
@@ -61,14 +63,15 @@ fn look(low: u64, high: u64, records: &[u8], g: u64, at: u64, last: Last) -> Set
     settle(low, high, start, last, last.time)
 }
 
-// Position `at + took` out of the operands' words of answers.
-fn take(records: &[u8], at: u64, took: u64, left: u64, right: u64) -> Last
-    requires { ⌜ (at + took < record-count (now records)) × (took < 64) ⌝ }
+// Position `at + i` out of the operands' words of answers.
+fn take(records: &[u8], at: u64, i: u64, left: u64, right: u64) -> Last
+    requires { ⌜ (at + i < record-count (now records)) × (i < 64) ⌝ }
+    ensures { λ r. ⌜ (r ≡ take-spec (now (records .entry)) at i left right) × (r .time < 2 ^ 32) ⌝ }
 {
     Last {
-        left: bits::test(left, took),
-        right: bits::test(right, took),
-        time: trace::time(records, (at + took) as usize),
+        left: bits::test(left, i),
+        right: bits::test(right, i),
+        time: trace::time(records, (at + i) as usize),
     }
 }
 
@@ -85,6 +88,9 @@ fn walk(
     from: Last,
 ) -> Walked
     requires { ⌜ (at + n ≤ record-count (now records)) × (n ≤ 64) ⌝ }
+    ensures { λ r. ⌜ Within g at n (r .bits) (r .count) (r .took) from (r .last) ⌝ }
+    ensures { λ r. ⌜ (r .count < 64 → Waiting low high (now (records .entry)) g at n (r .count) (r .took) (r .last)) ⌝ }
+    ensures { λ r. ⌜ Walks low high (now (records .entry)) g at n left right from (r .bits) (r .count) (r .took) (r .last) ⌝ }
 {
     let mut last = from;
     let mut bits: u64 = 0;
@@ -113,9 +119,23 @@ fn walk(
     }
 }
 
+// Writes a walk's end back.
+fn put_back(block: &mut [u64], w: Walked)
+    requires { ⌜ (16 ≤ length (now block)) × (w .took ≤ left-count (now block)) × (w .took ≤ right-count (now block)) × (taken (now block) + w .took < 2 ^ 64) × (answered (now block) + w .count < 2 ^ 64) ⌝ }
+    ensures { λ _. ⌜ now (block .exit) ≡ walked w (now (block .entry)) ⌝ }
+{
+    let answered = block[5] + w.count;
+    blocks::take_both(block, w.took);
+    block[5] = answered;
+    block[6] = bits::flag(w.last.left);
+    block[7] = bits::flag(w.last.right);
+    block[8] = w.last.time;
+}
+
 // The operand whose buffer is empty.
 fn wanted(block: &[u64]) -> Step
     requires { ⌜ 16 ≤ length (now block) ⌝ }
+    ensures { λ r. ⌜ Wants (now (block .entry)) r ⌝ }
 {
     if block[1] == 0 {
         return Step::Left;
@@ -132,7 +152,6 @@ pub fn step_until(low: u64, high: u64, records: &[u8], block: &mut [u64]) -> Ste
     ensures { λ r. ⌜ ((φ ψ : Formula) → Steps (until low high φ ψ) (now (records .entry)) (now (block .entry)) r (now (block .exit))) ⌝ }
 {
     let at = block[0];
-    let g = block[5];
     let total = trace::count(records) as u64;
     if total < at {
         return Step::Open;
@@ -143,15 +162,21 @@ pub fn step_until(low: u64, high: u64, records: &[u8], block: &mut [u64]) -> Ste
         right: block[7] == 1,
         time: block[8],
     };
-    let w = walk(low, high, records, g, at, n, block[2], block[4], last);
+    let w = walk(
+        low,
+        high,
+        records,
+        block[5],
+        at,
+        n,
+        block[2],
+        block[4],
+        last,
+    );
     if (w.count == 0) & (w.took == 0) {
         return wanted(block);
     }
-    blocks::take_both(block, w.took);
-    block[5] = g + w.count;
-    block[6] = bits::flag(w.last.left);
-    block[7] = bits::flag(w.last.right);
-    block[8] = w.last.time;
+    put_back(block, w);
     if w.count == 0 {
         return Step::Again;
     }

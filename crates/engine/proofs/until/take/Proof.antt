@@ -1,5 +1,12 @@
--- STUB
+-- `until::take` meets its contract. Assumes nothing.
+use borrow.Author.Needs.{needs}
 use Rattle.engine.proofs.until.take.Statement.{statement}
+use Rattle.engine.proofs.until.take.Tie as tie
+
+returns : tie.Need-returns
+returns c = (cc, c .time .ensures .1)
 
 pub take-spec : {M : Type 1} → statement M
-take-spec = ?
+take-spec =
+    tie.close
+    (tie.spec (λ c κs. search needs) (λ c κs. search needs) (λ c. search needs) (λ c κs. search needs) returns)
