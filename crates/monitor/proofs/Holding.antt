@@ -6,8 +6,6 @@ use mathlib.Core.List.{List, _++_}
 use native.Mathlib.Omega.{arith}
 use lib.ListN.{length, take, drop, set, length-append, length-drop, length-set, List·getD-append}
 use lib.Seq.{length-take-le, drop-set-lt, getD-take, getD-set-same, getD-set-other}
-use Rattle.mtl.specs.Formula.{Formula}
-use Rattle.mtl.specs.Log.{Log}
 use Rattle.engine.specs.Block.{word}
 use Rattle.engine.specs.State.{State}
 use Rattle.engine.specs.Ask.{part, back, stored, Asks}

@@ -116,8 +116,7 @@ neither-left false b e = refl
 header-given : (p : List ℕ) → header-in-range p ≡ true → given p ≤ 1000000
 header-given p fits =
     let a = and-iff (leb (seen p) 1000000) (room (given p) (held-count p) (seen p)) in
-    let all = and-iff _ _ .0 (and-iff _ _ .0 fits .0) .0 in
-    let halves = a .0 all in
+    let halves = a .0 (and-iff _ _ .0 fits .0) in
     let rooms = and-iff (leb (held-count p) (seen p)) (leb (given p) (seen p - held-count p)) .0 (halves .1) in
     let few = leb-iff (seen p) 1000000 .0 (halves .0) in
     let low = leb-iff (given p) (seen p - held-count p) .0 (rooms .1) in

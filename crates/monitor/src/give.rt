@@ -1,6 +1,6 @@
 // The verdicts of one call: the last entry is asked for its answers, and what does not fit into the sheet is held.
 ghost use mathlib.Core.Path.{_≡_};
-ghost use mathlib.Core.Bool.{true, false};
+ghost use mathlib.Core.Bool.{true};
 ghost use Prim.Native.Nat.{_+_, _-_, _≤_, _<_};
 ghost use lib.ListN.{length};
 ghost use Rattle.rule.specs.Refusal.{refusal};

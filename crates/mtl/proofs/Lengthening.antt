@@ -1,6 +1,6 @@
 -- An answer never changes when the log is lengthened, and logs of the same records have the same answers.
 use Prim.Native.Nat.{ℕ, zero, suc, _+_, _-_, _≤_, _<_, min}
-use mathlib.Core.Bool.{Bool, true, false}
+use mathlib.Core.Bool.{Bool}
 use mathlib.Core.Bool.{not as negate}
 use mathlib.Core.Logic.{inl, inr, ⊎-elim, _⊎_}
 use mathlib.Core.Path.{_≡_, refl, sym, _∙_, ap, ap₂}
@@ -14,7 +14,7 @@ use Rattle.mtl.specs.Log.{Log, Stream, NeverFalls, StreamNeverFalls, Agr
 use Rattle.mtl.specs.Satisfaction.{held-after, held-from, since-by, until-by, previous-at, next-at, since-at, until-at, sat}
 use Rattle.mtl.specs.Progress.{settled, run, until-progress, progress}
 use Rattle.mtl.proofs.Bounded.{true-or-false, same-test, any-congr, all-congr, run-le, run-holds, run-least, run-congr}
-use Rattle.mtl.proofs.Until.{answered-operands, answered-fits, SettledYes, Ended, SettledNo, Settled, settled-iff, ended-settled, until-settled}
+use Rattle.mtl.proofs.Until.{answered-operands, answered-fits, SettledYes, Ended, Settled, settled-iff, ended-settled, until-settled}
 use Rattle.mtl.proofs.Streams.{stream-iff}
 
 -- the stream that goes on from a log at its last time

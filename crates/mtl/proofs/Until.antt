@@ -1,7 +1,7 @@
 -- Progress is document 01's answered number: exact for until, and an equation for every other operator.
 use Prim.Native.Nat.{ℕ, suc, _-_, _≤_, _<_, min}
 use mathlib.Core.Bool.{Bool, true, false, _||_}
-use mathlib.Core.Logic.{_⊎_, inl, inr, ⊎-elim, ⊎-map, _↔_, Iff·rfl, Iff·trans}
+use mathlib.Core.Logic.{_⊎_, inl, inr, ⊎-elim, _↔_, Iff·rfl, Iff·trans}
 use mathlib.Core.Path.{_≡_, refl, _∙_}
 use native.Mathlib.Omega.{arith}
 use Rattle.mtl.specs.Formula.{Formula}
@@ -16,7 +16,6 @@ use Rattle.mtl.proofs.Bounded.{
   false-iff,
   same-test,
   and-iff,
-  or-iff,
   not-iff,
   le-or-lt,
   UntilBy,

@@ -2,7 +2,6 @@
 // the reach of a rule ("Points and sheets", "Which positions are settled").
 ghost use mathlib.Core.Path.{_≡_};
 ghost use Prim.Native.Nat.{_+_, _≤_, _<_, max};
-ghost use lib.ListN.{getD, length};
 ghost use Rattle.rule.specs.Bytes.{byte, word32};
 ghost use Rattle.rule.specs.Entries.{count, entry-of, decoded};
 ghost use Rattle.rule.specs.Words.{own};

@@ -1,13 +1,11 @@
 -- `monitor::give::give` meets its contract. The invariant: `done` verdicts are given, and the rest of the sheet is as it was.
 use borrow.Author.Needs.{needs}
-use Prim.Native.Nat.{_+_, _-_, _≤_}
+use Prim.Native.Nat.{_-_, _≤_}
 use mathlib.Core.Bool.{true}
 use mathlib.Core.Path.{refl}
 use native.Mathlib.Omega.{arith}
 use lib.ListN.{length, length-set}
 use borrow.Author.Tests.{not-true, not-false}
-use lib.Seq.{getD-set-other}
-use Rattle.engine.specs.Block.{word}
 use Rattle.monitor.specs.Code.{Holds}
 use Rattle.monitor.proofs.Giving.{Going, going-none, portion-more, gave-open, gave-full}
 use Rattle.monitor.proofs.give.give.Statement.{statement}
@@ -41,50 +39,17 @@ loop-holds c =
     let a = c .before .before .before .args in
     going-none (a .table .now) (a .records .now) (a .top) (a .words .now) (a .sheet .now)
 
-hold-requires : tie.Need-hold-requires Inv-loop μ-loop
-hold-requires c κs = search needs
-
-same-length : tie.Need-same-length Inv-loop μ-loop
-same-length c = search needs
-
-same-length-2 : tie.Need-same-length-2 Inv-loop μ-loop
-same-length-2 c = search needs
-
 returns : tie.Need-returns Inv-loop μ-loop
 returns c =
     let h = c .before .before .before .hold in
     gave-open (c .before .before .before .before .before .before .loop .inv) (rw (not-true (h .result) (c .if1 .taken)) at (h .ensures))
-
-slice-read-portion : tie.Need-slice-read-portion Inv-loop μ-loop
-slice-read-portion c = search needs
-
-sub-portion : tie.Need-sub-portion Inv-loop μ-loop
-sub-portion c = search needs
-
-portion-requires : tie.Need-portion-requires Inv-loop μ-loop
-portion-requires c κs = search needs
-
-add-write-run : tie.Need-add-write-run Inv-loop μ-loop
-add-write-run c = search needs
-
-slice-read-write-run : tie.Need-slice-read-write-run Inv-loop μ-loop
-slice-read-write-run c = search needs
-
-cast-write-run : tie.Need-cast-write-run Inv-loop μ-loop
-cast-write-run c = search needs
-
-write-run-requires : tie.Need-write-run-requires Inv-loop μ-loop
-write-run-requires c κs = search needs
-
-slice-read-words : tie.Need-slice-read-words Inv-loop μ-loop
-slice-read-words c = search needs
 
 add-words : tie.Need-add-words Inv-loop μ-loop
 add-words c =
     let d = c .before .before .before .before .before .before .before .before in
     let l = d .before .before .before .before .before .before .loop in
     let s = d .before .before .before .before .before .before .before .before .before .before in
-    let n = c .before .before .before .before .before .before .portion .ensures in
+    let n = c .before .before .before .before .before .portion .ensures in
     omega (
       arith,
       held d .header 1 (omega arith) (λ e. omega arith) (λ e. omega arith),
@@ -96,37 +61,26 @@ add-words c =
       s .good .1 .1 .1 .1 .0 .1,
     )
 
-slice-write-words : tie.Need-slice-write-words Inv-loop μ-loop
-slice-write-words c = search needs
-
-slice-read-words-2 : tie.Need-slice-read-words-2 Inv-loop μ-loop
-slice-read-words-2 c = simp length-set (omega (arith, words-kept (c .before .before .before .before .before .before .before .before .before)))
-
-sub-words : tie.Need-sub-words Inv-loop μ-loop
-sub-words c =
-    let ws = c .before .before .before .before .before .before .before .before .before .before .before .before .hold .last .1 .1 .1 .0 in
-    let n = c .before .before .before .before .before .before .before .portion .ensures .0 in
-    omega (arith, getD-set-other ws 1 4 (word ws 1 + c .before .before .before .before .before .before .before .portion .result) 0 (λ e. omega arith))
-
 slice-write-words-2 : tie.Need-slice-write-words-2 Inv-loop μ-loop
-slice-write-words-2 c = simp length-set (omega (arith, words-kept (c .before .before .before .before .before .before .before .before .before)))
+slice-write-words-2 c = simp length-set (omega (arith, words-kept (c .before .before .before .before .before .before .before .before)))
 
-add-done : tie.Need-add-done Inv-loop μ-loop
-add-done c = search needs
+slice-write-words-3 : tie.Need-slice-write-words-3 Inv-loop μ-loop
+slice-write-words-3 c = simp length-set (omega (arith, words-kept (c .before .before .before .before .before .before .before .before)))
 
 loop-less : tie.Need-loop-less Inv-loop μ-loop
 loop-less c =
-    let d = c .before .before .before .before .before .before .before .before .before in
+    let d = c .before .before .before .before .before .before .before .before in
     let l = d .before .before .before .before .before .before .loop in
-    let n = c .before .before .before .before .before .before .before .portion .ensures in
+    let n = c .before .before .before .before .before .portion .ensures in
     omega (arith, n .1, n .2 (held d .some refl) (omega (arith, l .inv .sheet-length)), l .inv .sheet-length)
 
 loop-again : tie.Need-loop-again Inv-loop μ-loop
 loop-again c =
-    let d = c .before .before .before .before .before .before .before .before .before in
+    let d = c .before .before .before .before .before .before .before .before in
     let l = d .before .before .before .before .before .before .loop in
-    let n = c .before .before .before .before .before .before .before .portion in
-    rw (c .before .before .before .before .write-run .ensures)
+    let n = c .before .before .before .before .before .portion in
+    let written = c .before .before .write-bits .ensures in
+    rw (written .0, written .1)
     (portion-more
     (l .inv)
     (n .result)
@@ -134,12 +88,6 @@ loop-again c =
     (held d)
     (n .ensures .0)
     (omega (arith, n .ensures .1, l .inv .room, l .inv .sheet-length)))
-
-same-length-3 : tie.Need-same-length-3 Inv-loop μ-loop
-same-length-3 c = search needs
-
-same-length-4 : tie.Need-same-length-4 Inv-loop μ-loop
-same-length-4 c = search needs
 
 returns-2 : tie.Need-returns-2 Inv-loop μ-loop
 returns-2 c = gave-full (c .before .loop .inv) (omega arith)
@@ -151,26 +99,24 @@ give-spec =
     Inv-loop
     μ-loop
     loop-holds
-    hold-requires
-    same-length
-    same-length-2
+    (λ c κs. search needs)
+    (λ c. search needs)
+    (λ c. search needs)
     returns
-    slice-read-portion
-    sub-portion
-    portion-requires
-    add-write-run
-    slice-read-write-run
-    cast-write-run
-    write-run-requires
-    slice-read-words
+    (λ c. search needs)
+    (λ c. search needs)
+    (λ c. search needs)
+    (λ c κs. search needs)
+    (λ c. search needs)
+    (λ c κs. search needs)
     add-words
-    slice-write-words
-    slice-read-words-2
-    sub-words
+    (λ c. search needs)
+    (λ c. search needs)
     slice-write-words-2
-    add-done
+    slice-write-words-3
+    (λ c. search needs)
     loop-less
     loop-again
-    same-length-3
-    same-length-4
+    (λ c. search needs)
+    (λ c. search needs)
     returns-2)
