@@ -27,7 +27,7 @@ pub number-bit : (w i : ℕ) → number (bit w i) ≡ w / 2 ^ i % 2
 number-bit w i = number-digit (w / 2 ^ i % 2) (omega arith)
 
 -- bit 0, and the bits of a half
-pub bit-first : (w : ℕ) (x : Bool) → bit (w * 2 + number x) 0 ≡ x
+bit-first : (w : ℕ) (x : Bool) → bit (w * 2 + number x) 0 ≡ x
 bit-first w true = eq-eqb ((w * 2 + 1) / 2 ^ 0 % 2) 1 (omega arith)
 bit-first w false = ne-eqb ((w * 2 + 0) / 2 ^ 0 % 2) 1 (omega arith)
 
@@ -42,7 +42,7 @@ half : (w : ℕ) (x : Bool) → (w * 2 + number x) / 2 ≡ w
 half w true = omega arith
 half w false = omega arith
 
-pub bit-next : (w : ℕ) (x : Bool) (i : ℕ) → bit (w * 2 + number x) (i + 1) ≡ bit w i
+bit-next : (w : ℕ) (x : Bool) (i : ℕ) → bit (w * 2 + number x) (i + 1) ≡ bit w i
 bit-next w x i = ap (bit (w * 2 + number x)) (add-one i) ∙ bit-half (w * 2 + number x) i ∙ ap (λ (v : ℕ). bit v i) (half w x)
 
 pub with-bit-lt : (w n : ℕ) (x : Bool) → w < 2 ^ n → with-bit w n x < 2 ^ (n + 1)
@@ -87,15 +87,7 @@ packed-rest f p n w m h k = record {
   same = λ i l. ap f (omega arith) ∙ k .same (m + i) (omega arith) ∙ sym (bit-rest w m i);
 }
 
--- one more in front of them, or behind them
-pub packed-front : (f : ℕ → Bool) (p n w : ℕ) (x : Bool) → n < 64 → f p ≡ x → Packed f (p + 1) n w → Packed f p (n + 1) (w * 2 + number x)
-packed-front f p n w x h e k = record { few = omega arith; same = at }
-  where
-    at : (i : ℕ) → i < n + 1 → f (p + i) ≡ bit (w * 2 + number x) i
-    at zero l = ap f (omega arith) ∙ e ∙ sym (bit-first w x)
-    at (suc i) l =
-        ap f (omega arith) ∙ k .same i (omega arith) ∙ sym (bit-next w x i) ∙ ap (bit (w * 2 + number x)) (add-one i)
-
+-- one more behind them
 pub packed-push : (f : ℕ → Bool) (p n w : ℕ) (x : Bool) → n < 64 → w < 2 ^ n → f (p + n) ≡ x → Packed f p n w → Packed f p (n + 1) (with-bit w n x)
 packed-push f p n w x h small e k = record {
   few = omega arith;
@@ -105,6 +97,19 @@ packed-push f p n w x h small e k = record {
       (λ below. k .same i below ∙ sym (bit-below w n (number x) i below))
       (eq-or-lt-of-le (omega arith));
 }
+
+-- a word that is filled bit by bit with `push`: i are there
+pub record Pushed (f : ℕ → Bool) (p i word : ℕ) : Type 0 where
+  pub small : word < 2 ^ i
+  pub packed : Packed f p i word
+
+pub pushed-none : (f : ℕ → Bool) (p : ℕ) → Pushed f p 0 0
+pushed-none f p = record { small = omega arith; packed = packed-none f p 0 }
+
+pub pushed-more : (f : ℕ → Bool) (p i w : ℕ) (x : Bool) (w′ : ℕ) → i < 64 → f (p + i) ≡ x → (w′ ≡ with-bit w i x) × (w′ < 2 ^ (i + 1)) →
+    Pushed f p i w → Pushed f p (i + 1) w′
+pushed-more f p i w x w′ few here gave so-far =
+    record { small = gave .1; packed = rw (gave .0) (packed-push f p i w x few (so-far .small) here (so-far .packed)) }
 
 -- answers that agree, position by position
 pub packed-same : (f g : ℕ → Bool) (p q n w : ℕ) → ((i : ℕ) → i < n → g (q + i) ≡ f (p + i)) → Packed f p n w → Packed g q n w

@@ -78,13 +78,13 @@ pub fn time(records: &[u8], i: usize) -> u64
     word(records, i * 8)
 }
 
-// 1 where the letter stands in the event set of record i, 0 where it does not.
-fn letter_bit(records: &[u8], i: usize, letter: u64) -> u64
+// Whether the letter stands in the event set of record i: one byte of the set has its bit.
+fn has_letter(records: &[u8], i: usize, letter: u64) -> bool
     requires { ⌜ (i < record-count (now records)) × (letter < 32) ⌝ }
-    ensures { λ r. ⌜ (r ≡ number (letter-at (now (records .entry)) i letter)) × (r < 2) ⌝ }
+    ensures { λ r. ⌜ r ≡ letter-at (now (records .entry)) i letter ⌝ }
 {
     let byte = records[i * 8 + (7 - (letter / 8) as usize)];
-    (wide(byte) >> (letter % 8)) % 2
+    (wide(byte) >> (letter % 8)) % 2 == 1
 }
 
 // The letter at each of n positions from `from` on, as a word of answers.
@@ -93,10 +93,10 @@ pub fn letter_bits(records: &[u8], from: usize, n: usize, letter: u64) -> u64
     ensures { λ r. ⌜ Packed (has-letter (now (records .entry)) letter) from n r ⌝ }
 {
     let mut answers: u64 = 0;
-    let mut i = n;
-    while 0 < i {
-        i -= 1;
-        answers = answers * 2 + letter_bit(records, from + i, letter);
+    let mut i: usize = 0;
+    while i < n {
+        answers = bits::push(answers, i as u64, has_letter(records, from + i, letter));
+        i += 1;
     }
     answers
 }
@@ -112,11 +112,16 @@ pub fn times_fall(records: &[u8], after: usize) -> bool
     let mut last = time(records, after);
     let mut fell = false;
     let mut i = after + 1;
-    while i < end {
+    // two records a turn: the log's order is read at every call
+    while i + 1 < end {
         let next = time(records, i);
-        fell = fell | (next < last);
-        last = next;
-        i += 1;
+        let second = time(records, i + 1);
+        fell = fell | (next < last) | (second < next);
+        last = second;
+        i += 2;
+    }
+    if i < end {
+        fell = fell | (time(records, i) < last);
     }
     fell
 }

@@ -10,7 +10,7 @@ use borrow.Author.Needs.{needs}
 use borrow.Author.Tests.{eq-eqb, ne-eqb}
 use Rattle.mtl.specs.Satisfaction.{within}
 use Rattle.bits.specs.Packed.{with-bit, Packed}
-use Rattle.bits.proofs.Laws.{packed-none, packed-push}
+use Rattle.bits.proofs.Laws.{Pushed, pushed-none, pushed-more}
 use Rattle.trace.specs.Format.{time-at}
 use Rattle.engine.specs.Near.{near-at}
 use Rattle.engine.proofs.time.near.Statement.{statement}
@@ -22,8 +22,7 @@ before-at before s from i = cond (eqb i from) before (time-at s (i - 1))
 
 record Answered (low high before : ℕ) (s : List ℕ) (from n word last i : ℕ) : Type 0 where
   inside : i ≤ n
-  small : word < 2 ^ i
-  packed : Packed (near-at low high before s from) from i word
+  pushed : Pushed (near-at low high before s from) from i word
   told : last ≡ before-at before s from (from + i)
 
 module _ (low high before : ℕ) (s : List ℕ) (from n : ℕ) where
@@ -31,26 +30,22 @@ module _ (low high before : ℕ) (s : List ℕ) (from n : ℕ) where
   none-yet =
       record {
         inside = omega arith;
-        small = omega arith;
-        packed = packed-none (near-at low high before s from) from 0;
+        pushed = pushed-none (near-at low high before s from) from;
         told = rw (eq-eqb (from + 0) from (omega arith));
       }
 
   more : (word last i now : ℕ) (x : Bool) (word′ : ℕ) → i < n → n ≤ 64 → now ≡ time-at s (from + i) → x ≡ within low high last now →
       (word′ ≡ with-bit word i x) × (word′ < 2 ^ (i + 1)) → Answered low high before s from n word last i → Answered low high before s from n word′ now (i + 1)
-  more word last i now x word′ h few e near pushed done =
+  more word last i now x word′ h few e near gave done =
       let here : from + (i + 1) - 1 ≡ from + i = omega arith in
       record {
         inside = omega arith;
-        small = pushed .1;
-        packed =
-            rw (pushed .0)
-            (packed-push (near-at low high before s from) from i word x (omega arith) (done .small) (rw (near, done .told, e)) (done .packed));
+        pushed = pushed-more (near-at low high before s from) from i word x word′ (omega arith) (rw (near, done .told, e)) gave (done .pushed);
         told = rw (ne-eqb (from + (i + 1)) from (λ z. omega arith), here, e);
       }
 
   all : (word last i : ℕ) → n ≤ i → Answered low high before s from n word last i → Packed (near-at low high before s from) from n word
-  all word last i h done = let same : n ≡ i = omega arith in rw same (done .packed)
+  all word last i h done = let same : n ≡ i = omega arith in rw same (done .pushed .packed)
 
 abbrev Inv-loop : tie.InvT-loop
 Inv-loop low high before records from n word₀ last₀ i₀ word last i = Answered low high before records from n word last i

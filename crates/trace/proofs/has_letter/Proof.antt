@@ -1,4 +1,4 @@
--- `trace::letter_bit` meets its contract: the byte read is the one of the event set that has the letter's bit.
+-- `trace::has_letter` meets its contract: the byte read is the one of the event set that has the letter's bit.
 -- Assumes nothing.
 use Prim.Native.Nat.{ℕ, zero, suc, _+_, _-_, _*_, _/_, _%_, _<_, _^_}
 use native.Mathlib.Omega.{arith}
@@ -6,11 +6,11 @@ use mathlib.Core.List.{List}
 use mathlib.Core.Path.{_≡_, sym, ap, _∙_}
 use lib.ListN.{getD}
 use borrow.Author.Needs.{needs}
-use Rattle.bits.specs.Packed.{bit, number}
-use Rattle.bits.proofs.Laws.{bit-mod, bit-rest, number-bit}
+use Rattle.bits.specs.Packed.{bit}
+use Rattle.bits.proofs.Laws.{bit-mod, bit-rest}
 use Rattle.trace.specs.Format.{word-at, letter-at}
-use Rattle.trace.proofs.letter_bit.Statement.{statement}
-use Rattle.trace.proofs.letter_bit.Tie as tie
+use Rattle.trace.proofs.has_letter.Statement.{statement}
+use Rattle.trace.proofs.has_letter.Tie as tie
 
 module _ (s : List ℕ) (bytes : (i : ℕ) → getD s i 0 < 256) where
   -- byte j of four, counted from the last
@@ -35,12 +35,10 @@ module _ (s : List ℕ) (bytes : (i : ℕ) → getD s i 0 < 256) where
 returns : tie.Need-returns
 returns c =
     let a = c .before .before .before .args in
-    let s = a .records .now in
-    let told = bit-of s (λ i. c .before .shared-slice-known2 .given i .fits) (a .i) (a .letter) (omega arith) in
-    (rw (c .wide .ensures .0) (sym (number-bit (getD s (a .i * 8 + (7 - a .letter / 8)) 0) (a .letter % 8)) ∙ ap number told), omega arith)
+    rw (c .wide .ensures .0) (bit-of (a .records .now) (λ i. c .before .shared-slice-known2 .given i .fits) (a .i) (a .letter) (omega arith))
 
-pub letter-bit-spec : {M : Type 1} → statement M
-letter-bit-spec =
+pub has-letter-spec : {M : Type 1} → statement M
+has-letter-spec =
     tie.close
     (tie.spec
     (λ c. search needs)
