@@ -138,13 +138,14 @@ pub fn log(r: &mut Random, shape: LogShape) -> Vec<Record> {
     all
 }
 
-/// A small rule shape and a log shape that suits it.
+/// A small rule shape and a log shape that suits it; one log in twenty may have five times as many records.
 pub fn shapes(r: &mut Random, most_entries: usize, most_records: usize) -> (RuleShape, LogShape) {
     let letters = r.from_to(1, 4);
     let high = r.pick(&[0, 1, 2, 3, 5, 10, 30]);
     let rule = RuleShape { entries: most_entries, letters, high };
+    let most = if r.one_in(20) { 5 * most_records } else { most_records };
     let log = LogShape {
-        records: r.from_to(0, most_records),
+        records: r.from_to(0, most),
         letters,
         hold: r.pick(&[1, 1, 2, 5, 10]),
         step: r.pick(&[0, 1, 2, 3, high / 2 + 1, high + 1, 2 * high + 2]),
