@@ -106,25 +106,12 @@ module _ (s b : List ℕ) (room : 16 ≤ length b) (n : ℕ) (some : 0 < n) wher
         let right = ready .buffers .1 in
         let most = progress-le-size φ L in
         let moved =
-        taken-both
-        (or φ ψ)
-        core
-        n
-        (g + n)
-        (took-both n b)
-        (omega arith)
+        taken-both (or φ ψ) core n (g + n) (took-both n b) (omega arith)
         (omega (arith, at 0, at 1, at 3, at 5, at 6, at 7, at 8, at 9, at 10))
         (omega (arith, at 0))
-        (λ x. x)
-        l
-        r
-        (record {
-          right = record { at = at 0; count = at 3; bits = at 4; head = at 14; ends = at 15 };
-          count = at 1;
-          bits = at 2;
-        })
-        left
-        right
+        (λ x. x) l r
+        (record { right = record { at = at 0; count = at 3; bits = at 4; head = at 14; ends = at 15 }; count = at 1; bits = at 2 })
+        left right
         in (
           record {
             some = some;

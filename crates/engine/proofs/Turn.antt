@@ -4,7 +4,7 @@ use native.Mathlib.Nat.{zero-add, add-zero}
 use native.Mathlib.Numerals.{add-one}
 use native.Mathlib.Omega.{arith}
 use mathlib.Core.Bool.{Bool}
-use mathlib.Core.List.{List, [], _∷_}
+use mathlib.Core.List.{List, []}
 use mathlib.Core.Path.{_≡_, refl, sym, ap, _∙_}
 use lib.ListN.{length, getD, length-set}
 use borrow.Author.Tests.{ne-eqb}
@@ -14,14 +14,15 @@ use Rattle.mtl.specs.Log.{Log, NeverFalls}
 use Rattle.mtl.specs.Satisfaction.{sat, since-at}
 use Rattle.mtl.specs.Progress.{progress}
 use Rattle.bits.specs.Packed.{bit, with-bit, Packed}
-use Rattle.bits.proofs.Laws.{with-bit-lt, packed-none, packed-first, packed-push, packed-same}
+use Rattle.bits.proofs.Laws.{with-bit-lt, packed-none, packed-push, packed-same}
 use Rattle.trace.specs.Format.{record-count, time-at}
 use Rattle.trace.proofs.Laws.{time-bound}
 use Rattle.engine.specs.Block.{word, taken, left-count, left-bits, right-count, right-bits, ring-words, Ready, took-both}
 use Rattle.engine.specs.Ring.{Ring, Rings, Witnesses, turned, turns, reaches, reached}
-use Rattle.engine.specs.Step.{Agrees, Gives, Moved, Steps}
+use Rattle.engine.specs.Step.{Agrees, Stepped, Steps}
 use Rattle.engine.specs.declared.operator.Step.the-variants.{Batch, Left, Right, Open}
-use Rattle.engine.proofs.Words.{Store, put, word-stores, after, copied, later, fits, Available}
+use Rattle.engine.proofs.Words.{word-stores, after, fits, Available}
+use Rattle.engine.proofs.Taking.{both-stores, first-of, taken-both}
 use Rattle.engine.proofs.Witnesses.{turn-keeps, oldest-decides}
 use Rattle.engine.proofs.Cells.{ring-kept, followed}
 
@@ -138,12 +139,8 @@ module _ (low high : ℕ) (s b : List ℕ) where
           let inside = av .inside some in
           omega (arith, turned-word 0 (omega arith), turned-word 1 (omega arith), turned-word 3 (omega arith))
 
-      abbrev both-stores : List Store
-      both-stores =
-          put 0 (taken d + n) ∷ put 3 (right-count d - n) ∷ put 4 (right-bits d / 2 ^ n) ∷ put 1 (left-count d - n) ∷ put 2 (left-bits d / 2 ^ n) ∷ []
-
-      words : (i : ℕ) → word (took-both n d) i ≡ after both-stores (word d) i
-      words = word-stores both-stores d (omega arith) (omega arith)
+      words : (i : ℕ) → word (took-both n d) i ≡ after (both-stores n d []) (word d) i
+      words = word-stores (both-stores n d []) d (omega arith) (omega arith)
 
       -- the words that the taking does not write, and those that the turns do not write either
       behind : (i : ℕ) → 4 < i → word (took-both n d) i ≡ word d i
@@ -161,22 +158,19 @@ module _ (low high : ℕ) (s b : List ℕ) where
           unfolding progress
           within-progress = let most = av .most in omega (arith, ready .buffers .0 .within, ready .buffers .1 .within)
 
-          at-taken : Gives (since low high φ ψ) L (taken b) answers n × Ready (since low high φ ψ) L (taken b + n) (took-both n d) × Moved (since low high φ ψ) b (took-both n d)
+          at-taken : Stepped (since low high φ ψ) L (taken b) b (Batch answers n) (took-both n d)
           unfolding sat
           at-taken =
               let core = ready .core in
               let own = core .own in
               let range = core .range in
-              let bl = ready .buffers .0 in
-              let br = ready .buffers .1 in
+              let left = ready .buffers .0 in
+              let right = ready .buffers .1 in
               let most = av .most in
-              let inside = fits bl in
-              let e0 = turned-word 0 (omega arith) in
-              let e1 = turned-word 1 (omega arith) in
-              let e3 = turned-word 3 (omega arith) in
-              let w0 = words 0 in
-              let w1 = words 1 in
-              let w3 = words 3 in
+              let inside = fits left in
+              let at : taken (took-both n d) ≡ taken b + n = omega (arith, words 0, turned-word 0 (omega arith)) in
+              let count-left : left-count (took-both n d) ≡ left-count b - n = omega (arith, words 1, turned-word 1 (omega arith)) in
+              let count-right : right-count (took-both n d) ≡ right-count b - n = omega (arith, words 3, turned-word 3 (omega arith)) in
               let (alive, answer) =
               turns-answer low high (L .time) (sat φ L) (sat ψ L) (taken b) n
               (λ i j h k. falls i j h (omega arith))
@@ -185,8 +179,8 @@ module _ (low high : ℕ) (s b : List ℕ) where
               (λ i h. sym (agrees .same (taken b + i) (omega arith) (omega arith) .time))
               (left-bits b)
               (right-bits b)
-              (packed-first (sat φ L) (taken b) (left-count b) (left-bits b) n (omega arith) (bl .packed))
-              (packed-first (sat ψ L) (taken b) (right-count b) (right-bits b) n (omega arith) (br .packed))
+              (first-of n (omega arith) left)
+              (first-of n (omega arith) right)
               (own .times)
               (own .alive)
               answers
@@ -194,34 +188,25 @@ module _ (low high : ℕ) (s b : List ℕ) where
               let ring = ring-kept (ring-words high) d (took-both n d) _ (simp length-set) (λ i h. behind i (omega arith)) (turn .ring (own .times) (own .ring)) in
               let start = ring .start in
               let count = ring .count in
-              let cells = ring .fits in (
-                record { some = some; buffer = record { within = within-progress; packed = answer } },
-                record {
-                  core =
-                      record {
-                        reached = within-progress;
-                        range =
-                            record {
-                              at = omega arith;
-                              left-count = let r = range .left-count in omega arith;
-                              right-count = let r = range .right-count in omega arith;
-                              answered = let e = kept 5 (omega arith) in let r = range .answered in omega arith;
-                              last-left = rw (kept 6 (omega arith)) (range .last-left);
-                              last-right = rw (kept 7 (omega arith)) (range .last-right);
-                              last-time = rw (kept 8 (omega arith)) (range .last-time);
-                              start = omega arith;
-                              count = omega arith;
-                            };
-                        copy = copied (kept 14 (omega arith)) (kept 15 (omega arith)) (core .copy);
-                        own = record { at = omega arith; times = _; ring = ring; alive = alive };
-                      };
-                  buffers = (
-                    later n (omega arith) (omega arith) (omega arith) (words 2 ∙ ap (λ (x : ℕ). x / 2 ^ n) (turned-word 2 (omega arith))) bl,
-                    later n (omega arith) (omega arith) (omega arith) (words 4 ∙ ap (λ (x : ℕ). x / 2 ^ n) (turned-word 4 (omega arith))) br,
-                  );
-                },
-                record { left = λ h. omega arith; right = λ h. omega arith },
-              )
+              let cells = ring .fits in
+              let moved =
+              taken-both (since low high φ ψ) core n (taken b + n) (took-both n d) within-progress
+              (omega (arith, kept 5 (omega arith), kept 6 (omega arith), kept 7 (omega arith), kept 8 (omega arith)))
+              (record { at = at; times = _; ring = ring; alive = alive })
+              (λ x. x) (omega arith) (omega arith)
+              (record {
+                right = record {
+                  at = at;
+                  count = count-right;
+                  bits = words 4 ∙ ap (λ (x : ℕ). x / 2 ^ n) (turned-word 4 (omega arith));
+                  head = kept 14 (omega arith);
+                  ends = kept 15 (omega arith);
+                };
+                count = count-left;
+                bits = words 2 ∙ ap (λ (x : ℕ). x / 2 ^ n) (turned-word 2 (omega arith));
+              })
+              left right
+              in (record { some = some; buffer = record { within = within-progress; packed = answer } }, moved .0, moved .1)
 
         pub since-batch : (φ ψ : Formula) → Steps (since low high φ ψ) s b (Batch answers n) (took-both n d)
         since-batch φ ψ L g falls agrees ready =

@@ -1,5 +1,5 @@
 -- until's words: what is settled, answered and taken on a block, from the laws over numbers.
-use Prim.Native.Nat.{ℕ, zero, suc, _+_, _-_, _/_, _≤_, _<_, _^_, min}
+use Prim.Native.Nat.{ℕ, zero, suc, _+_, _-_, _≤_, _<_, _^_, min}
 use mathlib.Core.Bool.{Bool, true, false, cond, _&&_, _||_, true≢false}
 use mathlib.Core.Bool.{not as negate}
 use mathlib.Core.List.{List, [], _∷_}
@@ -17,7 +17,7 @@ use Rattle.mtl.specs.Progress.{progress}
 use Rattle.mtl.proofs.Bounded.{and-iff, or-iff, le-or-lt}
 use Rattle.mtl.proofs.Until.{answered-operands, answered-fits, until-answered, until-yes, until-no}
 use Rattle.bits.specs.Packed.{number, with-bit}
-use Rattle.bits.proofs.Laws.{number-lt, packed-none, packed-first, packed-push}
+use Rattle.bits.proofs.Laws.{number-lt, packed-none, packed-push}
 use Rattle.trace.specs.Format.{record-count, time-at}
 use Rattle.engine.specs.Block.{
   word,
@@ -43,7 +43,8 @@ use Rattle.engine.specs.declared.until.Settled.the-variants.{Known, Unkn
 use Rattle.engine.specs.declared.operator.Step.{Step}
 use Rattle.engine.specs.declared.operator.Step.the-variants.{Batch, Left, Right, Again, Open}
 use Rattle.engine.proofs.UntilLogic as logic
-use Rattle.engine.proofs.Words.{Store, put, after, word-stores, copied, later, fits, less-to-do, Available}
+use Rattle.engine.proofs.Words.{Store, put, after, word-stores, fits, less-to-do, Available}
+use Rattle.engine.proofs.Taking.{both-stores, first-of, taken-both}
 
 -- an answer as a word, and back
 is-number : (x : Bool) → eqb (number x) 1 ≡ x
@@ -231,9 +232,8 @@ last-of b = record { left = eqb (last-left b) 1; right = eqb (last-right b) 1; t
 -- the stores of `walked`
 abbrev walked-stores : Walked → List ℕ → List Store
 walked-stores w b =
-    put 0 (taken b + w .took) ∷ put 3 (right-count b - w .took) ∷ put 4 (right-bits b / 2 ^ w .took) ∷ put 1 (left-count b - w .took) ∷
-    put 2 (left-bits b / 2 ^ w .took) ∷ put 5 (answered b + w .count) ∷ put 6 (number (w .last .left)) ∷ put 7 (number (w .last .right)) ∷
-    put 8 (w .last .time) ∷ []
+    both-stores (w .took) b
+    (put 5 (answered b + w .count) ∷ put 6 (number (w .last .left)) ∷ put 7 (number (w .last .right)) ∷ put 8 (w .last .time) ∷ [])
 
 -- the tests for a walk that has answered and taken nothing
 pub none-done : (count took : ℕ) → eqb count 0 && eqb took 0 ≡ true → (count ≡ 0) × (took ≡ 0)
@@ -282,9 +282,7 @@ module _ {low high : ℕ} {s b : List ℕ} {n : ℕ} {w : Walked} (went : Went l
   module _ (φ ψ : Formula) (L : Log) (g : ℕ) (falls : NeverFalls L) (agrees : Agrees s L g) (ready : Ready (until low high φ ψ) L g b) where
     -- the first n positions of a buffer
     first : {χ : Formula} {count bits : ℕ} → n ≤ count → Buffer χ L (taken b) count bits → Buffer χ L (taken b) n bits
-    first {χ = χ} {count = count} {bits = bits} h x =
-        let i = x .within in
-        record { within = omega arith; packed = packed-first (sat χ L) (taken b) count bits n h (x .packed) }
+    first h x = let i = x .within in record { within = omega arith; packed = first-of n h x }
 
     lefts : Buffer φ L (taken b) n (left-bits b)
     lefts = first (omega arith) (ready .buffers .0)
@@ -316,22 +314,13 @@ module _ {low high : ℕ} {s b : List ℕ} {n : ℕ} {w : Walked} (went : Went l
         let k = lefts .within in
         let l = number-lt (w .last .left) in
         let m = number-lt (w .last .right) in
-        let t = went .within .bound (r .last-time) in (
-          record {
-            core =
-                record {
-                  reached = y;
-                  range = omega (arith, at 0, at 1, at 3, at 5, at 6, at 7, at 8, at 9, at 10, fits lefts);
-                  copy = copied (at 14) (at 15) (ready .core .copy);
-                  own = (at 5 ∙ ap (λ (q : ℕ). q + w .count) i, rw (at 0, at 6, at 7, at 8) (reached .heads));
-                };
-            buffers = (
-              later (w .took) (omega arith) (at 0) (at 1) (at 2) (ready .buffers .0),
-              later (w .took) (omega arith) (at 0) (at 3) (at 4) (ready .buffers .1),
-            );
-          },
-          record { left = λ _. omega (arith, at 0, at 1); right = λ _. omega (arith, at 0, at 3) },
-        )
+        let t = went .within .bound (r .last-time) in
+        taken-both (until low high φ ψ) (ready .core) (w .took) (g + w .count) b′ y
+        (omega (arith, at 0, at 1, at 3, at 5, at 6, at 7, at 8, at 9, at 10, fits lefts))
+        (at 5 ∙ ap (λ (q : ℕ). q + w .count) i, rw (at 0, at 6, at 7, at 8) (reached .heads))
+        (λ q. q) (omega arith) (omega arith)
+        (record { right = record { at = at 0; count = at 3; bits = at 4; head = at 14; ends = at 15 }; count = at 1; bits = at 2 })
+        (ready .buffers .0) (ready .buffers .1)
 
     pub answers-some : 0 < w .count → Stepped (until low high φ ψ) L g b (Batch (w .bits) (w .count)) b′
     answers-some h = (record { some = h; buffer = reached .answers }, stands .0, stands .1)

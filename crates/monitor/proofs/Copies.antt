@@ -18,25 +18,26 @@ use Rattle.monitor.specs.Checkpoint.{format, block-at, copy-head, copy-e
 use Rattle.monitor.specs.Code.{Fresh, copies}
 use Rattle.monitor.proofs.Offsets.{block-fits}
 
--- a block's copy, written at its place
-abbrev stored : (b : List ℕ) (at head ends : ℕ) → List ℕ
-stored b at head ends = set (set b (at + 14) head) (at + 15) ends
+-- an entry's copy, written into the block that begins at `at`
+abbrev stored : (b : List ℕ) (at : ℕ) (e : Entry) → List ℕ
+stored b at e = set (set b (at + 14) (copy-head e)) (at + 15) (copy-ends e)
 
-module _ (b : List ℕ) (at head ends : ℕ) where
-  stored-keeps : (i : ℕ) → (i ≡ at + 14 → ⊥) → (i ≡ at + 15 → ⊥) → word (stored b at head ends) i ≡ word b i
+module _ (b : List ℕ) (at : ℕ) (e : Entry) where
+  stored-keeps : (i : ℕ) → (i ≡ at + 14 → ⊥) → (i ≡ at + 15 → ⊥) → word (stored b at e) i ≡ word b i
   stored-keeps i h h′ =
-      getD-set-other (set b (at + 14) head) (at + 15) i ends 0 h′ ∙ getD-set-other b (at + 14) i head 0 h
+      getD-set-other (set b (at + 14) (copy-head e)) (at + 15) i (copy-ends e) 0 h′ ∙ getD-set-other b (at + 14) i (copy-head e) 0 h
 
-  stored-head : at + 16 ≤ length b → word (stored b at head ends) (at + 14) ≡ head
+  stored-head : at + 16 ≤ length b → word (stored b at e) (at + 14) ≡ copy-head e
   stored-head room =
-      getD-set-other (set b (at + 14) head) (at + 15) (at + 14) ends 0 (omega arith) ∙ getD-set-same b (at + 14) head 0 (omega arith)
+      getD-set-other (set b (at + 14) (copy-head e)) (at + 15) (at + 14) (copy-ends e) 0 (omega arith) ∙
+      getD-set-same b (at + 14) (copy-head e) 0 (omega arith)
 
-  stored-ends : at + 16 ≤ length b → word (stored b at head ends) (at + 15) ≡ ends
+  stored-ends : at + 16 ≤ length b → word (stored b at e) (at + 15) ≡ copy-ends e
   stored-ends room =
-      let l = length-set b (at + 14) head in getD-set-same (set b (at + 14) head) (at + 15) ends 0 (omega arith)
+      let l = length-set b (at + 14) (copy-head e) in getD-set-same (set b (at + 14) (copy-head e)) (at + 15) (copy-ends e) 0 (omega arith)
 
 module _ (t : List Entry) (ws : List ℕ) where
-  pub copies-more : (n : ℕ) → copies t (n + 1) ws ≡ stored (copies t n ws) (block-at t n) (copy-head (entry t n)) (copy-ends (entry t n))
+  pub copies-more : (n : ℕ) → copies t (n + 1) ws ≡ stored (copies t n ws) (block-at t n) (entry t n)
   unfolding copies
   copies-more n = ap (λ (m : ℕ). copies t m ws) (add-one n)
 
@@ -52,61 +53,25 @@ module _ (t : List Entry) (ws : List ℕ) where
   copies-keep zero i out = refl
   copies-keep (suc n) i out =
       let o = out n (omega arith) in
-      stored-keeps (copies t n ws) (block-at t n) (copy-head (entry t n)) (copy-ends (entry t n)) i (o .0) (o .1)
-      ∙ copies-keep n i (λ k l. out k (omega arith))
+      stored-keeps (copies t n ws) (block-at t n) (entry t n) i (o .0) (o .1) ∙ copies-keep n i (λ k l. out k (omega arith))
 
-  copies-head-here : (n : ℕ) → words t (suc n) ≤ length ws → word (copies t (suc n) ws) (block-at t n + 14) ≡ copy-head (entry t n)
+  -- word j of a block is what a store of its entry's copy makes it: a later entry's copy stands behind the block
+  copies-has : (j : ℕ) → j < 16 → (value : Entry → ℕ) →
+      ((b : List ℕ) (at : ℕ) (e : Entry) → at + 16 ≤ length b → word (stored b at e) (at + j) ≡ value e) →
+      (n k : ℕ) → k < n → words t n ≤ length ws → word (copies t n ws) (block-at t k + j) ≡ value (entry t k)
   unfolding copies
-  copies-head-here n room =
-      stored-head
-      (copies t n ws)
-      (block-at t n)
-      (copy-head (entry t n))
-      (copy-ends (entry t n))
-      (omega (arith, block-fits t (suc n) n (omega arith), copies-length n))
-
-  copies-ends-here : (n : ℕ) → words t (suc n) ≤ length ws → word (copies t (suc n) ws) (block-at t n + 15) ≡ copy-ends (entry t n)
-  unfolding copies
-  copies-ends-here n room =
-      stored-ends
-      (copies t n ws)
-      (block-at t n)
-      (copy-head (entry t n))
-      (copy-ends (entry t n))
-      (omega (arith, block-fits t (suc n) n (omega arith), copies-length n))
-
-  -- a later entry's copy stands behind an earlier one's block
-  later-keeps : (n k i : ℕ) → k < n → i < 16 → word (copies t (suc n) ws) (block-at t k + i) ≡ word (copies t n ws) (block-at t k + i)
-  unfolding copies
-  later-keeps n k i h l =
-      let b = block-fits t n k h in
-      stored-keeps
-      (copies t n ws)
-      (block-at t n)
-      (copy-head (entry t n))
-      (copy-ends (entry t n))
-      (block-at t k + i)
-      (omega arith)
-      (omega arith)
-
-  copies-heads : (n k : ℕ) → k < n → words t n ≤ length ws → word (copies t n ws) (block-at t k + 14) ≡ copy-head (entry t k)
-  copies-heads zero k h room = absurd (not-suc-le-zero h)
-  copies-heads (suc n) k h room =
+  copies-has j inside value here zero k h room = absurd (not-suc-le-zero h)
+  copies-has j inside value here (suc n) k h room =
+      let b = copies t n ws in
       ⊎-elim
       (λ (l : n ≤ k).
-      subst (λ (x : ℕ). word (copies t (suc n) ws) (block-at t x + 14) ≡ copy-head (entry t x)) (omega arith) (copies-head-here n room))
+      let same : n ≡ k = omega arith in
+      subst (λ (x : ℕ). word (stored b (block-at t n) (entry t n)) (block-at t x + j) ≡ value (entry t x)) same
+      (here b (block-at t n) (entry t n) (omega (arith, block-fits t (suc n) n (omega arith), copies-length n))))
       (λ (l : k < n).
-      later-keeps n k 14 l (omega arith) ∙ copies-heads n k l (omega (arith, offset-mono t n (suc n) (omega arith))))
-      (le-or-lt n k)
-
-  copies-ends : (n k : ℕ) → k < n → words t n ≤ length ws → word (copies t n ws) (block-at t k + 15) ≡ copy-ends (entry t k)
-  copies-ends zero k h room = absurd (not-suc-le-zero h)
-  copies-ends (suc n) k h room =
-      ⊎-elim
-      (λ (l : n ≤ k).
-      subst (λ (x : ℕ). word (copies t (suc n) ws) (block-at t x + 15) ≡ copy-ends (entry t x)) (omega arith) (copies-ends-here n room))
-      (λ (l : k < n).
-      later-keeps n k 15 l (omega arith) ∙ copies-ends n k l (omega (arith, offset-mono t n (suc n) (omega arith))))
+      let f = block-fits t n k l in
+      stored-keeps b (block-at t n) (entry t n) (block-at t k + j) (omega arith) (omega arith) ∙
+      copies-has j inside value here n k l (omega (arith, offset-mono t n (suc n) (omega arith))))
       (le-or-lt n k)
 
 -- no block's first words are in another's copy
@@ -151,6 +116,6 @@ module _ (t : List Entry) (n m : ℕ) (room : words t n ≤ m) where
             let b = block-fits t n k h in
             copies-keep t headed n (block-at t k + i) (λ k′ l′. (apart t k k′ i 14 h′ (omega arith) (omega arith), apart t k k′ i 15 h′ (omega arith) (omega arith)))
             ∙ zeros (block-at t k + i) (omega arith) (omega arith) (omega arith);
-        heads = λ k h. copies-heads t headed n k h (omega arith);
-        ends = λ k h. copies-ends t headed n k h (omega arith);
+        heads = λ k h. copies-has t headed 14 (omega arith) copy-head stored-head n k h (omega arith);
+        ends = λ k h. copies-has t headed 15 (omega arith) copy-ends stored-ends n k h (omega arith);
       }

@@ -1,5 +1,5 @@
 -- Where the blocks of a rule's entries stand, and how many words each has.
-use Prim.Native.Nat.{ℕ, _+_, _*_, _-_, _≤_, _<_}
+use Prim.Native.Nat.{ℕ, zero-le, _+_, _*_, _-_, _≤_, _<_}
 use native.Mathlib.Numerals.{add-one}
 use native.Mathlib.Omega.{arith}
 use mathlib.Core.Bool.{Bool, true, false, cond, _||_}
@@ -39,15 +39,40 @@ module _ (t : List Entry) where
   offset-more k = ap (offset t) (add-one k)
 
   -- a block begins where the one before it ends
-  pub block-next : (k : ℕ) → block-at t k + own (entry t k) ≡ block-at t (k + 1)
+  block-next : (k : ℕ) → block-at t k + own (entry t k) ≡ block-at t (k + 1)
   block-next k = omega (arith, offset-more k)
 
   -- the words of each entry lie among those of all
-  pub block-within : (n k : ℕ) → k < n → block-at t k + own (entry t k) ≤ words t n
+  block-within : (n k : ℕ) → k < n → block-at t k + own (entry t k) ≤ words t n
   block-within n k h = omega (arith, block-next k, offset-mono t (k + 1) n (omega arith))
 
   pub block-fits : (n k : ℕ) → k < n → block-at t k + 16 ≤ words t n
   block-fits n k h = omega (arith, block-within n k h, own-least (entry t k))
+
+-- a walk over the first n blocks has come to block k, which begins at `at`
+pub record Walk (t : List Entry) (n at k : ℕ) : Type 0 where
+  pub most : k ≤ n
+  pub begins : at ≡ block-at t k
+
+pub walk-start : (t : List Entry) (n : ℕ) → Walk t n 16 0
+unfolding offset
+walk-start t n = record { most = zero-le; begins = refl }
+
+module _ {t : List Entry} {n at k : ℕ} (walk : Walk t n at k) (here : k < n) where
+  -- the block at hand lies within the words
+  pub walk-room : at + 16 ≤ words t n
+  walk-room = rw (walk .begins) (block-fits t n k here)
+
+  -- and so do all of its own words, behind which the walk goes on
+  pub walk-on : (own-words : ℕ) → own-words ≡ own (entry t k) → Walk t n (at + own-words) (k + 1) × (at + own-words ≤ words t n)
+  walk-on w e = (
+    record { most = omega arith; begins = rw (e, walk .begins) (block-next t k) },
+    rw (e, walk .begins) (block-within t n k here),
+  )
+
+-- a walk that does not go on has passed all of them
+pub walk-ends : {t : List Entry} {n at k : ℕ} → Walk t n at k → (k < n → ⊥) → k ≡ n
+walk-ends walk h = let most = walk .most in omega arith
 
 pub any-more : (n : ℕ) (p : ℕ → Bool) → any (n + 1) p ≡ any n p || p n
 unfolding any
