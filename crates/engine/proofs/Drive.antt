@@ -14,7 +14,7 @@ use Rattle.mtl.specs.Progress.{progress}
 use Rattle.mtl.proofs.Bounded.{true-and-false}
 use Rattle.trace.specs.Format.{record-count}
 use Rattle.engine.specs.Block.{word, taken, ring-words, Ready}
-use Rattle.engine.specs.Step.{Agrees, Gives, Moved, Stepped, Steps, Ends, empty, left-to-do}
+use Rattle.engine.specs.Step.{Agrees, Batched, Moved, Stepped, Steps, Ends, empty, left-to-do}
 use Rattle.engine.specs.State.{State}
 use Rattle.engine.specs.Table.{Has, Row, RowOk, RowsOk, Fields, column, takes-left, takes-right, own-words}
 use Rattle.engine.specs.Answer.{Answers}
@@ -361,7 +361,7 @@ module _ {t s : List ℕ} {k left a c end : ℕ} {ws₀ ws b′ : List ℕ} (sid
       let frame = framed ys bits n (got .1) in
       let v = viewed turn φ L g entered never agrees state in
       let st = wanting side φ L g b (stepped turn φ L g entered never agrees v) in
-      let it = ask-at (λ φ L q. Gives φ L q bits n × State φ L (q + n) ys) (got .2 .4) φ L g entered never agrees v (st .0) in
+      let it = ask-at (λ φ L q. Batched φ L q bits n × State φ L (q + n) ys) (got .2 .4) φ L g entered never agrees v (st .0) in
       rw (got .2 .3)
       (state-of
       turn

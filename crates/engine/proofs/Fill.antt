@@ -9,9 +9,8 @@ use lib.Seq.{getD-set-same, getD-set-other}
 use Rattle.mtl.specs.Formula.{Formula}
 use Rattle.mtl.specs.Formula.Formula.{letter, not, or, previous, next, since, until}
 use Rattle.mtl.specs.Log.{Log}
-use Rattle.mtl.proofs.Until.{progress-le-size}
 use Rattle.engine.specs.Block.{word, taken, Own, Ready}
-use Rattle.engine.specs.Step.{Gives}
+use Rattle.engine.specs.Step.{Batched}
 use Rattle.engine.specs.Ask.{stored}
 use Rattle.engine.proofs.Parts.{Side, other, by-side, slot}
 use Rattle.engine.proofs.Parts.Side.{on-left, on-right}
@@ -54,15 +53,15 @@ own-kept (until low high φ ψ) L g b b′ e o = (
 )
 
 -- a block with other buffers
-abbrev Counted : ℕ → List ℕ → Side → Type 0
-Counted size b side = word b (slot side) ≤ size
+abbrev Counted : List ℕ → Side → Type 0
+Counted b side = word b (slot side) ≤ 64
 
-counted : (φ : Formula) (L : Log) (g : ℕ) (b : List ℕ) → Ready φ L g b → (side : Side) → Counted (L .size) b side
+counted : (φ : Formula) (L : Log) (g : ℕ) (b : List ℕ) → Ready φ L g b → (side : Side) → Counted b side
 counted φ L g b r =
-    by-side (Counted (L .size) b) on-left (r .core .range .left-count) (r .core .range .right-count)
+    by-side (Counted b) on-left (r .core .range .left-count) (r .core .range .right-count)
 
 rebuffered : (φ : Formula) (L : Log) (g : ℕ) (b b′ : List ℕ) → Rebuffered b b′ → Ready φ L g b →
-    ((side : Side) → Counted (L .size) b′ side) → ((side : Side) → Buffered φ L b′ side) → Ready φ L g b′
+    ((side : Side) → Counted b′ side) → ((side : Side) → Buffered φ L b′ side) → Ready φ L g b′
 rebuffered φ L g b b′ e r counts buffers =
     let range = r .core .range in
     record {
@@ -135,7 +134,7 @@ module _ (side : Side) (b : List ℕ) (room : 16 ≤ length b) (bits n : ℕ) wh
       let s = slots side in
       stored-other (slot (other side) + 1) (s .third) (λ e. s .first (omega arith))
 
-  pub ready-filled : (φ : Formula) (L : Log) (g : ℕ) → Ready φ L g b → Gives (of side φ) L (taken b) bits n →
+  pub ready-filled : (φ : Formula) (L : Log) (g : ℕ) → Ready φ L g b → Batched (of side φ) L (taken b) bits n →
       Ready φ L g (stored b (slot side) bits n)
   ready-filled φ L g r gives =
       let s = slots side in
@@ -153,9 +152,9 @@ module _ (side : Side) (b : List ℕ) (room : 16 ≤ length b) (bits n : ℕ) wh
       })
       r
       (by-side
-      (Counted (L .size) b′)
+      (Counted b′)
       side
-      (rw stored-count (omega (arith, gives .buffer .within, progress-le-size (of side φ) L)))
+      (rw stored-count (gives .buffer .packed .few))
       (rw stored-count-other (counted φ L g b r (other side))))
       (by-side
       (Buffered φ L b′)

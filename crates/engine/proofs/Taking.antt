@@ -30,7 +30,7 @@ all-of agrees buffer n e =
     let few = buffer .packed .few in
     omega (arith, fits buffer)
 
--- what `available` gives of the shorter of two buffers, where that is anything
+-- what `available` gives of the smaller of two buffers, where that is anything
 pub record Shared (at l r total n : ℕ) : Type 0 where
   pub left : n ≤ l
   pub right : n ≤ r

@@ -35,7 +35,7 @@ use Rattle.engine.specs.Block.{
   Ready,
 }
 use Rattle.engine.specs.Step.{Agrees, Moved, Stepped, Ends}
-use Rattle.engine.specs.Settle.{pick, is-met, is-over, next-time, look-spec, take-spec, Reached, Walks, Within, Waiting, walked, Wants}
+use Rattle.engine.specs.Settle.{pick, is-met, is-over, next-time, look-spec, take-spec, Reached, Walks, Limits, Waiting, walked, Wants}
 use Rattle.engine.specs.declared.until.Last.{Last}
 use Rattle.engine.specs.declared.until.Walked.{Walked}
 use Rattle.engine.specs.declared.until.Settled.{Settled}
@@ -255,7 +255,7 @@ wanted-ends s b Open t = refl
 pub record Went (low high : ℕ) (s b : List ℕ) (n : ℕ) (w : Walked) : Type 0 where
   pub room : 16 ≤ length b
   pub some : Available (taken b) (min (left-count b) (right-count b)) (record-count s) n
-  pub within : Within (answered b) (taken b) n (w .bits) (w .count) (w .took) (last-of b) (w .last)
+  pub within : Limits (answered b) (taken b) n (w .bits) (w .count) (w .took) (last-of b) (w .last)
   pub waiting : w .count < 64 → Waiting low high s (answered b) (taken b) n (w .count) (w .took) (w .last)
   pub walks : Walks low high s (answered b) (taken b) n (left-bits b) (right-bits b) (last-of b) (w .bits) (w .count) (w .took) (w .last)
 

@@ -1,11 +1,11 @@
--- What an entry asked for its next answer promises.
+-- What an entry asked for its next batch of answers promises.
 use Prim.Native.Nat.{ℕ, _+_}
 use mathlib.Core.Path.{_≡_}
 use mathlib.Core.List.{List}
 use Rattle.mtl.specs.Formula.{Formula}
 use Rattle.mtl.specs.Log.{Log, NeverFalls}
 use Rattle.mtl.specs.Progress.{progress}
-use Rattle.engine.specs.Step.{Agrees, Gives}
+use Rattle.engine.specs.Step.{Agrees, Batched}
 use Rattle.engine.specs.State.{State}
 use Rattle.engine.specs.Table.{Has}
 use Rattle.engine.specs.declared.Reply.{Reply}
@@ -13,7 +13,7 @@ use Rattle.engine.specs.declared.Reply.the-variants.{Batch, Open}
 
 -- the reply at g, and what the words stand for after it: a batch below progress; open, where progress is g
 abbrev pub Replied : Formula → Log → ℕ → Reply → List ℕ → Type 0
-Replied φ L g (Batch bits count) ws′ = Gives φ L g bits count × State φ L (g + count) ws′
+Replied φ L g (Batch bits count) ws′ = Batched φ L g bits count × State φ L (g + count) ws′
 Replied φ L g Open ws′ = (progress φ L ≡ g) × State φ L g ws′
 
 -- the promise of `answer` for entry k of table t, on records s, from words ws to words ws′

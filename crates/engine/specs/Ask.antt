@@ -7,7 +7,7 @@ use lib.ListN.{length, take, drop, set}
 use Rattle.mtl.specs.Formula.{Formula}
 use Rattle.mtl.specs.Log.{Log, NeverFalls}
 use Rattle.mtl.specs.Progress.{progress}
-use Rattle.engine.specs.Step.{Agrees, Gives}
+use Rattle.engine.specs.Step.{Agrees, Batched}
 use Rattle.engine.specs.State.{State}
 use Rattle.engine.specs.Table.{Has}
 
@@ -27,7 +27,7 @@ abbrev pub Filled : List ℕ → List ℕ → ℕ → (from to slot : ℕ) → L
 Filled t s o from to slot ws true ws′ ys =
     (bits : ℕ) × (count : ℕ) × (1 ≤ count) × (ws′ ≡ stored (back from to ys ws) slot bits count) ×
     ((φ : Formula) (L : Log) (q : ℕ) → Has φ t o → NeverFalls L → Agrees s L q → State φ L q (part from to ws) →
-    Gives φ L q bits count × State φ L (q + count) ys)
+    Batched φ L q bits count × State φ L (q + count) ys)
 Filled t s o from to slot ws false ws′ ys =
     (ws′ ≡ back from to ys ws) ×
     ((φ : Formula) (L : Log) (q : ℕ) → Has φ t o → NeverFalls L → Agrees s L q → State φ L q (part from to ws) →

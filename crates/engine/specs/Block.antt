@@ -110,8 +110,8 @@ cells-of kind high = cond (eqb kind 5) (ring-words high) 0
 -- the ranges of a block's words, for a log of so many records and a ring of so many cells (refusal 11)
 pub record InRange (size cells : ℕ) (b : List ℕ) : Type 0 where
   pub at : taken b ≤ size
-  pub left-count : left-count b ≤ size
-  pub right-count : right-count b ≤ size
+  pub left-count : left-count b ≤ 64
+  pub right-count : right-count b ≤ 64
   pub answered : answered b ≤ taken b
   pub last-left : last-left b ≤ 1
   pub last-right : last-right b ≤ 1

@@ -1,5 +1,5 @@
--- What the engine promises. Read Block (an entry's words), Step (one step of one entry), State (a whole subformula), Table and Answer.
--- Ring, Near, Settle and Ask are the promises of its inner functions.
+-- What the engine promises. Read Ring and Block (an entry's words), Step (one step of one entry), State (a whole subformula),
+-- Table, Layout and Answer. Near, Settle and Ask are the promises of its inner functions.
 pub mod Ring
 pub mod Block
 pub mod Near

@@ -50,7 +50,7 @@ look-spec low high s g p last =
 abbrev pub take-spec : List ℕ → (at i left right : ℕ) → Last
 take-spec s at i left right = record { left = bit left i; right = bit right i; time = time-at s (at + i) }
 
--- count positions from g on are answered, and took ones from `at` on are taken
+-- count positions from g on are answered, and `took` positions from `at` on are taken
 pub record Reached (low high : ℕ) (φ ψ : Formula) (L : Log) (g at bits count took : ℕ) (last : Last) : Type 0 where
   pub heads :
       Until low high (L .time) (sat φ L) (sat ψ L) (g + count) (at + took) (number (last .left)) (number (last .right)) (last .time)
@@ -63,14 +63,14 @@ Walks low high s g at n left right from bits count took last =
     Reached low high φ ψ L g at 0 0 0 from → Reached low high φ ψ L g at bits count took last
 
 -- what it promises on any words
-pub record Within (g at n bits count took : ℕ) (from last : Last) : Type 0 where
+pub record Limits (g at n bits count took : ℕ) (from last : Last) : Type 0 where
   pub few : count ≤ 64
   pub small : bits < 2 ^ count
   pub most : took ≤ n
   pub behind : g + count ≤ max g (at + took)
   pub bound : from .time < 2 ^ 32 → last .time < 2 ^ 32
 
--- a walk ends with 64 answers, or where a position waits and all n are taken
+-- where a walk ends with fewer than 64 answers: all n positions are taken, and the next to answer waits
 pub record Waiting (low high : ℕ) (s : List ℕ) (g at n count took : ℕ) (last : Last) : Type 0 where
   pub all : took ≡ n
   pub unknown : look-spec low high s (g + count) (at + took) last ≡ Unknown
@@ -86,7 +86,7 @@ walked w b =
     8
     (w .last .time)
 
--- the operand whose buffer is empty
+-- the operand whose buffer is empty; neither is only where words are forged
 abbrev pub Wants : List ℕ → Step → Type 0
 Wants b (Batch bits count) = ⊥
 Wants b Again = ⊥

@@ -62,13 +62,13 @@ pub record Moved (φ : Formula) (b b′ : List ℕ) : Type 0 where
   pub right : has-right φ ≡ true → taken b′ + right-count b′ ≡ taken b + right-count b
 
 -- a batch: the answers at some positions from g on
-pub record Gives (φ : Formula) (L : Log) (g bits count : ℕ) : Type 0 where
+pub record Batched (φ : Formula) (L : Log) (g bits count : ℕ) : Type 0 where
   pub some : 1 ≤ count
   pub buffer : Buffer φ L g count bits
 
 -- one step from block b to block b′, by its outcome
 abbrev pub Stepped : Formula → Log → ℕ → List ℕ → Step → List ℕ → Type 0
-Stepped φ L g b (Batch bits count) b′ = Gives φ L g bits count × Ready φ L (g + count) b′ × Moved φ b b′
+Stepped φ L g b (Batch bits count) b′ = Batched φ L g bits count × Ready φ L (g + count) b′ × Moved φ b b′
 Stepped φ L g b Again b′ = Ready φ L g b′ × Moved φ b b′
 -- an operand is wanted; if it has no more answers, neither has the operator
 Stepped φ L g b Left b′ = (has-left φ ≡ true) × (progress (left-of φ) L ≡ taken b → progress φ L ≡ g)

@@ -16,7 +16,7 @@ pub fn store(words: &mut [u64], slot: usize, bits: u64, count: u64)
 }
 
 // The smaller of two counts.
-pub fn shorter(left: u64, right: u64) -> u64
+pub fn smaller(left: u64, right: u64) -> u64
     ensures { λ r. ⌜ r ≡ min left right ⌝ }
 {
     if left <= right { left } else { right }
@@ -26,7 +26,7 @@ pub fn shorter(left: u64, right: u64) -> u64
 pub fn available(at: u64, count: u64, total: u64) -> u64
     ensures { λ r. ⌜ r ≡ min (min count (total - at)) 64 ⌝ }
 {
-    shorter(shorter(count, time::gap(at, total)), 64)
+    smaller(smaller(count, time::gap(at, total)), 64)
 }
 
 // Takes n positions out of the right or only operand's buffer.

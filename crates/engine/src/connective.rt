@@ -8,6 +8,7 @@ ghost use Rattle.engine.specs.Step.{Steps, Ends};
 use super::blocks;
 use super::operator::Step;
 
+// Turns every answer of the operand.
 pub fn step_not(records: &[u8], block: &mut [u64]) -> Step
     requires { ⌜ 16 ≤ length (now block) ⌝ }
     ensures { λ r. ⌜ Ends false true (now (records .entry)) (now (block .entry)) r (now (block .exit)) ⌝ }
@@ -25,6 +26,7 @@ pub fn step_not(records: &[u8], block: &mut [u64]) -> Step
     Step::Batch { bits, count }
 }
 
+// As many positions as both operands have answered.
 pub fn step_or(records: &[u8], block: &mut [u64]) -> Step
     requires { ⌜ 16 ≤ length (now block) ⌝ }
     ensures { λ r. ⌜ Ends true true (now (records .entry)) (now (block .entry)) r (now (block .exit)) ⌝ }
@@ -36,7 +38,7 @@ pub fn step_or(records: &[u8], block: &mut [u64]) -> Step
     if block[3] == 0 {
         return Step::Right;
     }
-    let both = blocks::shorter(block[1], block[3]);
+    let both = blocks::smaller(block[1], block[3]);
     let count = blocks::available(block[0], both, trace::count(records) as u64);
     if count == 0 {
         return Step::Open;

@@ -7,6 +7,7 @@ ghost use Rattle.engine.specs.Step.{Steps, Ends};
 use super::blocks;
 use super::operator::Step;
 
+// Up to 64 records from the head on.
 pub fn step_letter(letter: u64, records: &[u8], block: &mut [u64]) -> Step
     requires { ⌜ (letter < 32) × (16 ≤ length (now block)) ⌝ }
     ensures { λ r. ⌜ Ends false false (now (records .entry)) (now (block .entry)) r (now (block .exit)) ⌝ }

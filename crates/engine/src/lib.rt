@@ -27,7 +27,7 @@ pub enum Reply {
     Open,
 }
 
-// Asks entry k for its next answer. Its words are its operands' words, left then right, and its own block.
+// Asks entry k for its next batch of answers. Its words are its operands' words, left then right, and its own block.
 pub fn answer(table: &[u64; 1024], records: &[u8], k: usize, words: &mut [u64]) -> Reply
     requires { ⌜ (k < 128) × RowsOk (now table) k × (length (now words) ≡ column 7 (now table) k) ⌝ }
     ensures { λ r. ⌜ Answers (now (table .entry)) (now (records .entry)) k (now (words .entry)) r (now (words .exit)) ⌝ }

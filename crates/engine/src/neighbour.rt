@@ -9,7 +9,7 @@ use super::blocks;
 use super::operator::Step;
 use super::time;
 
-// Each position is answered from the one before it; of the last, answer and time are kept.
+// Each position is answered from the one before it; of the last, the operand's answer and the time are kept.
 pub fn step_previous(low: u64, high: u64, records: &[u8], block: &mut [u64]) -> Step
     requires { ⌜ 16 ≤ length (now block) ⌝ }
     ensures { λ r. ⌜ Ends false true (now (records .entry)) (now (block .entry)) r (now (block .exit)) ⌝ }

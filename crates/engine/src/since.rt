@@ -14,7 +14,7 @@ use super::blocks;
 use super::operator::Step;
 use super::ring;
 
-// The turns of n positions from `from` on; left and right are the operands' words of answers there.
+// The turns of n positions from `from` on, where left and right are the operands' words of answers; gives the since's.
 fn turn_all(
     low: u64,
     high: u64,
@@ -30,17 +30,17 @@ fn turn_all(
     ensures { λ r. ⌜ ((qs : List ℕ) → Ring (ring-words high) (now (block .entry)) qs → Packed (reached low (ring-words high) high (now (records .entry)) from left right qs) 0 n r) ⌝ }
 {
     let cells = ring::cells_for(high);
-    let mut word: u64 = 0;
+    let mut answers: u64 = 0;
     let mut i: usize = 0;
     while i < n {
         let now = trace::time(records, from + i);
         let left_holds = bits::test(left, i as u64);
         let right_holds = bits::test(right, i as u64);
         let holds = ring::turn(cells, low, high, left_holds, right_holds, now, block);
-        word = bits::push(word, i as u64, holds);
+        answers = bits::push(answers, i as u64, holds);
         i += 1;
     }
-    word
+    answers
 }
 
 // Takes as many positions as both operands have answered.
@@ -56,7 +56,7 @@ pub fn step_since(low: u64, high: u64, records: &[u8], block: &mut [u64]) -> Ste
     if block[3] == 0 {
         return Step::Right;
     }
-    let both = blocks::shorter(block[1], block[3]);
+    let both = blocks::smaller(block[1], block[3]);
     let count = blocks::available(at, both, trace::count(records) as u64);
     if count == 0 {
         return Step::Open;

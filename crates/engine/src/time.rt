@@ -27,14 +27,14 @@ pub fn near(low: u64, high: u64, before: u64, records: &[u8], from: usize, n: us
     requires { ⌜ (from + n ≤ record-count (now records)) × (n ≤ 64) ⌝ }
     ensures { λ r. ⌜ Packed (near-at low high before (now (records .entry)) from) from n r ⌝ }
 {
-    let mut word: u64 = 0;
+    let mut answers: u64 = 0;
     let mut last = before;
     let mut i: usize = 0;
     while i < n {
         let now = trace::time(records, from + i);
-        word = bits::push(word, i as u64, within(low, high, last, now));
+        answers = bits::push(answers, i as u64, within(low, high, last, now));
         last = now;
         i += 1;
     }
-    word
+    answers
 }

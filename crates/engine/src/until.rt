@@ -8,7 +8,7 @@ ghost use Rattle.mtl.specs.Formula.Formula.{until};
 ghost use Rattle.trace.specs.Format.{record-count};
 ghost use Rattle.engine.specs.Block.{taken, left-count, right-count, answered};
 ghost use Rattle.engine.specs.Step.{Steps, Ends};
-ghost use Rattle.engine.specs.Settle.{settle-spec, look-spec, take-spec, Walks, Within, Waiting, walked, Wants};
+ghost use Rattle.engine.specs.Settle.{settle-spec, look-spec, take-spec, Walks, Limits, Waiting, walked, Wants};
 use super::blocks;
 use super::operator::Step;
 use super::time;
@@ -26,7 +26,7 @@ pub struct Last {
     time: u64,
 }
 
-// A stretch of answers: their word and number, how many positions were taken for them, and the last of those.
+// A stretch of answers: their word and number, how many positions were taken for them, and the last one taken then or before.
 pub struct Walked {
     bits: u64,
     count: u64,
@@ -88,7 +88,7 @@ fn walk(
     from: Last,
 ) -> Walked
     requires { ⌜ (at + n ≤ record-count (now records)) × (n ≤ 64) ⌝ }
-    ensures { λ r. ⌜ Within g at n (r .bits) (r .count) (r .took) from (r .last) ⌝ }
+    ensures { λ r. ⌜ Limits g at n (r .bits) (r .count) (r .took) from (r .last) ⌝ }
     ensures { λ r. ⌜ (r .count < 64 → Waiting low high (now (records .entry)) g at n (r .count) (r .took) (r .last)) ⌝ }
     ensures { λ r. ⌜ Walks low high (now (records .entry)) g at n left right from (r .bits) (r .count) (r .took) (r .last) ⌝ }
 {
@@ -132,7 +132,7 @@ fn put_back(block: &mut [u64], w: Walked)
     block[8] = w.last.time;
 }
 
-// The operand whose buffer is empty.
+// The operand whose buffer is empty. Neither is only where words are forged.
 fn wanted(block: &[u64]) -> Step
     requires { ⌜ 16 ≤ length (now block) ⌝ }
     ensures { λ r. ⌜ Wants (now (block .entry)) r ⌝ }
@@ -146,6 +146,7 @@ fn wanted(block: &[u64]) -> Step
     Step::Open
 }
 
+// Walks over what both operands have answered, from the next position to answer and the next to take.
 pub fn step_until(low: u64, high: u64, records: &[u8], block: &mut [u64]) -> Step
     requires { ⌜ 16 ≤ length (now block) ⌝ }
     ensures { λ r. ⌜ Ends true true (now (records .entry)) (now (block .entry)) r (now (block .exit)) ⌝ }
@@ -156,7 +157,7 @@ pub fn step_until(low: u64, high: u64, records: &[u8], block: &mut [u64]) -> Ste
     if total < at {
         return Step::Open;
     }
-    let n = blocks::available(at, blocks::shorter(block[1], block[3]), total);
+    let n = blocks::available(at, blocks::smaller(block[1], block[3]), total);
     let last = Last {
         left: block[6] == 1,
         right: block[7] == 1,

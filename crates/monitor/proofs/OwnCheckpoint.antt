@@ -100,8 +100,8 @@ module _ (rule : List ℕ) (K : Log) (d : ℕ) (p : List ℕ) (fine : refusal ru
       let r = ranged j h .range in
       rw (
         le-leb (word b 0) (seen p) (omega (arith, same-word j 0 h (omega arith))),
-        le-leb (word b 1) (seen p) (omega (arith, same-word j 1 h (omega arith))),
-        le-leb (word b 3) (seen p) (omega (arith, same-word j 3 h (omega arith))),
+        le-leb (word b 1) 64 (omega (arith, same-word j 1 h (omega arith))),
+        le-leb (word b 3) 64 (omega (arith, same-word j 3 h (omega arith))),
         le-leb (word b 5) (word b 0) (omega (arith, same-word j 0 h (omega arith), same-word j 5 h (omega arith))),
         le-leb (word b 6) 1 (omega (arith, same-word j 6 h (omega arith))),
         le-leb (word b 7) 1 (omega (arith, same-word j 7 h (omega arith))),
@@ -118,8 +118,10 @@ module _ (rule : List ℕ) (K : Log) (d : ℕ) (p : List ℕ) (fine : refusal ru
       let within = stands .top .buffer .within in
       let below = progress-le-size (formula-of rule) K in
       let at = stands .top .at in
+      let held = stands .top .buffer .packed .few in
       rw (
         le-leb (seen p) 1000000 (omega arith),
+        le-leb (held-count p) 64 (omega (arith, own-word 4 (omega arith))),
         le-leb (held-count p) (seen p) (omega (arith, own-word 4 (omega arith))),
         le-leb (given p) (seen p - held-count p) (omega (arith, own-word 1 (omega arith), own-word 4 (omega arith))),
         lt-ltb (last p) (2 ^ 32) (stands .fits),

@@ -1,6 +1,6 @@
 -- From an accepted call on the words that the rule needs to what `resume` promises of the whole checkpoint.
 use Prim.Native.Nat.{ℕ, _+_, _-_, _≤_, _<_, zero-le}
-use mathlib.Core.Bool.{Bool, true, false, cond, _||_}
+use mathlib.Core.Bool.{Bool, true, false, cond, _&&_, _||_}
 use mathlib.Core.Bool.{not as negate}
 use mathlib.Core.Path.{_≡_, refl, sym, ap, _∙_}
 use mathlib.Core.List.{List, _++_}
@@ -115,10 +115,9 @@ neither-left false b e = refl
 
 header-given : (p : List ℕ) → header-in-range p ≡ true → given p ≤ 1000000
 header-given p fits =
-    let a = and-iff (leb (seen p) 1000000) (room (given p) (held-count p) (seen p)) in
-    let halves = a .0 (and-iff _ _ .0 fits .0) in
+    let halves = and-iff (leb (seen p) 1000000 && leb (held-count p) 64) (room (given p) (held-count p) (seen p)) .0 (and-iff _ _ .0 fits .0) in
     let rooms = and-iff (leb (held-count p) (seen p)) (leb (given p) (seen p - held-count p)) .0 (halves .1) in
-    let few = leb-iff (seen p) 1000000 .0 (halves .0) in
+    let few = leb-iff (seen p) 1000000 .0 (and-iff (leb (seen p) 1000000) (leb (held-count p) 64) .0 (halves .0) .0) in
     let low = leb-iff (given p) (seen p - held-count p) .0 (rooms .1) in
     omega arith
 

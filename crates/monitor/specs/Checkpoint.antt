@@ -63,7 +63,7 @@ room at count total = leb count total && leb at (total - count)
 -- the words of one block lie in their ranges
 abbrev pub block-in-range : (size cells : ℕ) → List ℕ → Bool
 block-in-range size cells b =
-    leb (word b 0) size && leb (word b 1) size && leb (word b 3) size && leb (word b 5) (word b 0)
+    leb (word b 0) size && leb (word b 1) 64 && leb (word b 3) 64 && leb (word b 5) (word b 0)
     && leb (word b 6) 1 && leb (word b 7) 1 && ltb (word b 8) (2 ^ 32)
     && leb (word b 9) cells && leb (word b 10) cells
 
@@ -75,7 +75,7 @@ block-outside t p k =
 -- "at most 1,000,000 records", "d above the records seen"
 abbrev pub header-in-range : List ℕ → Bool
 header-in-range p =
-    leb (seen p) 1000000 && room (given p) (held-count p) (seen p) && ltb (last p) (2 ^ 32)
+    leb (seen p) 1000000 && leb (held-count p) 64 && room (given p) (held-count p) (seen p) && ltb (last p) (2 ^ 32)
 
 -- refusal 11: "A word of the point is outside its range"
 abbrev pub outside : List Entry → ℕ → List ℕ → Bool

@@ -1,5 +1,6 @@
--- What the product's calls promise. Read Checkpoint, Refusal, Verdicts, then Open, Resume and Tally, which the calls' `ensures`
--- name, and Calls, the statement about lists of calls (demand 3). Examples has the cases worked by hand.
+-- What the product's calls promise. Read Checkpoint, Refusal, Verdicts and Stands, then Open, Resume and Tally, which the calls'
+-- `ensures` name, and Calls, the statements about lists of calls (demands 2 and 3). Examples has the cases worked by hand, Code the
+-- promises of inner functions.
 pub mod Checkpoint
 pub mod Refusal
 pub mod Verdicts

@@ -1,5 +1,5 @@
--- A checkpoint stands for a rule, the log that it has seen, and the number of verdicts given. The inside of a checkpoint is named
--- here and in the engine alone.
+-- A checkpoint stands for a rule, the log that it has seen, and the number of verdicts given. What the inside of a checkpoint means
+-- is said here and in the engine alone.
 use Prim.Native.Nat.{ℕ, _+_, _-_, _≤_, _<_, _^_}
 use mathlib.Core.Bool.{cond}
 use mathlib.Core.Path.{_≡_}

@@ -138,8 +138,8 @@ fn block_fits(size: u64, cells: u64, point: &[u64], at: usize) -> bool
     ensures { λ r. ⌜ r ≡ block-in-range size cells (drop at (now (point .entry))) ⌝ }
 {
     (point[at] <= size)
-        & (point[at + 1] <= size)
-        & (point[at + 3] <= size)
+        & (point[at + 1] <= 64)
+        & (point[at + 3] <= 64)
         & (point[at + 5] <= point[at])
         & (point[at + 6] <= 1)
         & (point[at + 7] <= 1)
@@ -172,7 +172,10 @@ fn is_outside(entries: [Entry; 128], count: usize, point: &[u64]) -> bool
     ensures { λ r. ⌜ r ≡ outside entries count (now (point .entry)) ⌝ }
 {
     let seen = point[2];
-    let fits = (seen <= 1000000) & has_room(point[1], point[4], seen) & (point[3] < 4294967296);
+    let fits = (seen <= 1000000)
+        & (point[4] <= 64)
+        & has_room(point[1], point[4], seen)
+        & (point[3] < 4294967296);
     !fits | blocks_outside(entries, count, point)
 }
 

@@ -1,4 +1,4 @@
--- The log of the logic that the records are: the only place where bytes and logic meet.
+-- The log of the logic that the records are: which one is said here alone.
 use Prim.Native.Nat.{ℕ}
 use mathlib.Core.List.{List}
 use Rattle.mtl.specs.Log.{Log}

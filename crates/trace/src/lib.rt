@@ -2,7 +2,7 @@
 ghost use mathlib.Core.Path.{_≡_};
 ghost use Prim.Native.Nat.{_+_, _<_, _≤_};
 ghost use lib.ListN.{length};
-ghost use Rattle.bits.specs.Packed.{number, Packed};
+ghost use Rattle.bits.specs.Packed.{Packed};
 ghost use Rattle.trace.specs.Format.{word-at, record-count, time-at, letter-at, has-letter, records-of, wrong-mark, version-of, wrong-spare, malformed};
 ghost use Rattle.trace.specs.Order.{falls, starts-below, disordered, last-time};
 
@@ -112,7 +112,7 @@ pub fn times_fall(records: &[u8], after: usize) -> bool
     let mut last = time(records, after);
     let mut fell = false;
     let mut i = after + 1;
-    // two records a turn: the log's order is read at every call
+    // two records a turn, for speed: every call reads the order of all records from `after` on
     while i + 1 < end {
         let next = time(records, i);
         let second = time(records, i + 1);

@@ -17,7 +17,7 @@ fn forge(r: &mut Random, words: &mut [u64], n: usize) {
             1 => words[at] ^ 1 << r.below(64),
             2 => words[at].wrapping_add(1),
             3 => words[at].wrapping_sub(1),
-            4 => r.pick(&[0, 1, 2, 3, u64::MAX, u32::MAX as u64, 1 << 63, 1_000_000, 1_000_001]),
+            4 => r.pick(&[0, 1, 2, 3, 63, 64, 65, u64::MAX, u32::MAX as u64, 1 << 63, 1_000_000, 1_000_001]),
             5 => r.below(n + 2) as u64,
             6 => (n as u64).wrapping_sub(r.below(3) as u64),
             7 => words[r.below(words.len())],
@@ -73,7 +73,7 @@ fn forged_points() {
             assert!(possible, "refused {number}\n{}point {words:?}\nlog {}", kiosk.story, hex(&log));
         }
     };
-    cases("forged_points", 40_000, body, |counts| counts.get("accepted") > 0 && counts.get("refused 10") > 0);
+    cases("forged_points", 40_000, body, |counts| ["accepted", "refused 10", "refused 11"].iter().all(|name| counts.get(name) > 0));
 }
 
 /// Words that are no point: all the same, random, or a point of which only the beginning is left.
@@ -87,7 +87,8 @@ fn foreign_points() {
         match r.below(3) {
             0 => words[..need].fill(r.pick(&[0, 1, u64::MAX, random])),
             1 => words[..need].iter_mut().for_each(|w| *w = r.draw()),
-            _ => words[0] ^= 1 << r.below(64),
+            // a bit of the first word, or the format before this one
+            _ => words[0] = r.pick(&[words[0] ^ 1 << r.below(64), 0x4841_5644_0000_0001]),
         }
         kiosk.point.set(&words, side(r));
         let mut log = kiosk.brought(n);

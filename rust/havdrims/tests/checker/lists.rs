@@ -98,7 +98,7 @@ impl Kiosk {
 
     fn sheet(&self, r: &mut Random) -> Vec<u8> {
         let rest = self.untouched.len() - self.model.given;
-        let length = r.pick(&[0, 1, 2, 5, rest, rest + 3]);
+        let length = r.pick(&[0, 1, 2, 5, 63, 64, 65, rest, rest, rest + 3]);
         let mut sheet = vec![0; length];
         r.fill(&mut sheet);
         sheet

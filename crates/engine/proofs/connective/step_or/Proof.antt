@@ -15,7 +15,7 @@ use Rattle.engine.proofs.connective.step_or.Tie as tie
 taking : (c : tie.Else3) →
     let b = c .before .before .before .before .before .before .before .before .before .before .before .before .before .args .block .now in
     Shared (taken b) (left-count b) (right-count b) (c .before .before .count .result) (c .before .available .result)
-taking c = shared _ _ _ _ _ _ (c .before .before .before .before .shorter .ensures) (c .before .available .ensures) (c .if3 .left)
+taking c = shared _ _ _ _ _ _ (c .before .before .before .before .smaller .ensures) (c .before .available .ensures) (c .if3 .left)
 
 slice-read-if1 : tie.Need-slice-read-if1
 slice-read-if1 c = search needs
@@ -37,14 +37,14 @@ returns-2 c = (
   λ φ ψ L g falls agrees ready. (refl, λ e. let core = ready .core in let w = ready .buffers .0 .within in omega arith),
 )
 
-slice-read-shorter : tie.Need-slice-read-shorter
-slice-read-shorter c = search needs
+slice-read-smaller : tie.Need-slice-read-smaller
+slice-read-smaller c = search needs
 
-slice-read-shorter-2 : tie.Need-slice-read-shorter-2
-slice-read-shorter-2 c = search needs
+slice-read-smaller-2 : tie.Need-slice-read-smaller-2
+slice-read-smaller-2 c = search needs
 
-shorter-requires : tie.Need-shorter-requires
-shorter-requires c κs = search needs
+smaller-requires : tie.Need-smaller-requires
+smaller-requires c κs = search needs
 
 slice-read-available : tie.Need-slice-read-available
 slice-read-available c = search needs
@@ -99,9 +99,9 @@ step-or-spec =
     returns
     slice-read-if2
     returns-2
-    slice-read-shorter
-    slice-read-shorter-2
-    shorter-requires
+    slice-read-smaller
+    slice-read-smaller-2
+    smaller-requires
     slice-read-available
     count-requires
     available-requires

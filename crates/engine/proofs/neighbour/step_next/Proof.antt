@@ -1,4 +1,4 @@
--- `engine::neighbour::step_next` meets its contract: a buffer is taken whole. Assumes nothing.
+-- `engine::neighbour::step_next` meets its contract: at position 0 one answer is passed over, else a buffer is taken whole. Assumes nothing.
 use Prim.Native.Nat.{ℕ, _+_, _-_, _≤_, _<_}
 use native.Mathlib.Nat.{pos-of-ne-zero}
 use native.Mathlib.Omega.{arith}

@@ -23,7 +23,7 @@ counted d = omega arith
 -- how many positions are taken
 taking : (d : tie.After-available) →
     Available (taken (d .before .before .before .before .before .before .before .before .before .before .before .before .args .block .now)) (min (left-count (d .before .before .before .before .before .before .before .before .before .before .before .before .args .block .now)) (right-count (d .before .before .before .before .before .before .before .before .before .before .before .before .args .block .now))) (record-count (d .before .before .before .before .before .before .before .before .before .before .before .before .args .records .now)) (d .available .result)
-taking d = available _ _ _ _ (rw (d .before .before .shorter .ensures, d .before .count .ensures) at (d .available .ensures))
+taking d = available _ _ _ _ (rw (d .before .before .smaller .ensures, d .before .count .ensures) at (d .available .ensures))
 
 slice-read-at : tie.Need-slice-read-at
 slice-read-at c = search needs
@@ -44,14 +44,14 @@ returns-2 c =
     let a = c .before .before .before .before .before .before .before .args in
     ((refl, refl, c .if2 .taken), since-right (a .low) (a .high) (a .records .now) (a .block .now))
 
-slice-read-shorter : tie.Need-slice-read-shorter
-slice-read-shorter c = search needs
+slice-read-smaller : tie.Need-slice-read-smaller
+slice-read-smaller c = search needs
 
-slice-read-shorter-2 : tie.Need-slice-read-shorter-2
-slice-read-shorter-2 c = search needs
+slice-read-smaller-2 : tie.Need-slice-read-smaller-2
+slice-read-smaller-2 c = search needs
 
-shorter-requires : tie.Need-shorter-requires
-shorter-requires c κs = search needs
+smaller-requires : tie.Need-smaller-requires
+smaller-requires c κs = search needs
 
 count-requires : tie.Need-count-requires
 count-requires c κs = search needs
@@ -118,9 +118,9 @@ step-since-spec =
     returns
     slice-read-if2
     returns-2
-    slice-read-shorter
-    slice-read-shorter-2
-    shorter-requires
+    slice-read-smaller
+    slice-read-smaller-2
+    smaller-requires
     count-requires
     available-requires
     returns-3

@@ -9,11 +9,11 @@ use Rattle.engine.proofs.since.turn_all.Statement.{statement}
 use Rattle.engine.proofs.since.turn_all.Tie as tie
 
 abbrev Inv-loop : tie.InvT-loop
-Inv-loop low high records from n left right block₀ cells word₀ i₀ block word i =
-    (i ≤ n) × (length block ≡ length block₀) × Turning low high records from left right block₀ i word block
+Inv-loop low high records from n left right block₀ cells answers₀ i₀ block answers i =
+    (i ≤ n) × (length block ≡ length block₀) × Turning low high records from left right block₀ i answers block
 
 abbrev μ-loop : tie.MeasureT-loop
-μ-loop low high records from n left right block₀ cells word₀ i₀ block word i = n - i
+μ-loop low high records from n left right block₀ cells answers₀ i₀ block answers i = n - i
 
 cells-for-requires : tie.Need-cells-for-requires Inv-loop μ-loop
 cells-for-requires c κs = search needs
@@ -57,7 +57,7 @@ loop-again c =
       omega arith,
       turn .kept .1 .1 .1 .1 .1 .1 .0 ∙ l .inv .1,
       rw (c .push .ensures .0)
-          (turning-next (a .low) (a .high) (a .records .now) (a .from) (a .left) (a .right) (a .block .now) (l .i) (l .word) (l .block) (l .inv .2) (omega arith)
+          (turning-next (a .low) (a .high) (a .records .now) (a .from) (a .left) (a .right) (a .block .now) (l .i) (l .answers) (l .block) (l .inv .2) (omega arith)
           (c .before .before .before .before .before .before .before .before .before .before .cells-for .result)
           (c .before .before .before .before .before .before .before .before .before .before .cells-for .ensures .0)
           (c .before .before .before .before .before .before .before .time .result)

@@ -48,10 +48,10 @@ module _ (low high before : ℕ) (s : List ℕ) (from n : ℕ) where
   all word last i h done = let same : n ≡ i = omega arith in rw same (done .pushed .packed)
 
 abbrev Inv-loop : tie.InvT-loop
-Inv-loop low high before records from n word₀ last₀ i₀ word last i = Answered low high before records from n word last i
+Inv-loop low high before records from n answers₀ last₀ i₀ answers last i = Answered low high before records from n answers last i
 
 abbrev μ-loop : tie.MeasureT-loop
-μ-loop low high before records from n word₀ last₀ i₀ word last i = n - i
+μ-loop low high before records from n answers₀ last₀ i₀ answers last i = n - i
 
 loop-holds : tie.Need-loop-holds Inv-loop μ-loop
 loop-holds c = let a = c .before .args in none-yet (a .low) (a .high) (a .before) (a .records .now) (a .from) (a .n)
@@ -78,14 +78,14 @@ loop-again : tie.Need-loop-again Inv-loop μ-loop
 loop-again c =
     let a = c .before .before .before .before .before .before .args in
     let l = c .before .before .before .before .loop in
-    more (a .low) (a .high) (a .before) (a .records .now) (a .from) (a .n) (l .word) (l .last) (l .i) (c .before .before .time .result) (c .before .within .result)
+    more (a .low) (a .high) (a .before) (a .records .now) (a .from) (a .n) (l .answers) (l .last) (l .i) (c .before .before .time .result) (c .before .within .result)
     (c .push .result) (omega arith) (omega arith) (c .before .before .time .ensures .0) (c .before .within .ensures) (c .push .ensures) (l .inv)
 
 returns : tie.Need-returns Inv-loop μ-loop
 returns c =
     let a = c .before .before .before .args in
     let l = c .before .loop in
-    all (a .low) (a .high) (a .before) (a .records .now) (a .from) (a .n) (l .word) (l .last) (l .i) (omega arith) (l .inv)
+    all (a .low) (a .high) (a .before) (a .records .now) (a .from) (a .n) (l .answers) (l .last) (l .i) (omega arith) (l .inv)
 
 pub near-spec : {M : Type 1} → statement M
 near-spec =

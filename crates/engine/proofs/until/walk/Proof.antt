@@ -3,14 +3,14 @@ use Prim.Native.Nat.{_+_, _-_}
 use native.Mathlib.Omega.{arith}
 use mathlib.Core.Path.{sym, _∙_}
 use borrow.Author.Needs.{needs}
-use Rattle.engine.specs.Settle.{Within, Walks}
+use Rattle.engine.specs.Settle.{Limits, Walks}
 use Rattle.engine.proofs.UntilSteps.{known-behind, walks-known, walks-unknown}
 use Rattle.engine.proofs.until.walk.Statement.{statement}
 use Rattle.engine.proofs.until.walk.Tie as tie
 
 abbrev Inv-loop : tie.InvT-loop
 Inv-loop low high records g at n left right last₀ bits₀ count₀ took₀ last bits count took =
-    Within g at n bits count took last₀ last × Walks low high records g at n left right last₀ bits count took last
+    Limits g at n bits count took last₀ last × Walks low high records g at n left right last₀ bits count took last
 
 abbrev μ-loop : tie.MeasureT-loop
 μ-loop low high records g at n left right last₀ bits₀ count₀ took₀ last bits count took = (n - took) + (64 - count)
