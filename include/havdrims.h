@@ -28,6 +28,7 @@ extern "C" {
  *
  * The formats of rule, log and sheet are those of docs/FORMATS.md. A point's words are the library's own, in the
  * byte order of the machine: save them and hand them back as they are.
+ * A point of another format, as a library of another version may have written, is refused with 10.
  */
 
 /* Why a call is refused. */
