@@ -15,6 +15,7 @@ use Rattle.mtl.specs.Satisfaction.{sat, since-at}
 use Rattle.mtl.specs.Progress.{progress}
 use Rattle.bits.specs.Packed.{bit, with-bit, Packed}
 use Rattle.bits.proofs.Laws.{with-bit-lt, packed-none, packed-push, packed-same}
+use Rattle.rule.specs.Words.{unbounded}
 use Rattle.trace.specs.Format.{record-count, time-at}
 use Rattle.trace.proofs.Laws.{time-bound}
 use Rattle.engine.specs.Block.{word, taken, left-count, left-bits, right-count, right-bits, ring-words, Ready, took-both}
@@ -70,7 +71,7 @@ module _ (low high : ℕ) (time : ℕ → ℕ) (left right : ℕ → Bool) (g n 
   after-turns i = turns (ring-words high) high s g v w i times
 
   module _ (i : ℕ) (h : i < n) where
-    time-small : time (g + i) ≤ 4294967295
+    time-small : time (g + i) ≤ unbounded
     time-small = omega (arith, small (g + i), same i h)
 
     falls-here : (j k : ℕ) → j ≤ k → k ≤ g + i → time j ≤ time k

@@ -13,6 +13,7 @@ use lib.Seq.{getD-drop, getD-append-seam}
 use borrow.Author.Tests.{leb-true, ltb-true, ltb-false, le-leb, lt-ltb, eqb-true, eq-eqb}
 use Rattle.mtl.specs.Satisfaction.{since-at}
 use Rattle.mtl.proofs.Bounded.{true-and-false, same-test, and-iff, since-at-iff}
+use Rattle.rule.specs.Words.{unbounded}
 use Rattle.engine.specs.Block.{ring-words}
 use Rattle.engine.specs.Ring.{Witness, Witnesses, dropped, kept, newest-is, turned, reaches}
 
@@ -51,7 +52,7 @@ drops high at (q ∷ qs) = step (drops high at qs) (ltb high (at - q)) refl
 module _ (high : ℕ) (time : ℕ → ℕ) where
   -- the time of position j stands among the times; without upper end one as early is enough
   abbrev Stands : List ℕ → ℕ → Type 0
-  Stands times j = (i : ℕ) × (i < length times) × ((getD times i 0 ≡ time j) ⊎ ((high ≡ 4294967295) × (getD times i 0 ≤ time j)))
+  Stands times j = (i : ℕ) × (i < length times) × ((getD times i 0 ≡ time j) ⊎ ((high ≡ unbounded) × (getD times i 0 ≤ time j)))
 
   -- times that rise from place to place
   abbrev Rising : List ℕ → Type 0
@@ -67,7 +68,7 @@ module _ (high : ℕ) (time : ℕ → ℕ) where
   apart times rising (suc i) h =
       let r = rising i (suc i) (omega arith) h in let p = apart times rising i (omega arith) in omega arith
 
-  module _ (left right : ℕ → Bool) (g : ℕ) (falls : (i j : ℕ) → i ≤ j → j ≤ g → time i ≤ time j) (small : time g ≤ 4294967295) where
+  module _ (left right : ℕ → Bool) (g : ℕ) (falls : (i j : ℕ) → i ≤ j → j ≤ g → time i ≤ time j) (small : time g ≤ unbounded) where
     -- as Witnesses at g + 1, but for the witness g itself
     record Earlier (times : List ℕ) : Type 0 where
       rising : Rising times
@@ -148,8 +149,8 @@ module _ (high : ℕ) (time : ℕ → ℕ) where
           omega arith
 
       -- and there is room for it, but in a ring of one cell
-      room : newest-is (time g) times ≡ false → (b : Bool) → eqb high 4294967295 ≡ b → cond b 1 (high + 1) ≤ length times → Stands times g
-      room e true u full = (0, omega arith, inr (eqb-true high 4294967295 u, not-after 0 (omega arith)))
+      room : newest-is (time g) times ≡ false → (b : Bool) → eqb high unbounded ≡ b → cond b 1 (high + 1) ≤ length times → Stands times g
+      room e true u full = (0, omega arith, inr (eqb-true high unbounded u, not-after 0 (omega arith)))
       room e false u full =
           let last = length times - 1 in
           let (j, l, v, t, near) = w .sound 0 (omega arith) in
@@ -196,7 +197,7 @@ module _ (high : ℕ) (time : ℕ → ℕ) where
       push false f n er ef en = unchanged times w (λ r. absurd (true-and-false r er))
       push true false true er ef en = unchanged times w (λ r. already en)
       push true false false er ef en =
-          unchanged times w (λ r. room en (eqb high 4294967295) refl (ltb-false (length times) (ring-words high) ef))
+          unchanged times w (λ r. room en (eqb high unbounded) refl (ltb-false (length times) (ring-words high) ef))
       push true true true er ef en = unchanged times w (λ r. already en)
       push true true false er ef en = added en er
 

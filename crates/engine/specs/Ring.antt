@@ -8,6 +8,7 @@ use mathlib.Core.Logic.{_⊎_}
 use lib.ListN.{getD, length}
 use lib.Dec.{ltb, leb, eqb}
 use Rattle.bits.specs.Packed.{bit}
+use Rattle.rule.specs.Words.{unbounded}
 use Rattle.trace.specs.Format.{time-at}
 
 -- the cell that is `at` cells behind the first, in a ring of `cells`: past the last comes the first again
@@ -35,7 +36,7 @@ pub record Witnesses (high : ℕ) (time : ℕ → ℕ) (left right : ℕ → Boo
   pub sound : (i : ℕ) → i < length times →
       (j : ℕ) × Witness left right g j × (time j ≡ getD times i 0) × (time (g - 1) - getD times i 0 ≤ high)
   pub complete : (j : ℕ) → Witness left right g j → time (g - 1) - time j ≤ high →
-      (i : ℕ) × (i < length times) × ((getD times i 0 ≡ time j) ⊎ ((high ≡ 4294967295) × (getD times i 0 ≤ time j)))
+      (i : ℕ) × (i < length times) × ((getD times i 0 ≡ time j) ⊎ ((high ≡ unbounded) × (getD times i 0 ≤ time j)))
 
 -- the times that are left at a position of time `at`: those at most high before it
 unfoldable pub dropped : (high at : ℕ) → List ℕ → List ℕ

@@ -1,10 +1,11 @@
 -- What the exported functions promise, in terms of the calls' own definitions: the number returned, and each lent byte, word and
 -- number afterwards. Where the number is not 0, the numbers behind the pointers are kept.
 use Prim.Native.Nat.{ℕ}
-use mathlib.Core.Bool.{Bool, true, false, cond}
+use mathlib.Core.Bool.{Bool, cond}
 use mathlib.Core.Path.{_≡_}
 use mathlib.Core.List.{List}
 use lib.Dec.{eqb}
+use Rattle.bits.specs.Packed.{number}
 use Rattle.rule.specs.Measure.{measured}
 use Rattle.monitor.specs.Open.{Opens, opened-number}
 use Rattle.monitor.specs.Resume.{Resumes, resumed-number, resumed-count, resumed-more}
@@ -18,8 +19,7 @@ or-kept number old new = cond (eqb number 0) new old
 
 -- 1 for more, 0 for caught up
 abbrev pub flag : Bool → ℕ
-flag true = 1
-flag false = 0
+flag more = number more
 
 pub record MeasureCall (rule : List ℕ) (w far r w′ far′ : ℕ) : Type 0 where
   pub number : r ≡ measured rule .number

@@ -6,22 +6,22 @@ use mathlib.Core.Path.{_≡_, refl, sym, _∙_, ap, subst}
 use mathlib.Core.List.{List, _++_}
 use native.Mathlib.Nat.{le-of-eq}
 use native.Mathlib.Omega.{arith}
-use lib.Dec.{eqb}
 use lib.ListN.{length, getD, take, drop, length-drop, take-append-drop}
 use lib.Seq.{getD-take, getD-drop, length-take-le, take-take, take-all}
-use borrow.Author.Tests.{le-ltb, ltb-false, eq-eqb, ne-eqb, eqb-true}
+use borrow.Author.Tests.{le-ltb, ltb-false, eq-eqb, ne-eqb}
 use Rattle.mtl.specs.Log.{Log, NeverFalls, Continues}
-use Rattle.mtl.proofs.Bounded.{le-or-lt, true-or-false}
+use Rattle.mtl.proofs.Bounded.{le-or-lt}
 use Rattle.rule.specs.Entries.{count, decoded}
 use Rattle.rule.specs.Refusal.{refusal}
 use Rattle.rule.specs.Measure.{measured}
+use Rattle.rule.proofs.Headers.{before-none}
 use Rattle.trace.specs.Format.{record-count, time-at, records-of, malformed}
 use Rattle.trace.specs.Log.{log-of}
 use Rattle.trace.specs.Order.{disordered}
 use Rattle.trace.proofs.Laws.{well-formed-iff, well-formed-records, ordered-iff, agree, keeps-agreed, prefix-continues, count-prefix}
 use Rattle.engine.specs.Step.{Agrees}
 use Rattle.monitor.specs.Checkpoint.{given, seen, last, need, foreign, outside}
-use Rattle.monitor.specs.Refusal.{before, open-refusal, resume-refusal}
+use Rattle.monitor.specs.Refusal.{open-refusal, resume-refusal}
 use Rattle.monitor.specs.Verdicts.{formula-of, verdicts, first-records, answered, all-verdicts}
 use Rattle.monitor.specs.Stands.{Stands}
 use Rattle.monitor.specs.Open.{Opens}
@@ -37,10 +37,6 @@ use Rattle.monitor.proofs.OwnCheckpoint.{own-given, own-within, not-for
 use Rattle.monitor.proofs.VerdictBytes.{length-verdicts, verdicts-more, take-verdicts, verdicts-stay}
 
 -- REFUSALS
-
--- what comes first is not met where nothing is
-before-none : (a b : ℕ) → before a b ≡ 0 → a ≡ 0
-before-none a b h = ⊎-elim (λ e. eqb-true a 0 e) (λ e. rw e at h) (true-or-false (eqb a 0))
 
 -- open accepts an accepted rule on enough words
 open-enough : (rule : List ℕ) (lent : ℕ) → refusal rule ≡ 0 → need rule ≤ lent → open-refusal rule lent ≡ 0
@@ -210,7 +206,7 @@ module _ (rule log : List ℕ) (untouched : Untouched log) where
   -- on an opened checkpoint
   module _ (lent p : List ℕ) (opens : Opens rule lent Done p) where
     opened-fine : refusal rule ≡ 0
-    opened-fine = before-none (refusal rule) _ (sym (opens .number))
+    opened-fine = before-none (refusal rule) _ (sym (opens .number)) .0
 
     opened-stands : Stands rule (first-records log 0) 0 p
     opened-stands = opens .words .1 (first-records log 0) (first-size 0 (omega arith))

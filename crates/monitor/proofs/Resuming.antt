@@ -1,6 +1,6 @@
 -- From an accepted call on the words that the rule needs to what `resume` promises of the whole checkpoint.
 use Prim.Native.Nat.{ℕ, _+_, _-_, _≤_, _<_, zero-le}
-use mathlib.Core.Bool.{Bool, true, false, cond, _&&_, _||_}
+use mathlib.Core.Bool.{Bool, true, false, cond, _&&_}
 use mathlib.Core.Bool.{not as negate}
 use mathlib.Core.Path.{_≡_, refl, sym, ap, _∙_}
 use mathlib.Core.List.{List, _++_}
@@ -8,7 +8,7 @@ use mathlib.Core.Logic.{⊎-elim}
 use native.Mathlib.Omega.{arith}
 use native.Mathlib.Nat.{sub-zero}
 use borrow.Author.Tests.{le-ltb, lt-ltb, ne-eqb, eqb-true, eqb-false, not-false}
-use lib.Dec.{eqb, ltb, leb}
+use lib.Dec.{eqb, leb}
 use lib.ListN.{length, take, drop, length-append, length-drop, List·getD-append}
 use lib.Seq.{length-take-le, take-at, drop-at, getD-take}
 use Rattle.mtl.specs.Formula.{Formula}
@@ -17,9 +17,10 @@ use Rattle.mtl.specs.Satisfaction.{any}
 use Rattle.mtl.proofs.Bounded.{and-iff, leb-iff, le-or-lt}
 use Rattle.mtl.proofs.Until.{progress-le-size}
 use Rattle.rule.specs.Entries.{count, decoded}
-use Rattle.rule.specs.Refusal.{refusal}
+use Rattle.rule.specs.Refusal.{before, refusal}
+use Rattle.rule.proofs.Headers.{first-zero, or-left}
 use Rattle.trace.specs.Format.{record-count, records-of, malformed}
-use Rattle.trace.specs.Order.{disordered, last-time}
+use Rattle.trace.specs.Order.{last-time}
 use Rattle.trace.proofs.Laws.{well-formed-records}
 use Rattle.engine.specs.Block.{word}
 use Rattle.engine.specs.Step.{Agrees}
@@ -27,7 +28,7 @@ use Rattle.engine.specs.Ask.{part}
 use Rattle.engine.proofs.Longer.{buffer-longer, state-longer}
 use Rattle.engine.proofs.Parts.{put-back}
 use Rattle.monitor.specs.Checkpoint.{given, seen, last, held-count, held-bits, need, room, foreign, block-outside, outside, header-in-range}
-use Rattle.monitor.specs.Refusal.{first, before, open-refusal, log-refusal, point-refusal, resume-refusal}
+use Rattle.monitor.specs.Refusal.{open-refusal, point-refusal, resume-refusal}
 use Rattle.monitor.specs.Verdicts.{formula-of}
 use Rattle.monitor.specs.Stands.{Top, last-of, Stands}
 use Rattle.monitor.specs.Resume.{Resumes}
@@ -39,14 +40,6 @@ use Rattle.monitor.specs.declared.check.Checked.the-variants.{Passed, Fa
 use Rattle.monitor.specs.declared.Resumed.{Resumed}
 use Rattle.monitor.specs.declared.Resumed.the-variants.{Given, Refused}
 use Rattle.monitor.proofs.Sizes.{sized-refusal, enough, stops}
-
--- refusals that are met and those that are not
-before-met : (number other : ℕ) → 0 < number → before number other ≡ number
-before-met number other met = rw (ne-eqb number 0 (λ e. omega arith))
-
-first-not-met : (number other : ℕ) (bad : Bool) → 0 < number → first number bad other ≡ 0 → (bad ≡ false) × (other ≡ 0)
-first-not-met number other true some none = absurd (omega arith)
-first-not-met number other false some none = (refl, none)
 
 -- refusals 1 to 9
 pub resume-stopped : (rule log p sheet : List ℕ) (r : Sized) (m n : ℕ) → r ≡ sized-of rule (length p) → r ≡ Stopped m →
@@ -60,9 +53,8 @@ resume-stopped rule log p sheet r m n sized stopped numbered =
     sym (sized-refusal rule (length p)) ∙ ap sized-number (sym sized) ∙ sym numbered in
     record {
       number =
-          sym
-          (ap (λ (k : ℕ). before k (point-refusal (decoded rule) (count rule) log p)) number ∙
-          before-met n (point-refusal (decoded rule) (count rule) log p) some);
+          let met-first : before n (point-refusal (decoded rule) (count rule) log p) ≡ n = rw (ne-eqb n 0 (λ e. omega arith)) in
+          sym (ap (λ (k : ℕ). before k (point-refusal (decoded rule) (count rule) log p)) number ∙ met-first);
       point-length = refl;
       sheet-length = refl;
       words = (some, refl, refl);
@@ -109,10 +101,6 @@ pub record Passes (log p : List ℕ) : Type 0 where
   pub given : given p ≤ 1000000
   pub records : record-count (records-of log) ≤ 1000000
 
-neither-left : (a b : Bool) → a || b ≡ false → a ≡ false
-neither-left true b e = e
-neither-left false b e = refl
-
 header-given : (p : List ℕ) → header-in-range p ≡ true → given p ≤ 1000000
 header-given p fits =
     let halves = and-iff (leb (seen p) 1000000 && leb (held-count p) 64) (room (given p) (held-count p) (seen p)) .0 (and-iff _ _ .0 fits .0) in
@@ -125,13 +113,11 @@ pub passes : (rule log p : List ℕ) → point-refusal (decoded rule) (count rul
 passes rule log p none =
     let t = decoded rule in
     let n = count rule in
-    let logs = log-refusal log (given p) (seen p) (last p) in
-    let tenth = first-not-met 10 (first 11 (outside t n p) logs) (foreign t n p) (omega arith) none in
-    let eleventh = first-not-met 11 logs (outside t n p) (omega arith) (tenth .1) in
-    let thirteenth = first 13 (ltb (record-count (records-of log)) (seen p)) (first 14 (disordered (records-of log) (given p) (seen p) (last p)) 0) in
-    let twelfth = first-not-met 12 thirteenth (malformed log) (omega arith) (eleventh .1) in
+    let tenth = first-zero 9 (foreign t n p) _ none in
+    let eleventh = first-zero 10 (outside t n p) _ (tenth .1) in
+    let twelfth = first-zero 11 (malformed log) _ (eleventh .1) in
     record {
-      given = header-given p (not-false (header-in-range p) (neither-left (negate (header-in-range p)) (any n (block-outside t p)) (eleventh .0)));
+      given = header-given p (not-false (header-in-range p) (or-left (negate (header-in-range p)) (any n (block-outside t p)) (eleventh .0)));
       records = well-formed-records log (twelfth .0) .1 .few;
     }
 

@@ -1,6 +1,6 @@
 -- Refusal 10 compares the rule: no two accepted rules have the copy that one checkpoint holds. Assumes nothing.
 use Prim.Native.Nat.{ℕ, zero, suc, _+_, _-_, _*_, _/_, _%_, _≤_, _<_, _^_}
-use mathlib.Core.Bool.{Bool, true, false, _&&_, _||_}
+use mathlib.Core.Bool.{false, _&&_, _||_}
 use mathlib.Core.Bool.{not as negate}
 use mathlib.Core.Logic.{⊎-elim}
 use mathlib.Core.Path.{_≡_, refl, sym, _∙_, ap, ap₂}
@@ -9,16 +9,16 @@ use native.Mathlib.Omega.{arith}
 use lib.Dec.{eqb, ltb}
 use lib.ListN.{length}
 use lib.Seq.{ext-getD}
-use borrow.Author.Tests.{eqb-true, ltb-false, not-false}
+use borrow.Author.Tests.{eqb-true, not-false}
 use Rattle.mtl.specs.Satisfaction.{any}
 use Rattle.mtl.proofs.Bounded.{any-false-iff, le-or-lt, and-iff}
 use Rattle.rule.specs.declared.Entry.{Entry}
 use Rattle.rule.specs.Bytes.{byte, word16, word32}
 use Rattle.rule.specs.Entries.{count, decoded, entry, entry-of}
 use Rattle.rule.specs.Words.{offset, own}
-use Rattle.rule.specs.Refusal.{first, marked, unmarked, other-version, empty, malformed, header-refusal, entries-refusal, refusal}
+use Rattle.rule.specs.Refusal.{marked, unmarked, other-version, empty, malformed, header-refusal, entries-refusal, refusal}
 use Rattle.rule.specs.Accepted.{InRange}
-use Rattle.rule.proofs.Headers.{first-zero, or-left, or-right}
+use Rattle.rule.proofs.Headers.{first-zero, before-none, or-left, or-right}
 use Rattle.rule.proofs.Decoded.{decoded-at}
 use Rattle.rule.proofs.Acceptance.{accepted}
 use Rattle.engine.specs.Block.{word}
@@ -71,11 +71,7 @@ header-of s e =
     }
 
 header-accepted : (s : List ℕ) → refusal s ≡ 0 → header-refusal s ≡ 0
-header-accepted s e = go (ltb 0 (header-refusal s)) refl (omega arith)
-  where
-    go : (b : Bool) → ltb 0 (header-refusal s) ≡ b → first (header-refusal s) b (entries-refusal (decoded s) (count s)) ≡ 0 → header-refusal s ≡ 0
-    go true p q = q
-    go false p q = let l = ltb-false 0 (header-refusal s) p in omega arith
+header-accepted s e = before-none (header-refusal s) (entries-refusal (decoded s) (count s)) e .0
 
 -- WHAT A COPY IS
 

@@ -1,5 +1,5 @@
 -- The theorem of demand 2 for lists of calls, stated in specs/Calls.antt: each byte written is the formula's truth value. Assumes nothing.
-use Prim.Native.Nat.{ℕ, _≤_, _<_}
+use Prim.Native.Nat.{ℕ, _<_}
 use mathlib.Core.Bool.{Bool, true, false}
 use mathlib.Core.Logic.{_↔_, Iff·trans}
 use mathlib.Core.Path.{_≡_, refl, _∙_, ap}
@@ -10,15 +10,12 @@ use Rattle.mtl.specs.Satisfaction.{sat}
 use Rattle.mtl.proofs.Printed.{sat-iff}
 use Rattle.mtl.proofs.Streams.{stream-iff}
 use Rattle.mtl.proofs.Lengthening.{answers-stay}
+use Rattle.bits.proofs.Laws.{number-lt}
 use Rattle.rule.proofs.Acceptance.{accepted}
 use Rattle.monitor.specs.Verdicts.{formula-of, verdict, first-records, answered}
 use Rattle.monitor.specs.Calls.{Untouched, Call, given-by, brought-by, laid, Calls, Demand2}
 use Rattle.monitor.proofs.VerdictBytes.{length-verdicts, verdict-at}
 use Rattle.monitor.proofs.Demand3.{invariant}
-
-verdict-binary : (b : Bool) → verdict b ≤ 1
-verdict-binary true = omega arith
-verdict-binary false = omega arith
 
 verdict-iff : (b : Bool) → (verdict b ≡ 1) ↔ (b ≡ true)
 verdict-iff true = (λ e. refl, λ e. refl)
@@ -47,7 +44,7 @@ module _ (rule log lent : List ℕ) (untouched : Untouched log) (h : List Call) 
       let a = accepted rule (invariant rule log untouched lent calls .fine) in
       record {
         reads = rw (a .reads);
-        binary = λ i l. rw (byte-at i l .1) (verdict-binary (sat φ K i));
+        binary = λ i l. omega (arith, byte-at i l .1, number-lt (sat φ K i));
         on-log = λ L longer falls i l.
             Iff·trans (byte-iff i l) (rw (answers-stay φ K L longer falls i (byte-at i l .0)) (sat-iff φ L i));
         on-stream = λ σ begins falls i l. Iff·trans (byte-iff i l) (stream-iff φ σ K falls begins i (byte-at i l .0));

@@ -11,11 +11,11 @@ use Rattle.mtl.specs.Progress.{run, progress}
 use Rattle.rule.specs.Entries.{first-entries}
 use Rattle.rule.specs.Words.{offset}
 use Rattle.rule.specs.Postfix.{push-kind, read}
-use Rattle.rule.specs.Refusal.{refusal, header-refusal, entries-refusal}
+use Rattle.rule.specs.Refusal.{before, refusal, header-refusal, entries-refusal}
 use Rattle.rule.specs.Measure.{measured}
 use Rattle.trace.specs.Format.{record-count, records-of}
 use Rattle.trace.specs.Order.{last-time}
-use Rattle.monitor.specs.Refusal.{before, log-refusal}
+use Rattle.monitor.specs.Refusal.{log-refusal}
 use Rattle.monitor.specs.Verdicts.{verdicts, answered, all-verdicts}
 
 -- BYTES

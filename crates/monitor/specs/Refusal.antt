@@ -1,23 +1,14 @@
 -- Where a call stops: "The first that applies is returned. Rule checks precede point checks."
 use Prim.Native.Nat.{ℕ}
-use mathlib.Core.Bool.{Bool, cond}
 use mathlib.Core.List.{List}
 use lib.ListN.{length}
-use lib.Dec.{eqb, ltb}
+use lib.Dec.{ltb}
 use Rattle.rule.specs.declared.Entry.{Entry}
 use Rattle.rule.specs.Entries.{count, decoded}
-use Rattle.rule.specs.Refusal.{refusal}
+use Rattle.rule.specs.Refusal.{first, before, refusal}
 use Rattle.trace.specs.Format.{record-count, records-of, malformed}
 use Rattle.trace.specs.Order.{disordered}
 use Rattle.monitor.specs.Checkpoint.{given, seen, last, need, foreign, outside}
-
--- the number where its condition holds, else what comes after it
-abbrev pub first : ℕ → Bool → ℕ → ℕ
-first number bad other = cond bad number other
-
--- a refusal that was met, else what comes after it
-abbrev pub before : ℕ → ℕ → ℕ
-before number other = cond (eqb number 0) other number
 
 -- open, on a checkpoint of so many words: refusals 1 to 9
 abbrev pub open-refusal : List ℕ → ℕ → ℕ

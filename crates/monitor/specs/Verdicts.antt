@@ -1,6 +1,6 @@
 -- The verdicts of a log: "A bytes, A by the settling rules; byte i says whether the plain reading holds at position i on that log."
-use Prim.Native.Nat.{ℕ, zero, suc, _+_, _*_}
-use mathlib.Core.Bool.{Bool, true, false}
+use Prim.Native.Nat.{ℕ, zero, suc, _*_}
+use mathlib.Core.Bool.{Bool}
 use mathlib.Core.List.{List, [], _∷_, _++_}
 use mathlib.Core.Option.{Option, none, some}
 use lib.ListN.{take}
@@ -9,7 +9,7 @@ use Rattle.mtl.specs.Formula.Formula.{letter}
 use Rattle.mtl.specs.Log.{Log}
 use Rattle.mtl.specs.Satisfaction.{sat}
 use Rattle.mtl.specs.Progress.{progress}
-use Rattle.bits.specs.Packed.{bit}
+use Rattle.bits.specs.Packed.{bit, number}
 use Rattle.rule.specs.Entries.{count, decoded}
 use Rattle.rule.specs.Postfix.{formula}
 use Rattle.trace.specs.Format.{records-of}
@@ -25,8 +25,7 @@ formula-of rule = formula-or (formula (decoded rule) (count rule))
 
 -- "each byte 1 for yes or 0 for no"
 abbrev pub verdict : Bool → ℕ
-verdict true = 1
-verdict false = 0
+verdict holds = number holds
 
 -- the first n bits of a word of answers as verdicts
 unfoldable pub bytes-of : (n bits : ℕ) → List ℕ

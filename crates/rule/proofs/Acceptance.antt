@@ -2,12 +2,11 @@
 use Prim.Native.Nat.{ℕ, suc, _+_, _-_, _≤_, _<_}
 use native.Mathlib.Nat.{suc-inj}
 use native.Mathlib.Omega.{arith}
-use borrow.Author.Tests.{ltb-true, ltb-false}
+use borrow.Author.Tests.{ltb-false}
 use mathlib.Core.Path.{_≡_, refl, sym, ap, subst, _∙_}
-use mathlib.Core.Bool.{Bool, true, false}
+use mathlib.Core.Bool.{false}
 use mathlib.Core.List.{List, [], _∷_, _++_}
 use mathlib.Core.Option.{Option, none, some}
-use lib.Dec.{ltb}
 use lib.ListN.{length, take}
 use Rattle.mtl.specs.Formula.{Formula}
 use Rattle.mtl.specs.Satisfaction.{any}
@@ -15,23 +14,16 @@ use Rattle.rule.specs.declared.Entry.{Entry}
 use Rattle.rule.specs.Entries.{count, decoded, entry}
 use Rattle.rule.specs.Words.{offset, words, limit}
 use Rattle.rule.specs.Postfix.{read, stack-after, sole, formula, postfix}
-use Rattle.rule.specs.Refusal.{first, before, misshapen-at, misplaced-at, lacking, over-limit, header-refusal, entries-refusal, refusal}
+use Rattle.rule.specs.Refusal.{misshapen-at, misplaced-at, lacking, over-limit, header-refusal, entries-refusal, refusal}
 use Rattle.rule.specs.Operands.{span, part, FormulaAt}
 use Rattle.rule.specs.Accepted.{InRange, WellFormed, Accepted}
 use Rattle.rule.proofs.Stacks.{stays-none}
-use Rattle.rule.proofs.Headers.{first-zero, headed}
+use Rattle.rule.proofs.Headers.{first-zero, before-none, headed}
 use Rattle.rule.proofs.Spans.{leaf-of}
 use Rattle.rule.proofs.Subformulas.{span-fits, unary-at, binary-at, stacked}
 use Rattle.rule.proofs.Ranges.{none-below, in-range}
 use Rattle.rule.proofs.Flat.{read-postfix, ends}
 use Rattle.rule.proofs.Decoded.{length-decoded}
-
-before-none : (m n : ℕ) → before m n ≡ 0 → (m ≡ 0) × (n ≡ 0)
-before-none m n e = go (ltb 0 m) refl (omega arith)
-  where
-    go : (b : Bool) → ltb 0 m ≡ b → first m b n ≡ 0 → (m ≡ 0) × (n ≡ 0)
-    go true p q = let l = ltb-true 0 m p in absurd (omega arith)
-    go false p q = let l = ltb-false 0 m p in (omega arith, q)
 
 -- what remains where refusals 5 to 8 do not apply
 pub record Passed (t : List Entry) (n : ℕ) : Type 0 where

@@ -1,16 +1,16 @@
 -- What the header's answer says of the whole answer, and what an accepted header says of the bytes.
 use Prim.Native.Nat.{ℕ, suc, _+_, _*_, _≤_, _<_}
 use native.Mathlib.Omega.{arith}
-use borrow.Author.Tests.{eqb-true, eqb-false, ltb-false, lt-ltb, not-false}
+use borrow.Author.Tests.{eqb-true, eqb-false, ltb-false, not-false}
 use mathlib.Core.Path.{_≡_, refl, ap, _∙_}
-use mathlib.Core.Bool.{Bool, true, false, _||_, not}
+use mathlib.Core.Bool.{Bool, true, false, cond, _||_, not}
 use mathlib.Core.List.{List}
 use lib.Dec.{eqb, ltb}
 use lib.ListN.{length}
 use Rattle.rule.specs.declared.Header.the-variants.{Count, Stopped}
 use Rattle.rule.specs.Bytes.{byte}
 use Rattle.rule.specs.Entries.{count, decoded}
-use Rattle.rule.specs.Refusal.{first, before, unmarked, other-version, empty, malformed, header-refusal, entries-refusal, refusal}
+use Rattle.rule.specs.Refusal.{first, before, unmarked, other-version, empty, malformed, header-refusal}
 use Rattle.rule.specs.Measure.{refused, measured}
 use Rattle.rule.specs.Code.{measured-entries, header}
 
@@ -27,16 +27,12 @@ pub or-right : (a b : Bool) → a || b ≡ false → b ≡ false
 or-right true b e = cc
 or-right false b e = e
 
-before-zero : (m n : ℕ) → m ≡ 0 → before m n ≡ n
-before-zero m n e = rw e refl
-
-before-other : (m n : ℕ) → eqb m 0 ≡ false → before m n ≡ m
-before-other m n e =
-    let l : 0 < m = pos m (eqb-false m 0 e) in
-    simp (lt-ltb 0 m l)
+pub before-none : (m n : ℕ) → before m n ≡ 0 → (m ≡ 0) × (n ≡ 0)
+before-none m n = go (eqb m 0) refl
   where
-    pos : (m : ℕ) → (m ≡ 0 → ⊥) → 0 < m
-    pos m h = omega arith
+    go : (b : Bool) → eqb m 0 ≡ b → cond b n m ≡ 0 → (m ≡ 0) × (n ≡ 0)
+    go true p q = (eqb-true m 0 p, q)
+    go false p q = absurd (eqb-false m 0 p q)
 
 pub stopped : (s : List ℕ) (m : ℕ) → header s ≡ Stopped m → refused m ≡ measured s
 stopped s m e = go (eqb (header-refusal s) 0) refl
@@ -45,9 +41,8 @@ stopped s m e = go (eqb (header-refusal s) 0) refl
     go true p = let q : Count (count s) ≡ Stopped m = simp p at e in cc
     go false p =
         let q : Stopped (header-refusal s) ≡ Stopped m = simp p at e in
-        let b : refusal s ≡ header-refusal s = before-other (header-refusal s) (entries-refusal (decoded s) (count s)) p in
         let r : m ≡ header-refusal s = cc in
-        ap refused r ∙ simp (b, p)
+        ap refused r ∙ simp p
 
 -- an accepted header
 pub record Headed (s : List ℕ) : Type 0 where

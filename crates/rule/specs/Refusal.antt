@@ -1,7 +1,7 @@
 -- Where weighing stops: refusals 1 to 8 of document 01, "Where a call stops". "The first that applies is returned. .. a check
 -- that speaks of entries goes over all of them."
 use Prim.Native.Nat.{ℕ, _+_, _*_}
-use mathlib.Core.Bool.{Bool, true, false, _&&_, _||_, not}
+use mathlib.Core.Bool.{Bool, true, false, cond, _&&_, _||_, not}
 use mathlib.Core.List.{List}
 use mathlib.Core.Option.{Option, none, some}
 use lib.Dec.{ltb, eqb}
@@ -66,8 +66,7 @@ over-limit t n = ltb limit (words t n)
 
 -- number n where its condition holds, else what comes after it
 abbrev pub first : ℕ → Bool → ℕ → ℕ
-first n true other = n
-first n false other = other
+first n bad other = cond bad n other
 
 -- the refusals of the header; 0 where none of them applies
 unfoldable pub header-refusal : List ℕ → ℕ
@@ -81,7 +80,7 @@ entries-refusal t n =
 
 -- of two numbers, the first that is not 0
 abbrev pub before : ℕ → ℕ → ℕ
-before m n = first m (ltb 0 m) n
+before m n = cond (eqb m 0) n m
 
 -- the number with which weighing the rule stops, and 0 where it is accepted
 abbrev pub refusal : List ℕ → ℕ

@@ -2,7 +2,7 @@
 use native.Mathlib.Omega.{arith}
 use borrow.Author.Tests.{eq-eqb, ne-eqb}
 use borrow.Author.Needs.{needs}
-use Rattle.engine.specs.Block.{no-end}
+use Rattle.rule.specs.Words.{unbounded}
 use Rattle.engine.proofs.ring.cells_for.Statement.{statement}
 use Rattle.engine.proofs.ring.cells_for.Tie as tie
 
@@ -10,10 +10,10 @@ add-result : tie.Need-add-result
 add-result c = search needs
 
 returns : tie.Need-returns
-returns c = rw (eq-eqb (c .before .args .high) no-end (omega arith)) (omega arith)
+returns c = rw (eq-eqb (c .before .args .high) unbounded (omega arith)) (omega arith)
 
 returns-2 : tie.Need-returns-2
-returns-2 c = rw (ne-eqb (c .before .args .high) no-end (omega arith)) (omega arith)
+returns-2 c = rw (ne-eqb (c .before .args .high) unbounded (omega arith)) (omega arith)
 
 pub cells-for-spec : {M : Type 1} → statement M
 cells-for-spec = tie.close (tie.spec add-result returns returns-2)
