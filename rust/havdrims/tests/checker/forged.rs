@@ -84,11 +84,12 @@ fn foreign_points() {
         let mut words = kiosk.point.words().to_vec();
         let need = kiosk.need;
         let random = r.draw();
-        match r.below(3) {
+        match r.below(4) {
             0 => words[..need].fill(r.pick(&[0, 1, u64::MAX, random])),
             1 => words[..need].iter_mut().for_each(|w| *w = r.draw()),
-            // a bit of the first word, or the format before this one
-            _ => words[0] = r.pick(&[words[0] ^ 1 << r.below(64), 0x4841_5644_0000_0001]),
+            2 => words[0] ^= 1 << r.below(64),
+            // the format before this one
+            _ => words[0] = 0x4841_5644_0000_0001,
         }
         kiosk.point.set(&words, side(r));
         let mut log = kiosk.brought(n);
