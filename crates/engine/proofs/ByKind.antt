@@ -1,15 +1,17 @@
 -- From an entry's number of its kind to the formula's last operator, for the dispatch. Assumes nothing.
-use Prim.Native.Nat.{ℕ, _+_, _*_, _≤_}
+use Prim.Native.Nat.{ℕ, _+_, _≤_}
 use native.Mathlib.Omega.{arith}
-use mathlib.Core.Bool.{Bool, true, false, cond}
+use mathlib.Core.Bool.{cond}
 use mathlib.Core.List.{List}
 use mathlib.Core.Path.{_≡_, refl, subst}
 use lib.Dec.{eqb}
 use Rattle.mtl.specs.Formula.{Formula}
 use Rattle.mtl.specs.Formula.Formula.{letter, not, or, previous, next, since, until}
-use Rattle.engine.specs.Block.{kind-of, letter-of, low-of, high-of, ring-words}
+use Rattle.rule.specs.Words.{ring-words, own-words}
+use Rattle.rule.proofs.Spans.{own-least}
+use Rattle.engine.specs.Block.{kind-of, letter-of, low-of, high-of}
 use Rattle.engine.specs.Step.{left-of, right-of, Steps}
-use Rattle.engine.specs.Table.{Fields, own-words}
+use Rattle.engine.specs.Table.{Fields}
 use Rattle.engine.specs.declared.operator.Step.{Step}
 
 -- the formula that an entry's fields and its operands make
@@ -38,12 +40,7 @@ steps-of φ {c = c} {l = l} {h = h} n s b r b′ e f steps =
 
 -- an entry's block has 16 words at least, and a since's its ring besides
 pub room-of : (k h n : ℕ) → own-words k h ≤ n → 16 ≤ n
-room-of k h n = at (eqb k 5) (eqb k 6)
-  where
-    at : (a b : Bool) → cond a (16 + ring-words h) (cond b (16 + 2 * (h + 1)) 16) ≤ n → 16 ≤ n
-    at true b r = omega arith
-    at false true r = omega arith
-    at false false r = omega arith
+room-of k h n r = omega (arith, own-least k h)
 
 pub since-room-of : (k h n : ℕ) → k ≡ 5 → own-words k h ≤ n → 16 + ring-words h ≤ n
 since-room-of k h n e r = rw e at r

@@ -1,22 +1,23 @@
 -- The turns of an entry's loop: what each outcome of a step makes of the words.
 use Prim.Native.Nat.{ℕ, zero, suc, _+_, _*_, _-_, _≤_, _<_, _^_}
-use mathlib.Core.Bool.{Bool, true, false, cond}
+use mathlib.Core.Bool.{Bool, true, false}
 use mathlib.Core.Bool.{not as negate}
 use mathlib.Core.Path.{_≡_, refl, sym, ap, subst, _∙_}
 use mathlib.Core.List.{List}
 use native.Mathlib.Omega.{arith}
 use native.Mathlib.Nat.{zero-add, pos-of-ne-zero}
-use lib.Dec.{eqb}
 use lib.ListN.{length, drop, length-drop}
 use Rattle.mtl.specs.Formula.{Formula}
 use Rattle.mtl.specs.Log.{Log, NeverFalls}
 use Rattle.mtl.specs.Progress.{progress}
 use Rattle.mtl.proofs.Bounded.{true-and-false}
 use Rattle.trace.specs.Format.{record-count}
-use Rattle.engine.specs.Block.{word, taken, ring-words, Ready}
+use Rattle.rule.specs.Words.{own-words}
+use Rattle.rule.proofs.Spans.{own-least}
+use Rattle.engine.specs.Block.{word, taken, Ready}
 use Rattle.engine.specs.Step.{Agrees, Batched, Moved, Stepped, Steps, Ends, empty, left-to-do}
 use Rattle.engine.specs.State.{State}
-use Rattle.engine.specs.Table.{Has, Row, RowOk, RowsOk, Fields, column, takes-left, takes-right, own-words}
+use Rattle.engine.specs.Table.{Has, Row, RowOk, RowsOk, Fields, column, takes-left, takes-right}
 use Rattle.engine.specs.Answer.{Answers}
 use Rattle.engine.specs.Ask.{part, back, stored, Asks}
 use Rattle.engine.specs.declared.operator.Step.{Step}
@@ -66,14 +67,6 @@ abbrev pub takes : Side → ℕ → Bool
 takes on-left = takes-left
 takes on-right = takes-right
 
-least : (kind high : ℕ) → 16 ≤ own-words kind high
-least kind high = cases (eqb kind 5) (eqb kind 6)
-  where
-    cases : (x y : Bool) → 16 ≤ cond x (16 + ring-words high) (cond y (16 + 2 * (high + 1)) 16)
-    cases true y = omega arith
-    cases false true = omega arith
-    cases false false = omega arith
-
 module _ {t : List ℕ} {k kind letter low high left a c end : ℕ} (read : Reading t k kind letter low high left a c end) where
   own-row : RowOk t k
   own-row = read .rows k (omega arith)
@@ -85,7 +78,7 @@ module _ {t : List ℕ} {k kind letter low high left a c end : ℕ} (read : Read
   bound = rw (read .all) (own-row .bound)
 
   pub room : a + c + 16 ≤ end
-  room = omega (arith, sizes, least kind high)
+  room = omega (arith, sizes, own-least kind high)
 
   -- what a step requires
   pub may-step : (ws : List ℕ) → length ws ≡ end →

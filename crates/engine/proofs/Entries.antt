@@ -1,5 +1,5 @@
 -- A subformula's words entry by entry: the block of entry j stands at `offset t j` in the words W behind the checkpoint's header.
-use Prim.Native.Nat.{ℕ, zero, suc, _+_, _*_, _-_, _≤_, _<_}
+use Prim.Native.Nat.{ℕ, zero, suc, _+_, _-_, _≤_, _<_}
 use mathlib.Core.Bool.{Bool, true, false, cond}
 use mathlib.Core.Logic.{⊎-elim}
 use mathlib.Core.Path.{_≡_, refl, sym, _∙_, ap, ap₂, subst}
@@ -15,15 +15,15 @@ use Rattle.mtl.specs.Log.{Log}
 use Rattle.mtl.proofs.Bounded.{le-or-lt}
 use Rattle.rule.specs.declared.Entry.{Entry}
 use Rattle.rule.specs.Entries.{entry}
-use Rattle.rule.specs.Words.{own, offset}
+use Rattle.rule.specs.Words.{unbounded, ring-words, own-words, own, offset}
 use Rattle.rule.specs.Postfix.{root}
 use Rattle.rule.specs.Operands.{operands, span, left, part, FormulaAt, Unary, Binary}
 use Rattle.rule.specs.Accepted.{WellFormed}
-use Rattle.engine.specs.Block.{word, taken, left-count, right-count, ring-words, kind-of, letter-of, low-of, high-of, Copied, FreshBlock, cells-of, InRange, Own, Core, Buffers, Ready}
+use Rattle.rule.proofs.Spans.{own-least, offset-mono}
+use Rattle.engine.specs.Block.{word, taken, left-count, right-count, kind-of, letter-of, low-of, high-of, Copied, FreshBlock, cells-of, InRange, Own, Core, Buffers, Ready}
 use Rattle.engine.specs.State.{words, Parts, Absent, State}
-use Rattle.engine.specs.Table.{own-words}
 use Rattle.engine.specs.Layout.{first}
-use Rattle.engine.proofs.Rows.{offset-grows, words-at, fields-of}
+use Rattle.engine.proofs.Rows.{words-at, fields-of}
 use Rattle.engine.proofs.Words.{empty-buffer}
 
 -- the words of the subformula that ends at entry k
@@ -76,31 +76,23 @@ range-same b b′ same r =
 
 -- WHERE AN ENTRY'S OWN BLOCK STANDS
 
-pub own-least : (e : Entry) → 16 ≤ own e
-own-least e = least (eqb (e .kind) 5) (eqb (e .kind) 6) (cond (eqb (e .high) 4294967295) 1 (e .high + 1)) (e .high)
-  where
-    least : (b b′ : Bool) (x y : ℕ) → 16 ≤ cond b (16 + x) (cond b′ (16 + 2 * (y + 1)) 16)
-    least true b′ x y = omega arith
-    least false true x y = omega arith
-    least false false x y = omega arith
-
 module _ (t : List Entry) (W : List ℕ) where
   -- from a part's first entry to behind its last
   part-ends : (k : ℕ) → offset t (first t k) + part t k ≡ offset t (suc k)
-  part-ends k = let g = offset-grows t (first t k) (suc k) (omega arith) in omega arith
+  part-ends k = let g = offset-mono t (first t k) (suc k) (omega arith) in omega arith
 
   module _ (k a c : ℕ) (all : part t k ≡ a + c + own (entry t k)) where
     own-same : Same (drop (a + c) (part-words t k W)) (drop (offset t k) W)
     unfolding offset
     own-same =
         let p = part-ends k in
-        let w = own-least (entry t k) in
+        let w = own-least (entry t k .kind) (entry t k .high) in
         part-same W (offset t (first t k)) (part t k) (a + c) (offset t k) (omega arith) (omega arith)
 
     own-room : (n : ℕ) → k < n → offset t n ≤ length W → own (entry t k) ≤ length (drop (a + c) (part-words t k W))
     own-room n h room =
         let p = part-ends k in
-        let g = offset-grows t (suc k) n h in
+        let g = offset-mono t (suc k) n h in
         let d = length-drop (offset t (first t k)) W in
         let l = length-take-le (part t k) (drop (offset t (first t k)) W) (omega arith) in
         let l′ = length-drop (a + c) (part-words t k W) in
@@ -131,7 +123,7 @@ module _ (φ : Formula) (L : Log) (b : List ℕ) (fresh : FreshBlock (kind-of φ
       }
 
 ring-least : (high : ℕ) → 1 ≤ ring-words high
-ring-least high = least (eqb high 4294967295)
+ring-least high = least (eqb high unbounded)
   where
     least : (b : Bool) → 1 ≤ cond b 1 (high + 1)
     least true = omega arith

@@ -14,10 +14,11 @@ use Rattle.mtl.specs.Formula.Formula.{letter, not, or, previous, next, since, u
 use Rattle.mtl.proofs.Bounded.{true-and-false, le-or-lt}
 use Rattle.rule.specs.declared.Entry.{Entry}
 use Rattle.rule.specs.Entries.{entry}
-use Rattle.rule.specs.Words.{own, offset}
+use Rattle.rule.specs.Words.{own}
 use Rattle.rule.specs.Postfix.{root}
 use Rattle.rule.specs.Operands.{operands, left, part, FormulaAt, Binary}
 use Rattle.rule.specs.Accepted.{WellFormed}
+use Rattle.rule.proofs.Spans.{offset-mono}
 use Rattle.engine.specs.State.{words, left-words, right-words}
 use Rattle.engine.specs.Table.{column, takes-left, takes-right, RowOk, RowsOk, Fields, Row, Has}
 use Rattle.engine.specs.Layout.{first, first-from, left-from, row-of, row, Laid}
@@ -81,16 +82,6 @@ arity (suc (suc (suc (suc (suc zero))))) h = two refl refl refl
 arity (suc (suc (suc (suc (suc (suc zero)))))) h = two refl refl refl
 arity (suc (suc (suc (suc (suc (suc (suc k))))))) h = absurd (omega arith)
 
--- words only grow from entry to entry
-pub offset-grows : (t : List Entry) (m k : ℕ) → m ≤ k → offset t m ≤ offset t k
-unfolding offset
-offset-grows t m zero h = let e : m ≡ 0 = omega arith in rw e (omega arith)
-offset-grows t m (suc k) h =
-    ⊎-elim
-    (λ (g : m ≤ k). let l = offset-grows t m k g in omega arith)
-    (λ (g : k < m). let e : m ≡ suc k = omega arith in rw e (omega arith))
-    (le-or-lt m k)
-
 module _ (t : List Entry) (n : ℕ) (ok : WellFormed t n) where
   arity-at : (k : ℕ) → k < n → Arity (entry t k .kind)
   arity-at k h = arity (entry t k .kind) (ok .in-range k h .kind)
@@ -122,7 +113,7 @@ module _ (t : List Entry) (n : ℕ) (ok : WellFormed t n) where
 
   part-bound : (k : ℕ) → k < n → part t k ≤ 8192
   part-bound k h =
-      let g = offset-grows t (suc k) n h in
+      let g = offset-mono t (suc k) n h in
       let w = ok .within in
       omega arith
 

@@ -15,10 +15,10 @@ use Rattle.mtl.specs.Satisfaction.{sat, since-at}
 use Rattle.mtl.specs.Progress.{progress}
 use Rattle.bits.specs.Packed.{bit, with-bit, Packed}
 use Rattle.bits.proofs.Laws.{with-bit-lt, packed-none, packed-push, packed-same}
-use Rattle.rule.specs.Words.{unbounded}
+use Rattle.rule.specs.Words.{unbounded, ring-words}
 use Rattle.trace.specs.Format.{record-count, time-at}
 use Rattle.trace.proofs.Laws.{time-bound}
-use Rattle.engine.specs.Block.{word, taken, left-count, left-bits, right-count, right-bits, ring-words, Ready, took-both}
+use Rattle.engine.specs.Block.{word, taken, left-count, left-bits, right-count, right-bits, Ready, took-both}
 use Rattle.engine.specs.Ring.{Ring, Rings, Witnesses, turned, turns, reaches, reached}
 use Rattle.engine.specs.Step.{Agrees, Stepped, Steps}
 use Rattle.engine.specs.declared.operator.Step.the-variants.{Batch, Left, Right, Open}

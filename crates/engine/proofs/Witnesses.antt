@@ -13,8 +13,7 @@ use lib.Seq.{getD-drop, getD-append-seam}
 use borrow.Author.Tests.{leb-true, ltb-true, ltb-false, le-leb, lt-ltb, eqb-true, eq-eqb}
 use Rattle.mtl.specs.Satisfaction.{since-at}
 use Rattle.mtl.proofs.Bounded.{true-and-false, same-test, and-iff, since-at-iff}
-use Rattle.rule.specs.Words.{unbounded}
-use Rattle.engine.specs.Block.{ring-words}
+use Rattle.rule.specs.Words.{unbounded, ring-words}
 use Rattle.engine.specs.Ring.{Witness, Witnesses, dropped, kept, newest-is, turned, reaches}
 
 -- dropped: the first k, each more than high before `at`; the next one is not

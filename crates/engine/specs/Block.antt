@@ -11,7 +11,7 @@ use Rattle.mtl.specs.Log.{Log}
 use Rattle.mtl.specs.Satisfaction.{sat}
 use Rattle.mtl.specs.Progress.{progress}
 use Rattle.bits.specs.Packed.{Packed}
-use Rattle.rule.specs.Words.{unbounded}
+use Rattle.rule.specs.Words.{ring-words}
 use Rattle.engine.specs.Ring.{Ring, Witnesses}
 
 abbrev pub word : List ℕ → ℕ → ℕ
@@ -48,10 +48,6 @@ last-right b = word b 7
 
 abbrev pub last-time : List ℕ → ℕ
 last-time b = word b 8
-
--- "for since with a finite high (high + 1), for since without upper end 1"
-abbrev pub ring-words : ℕ → ℕ
-ring-words high = cond (eqb high unbounded) 1 (high + 1)
 
 -- the numbers of the paper's table of kinds, and the fields that an entry of the formula's last operator has
 abbrev pub kind-of : Formula → ℕ

@@ -1,6 +1,6 @@
 -- The decoded rule as the engine reads it: a row of eight numbers for each entry.
 use Prim.Native.Nat.{ℕ, _+_, _*_, _-_, _≤_, _<_, _^_}
-use mathlib.Core.Bool.{Bool, true, cond, _||_}
+use mathlib.Core.Bool.{Bool, true, _||_}
 use mathlib.Core.Bool.{not as negate}
 use mathlib.Core.Path.{_≡_}
 use mathlib.Core.List.{List}
@@ -8,7 +8,8 @@ use lib.ListN.{getD}
 use lib.Dec.{eqb}
 use Rattle.mtl.specs.Formula.{Formula}
 use Rattle.mtl.specs.Formula.Formula.{letter, not, or, previous, next, since, until}
-use Rattle.engine.specs.Block.{kind-of, letter-of, low-of, high-of, ring-words}
+use Rattle.rule.specs.Words.{own-words}
+use Rattle.engine.specs.Block.{kind-of, letter-of, low-of, high-of}
 use Rattle.engine.specs.State.{left-words, right-words}
 
 -- the columns of row k: kind, letter, low, high, the left operand's entry, its words, the right operand's words, all words
@@ -22,10 +23,6 @@ takes-left kind = eqb kind 2 || (eqb kind 5 || eqb kind 6)
 -- the entry takes a right operand, or an only one: every kind but letter
 abbrev pub takes-right : ℕ → Bool
 takes-right kind = negate (eqb kind 0)
-
--- the words of an entry's own block
-abbrev pub own-words : (kind high : ℕ) → ℕ
-own-words kind high = cond (eqb kind 5) (16 + ring-words high) (cond (eqb kind 6) (16 + 2 * (high + 1)) 16)
 
 -- what every row of an accepted rule keeps to
 pub record RowOk (t : List ℕ) (k : ℕ) : Type 0 where

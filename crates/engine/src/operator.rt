@@ -2,8 +2,9 @@
 ghost use Prim.Native.Nat.{_≤_, _<_, _^_};
 ghost use lib.ListN.{length};
 ghost use Rattle.mtl.specs.Formula.{Formula};
+ghost use Rattle.rule.specs.Words.{own-words};
 ghost use Rattle.engine.specs.Step.{Steps, Ends};
-ghost use Rattle.engine.specs.Table.{Fields, takes-left, takes-right, own-words};
+ghost use Rattle.engine.specs.Table.{Fields, takes-left, takes-right};
 
 // What one step finds.
 pub enum Step {

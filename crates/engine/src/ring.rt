@@ -4,7 +4,7 @@ ghost use mathlib.Core.Path.{_≡_};
 ghost use mathlib.Core.List.{List};
 ghost use Prim.Native.Nat.{ℕ, _+_, _≤_, _<_, _^_};
 ghost use lib.ListN.{length};
-ghost use Rattle.engine.specs.Block.{ring-words};
+ghost use Rattle.rule.specs.Words.{ring-words};
 ghost use Rattle.engine.specs.Ring.{Ring, Rings, wrap, dropped, kept, pushed, reaches, turned};
 use super::time;
 

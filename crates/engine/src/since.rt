@@ -8,7 +8,7 @@ ghost use Rattle.mtl.specs.Formula.Formula.{since};
 ghost use Rattle.bits.specs.Packed.{Packed};
 ghost use Rattle.trace.specs.Format.{record-count};
 ghost use Rattle.engine.specs.Step.{Steps, Ends};
-ghost use Rattle.engine.specs.Block.{ring-words};
+ghost use Rattle.rule.specs.Words.{ring-words};
 ghost use Rattle.engine.specs.Ring.{Ring, Rings, turns, reached};
 use super::blocks;
 use super::operator::Step;

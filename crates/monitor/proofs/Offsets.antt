@@ -1,33 +1,18 @@
 -- Where the blocks of a rule's entries stand, and how many words each has.
-use Prim.Native.Nat.{ℕ, zero-le, _+_, _*_, _-_, _≤_, _<_}
+use Prim.Native.Nat.{ℕ, zero-le, _+_, _-_, _≤_, _<_}
 use native.Mathlib.Numerals.{add-one}
 use native.Mathlib.Omega.{arith}
-use mathlib.Core.Bool.{Bool, true, false, cond, _||_}
+use mathlib.Core.Bool.{Bool, _||_}
 use mathlib.Core.Path.{_≡_, refl, ap}
 use mathlib.Core.List.{List}
-use lib.Dec.{eqb}
 use borrow.Author.Tests.{eq-eqb}
 use Rattle.mtl.specs.Satisfaction.{any}
 use Rattle.rule.specs.declared.Entry.{Entry}
 use Rattle.rule.specs.Entries.{entry}
-use Rattle.rule.specs.Words.{unbounded, own, offset, words}
-use Rattle.rule.proofs.Spans.{offset-mono}
+use Rattle.rule.specs.Words.{own, offset, words}
+use Rattle.rule.proofs.Spans.{own-least, offset-mono}
 use Rattle.engine.specs.Block.{cells-of}
 use Rattle.monitor.specs.Checkpoint.{block-at}
-
-either-least : (b : Bool) (x y : ℕ) → 16 ≤ x → 16 ≤ y → 16 ≤ cond b x y
-either-least true x y h h′ = h
-either-least false x y h h′ = h′
-
--- "16 for each entry", and more for some
-pub own-least : (e : Entry) → 16 ≤ own e
-own-least e =
-    either-least
-    (eqb (e .kind) 5)
-    (16 + cond (eqb (e .high) unbounded) 1 (e .high + 1))
-    (cond (eqb (e .kind) 6) (16 + 2 * (e .high + 1)) 16)
-    (omega arith)
-    (either-least (eqb (e .kind) 6) (16 + 2 * (e .high + 1)) 16 (omega arith) (omega arith))
 
 -- behind the 16 words of a since stand its ring's cells
 pub since-cells : (e : Entry) → e .kind ≡ 5 → own e - 16 ≡ cells-of (e .kind) (e .high)
@@ -47,7 +32,7 @@ module _ (t : List Entry) where
   block-within n k h = omega (arith, block-next k, offset-mono t (k + 1) n (omega arith))
 
   pub block-fits : (n k : ℕ) → k < n → block-at t k + 16 ≤ words t n
-  block-fits n k h = omega (arith, block-within n k h, own-least (entry t k))
+  block-fits n k h = omega (arith, block-within n k h, own-least (entry t k .kind) (entry t k .high))
 
 -- a walk over the first n blocks has come to block k, which begins at `at`
 pub record Walk (t : List Entry) (n at k : ℕ) : Type 0 where

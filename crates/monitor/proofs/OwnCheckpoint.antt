@@ -1,7 +1,7 @@
 -- A checkpoint that the library left never meets refusal 10 or 11 with its rule. Assumes nothing.
 -- (Examples is named first so that the table of worked examples is checked before any theorem.)
 use Rattle.monitor.specs.Examples
-use Prim.Native.Nat.{ℕ, suc, _+_, _-_, _≤_, _<_, _^_}
+use Prim.Native.Nat.{ℕ, _+_, _-_, _≤_, _<_, _^_}
 use mathlib.Core.Bool.{false}
 use mathlib.Core.Path.{_≡_, sym, _∙_, ap, subst}
 use mathlib.Core.List.{List}
@@ -18,11 +18,11 @@ use Rattle.rule.specs.Refusal.{refusal}
 use Rattle.rule.proofs.Acceptance.{accepted}
 use Rattle.engine.specs.Block.{word, cells-of}
 use Rattle.engine.specs.State.{words, State}
-use Rattle.engine.proofs.Rows.{offset-grows}
-use Rattle.engine.proofs.Entries.{Ranged, rule-size, rule-ranges, own-least}
+use Rattle.engine.proofs.Entries.{Ranged, rule-size, rule-ranges}
 use Rattle.monitor.specs.Checkpoint.{format, given, seen, last, held-count, need, block-at, copy-differs, foreign, block-outside, outside}
 use Rattle.monitor.specs.Verdicts.{formula-or, formula-of}
 use Rattle.monitor.specs.Stands.{Stands}
+use Rattle.monitor.proofs.Offsets.{block-fits}
 
 module _ (rule : List ℕ) (K : Log) (d : ℕ) (p : List ℕ) (fine : refusal rule ≡ 0) (stands : Stands rule K d p) where
   -- the rule's own words, and those behind the header
@@ -56,17 +56,9 @@ module _ (rule : List ℕ) (K : Log) (d : ℕ) (p : List ℕ) (fine : refusal ru
       rule-ranges (decoded rule) (count rule) (a .well-formed) (a .some-entries) (a .spans-all) φ (a .at-last) behind K (d + held-count own-part)
       (rw (take-all (words φ) behind (omega arith)) s) j h
 
-  -- a block lies within the need
-  block-room : (j : ℕ) → j < count rule → block-at (decoded rule) j + 16 ≤ need rule
-  unfolding offset
-  block-room j h =
-      let g = offset-grows (decoded rule) (suc j) (count rule) h in
-      let w = own-least (entry (decoded rule) j) in
-      omega arith
-
   block-word : (j i : ℕ) → j < count rule → i < 16 → word (drop (offset (decoded rule) j) behind) i ≡ word p (block-at (decoded rule) j + i)
   block-word j i h l =
-      let r = block-room j h in
+      let r = block-fits (decoded rule) (count rule) j h in
       getD-drop (offset (decoded rule) j) behind i 0 ∙ getD-drop 16 own-part (offset (decoded rule) j + i) 0 ∙
       ap (word own-part) (omega arith) ∙ own-word (block-at (decoded rule) j + i) (omega arith)
 

@@ -1,12 +1,14 @@
 -- The spans of subformulas, and the words that go with them, from those of the operands.
-use Prim.Native.Nat.{ℕ, zero, suc, _+_, _-_, _≤_, _<_}
+use Prim.Native.Nat.{ℕ, zero, suc, _+_, _*_, _-_, _≤_, _<_}
 use native.Mathlib.Omega.{arith}
+use mathlib.Core.Bool.{Bool, true, false, cond}
 use mathlib.Core.Path.{_≡_, refl, sym, ap, subst, _∙_}
 use mathlib.Core.List.{List}
+use lib.Dec.{eqb}
 use lib.ListN.{getD}
 use Rattle.rule.specs.declared.Entry.{Entry}
 use Rattle.rule.specs.Entries.{entry}
-use Rattle.rule.specs.Words.{own, offset}
+use Rattle.rule.specs.Words.{ring-words, own-words, own, offset}
 use Rattle.rule.specs.Operands.{operands, next-span, spans, span, left, Leaf, Unary, Binary}
 use Rattle.rule.proofs.Laws.{grown-at}
 
@@ -39,6 +41,15 @@ module _ (t : List Entry) (k : ℕ) where
       ∙ ap (λ (m : ℕ). next-span m (spans t k) k) e
       ∙ ap (λ (m : ℕ). 1 + m + getD (spans t k) (k - 1 - m) 0) r
       ∙ ap (λ (m : ℕ). 1 + span t (k - 1) + m) (spans-at t k (left t k) (omega arith))
+
+-- "16 for each entry", and more for some
+pub own-least : (kind high : ℕ) → 16 ≤ own-words kind high
+own-least kind high = least (eqb kind 5) (eqb kind 6)
+  where
+    least : (b b′ : Bool) → 16 ≤ cond b (16 + ring-words high) (cond b′ (16 + 2 * (high + 1)) 16)
+    least true b′ = omega arith
+    least false true = omega arith
+    least false false = omega arith
 
 -- the words of more entries are no fewer
 offset-grows : (t : List Entry) (i j : ℕ) → offset t i ≤ offset t (i + j)

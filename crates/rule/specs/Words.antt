@@ -10,9 +10,16 @@ use Rattle.rule.specs.Entries.{entry}
 abbrev pub unbounded : ℕ
 unbounded = 4294967295
 
--- "16 for each entry, and for since with a finite high (high + 1), for since without upper end 1, for until 2 × (high + 1)"
+-- "for since with a finite high (high + 1), for since without upper end 1"
+abbrev pub ring-words : ℕ → ℕ
+ring-words high = cond (eqb high unbounded) 1 (high + 1)
+
+-- "16 for each entry, and for since" those of its ring, "for until 2 × (high + 1)"
+abbrev pub own-words : (kind high : ℕ) → ℕ
+own-words kind high = cond (eqb kind 5) (16 + ring-words high) (cond (eqb kind 6) (16 + 2 * (high + 1)) 16)
+
 abbrev pub own : Entry → ℕ
-own e = cond (eqb (e .kind) 5) (16 + cond (eqb (e .high) unbounded) 1 (e .high + 1)) (cond (eqb (e .kind) 6) (16 + 2 * (e .high + 1)) 16)
+own e = own-words (e .kind) (e .high)
 
 -- the words of the first n entries, and where the words of entry n begin, counted from those of entry 0
 unfoldable pub offset : List Entry → ℕ → ℕ

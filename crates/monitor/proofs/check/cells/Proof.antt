@@ -4,7 +4,8 @@ use native.Mathlib.Omega.{arith}
 use mathlib.Core.Path.{ap, _∙_}
 use borrow.Author.Tests.{ne-eqb}
 use borrow.Author.Needs.{needs}
-use Rattle.monitor.proofs.Offsets.{own-least, since-cells}
+use Rattle.rule.proofs.Spans.{own-least}
+use Rattle.monitor.proofs.Offsets.{since-cells}
 use Rattle.monitor.proofs.check.cells.Statement.{statement}
 use Rattle.monitor.proofs.check.cells.Tie as tie
 
@@ -12,7 +13,7 @@ own-words-requires : tie.Need-own-words-requires
 own-words-requires c κs = search needs
 
 sub-result : tie.Need-sub-result
-sub-result c = omega (arith, c .own-words .ensures .0, own-least (c .before .before .before .args .e))
+sub-result c = omega (arith, c .own-words .ensures .0, own-least (c .before .before .before .args .e .kind) (c .before .before .before .args .e .high))
 
 returns : tie.Need-returns
 returns c =
