@@ -178,18 +178,3 @@ state-longer (since low high φ ψ) K L longer falls g ws s =
 state-longer (until low high φ ψ) K L longer falls g ws s =
     parts-map _ _ _ _ _ _ (words φ) (words ψ) ws (ready-longer K L longer falls (until low high φ ψ) g)
     (state-longer φ K L longer falls) (state-longer ψ K L longer falls) s
-
--- a state's own block
-pub state-own : (φ : Formula) (L : Log) (g : ℕ) (ws : List ℕ) → State φ L g ws → Ready φ L g (drop (left-words φ + right-words φ) ws)
-unfolding State
-state-own (letter k) L g ws s = s .own
-state-own (not φ) L g ws s = s .own
-state-own (or φ ψ) L g ws s = s .own
-state-own (previous low high φ) L g ws s = s .own
-state-own (next low high φ) L g ws s = s .own
-state-own (since low high φ ψ) L g ws s = s .own
-state-own (until low high φ ψ) L g ws s = s .own
-
--- a subformula has answered no further than its progress
-pub state-reached : (φ : Formula) (L : Log) (g : ℕ) (ws : List ℕ) → State φ L g ws → g ≤ progress φ L
-state-reached φ L g ws s = state-own φ L g ws s .core .reached

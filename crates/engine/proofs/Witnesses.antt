@@ -229,12 +229,3 @@ module _ (high : ℕ) (time : ℕ → ℕ) where
               let near : getD times i 0 ≤ time j = ⊎-elim (λ q. omega arith) (λ q. q .1) s in
               both .1 (lt-ltb 0 (length times) (omega arith), le-leb low (time g - getD times 0 0) (omega arith)),
         )
-
--- none are known before the first position
-pub no-witnesses : (high : ℕ) (time : ℕ → ℕ) (left right : ℕ → Bool) → Witnesses high time left right 0 []
-no-witnesses high time left right =
-    record {
-      rising = λ i j h h′. absurd (omega arith);
-      sound = λ i h. absurd (omega arith);
-      complete = λ j v b. absurd (let h = v .before in omega arith);
-    }

@@ -51,9 +51,6 @@ not-iff false = (λ e p. false≢true p, λ f. refl)
 pub leb-iff : (a b : ℕ) → (leb a b ≡ true) ↔ (a ≤ b)
 leb-iff a b = (leb-true a b, le-leb a b)
 
-pub ltb-iff : (a b : ℕ) → (ltb a b ≡ true) ↔ (a < b)
-ltb-iff a b = (ltb-true a b, lt-ltb a b)
-
 pub le-or-lt : (a b : ℕ) → (a ≤ b) ⊎ (b < a)
 le-or-lt a b = ⊎-elim (λ e. inl (leb-true a b e)) (λ e. inr (leb-false a b e)) (true-or-false (leb a b))
 
@@ -167,17 +164,6 @@ run-holds m p = run-is m p .holds
 
 pub run-stops : (m : ℕ) (p : ℕ → Bool) → run m p < m → p (run m p) ≡ false
 run-stops m p h = ⊎-elim (λ e. absurd (omega arith)) (λ f. f) (run-is m p .stops)
-
--- of two runs neither is longer
-run-not-less : (m : ℕ) (p : ℕ → Bool) (r s : ℕ) → Run m p r → Run m p s → r < s → ⊥
-run-not-less m p r s R S h = ⊎-elim (λ e. let k = S .most in omega arith) (true-and-false (S .holds r h)) (R .stops)
-
-pub run-unique : (m : ℕ) (p : ℕ → Bool) (r : ℕ) → r ≤ m → ((i : ℕ) → i < r → p i ≡ true) → (r ≡ m) ⊎ (p r ≡ false) → run m p ≡ r
-run-unique m p r most holds stops =
-    let R : Run m p r = record { most = most; holds = holds; stops = stops } in
-    let n : run m p < r → ⊥ = run-not-less m p (run m p) r (run-is m p) R in
-    let k : r < run m p → ⊥ = run-not-less m p r (run m p) R (run-is m p) in
-    omega arith
 
 pub run-congr : (m : ℕ) (p q : ℕ → Bool) → ((i : ℕ) → i < m → p i ≡ q i) → run m p ≡ run m q
 unfolding run

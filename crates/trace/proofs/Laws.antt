@@ -160,12 +160,3 @@ prefix-continues s n =
 
 pub count-prefix : (s : List ℕ) (n : ℕ) → n ≤ record-count s → record-count (take (n * 8) s) ≡ n
 count-prefix s n h = let short = length-take (n * 8) s in omega arith
-
--- records that have the bytes of u from position d on, and those of u as far as these records go
-pub agree-prefix : (s u : List ℕ) (d : ℕ) → ((k : ℕ) → d * 8 ≤ k → k < length s → getD s k 0 ≡ getD u k 0) → Agree (log-of s) (log-of (take (length s) u)) d (record-count s)
-agree-prefix s u d same =
-    agree s (take (length s) u) d (record-count s)
-    (λ k lo hi. same k lo (omega arith) ∙ sym (getD-take (length s) u k 0 (omega arith)))
-
-pub size-prefix : (s u : List ℕ) → length s ≤ length u → record-count (take (length s) u) ≡ record-count s
-size-prefix s u h = let short = length-take (length s) u in omega arith
