@@ -4,7 +4,6 @@ use mathlib.Core.Bool.{Bool}
 use mathlib.Core.Path.{_≡_, sym, _∙_}
 use mathlib.Core.List.{List}
 use native.Mathlib.Omega.{arith}
-use lib.ListN.{drop}
 use Rattle.mtl.specs.Formula.{Formula}
 use Rattle.mtl.specs.Formula.Formula.{letter, not, or, previous, next, since, until}
 use Rattle.mtl.specs.Log.{Log, NeverFalls, Continues}
@@ -15,7 +14,7 @@ use Rattle.mtl.proofs.Lengthening.{progress-grows, answers-stay}
 use Rattle.bits.proofs.Laws.{packed-same}
 use Rattle.engine.specs.Ring.{Witness, Witnesses}
 use Rattle.engine.specs.Block.{taken, kind-of, high-of, cells-of, InRange, Remembers, Until, Own, Buffer, Buffers, Ready}
-use Rattle.engine.specs.State.{words, left-words, right-words, Parts, Absent, State}
+use Rattle.engine.specs.State.{words, Parts, Absent, State}
 
 -- a witness is one by the truth values below its position
 witness-same : (n : ℕ) (left right left′ right′ : ℕ → Bool) →
