@@ -1,15 +1,16 @@
 -- Words of answers: taken apart, put together, and combined bit by bit. Assumes nothing.
 use Prim.Native.Nat.{ℕ, zero, suc, _+_, _*_, _-_, _/_, _%_, _≤_, _<_, _^_}
-use native.Mathlib.Nat.{add-mul-div-right, add-mul-mod-self-right, div-eq-of-lt, eq-or-lt-of-le, pow-suc}
+use native.Mathlib.Nat.{add-mul-div-right, add-mul-mod-self-right, div-eq-of-lt, eq-or-lt-of-le, mul-comm, pow-suc, zero-add}
 use native.Mathlib.Numerals.{add-one}
 use native.Mathlib.Omega.{arith}
 use mathlib.Core.Bool.{Bool, true, false, _&&_, _||_}
 use mathlib.Core.Bool.{not as negate}
-use mathlib.Core.Logic.{⊎-elim}
+use mathlib.Core.Logic.{_⊎_, inl, inr, ⊎-elim}
 use mathlib.Core.Path.{_≡_, refl, sym, ap, ap₂, _∙_}
-use borrow.Author.Tests.{eq-eqb, ne-eqb}
-use lib.Bits.{bitAnd, bitOr, and-shr, and-mod, or-shr, or-mod}
-use lib.Dec.{eqb}
+use borrow.Author.Tests.{eq-eqb, ne-eqb, leb-true, leb-false}
+use lib.Bits.{bitAnd, bitOr, and-high, and-shr, and-mod, or-shr, or-mod}
+use lib.Arith.{digits-lt}
+use lib.Dec.{eqb, leb}
 use lib.Pow.{field, mod-mod-pow, pow-add, pow-pos, shr-shr}
 use Rattle.bits.specs.Packed.{bit, number, with-bit, moved-up, Packed}
 
@@ -63,6 +64,10 @@ bit-below : (w n y i : ℕ) → i < n → bit (w + y * 2 ^ n) i ≡ bit w i
 bit-below w n y i h =
     sym (bit-mod (w + y * 2 ^ n) n i h) ∙ ap (λ (v : ℕ). bit v i) (add-mul-mod-self-right w y (2 ^ n)) ∙ bit-mod w n i h
 
+-- above the first n bits stand the others
+above : (w n y : ℕ) → w < 2 ^ n → (w + y * 2 ^ n) / 2 ^ n ≡ y
+above w n y h = add-mul-div-right w y (pow-pos n) ∙ ap (λ (v : ℕ). v + y) (div-eq-of-lt h) ∙ zero-add y
+
 bit-number : (x : Bool) → eqb ((0 + number x) % 2) 1 ≡ x
 bit-number true = refl
 bit-number false = refl
@@ -87,6 +92,15 @@ packed-rest f p n w m h k = record {
   same = λ i l. ap f (omega arith) ∙ k .same (m + i) (omega arith) ∙ sym (bit-rest w m i);
 }
 
+-- one more in front of them
+pub packed-front : (f : ℕ → Bool) (p n w : ℕ) (x : Bool) → n < 64 → f p ≡ x → Packed f (p + 1) n w → Packed f p (n + 1) (w * 2 + number x)
+packed-front f p n w x h e k = record { few = omega arith; same = at }
+  where
+    at : (i : ℕ) → i < n + 1 → f (p + i) ≡ bit (w * 2 + number x) i
+    at zero l = ap f (omega arith) ∙ e ∙ sym (bit-first w x)
+    at (suc i) l =
+        ap f (omega arith) ∙ k .same i (omega arith) ∙ sym (bit-next w x i) ∙ ap (bit (w * 2 + number x)) (add-one i)
+
 -- one more behind them
 pub packed-push : (f : ℕ → Bool) (p n w : ℕ) (x : Bool) → n < 64 → w < 2 ^ n → f (p + n) ≡ x → Packed f p n w → Packed f p (n + 1) (with-bit w n x)
 packed-push f p n w x h small e k = record {
@@ -110,6 +124,37 @@ pub pushed-more : (f : ℕ → Bool) (p i w : ℕ) (x : Bool) (w′ : ℕ) → i
     Pushed f p i w → Pushed f p (i + 1) w′
 pushed-more f p i w x w′ few here gave so-far =
     record { small = gave .1; packed = rw (gave .0) (packed-push f p i w x few (so-far .small) here (so-far .packed)) }
+
+le-or-lt : (a b : ℕ) → (a ≤ b) ⊎ (b < a)
+le-or-lt a b = at (leb a b) refl
+  where
+    at : (t : Bool) → leb a b ≡ t → (a ≤ b) ⊎ (b < a)
+    at true e = inl (leb-true a b e)
+    at false e = inr (leb-false a b e)
+
+-- m more behind the i that are there
+pub pushed-all : (f : ℕ → Bool) (p i m v w : ℕ) → i + m ≤ 64 → v < 2 ^ m → Packed f (p + i) m v → Pushed f p i w → Pushed f p (i + m) (w + v * 2 ^ i)
+pushed-all f p i m v w few small more so-far = record {
+  small = omega (arith, pow-add 2 i m, mul-comm (2 ^ i) (2 ^ m), digits-lt small (so-far .small));
+  packed = record {
+    few = few;
+    same = λ j h.
+        ⊎-elim
+        (λ high.
+        ap f (omega arith) ∙ more .same (j - i) (omega arith)
+        ∙ sym (ap (λ (u : ℕ). bit u (j - i)) (above w i v (so-far .small)))
+        ∙ bit-rest (w + v * 2 ^ i) i (j - i)
+        ∙ ap (bit (w + v * 2 ^ i)) (omega arith))
+        (λ low. so-far .packed .same j low ∙ sym (bit-below w i v j low))
+        (le-or-lt i j);
+  };
+}
+
+-- the bit that a mask of one bit leaves
+pub mask-bit : (w s : ℕ) → bitAnd w (2 ^ s) ≡ number (bit w s) * 2 ^ s
+mask-bit w s =
+    let one : 2 ^ s ≡ 2 ^ (1 + s) - 2 ^ s = omega (arith, pow-add 2 1 s) in
+    ap (bitAnd w) one ∙ and-high w 1 s ∙ ap (λ (d : ℕ). d * 2 ^ s) (sym (number-bit w s))
 
 -- answers that agree, position by position
 pub packed-same : (f g : ℕ → Bool) (p q n w : ℕ) → ((i : ℕ) → i < n → g (q + i) ≡ f (p + i)) → Packed f p n w → Packed g q n w

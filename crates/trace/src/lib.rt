@@ -1,8 +1,8 @@
 // The log format of document 01: its header, its records, and checks 12 and 14, as functions on the log's bytes.
 ghost use mathlib.Core.Path.{_≡_};
-ghost use Prim.Native.Nat.{_+_, _<_, _≤_};
+ghost use Prim.Native.Nat.{_+_, _*_, _%_, _<_, _≤_, _^_};
 ghost use lib.ListN.{length};
-ghost use Rattle.bits.specs.Packed.{Packed};
+ghost use Rattle.bits.specs.Packed.{number, Packed};
 ghost use Rattle.trace.specs.Format.{word-at, record-count, time-at, letter-at, has-letter, records-of, wrong-mark, version-of, wrong-spare, malformed};
 ghost use Rattle.trace.specs.Order.{falls, starts-below, disordered, last-time};
 
@@ -78,25 +78,43 @@ pub fn time(records: &[u8], i: usize) -> u64
     word(records, i * 8)
 }
 
-// Whether the letter stands in the event set of record i: one byte of the set has its bit.
-fn has_letter(records: &[u8], i: usize, letter: u64) -> bool
+// The letter's bit of record i, where it stands in its byte of the event set.
+fn letter_bit(records: &[u8], i: usize, letter: u64) -> u64
     requires { ⌜ (i < record-count (now records)) × (letter < 32) ⌝ }
-    ensures { λ r. ⌜ r ≡ letter-at (now (records .entry)) i letter ⌝ }
+    ensures { λ r. ⌜ (r ≡ number (letter-at (now (records .entry)) i letter) * 2 ^ (letter % 8)) × (r < 256) ⌝ }
 {
     let byte = records[i * 8 + (7 - (letter / 8) as usize)];
-    (wide(byte) >> (letter % 8)) % 2 == 1
+    wide(byte) & (1 << (letter % 8))
 }
 
-// The letter at each of n positions from `from` on, as a word of answers.
+// The letter at each of up to eight positions, as a word of answers, from the last one down.
+fn letter_group(records: &[u8], from: usize, n: usize, letter: u64) -> u64
+    requires { ⌜ (from + n ≤ record-count (now records)) × (n ≤ 8) × (letter < 32) ⌝ }
+    ensures { λ r. ⌜ (r < 2 ^ n) × Packed (has-letter (now (records .entry)) letter) from n r ⌝ }
+{
+    let mut answers: u64 = 0;
+    let mut i = n;
+    while 0 < i {
+        i -= 1;
+        answers = answers * 2 + letter_bit(records, from + i, letter);
+    }
+    answers >> (letter % 8)
+}
+
+// The letter at each of n positions from `from` on, as a word of answers. Eight at a time, since a group of known size is
+// compiled without a loop.
 pub fn letter_bits(records: &[u8], from: usize, n: usize, letter: u64) -> u64
     requires { ⌜ (from + n ≤ record-count (now records)) × (n ≤ 64) × (letter < 32) ⌝ }
     ensures { λ r. ⌜ Packed (has-letter (now (records .entry)) letter) from n r ⌝ }
 {
     let mut answers: u64 = 0;
     let mut i: usize = 0;
-    while i < n {
-        answers = bits::push(answers, i as u64, has_letter(records, from + i, letter));
-        i += 1;
+    while i + 8 <= n {
+        answers = answers + (letter_group(records, from + i, 8, letter) << i as u64);
+        i += 8;
+    }
+    if i < n {
+        answers = answers + (letter_group(records, from + i, n - i, letter) << i as u64);
     }
     answers
 }

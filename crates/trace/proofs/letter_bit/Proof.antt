@@ -1,16 +1,20 @@
--- `trace::has_letter` meets its contract: the byte read is the one of the event set that has the letter's bit.
+-- `trace::letter_bit` meets its contract: the byte read is the one of the event set that has the letter's bit.
 -- Assumes nothing.
 use Prim.Native.Nat.{ℕ, zero, suc, _+_, _-_, _*_, _/_, _%_, _<_, _^_}
+use native.Mathlib.Nat.{lt-of-le-of-lt}
 use native.Mathlib.Omega.{arith}
+use mathlib.Core.Bool.{Bool}
 use mathlib.Core.List.{List}
 use mathlib.Core.Path.{_≡_, sym, ap, _∙_}
+use lib.Bits.{bitAnd, and-le-l}
 use lib.ListN.{getD}
+use lib.Pow.{shl-exact}
 use borrow.Author.Needs.{needs}
-use Rattle.bits.specs.Packed.{bit}
-use Rattle.bits.proofs.Laws.{bit-mod, bit-rest}
+use Rattle.bits.specs.Packed.{bit, number}
+use Rattle.bits.proofs.Laws.{bit-mod, bit-rest, mask-bit}
 use Rattle.trace.specs.Format.{word-at, letter-at}
-use Rattle.trace.proofs.has_letter.Statement.{statement}
-use Rattle.trace.proofs.has_letter.Tie as tie
+use Rattle.trace.proofs.letter_bit.Statement.{statement}
+use Rattle.trace.proofs.letter_bit.Tie as tie
 
 module _ (s : List ℕ) (bytes : (i : ℕ) → getD s i 0 < 256) where
   -- byte j of four, counted from the last
@@ -32,13 +36,26 @@ module _ (s : List ℕ) (bytes : (i : ℕ) → getD s i 0 < 256) where
       ∙ bit-rest w (k / 8 * 8) (k % 8)
       ∙ ap (bit w) (omega arith)
 
+-- a mask of one bit, as the code makes it
+masked : (w s : ℕ) → s < 8 → bitAnd w (1 * 2 ^ s % 2 ^ 64) ≡ number (bit w s) * 2 ^ s
+masked w s h =
+    let exact = shl-exact {a = 1} 1 s 64 (omega arith) (omega arith) in
+    let one : 1 * 2 ^ s % 2 ^ 64 ≡ 2 ^ s = omega arith in
+    ap (bitAnd w) one ∙ mask-bit w s
+
 returns : tie.Need-returns
 returns c =
     let a = c .before .before .before .args in
-    rw (c .wide .ensures .0) (bit-of (a .records .now) (λ i. c .before .shared-slice-known2 .given i .fits) (a .i) (a .letter) (omega arith))
+    let s = a .records .now in
+    let w = c .wide .result in
+    let told = bit-of s (λ i. c .before .shared-slice-known2 .given i .fits) (a .i) (a .letter) (omega arith) in
+    let here : bit w (a .letter % 8) ≡ letter-at s (a .i) (a .letter) = rw (c .wide .ensures .0) told in (
+      masked w (a .letter % 8) (omega arith) ∙ ap (λ (x : Bool). number x * 2 ^ (a .letter % 8)) here,
+      lt-of-le-of-lt (and-le-l w (1 * 2 ^ (a .letter % 8) % 2 ^ 64)) (c .wide .ensures .1),
+    )
 
-pub has-letter-spec : {M : Type 1} → statement M
-has-letter-spec =
+pub letter-bit-spec : {M : Type 1} → statement M
+letter-bit-spec =
     tie.close
     (tie.spec
     (λ c. search needs)
