@@ -86,7 +86,7 @@ walked w b =
     8
     (w .last .time)
 
--- the operand whose buffer is empty; neither is only where words are forged
+-- the operand whose buffer is empty; Open where neither is, which only forged words bring about
 abbrev pub Wants : List ℕ → Step → Type 0
 Wants b (Batch bits count) = ⊥
 Wants b Again = ⊥

@@ -26,7 +26,7 @@ pub struct Last {
     time: u64,
 }
 
-// A stretch of answers: their word and number, how many positions were taken for them, and the last one taken then or before.
+// A stretch of answers: their word and number, how many positions were taken for them, and the last one taken, now or before.
 pub struct Walked {
     bits: u64,
     count: u64,
@@ -132,7 +132,7 @@ fn put_back(block: &mut [u64], w: Walked)
     block[8] = w.last.time;
 }
 
-// The operand whose buffer is empty. Neither is only where words are forged.
+// The operand whose buffer is empty; Open where neither is, which only forged words bring about.
 fn wanted(block: &[u64]) -> Step
     requires { ⌜ 16 ≤ length (now block) ⌝ }
     ensures { λ r. ⌜ Wants (now (block .entry)) r ⌝ }
