@@ -200,6 +200,7 @@ module _ (low high : ℕ) (s b : List ℕ) where
                   at = at;
                   count = count-right;
                   bits = words 4 ∙ ap (λ (x : ℕ). x / 2 ^ n) (turned-word 4 (omega arith));
+                  answered = omega (arith, kept 5 (omega arith));
                   head = kept 14 (omega arith);
                   ends = kept 15 (omega arith);
                 };

@@ -322,7 +322,7 @@ module _ {low high : ℕ} {s b : List ℕ} {n : ℕ} {w : Walked} (went : Went l
         (omega (arith, at 0, at 1, at 3, at 5, at 6, at 7, at 8, at 9, at 10, fits lefts))
         (at 5 ∙ ap (λ (q : ℕ). q + w .count) i, rw (at 0, at 6, at 7, at 8) (reached .heads))
         (λ q. q) (omega arith) (omega arith)
-        (record { right = record { at = at 0; count = at 3; bits = at 4; head = at 14; ends = at 15 }; count = at 1; bits = at 2 })
+        (record { right = record { at = at 0; count = at 3; bits = at 4; answered = omega (arith, at 5); head = at 14; ends = at 15 }; count = at 1; bits = at 2 })
         (ready .buffers .0) (ready .buffers .1)
 
     pub answers-some : 0 < w .count → Stepped (until low high φ ψ) L g b (Batch (w .bits) (w .count)) b′
