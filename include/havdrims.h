@@ -23,8 +23,10 @@ extern "C" {
  * A length counts the elements of its buffer: bytes, or 64-bit words for a point. A buffer of length 0 is not
  * touched, and its pointer may be null. Words are aligned as uint64_t is.
  *
- * Nothing may overlap: what a call writes (point, sheet, the numbers behind its last pointers) shares no byte with
- * anything else that the call is given.
+ * The last two pointers of measure, resume and tally each point to a number of the caller's and are never null.
+ *
+ * What a call writes (point, sheet, the numbers behind its last two pointers) shares no byte with anything else that
+ * the call is given. What it only reads may overlap.
  *
  * The formats of rule, log and sheet are those of docs/FORMATS.md. A point's words are the library's own, in the
  * byte order of the machine: save them and hand them back as they are.
@@ -88,7 +90,7 @@ uint32_t havdrims_open(const uint8_t *rule, size_t rule_len, uint64_t *point, si
  * log     the whole log from its header on, with the records of the accepted calls before and any number of new
  *         ones behind them. A record that has its verdict is not read again: it may hold any bytes. The others must
  *         be as they were; if they are not, or if the point was not left by this library, the call still returns and
- *         writes nothing outside point and sheet, but its verdicts mean nothing.
+ *         writes only point, sheet, *given and *more, but its verdicts mean nothing.
  * point   as open or the last accepted call left it. It becomes the point to carry on from. Words behind the need
  *         are kept.
  * sheet   takes the verdicts. Its bytes behind them are kept. It may be of any length, 0 included.
