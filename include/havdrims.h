@@ -18,7 +18,7 @@ extern "C" {
  *
  * The caller owns every buffer, before, during and after the call. The library allocates nothing, keeps no pointer
  * and has no state of its own: all that it knows between two calls is in the point. Calls on different points may
- * run at the same time.
+ * run at the same time. A thread with a stack of HAVDRIMS_MOST_STACK bytes can make every call, whatever the rule.
  *
  * A length counts the elements of its buffer: bytes, or 64-bit words for a point. A buffer of length 0 is not
  * touched, and its pointer may be null. Words are aligned as uint64_t is.
@@ -62,6 +62,9 @@ enum havdrims_refusal {
 
 /* The most words that a point can need. */
 #define HAVDRIMS_MOST_WORDS 8192
+
+/* The most bytes of stack that a call needs: measured and tested on x86-64 Linux, not proved. */
+#define HAVDRIMS_MOST_STACK 65536
 
 /*
  * Weighs a rule of rule_len bytes.
