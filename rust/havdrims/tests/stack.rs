@@ -152,4 +152,6 @@ fn every_call_on_a_small_stack() {
         "most bytes of stack: measure {measuring}, open {opening}, resume {resuming}, tally {tallying}"
     );
     assert!(resuming > PAGE, "the stack was not measured");
+    let header = include_str!("../../../include/havdrims.h");
+    assert!(header.contains(&format!("#define HAVDRIMS_MOST_STACK {MOST_STACK}\n")), "the header says another number");
 }
