@@ -1,6 +1,6 @@
 -- What one call of `open` and one of `resume` on the fresh checkpoint come to: a refusal by rule and log alone, or all verdicts.
 -- Assumes nothing.
-use Prim.Native.Nat.{ℕ, _+_, _*_, _-_, _/_, _≤_, _<_}
+use Prim.Native.Nat.{ℕ, _+_, _*_, _≤_}
 use mathlib.Core.Bool.{Bool, true, false, cond}
 use mathlib.Core.Path.{_≡_, refl, sym, _∙_, ap, subst}
 use mathlib.Core.List.{List, [], _++_}
@@ -9,18 +9,17 @@ use lib.Dec.{eqb, ltb}
 use lib.ListN.{length, take, length-drop}
 use lib.Seq.{take-all, length-take-le}
 use borrow.Author.Tests.{le-ltb, ltb-false, eq-eqb, ne-eqb, eqb-true}
-use Rattle.mtl.specs.Log.{Log, NeverFalls, Continues}
+use Rattle.mtl.specs.Log.{Log, NeverFalls}
 use Rattle.mtl.specs.Progress.{progress}
 use Rattle.mtl.proofs.Until.{progress-le-size}
-use Rattle.rule.specs.Refusal.{first, before, refusal}
-use Rattle.rule.proofs.Headers.{first-zero, before-none, or-left, or-right}
+use Rattle.rule.specs.Refusal.{first, refusal}
+use Rattle.rule.proofs.Headers.{first-zero, before-none, or-right}
 use Rattle.rule.proofs.Acceptance.{accepted}
 use Rattle.trace.specs.Format.{record-count, records-of, malformed}
 use Rattle.trace.specs.Log.{log-of}
 use Rattle.trace.specs.Order.{disordered}
 use Rattle.trace.proofs.Laws.{well-formed-records, ordered-iff}
-use Rattle.engine.specs.Step.{Agrees}
-use Rattle.monitor.specs.Checkpoint.{given, seen, last, need}
+use Rattle.monitor.specs.Checkpoint.{need}
 use Rattle.monitor.specs.Refusal.{open-refusal, log-refusal, resume-refusal}
 use Rattle.monitor.specs.Verdicts.{formula-of, verdicts, first-records, all-verdicts}
 use Rattle.monitor.specs.Stands.{Stands}

@@ -3,7 +3,7 @@ use Prim.Native.Nat.{ℕ, _+_, _≤_}
 use mathlib.Core.Path.{_≡_, refl, sym, _∙_, ap, ap₂}
 use mathlib.Core.List.{List, [], _++_, append-assoc, append-nil}
 use native.Mathlib.Omega.{arith}
-use lib.ListN.{length, take, drop, length-append, length-drop, take-append-drop}
+use lib.ListN.{length, take, drop, length-append, take-append-drop}
 use lib.Seq.{paste, take-all, length-take-le, take-at, drop-at, drop-drop}
 use Rattle.report.specs.Report.{Writes}
 
@@ -32,14 +32,6 @@ module _ {t : List ℕ} {from : ℕ} {bytes : List ℕ} {to : ℕ} {t′ : List 
       let sum = length-append (take from t) bytes in
       let head = length-take-le from t (omega arith) in
       omega arith
-
-  -- the text keeps its length
-  pub writes-length : length t′ ≡ length t
-  writes-length =
-      let head = head-length in
-      let sum = length-append (take from t ++ bytes) (drop to t) in
-      let rest = length-drop to t in
-      ap length (w .content) ∙ omega arith
 
   -- bytes behind those written before
   pub writes-more : {more : List ℕ} {end : ℕ} {t″ : List ℕ} → Writes t′ to more end t″ → Writes t from (bytes ++ more) end t″

@@ -1,7 +1,6 @@
 -- `report::put_line` meets its contract: the position, and the word behind it.
 use borrow.Author.Needs.{needs}
 use Prim.Native.Nat.{_+_, _≤_}
-use mathlib.Core.Path.{_≡_}
 use native.Mathlib.Omega.{arith}
 use lib.ListN.{length}
 use borrow.Author.Tests.{eq-eqb, ne-eqb}

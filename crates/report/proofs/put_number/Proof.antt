@@ -1,11 +1,9 @@
 -- `report::put_number` meets its contract: the digits are those that `io::decimal` gives.
 use borrow.Author.Needs.{needs}
 use Prim.Native.Nat.{_+_, _≤_}
-use mathlib.Core.Path.{_≡_, subst}
-use mathlib.Core.List.{List}
-use native.Mathlib.Omega.{arith}
+use mathlib.Core.Path.{_≡_}
 use lib.ListN.{length, take}
-use Rattle.report.specs.Report.{decimal, Writes}
+use Rattle.report.specs.Report.{decimal}
 use Rattle.report.proofs.Decimals.{decimal-of}
 use Rattle.report.proofs.put_number.Statement.{statement}
 use Rattle.report.proofs.put_number.Tie as tie
@@ -35,10 +33,7 @@ same-length : tie.Need-same-length
 same-length c = search needs
 
 returns : tie.Need-returns
-returns c =
-    let w = c .before .before .put in
-    let a = c .before .before .before .before .before .before .before .before .args in
-    rw (spelled (c .before .before .before .before .before)) at (w .ensures)
+returns c = rw (spelled (c .before .before .before .before .before)) at (c .before .before .put .ensures)
 
 pub put-number-spec : {M : Type 1} → statement M
 put-number-spec =

@@ -1,7 +1,6 @@
 -- `report::put_refused` meets its contract: three pieces, one behind the other.
 use borrow.Author.Needs.{needs}
 use Prim.Native.Nat.{_+_, _≤_}
-use mathlib.Core.Path.{_≡_}
 use native.Mathlib.Omega.{arith}
 use lib.ListN.{length}
 use Rattle.report.specs.Report.{ascii, decimal}

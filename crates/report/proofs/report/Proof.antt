@@ -8,7 +8,7 @@ use native.Mathlib.Omega.{arith}
 use lib.ListN.{length, take}
 use lib.Seq.{length-take-le}
 use Rattle.trace.specs.Format.{record-count, records-of}
-use Rattle.report.specs.Report.{ascii, first-line, lines, too-long, report, Writes}
+use Rattle.report.specs.Report.{ascii, first-line, lines, too-long, Writes}
 use Rattle.report.proofs.Texts.{writes-more}
 use Rattle.report.proofs.Lines.{short-first-line}
 use Rattle.report.proofs.Runs.{Ran, not-opened, not-resumed, resumed}
@@ -68,7 +68,6 @@ put-requires c κs = search needs
 returns : tie.Need-returns
 unfolding ascii
 returns c =
-    let a = c .before .before .before .before .before .before .before .args in
     let too-long-is = sym (c .before .before .before .before .is-too-long .ensures) ∙ c .before .before .before .if1 .taken in
     rw too-long-is (c .put .ensures)
 
