@@ -7,6 +7,7 @@ ghost use Rattle.monitor.specs.Tally.{answer, tallied};
 mod check;
 mod fresh;
 mod give;
+mod header;
 mod sheet;
 
 use check::Checked;
