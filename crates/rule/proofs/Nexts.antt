@@ -1,4 +1,4 @@
--- The rule's formula has next exactly where some entry is one.
+-- Some formula of a rule has next exactly where some entry is one.
 use Prim.Native.Nat.{ℕ, zero, suc, _≤_}
 use native.Mathlib.Omega.{arith}
 use mathlib.Core.Path.{_≡_, refl, sym, ap, _∙_}
@@ -12,12 +12,12 @@ use Rattle.mtl.specs.Formula.Formula.{not, or, previous, next, since, until}
 use Rattle.mtl.specs.Satisfaction.{any}
 use Rattle.rule.specs.declared.Entry.{Entry}
 use Rattle.rule.specs.Entries.{entry}
-use Rattle.rule.specs.Postfix.{unary, binary, push-kind, stack-after, sole, formula}
+use Rattle.rule.specs.Postfix.{unary, binary, push-kind, stack-after, at-most-one, formulas}
 use Rattle.rule.specs.Code.{next-at}
-use Rattle.rule.proofs.Stacks.{Each, along}
+use Rattle.rule.proofs.Stacks.{Each, along, left-over}
 
 -- some formula of the stack has next
-abbrev nexts : List Formula → Bool
+abbrev pub nexts : List Formula → Bool
 nexts [] = false
 nexts (φ ∷ fs) = has-next φ || nexts fs
 
@@ -73,15 +73,6 @@ nexts-are t n fs h e =
     along (λ (k : ℕ) (gs : List Formula). nexts gs ≡ any k (next-at t)) t n h refl
     (λ k gs l q. weaken t k gs (push-kind (entry t k .kind) (entry t k) gs) q (pushed (entry t k .kind) (entry t k) gs)) n (omega arith) fs e
 
--- of a formula that is left alone on the stack
-alone : (o : Option (List Formula)) (φ : Formula) (b : Bool) → ((fs : List Formula) → o ≡ some fs → nexts fs ≡ b) → sole o ≡ some φ
-    → has-next φ ≡ b
-alone none φ b h e = cc
-alone (some []) φ b h e = cc
-alone (some (ψ ∷ [])) φ b h e =
-    let p : ψ ≡ φ = cc in
-    ap has-next (sym p) ∙ sym (or-false (has-next ψ)) ∙ h (ψ ∷ []) refl
-alone (some (ψ ∷ (χ ∷ fs))) φ b h e = cc
-
-pub next-is : (t : List Entry) (n : ℕ) (φ : Formula) → n ≤ length t → formula t n ≡ some φ → has-next φ ≡ any n (next-at t)
-next-is t n φ h e = alone (stack-after t n) φ (any n (next-at t)) (λ fs p. nexts-are t n fs h p) e
+-- of the formulas that are left
+pub next-is : (t : List Entry) (n : ℕ) (fs : List Formula) → n ≤ length t → formulas t n ≡ some fs → nexts fs ≡ any n (next-at t)
+next-is t n fs h e = nexts-are t n fs h (left-over (stack-after t n) fs e)
