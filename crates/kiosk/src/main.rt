@@ -18,7 +18,7 @@ fn read_file(path: &[u8], buf: &mut [u8]) -> usize
     n
 }
 
-// Opens a checkpoint, resumes once, and prints. Refusals 1 to 8, 12 and 14 can be met. 9 cannot, since every need fits
+// Opens a checkpoint, resumes once, and prints. Refusals 1, 2, 4 to 8, 12 and 14 can be met. 9 cannot, since every need fits
 // 8,192 words; nor 10 and 11, since the checkpoint is as `open` left it for this rule; nor 13, since it has seen no record.
 fn check_day(rule: &[u8], log: &[u8]) {
     let mut point = [0u64; 8192];

@@ -22,7 +22,7 @@ use Rattle.trace.proofs.Laws.{well-formed-iff, well-formed-records, ordered-iff
 use Rattle.engine.specs.Step.{Agrees}
 use Rattle.monitor.specs.Checkpoint.{given, seen, last, need, foreign, outside}
 use Rattle.monitor.specs.Refusal.{open-refusal, resume-refusal}
-use Rattle.monitor.specs.Verdicts.{formula-of, verdicts, first-records, answered, all-verdicts}
+use Rattle.monitor.specs.Verdicts.{formulas-of, verdicts, first-records, answered, all-verdicts}
 use Rattle.monitor.specs.Stands.{Stands}
 use Rattle.monitor.specs.Open.{Opens}
 use Rattle.monitor.specs.Resume.{Gives, Resumes}
@@ -183,21 +183,21 @@ module _ (rule log : List ℕ) (untouched : Untouched log) where
 
       -- the bytes of an accepted call, behind those of the verdicts before it
       gives-bytes : (sheet : List ℕ) (c : ℕ) (b : Bool) (p′ sheet′ : List ℕ) → Resumes rule log′ p sheet (Given c b) p′ sheet′ →
-          verdicts (formula-of rule) old d ++ take c sheet′ ≡ verdicts (formula-of rule) new (d + c)
+          verdicts (formulas-of rule) old d ++ take c sheet′ ≡ verdicts (formulas-of rule) new (d + c)
       gives-bytes sheet c b p′ sheet′ resumes =
-          let within = stands .top .buffer .within in
+          let within = stands .top .held .within in
           let room = resumes .words .room in
           let kept = resumes .sheet-length in
           let bytes = gives sheet c b p′ sheet′ resumes .bytes in
-          ap (λ vs. vs ++ take c sheet′) (verdicts-stay (formula-of rule) old new (first-longer m n more) (first-falls n) d (omega arith)) ∙
-          verdicts-more (formula-of rule) new d c sheet′ (omega arith) bytes
+          ap (λ vs. vs ++ take c sheet′) (verdicts-stay (formulas-of rule) old new (first-longer m n more) (first-falls n) d (omega arith)) ∙
+          verdicts-more (formulas-of rule) new d c sheet′ (omega arith) bytes
 
   -- what holds after every list of calls
   pub record Invariant (lent : List ℕ) (h : List Call) (p : List ℕ) : Type 0 where
     pub fine : refusal rule ≡ 0
     pub stands : Stands rule (first-records log (brought-by h)) (given-by h) p
     pub within : brought-by h ≤ record-count records
-    pub bytes : laid h ≡ verdicts (formula-of rule) (first-records log (brought-by h)) (given-by h)
+    pub bytes : laid h ≡ verdicts (formulas-of rule) (first-records log (brought-by h)) (given-by h)
     pub all : AllWhenCaughtUp rule log h
     pub each : Each rule log h
     pub beyond : drop (need rule) p ≡ drop (need rule) lent
@@ -231,13 +231,13 @@ module _ (rule log : List ℕ) (untouched : Untouched log) where
       let before = invariant lent calls in
       let old = brought-by h in
       let d = given-by h in
-      let φ = formula-of rule in
+      let fs = formulas-of rule in
       let all = answered rule log n in
       let step = gives d n log′ brings old p no-fewer (before .fine) (before .stands) sheet c more p′ sheet′ resumes in
-      let bytes : laid h ++ take c sheet′ ≡ verdicts φ (first-records log n) (d + c) =
+      let bytes : laid h ++ take c sheet′ ≡ verdicts fs (first-records log n) (d + c) =
       ap (λ vs. vs ++ take c sheet′) (before .bytes) ∙
       gives-bytes d n log′ brings old p no-fewer (before .fine) (before .stands) sheet c more p′ sheet′ resumes in
-      let within = step .stands .top .buffer .within in
+      let within = step .stands .top .held .within in
       let same-length = resumes .sheet-length in
       record {
         fine = before .fine;
@@ -247,13 +247,13 @@ module _ (rule log : List ℕ) (untouched : Untouched log) where
         all = (
           λ e.
               let lengths = ap length (sym bytes ∙ e) in
-              let given = length-verdicts φ (first-records log n) (d + c) in
-              let whole = length-verdicts φ (first-records log n) all in
+              let given = length-verdicts fs (first-records log n) (d + c) in
+              let whole = length-verdicts fs (first-records log n) all in
               step .more ∙ le-ltb (d + c) all (omega arith),
           λ caught-up.
               let none = ltb-false (d + c) all (sym (step .more) ∙ caught-up) in
               let sum : d + c ≡ all = omega arith in
-              bytes ∙ ap (verdicts φ (first-records log n)) sum,
+              bytes ∙ ap (verdicts fs (first-records log n)) sum,
         );
         each = (
           record { count = step .count; more = step .more; bytes = length-take-le c sheet′ (omega (arith, resumes .words .room)) },
@@ -274,7 +274,7 @@ module _ (rule log : List ℕ) (untouched : Untouched log) where
   one-run-writes n (Given c more) sheet′ run =
       let fine = opened-fine (run .lent) (run .fresh) (run .opens) in
       let stands = opened-stands (run .lent) (run .fresh) (run .opens) in
-      let φ = formula-of rule in
+      let fs = formulas-of rule in
       let all = answered rule log n in
       let step = gives 0 n (run .brought) (run .brings) 0 (run .fresh) (omega arith) fine stands (run .sheet) c more (run .left) sheet′ (run .resumes) in
       let bytes =
@@ -286,18 +286,18 @@ module _ (rule log : List ℕ) (untouched : Untouched log) where
       let sum : 0 + c ≡ all = omega arith in
       let caught-up : more ≡ false = step .more ∙ le-ltb (0 + c) all (omega arith) in (
         rw (whole, caught-up),
-        sym (take-all c sheet′ (omega arith)) ∙ bytes ∙ ap (verdicts φ (first-records log n)) sum,
+        sym (take-all c sheet′ (omega arith)) ∙ bytes ∙ ap (verdicts fs (first-records log n)) sum,
       )
 
 -- THE THEOREM
 pub demand-3 : (rule log lent : List ℕ) → Untouched log → (h : List Call) (p : List ℕ) → Calls rule log lent h p → Demand3 rule log lent h p
 demand-3 rule log lent untouched h p calls =
     let i = invariant rule log untouched lent calls in
-    let φ = formula-of rule in
+    let fs = formulas-of rule in
     let L = first-records log (brought-by h) in
-    let within = i .stands .top .buffer .within in
+    let within = i .stands .top .held .within in
     record {
-      first = rw (i .bytes, length-verdicts φ L (given-by h)) (sym (take-verdicts φ L (given-by h) (answered rule log (brought-by h)) (omega arith)));
+      first = rw (i .bytes, length-verdicts fs L (given-by h)) (sym (take-verdicts fs L (given-by h) (answered rule log (brought-by h)) (omega arith)));
       all = i .all;
       each = i .each;
       not-refused = λ n log′ sheet no-fewer brings.
