@@ -1,17 +1,19 @@
 -- What is held, and the state behind it: nothing, one formula's buffer, a yes for each record, some of it given, and on a longer log.
 -- Assumes nothing.
 use Prim.Native.Nat.{ℕ, _+_, _-_, _/_, _≤_, _<_, _^_, min}
-use mathlib.Core.Bool.{Bool, true, false}
-use mathlib.Core.Path.{_≡_, refl, sym, ap, _∙_}
+use mathlib.Core.Bool.{true, false}
+use mathlib.Core.Path.{_≡_, sym, ap, _∙_}
 use mathlib.Core.List.{List, [], _∷_}
+use native.Mathlib.Nat.{div-eq-of-lt}
 use native.Mathlib.Omega.{arith}
+use lib.Pow.{pow-pos}
 use Rattle.mtl.specs.Formula.{Formula}
 use Rattle.mtl.specs.Log.{Log, NeverFalls, Continues}
 use Rattle.bits.specs.Packed.{bit, number, Packed}
-use Rattle.bits.proofs.Laws.{bit-rest, packed-none, packed-front, packed-not}
+use Rattle.bits.proofs.Laws.{bit-rest, packed-not}
 use Rattle.engine.specs.Block.{Buffer}
 use Rattle.engine.proofs.Longer.{state-longer}
-use Rattle.monitor.specs.Verdicts.{settled, byte-of, verdict}
+use Rattle.monitor.specs.Verdicts.{settled, byte-of}
 use Rattle.monitor.specs.Stands.{Held, States}
 use Rattle.monitor.proofs.Meaning.{settled-one, settled-none, settled-grows, verdict-stays}
 
@@ -30,7 +32,7 @@ held-one φ L d count bits b =
 
 -- a word of 64 bits, none of them set
 no-bits : (i : ℕ) → bit 0 i ≡ false
-no-bits i = let q : _≡_ {A = ℕ} (0 / 2 ^ i) 0 = omega arith in rw q
+no-bits i = let q : _≡_ {A = ℕ} (0 / 2 ^ i) 0 = div-eq-of-lt (pow-pos i) in rw q
 
 all-bits : (i : ℕ) → i < 64 → bit (2 ^ 64 - 1) i ≡ true
 all-bits i h =

@@ -1,15 +1,18 @@
 -- The header as the last entry's buffered operand: what asking that entry does to it, and what a rule without one holds there.
 use Prim.Native.Nat.{ℕ, _+_, _-_, _≤_, _<_, _^_, min}
 use mathlib.Core.Bool.{Bool, true, false}
+use mathlib.Core.Bool.{not as negate}
+use mathlib.Core.Logic.{⊎-elim}
 use mathlib.Core.Path.{_≡_, refl, sym, _∙_}
 use mathlib.Core.List.{List, [], _∷_, _++_}
 use native.Mathlib.Omega.{arith}
-use borrow.Author.Tests.{ltb-true, ltb-false, ne-eqb}
-use lib.Dec.{ltb}
+use borrow.Author.Tests.{lt-ltb, le-ltb, ltb-true, ltb-false, eq-eqb, ne-eqb}
+use lib.Dec.{eqb, ltb}
 use lib.ListN.{length, take, drop, set, length-append, length-drop, length-set, List·getD-append}
 use lib.Seq.{length-take-le, drop-set-lt, getD-take, getD-set-same, getD-set-other}
 use Rattle.mtl.specs.Formula.{Formula}
 use Rattle.mtl.specs.Log.{Log}
+use Rattle.mtl.proofs.Bounded.{le-or-lt}
 use Rattle.trace.specs.Format.{record-count}
 use Rattle.engine.specs.Block.{word}
 use Rattle.engine.specs.State.{State}
@@ -17,7 +20,7 @@ use Rattle.engine.specs.Step.{Agrees}
 use Rattle.engine.specs.Table.{Has}
 use Rattle.engine.specs.Ask.{part, back, stored, Asks}
 use Rattle.engine.proofs.Parts.{part-end, drop-back-last}
-use Rattle.engine.proofs.Words.{Store, put, after, word-stores}
+use Rattle.engine.proofs.Words.{put, after, word-stores}
 use Rattle.monitor.specs.Checkpoint.{given, held-count, held-bits}
 use Rattle.monitor.specs.Stands.{Top}
 use Rattle.monitor.specs.Code.{Tops, all-yes, Holding, Holds}
@@ -157,6 +160,14 @@ module _ (s ws : List ℕ) (room : 16 ≤ length ws) where
         held = rw (word-yes 4, word-yes 5, agrees .size, top .at) (held-yes L d (omega arith));
         state = tt;
       }
+
+-- a record is left exactly if some are counted
+pub some-left : (given size : ℕ) → negate (eqb (min (size - given) 64) 0) ≡ ltb given size
+some-left given size =
+    ⊎-elim
+    (λ (l : size ≤ given). rw (le-ltb given size l, eq-eqb (min (size - given) 64) 0 (omega arith)))
+    (λ (l : given < size). rw (lt-ltb given size l, ne-eqb (min (size - given) 64) 0 (λ e. omega arith)))
+    (le-or-lt size given)
 
 -- what a rule with no entry holds
 pub yes-holds : (t s : List ℕ) (n : ℕ) (ws : List ℕ) (r : Bool) → 16 ≤ length ws → n ≡ 0 → r ≡ ltb (given ws) (record-count s) →
