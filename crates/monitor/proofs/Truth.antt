@@ -51,12 +51,12 @@ at-most-1 [] rule K i whole = omega arith
 at-most-1 (φ ∷ []) rule K i whole = omega (arith, number-lt (sat φ K i))
 at-most-1 (φ ∷ (ψ ∷ fs)) rule K i whole = absurd whole
 
-module _ (rule log lent : List ℕ) (untouched : Untouched log) (h : List Call) (p : List ℕ) (calls : Calls rule log lent h p) where
+module _ (rule log : List ℕ) (untouched : Untouched log) (h : List Call) (point : List ℕ) (calls : Calls rule log h point) where
   -- byte i is the verdict at position i, which is settled
   byte-at : (i : ℕ) → i < length (laid h) →
       (i < answered rule log (brought-by h)) × (getD (laid h) i 0 ≡ verdict (formulas-of rule) (first-records log (brought-by h)) i)
   byte-at i l =
-      let inv = invariant rule log untouched lent calls in
+      let inv = invariant rule log untouched calls in
       let fs = formulas-of rule in
       let L = first-records log (brought-by h) in
       let within = inv .stands .top .held .within in
@@ -74,7 +74,7 @@ module _ (rule log lent : List ℕ) (untouched : Untouched log) (h : List Call) 
   pub demand-2 : Demand2 rule log h
   demand-2 =
       let K = first-records log (brought-by h) in
-      let fine = invariant rule log untouched lent calls .fine in
+      let fine = invariant rule log untouched calls .fine in
       record {
         reads = rw (accepted rule fine .reads);
         binary = λ i l. omega (arith, byte-at i l .1, at-most-1 (formulas-of rule) rule K i (rule-whole rule fine));

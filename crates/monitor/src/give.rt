@@ -10,6 +10,7 @@ ghost use Rattle.trace.specs.Format.{record-count};
 ghost use Rattle.monitor.specs.Checkpoint.{need, given};
 ghost use Rattle.monitor.specs.Code.{Fits, Holds, all-yes, Gave, Proceeds};
 use super::Resumed;
+use super::header;
 use super::sheet;
 
 // How many positions of a log of so many have no verdict yet, as far as one word goes.
@@ -30,9 +31,9 @@ fn hold_yes(records: &[u8], words: &mut [u64]) -> bool
     requires { ⌜ 16 ≤ length (now words) ⌝ }
     ensures { λ r. ⌜ (now (words .exit) ≡ all-yes (now (records .entry)) (now (words .entry))) × (r ≡ ltb (given (now (words .entry))) (record-count (now (records .entry)))) ⌝ }
 {
-    let count = not_given(words[1], trace::count(records) as u64);
-    words[4] = count;
-    words[5] = 18446744073709551615;
+    let count = not_given(words[header::GIVEN], trace::count(records) as u64);
+    words[header::HELD_COUNT] = count;
+    words[header::HELD_BITS] = 18446744073709551615;
     count != 0
 }
 
@@ -44,10 +45,18 @@ fn hold(table: &[u64; 1024], count: usize, records: &[u8], words: &mut [u64]) ->
     if count == 0 {
         return hold_yes(records, words);
     }
-    if words[4] != 0 {
+    if words[header::HELD_COUNT] != 0 {
         return true;
     }
-    engine::ask(table, records, count - 1, 16, words.len(), 4, words)
+    engine::ask(
+        table,
+        records,
+        count - 1,
+        16,
+        words.len(),
+        header::HELD_COUNT,
+        words,
+    )
 }
 
 // How many of the verdicts that are held go into a sheet with so much room left.
@@ -77,13 +86,13 @@ fn give(
         if !hold(table, entries, records, words) {
             return done;
         }
-        let given = words[1];
-        let held = words[4];
+        let given = words[header::GIVEN];
+        let held = words[header::HELD_COUNT];
         let count = portion(held, sheet.len() - done);
-        let rest = sheet::write_bits(sheet, done, count, words[5]);
-        words[1] = given + count as u64;
-        words[4] = held - count as u64;
-        words[5] = rest;
+        let rest = sheet::write_bits(sheet, done, count, words[header::HELD_BITS]);
+        words[header::GIVEN] = given + count as u64;
+        words[header::HELD_COUNT] = held - count as u64;
+        words[header::HELD_BITS] = rest;
         done += count;
     }
     done
@@ -99,7 +108,11 @@ pub fn proceed(rule: &[u8], records: &[u8], words: &mut [u64], sheet: &mut [u8])
     let table = engine::layout::lay_out(entries, count);
     let given = give(&table, count, records, words, sheet);
     let more = hold(&table, count, records, words);
-    words[3] = trace::last_time(records, words[2] as usize, words[3]);
-    words[2] = trace::count(records) as u64;
+    words[header::LAST] = trace::last_time(
+        records,
+        words[header::SEEN] as usize,
+        words[header::LAST],
+    );
+    words[header::SEEN] = trace::count(records) as u64;
     Resumed::Given { count: given, more }
 }
