@@ -221,11 +221,11 @@ abbrev rule-10 : ℕ → List ℕ
 rule-10 high = rule 1 5 (letter 0 ++ letter 1 ++ until 0 3600 ++ letter 2 ++ until 0 high)
 
 -- an empty rule over three records
-abbrev records-17 : List ℕ
-records-17 = at 5 (0 ∷ []) ++ at 5 [] ++ at 7 []
+abbrev records-20 : List ℕ
+records-20 = at 5 (0 ∷ []) ++ at 5 [] ++ at 7 []
 
-abbrev call-17 : Row
-call-17 = on-short (on-fresh (rule 1 0 []) (log records-17) 16 0 3 []) 2 (yes ∷ yes ∷ [])
+abbrev call-20 : Row
+call-20 = on-short (on-fresh (rule 1 0 []) (log records-20) 16 0 3 []) 2 (yes ∷ yes ∷ [])
 
 unfoldable pub rows : List Row
 rows =
@@ -257,12 +257,19 @@ rows =
     ∷ on-fresh (rule 1 3 (letter 0 ++ letter 1 ++ until 0 3600)) (log []) 7266 3600 0 []
     ∷ refused (rule 1 3 (letter 0 ++ letter 1 ++ until 0 3601)) 6
     ∷ refused (rule 2 1 []) 2
-    -- 16: document 02, an empty rule over no record: 16 words, reach 0
+    -- 16 to 18: request 6: next, 1 to no end, of letter 0, over gaps 0, 1, 3,601 and 4,294,967,295 to records with letter 0; an
+    -- until without upper end is refused
+    ∷ on-fresh (rule 1 2 (letter 0 ++ next 1 no-end))
+    (log (at 0 [] ++ at 0 (0 ∷ []) ++ at 1 (0 ∷ []) ++ at 3602 (0 ∷ [])))
+    48 no-end 3 (no ∷ yes ∷ yes ∷ [])
+    ∷ on-fresh (rule 1 2 (letter 0 ++ next 1 no-end)) (log (at 0 [] ++ at 4_294_967_295 (0 ∷ []))) 48 no-end 1 (yes ∷ [])
+    ∷ refused (rule 1 3 (letter 0 ++ letter 1 ++ until 0 no-end)) 6
+    -- 19: request 3: an empty rule over no record: 16 words, reach 0
     ∷ on-fresh (rule 1 0 []) (log []) 16 0 0 []
-    -- 17 and 18: over three records with a sheet of two bytes, yes, yes, more; then, with those two overwritten, yes, caught up
-    ∷ call-17
-    ∷ after call-17 (log records-17) (log (replicate 16 255 ++ at 7 [])) 3 (yes ∷ [])
-    -- 19: a count of 0 with a length of 18 is refusal 4
+    -- 20 and 21: over three records with a sheet of two bytes, yes, yes, more; then, with those two overwritten, yes, caught up
+    ∷ call-20
+    ∷ after call-20 (log records-20) (log (replicate 16 255 ++ at 7 [])) 3 (yes ∷ [])
+    -- 22: a count of 0 with a length of 18 is refusal 4
     ∷ refused (rule 1 0 (letter 0)) 4
     ∷ []
 
