@@ -9,15 +9,17 @@ use native.Mathlib.Omega.{arith}
 use lib.Pow.{pow-pos}
 use Rattle.mtl.specs.Formula.{Formula}
 use Rattle.mtl.specs.Log.{Log, NeverFalls, Continues}
+use Rattle.mtl.specs.Progress.{joint-progress}
+use Rattle.mtl.proofs.Joint.{joint-one, joint-none, joint-grows}
 use Rattle.bits.specs.Packed.{bit, number, Packed}
 use Rattle.bits.proofs.Laws.{bit-rest, packed-not}
 use Rattle.engine.specs.Block.{Buffer}
 use Rattle.engine.proofs.Longer.{state-longer}
-use Rattle.monitor.specs.Verdicts.{settled, byte-of}
+use Rattle.monitor.specs.Verdicts.{byte-of}
 use Rattle.monitor.specs.Stands.{Held, States}
-use Rattle.monitor.proofs.Meaning.{settled-one, settled-none, settled-grows, verdict-stays}
+use Rattle.monitor.proofs.Meaning.{verdict-stays}
 
-pub held-none : (fs : List Formula) (L : Log) (d count bits : ℕ) → d ≤ settled fs L → count ≡ 0 → Held fs L d count bits
+pub held-none : (fs : List Formula) (L : Log) (d count bits : ℕ) → d ≤ joint-progress fs L → count ≡ 0 → Held fs L d count bits
 held-none fs L d count bits h e = record { few = omega arith; within = omega arith; same = λ i l. absurd (omega arith) }
 
 -- one formula's buffer
@@ -26,7 +28,7 @@ unfolding byte-of
 held-one φ L d count bits b =
     record {
       few = b .packed .few;
-      within = omega (arith, b .within, settled-one φ L);
+      within = omega (arith, b .within, joint-one φ L);
       same = λ i l. ap number (b .packed .same i l);
     }
 
@@ -45,7 +47,7 @@ unfolding byte-of
 held-yes L d h =
     record {
       few = omega arith;
-      within = omega (arith, settled-none L);
+      within = omega (arith, joint-none L);
       same = λ i l. sym (ap number (all-bits i (omega arith)));
     }
 
@@ -69,7 +71,7 @@ module _ (fs : List Formula) (K L : Log) (longer : Continues K L) (falls : Never
       let within = b .within in
       record {
         few = b .few;
-        within = omega (arith, settled-grows fs K L longer falls);
+        within = omega (arith, joint-grows fs K L longer falls);
         same = λ i l. sym (verdict-stays fs K L longer falls (d + i) (omega arith)) ∙ b .same i l;
       }
 

@@ -13,6 +13,7 @@ use lib.Seq.{length-take-le, drop-set-lt, getD-take, getD-set-same, getD-set-oth
 use Rattle.mtl.specs.Formula.{Formula}
 use Rattle.mtl.specs.Log.{Log}
 use Rattle.mtl.proofs.Bounded.{le-or-lt}
+use Rattle.mtl.proofs.Joint.{joint-one, joint-none}
 use Rattle.trace.specs.Format.{record-count}
 use Rattle.engine.specs.Block.{word}
 use Rattle.engine.specs.State.{State}
@@ -24,7 +25,6 @@ use Rattle.engine.proofs.Words.{put, after, word-stores}
 use Rattle.monitor.specs.Checkpoint.{given, held-count, held-bits}
 use Rattle.monitor.specs.Stands.{Top}
 use Rattle.monitor.specs.Code.{Tops, all-yes, Holding, Holds}
-use Rattle.monitor.proofs.Meaning.{settled-one, settled-none}
 use Rattle.monitor.proofs.Held.{held-none, held-one, held-yes}
 
 -- nothing to do where something is held
@@ -126,7 +126,7 @@ asked-holds t s n ws false ws′ room entries empty (ys, kept, (is, means)) =
           let at : State φ L d (part 16 (length ws) ws) = rw (part-end 16 (length ws) ws refl) (rw place at (top .state)) in
           let (is-open, next) = means φ L d has never agrees at in
           let none : held-count (back 16 (length ws) ys ws) ≡ 0 = header-asked ws ys room kept 4 (omega arith) ∙ empty in
-          let all = settled-one φ L ∙ is-open in
+          let all = joint-one φ L ∙ is-open in
           let still : d + 0 ≡ d = omega arith in (
             record {
               at = header-asked ws ys room kept 1 (omega arith) ∙ top .at;
@@ -154,7 +154,7 @@ module _ (s ws : List ℕ) (room : 16 ≤ length ws) where
   top-yes : (L : Log) (d : ℕ) → Agrees s L d → Top [] L d ws → Top [] L d (all-yes s ws)
   top-yes L d agrees top =
       let within = top .held .within in
-      let all = settled-none L in
+      let all = joint-none L in
       record {
         at = word-yes 1 ∙ top .at;
         held = rw (word-yes 4, word-yes 5, agrees .size, top .at) (held-yes L d (omega arith));
@@ -189,5 +189,5 @@ yes-holds t s n ws r room none is =
         let size = agrees .size in
         let at = top .at in
         let within = top .held .within in
-        let all = settled-none L in
+        let all = joint-none L in
         (top-yes s ws room L d agrees top, omega arith)

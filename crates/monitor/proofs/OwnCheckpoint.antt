@@ -12,6 +12,7 @@ use borrow.Author.Tests.{le-leb, lt-ltb, eq-eqb}
 use Rattle.mtl.specs.Formula.{Formula}
 use Rattle.mtl.specs.Log.{Log}
 use Rattle.mtl.proofs.Bounded.{any-false-iff}
+use Rattle.mtl.proofs.Joint.{joint-le-size}
 use Rattle.rule.specs.Entries.{count, decoded, entry}
 use Rattle.rule.specs.Words.{offset}
 use Rattle.rule.specs.Refusal.{refusal}
@@ -24,7 +25,7 @@ use Rattle.monitor.specs.Checkpoint.{format, given, seen, last, held-cou
 use Rattle.monitor.specs.Verdicts.{formulas-of}
 use Rattle.monitor.specs.Stands.{States, Stands}
 use Rattle.monitor.proofs.Offsets.{block-fits}
-use Rattle.monitor.proofs.Meaning.{rule-whole, settled-le-size}
+use Rattle.monitor.proofs.Meaning.{rule-whole}
 
 module _ (rule : List ℕ) (K : Log) (d : ℕ) (p : List ℕ) (fine : refusal rule ≡ 0) (stands : Stands rule K d p) where
   -- the rule's own words, and those behind the header
@@ -43,7 +44,7 @@ module _ (rule : List ℕ) (K : Log) (d : ℕ) (p : List ℕ) (fine : refusal ru
 
   -- no more of them than records seen
   pub own-within : d ≤ K .size
-  own-within = let within = stands .top .held .within in let below = settled-le-size (formulas-of rule) K in omega arith
+  own-within = let within = stands .top .held .within in let below = joint-le-size (formulas-of rule) K in omega arith
 
   ranged-by : (fs : List Formula) → Whole (decoded rule) (count rule) fs → States fs K (d + held-count own-part) behind →
       (j : ℕ) → j < count rule → Ranged (decoded rule) behind (K .size) j
@@ -113,7 +114,7 @@ module _ (rule : List ℕ) (K : Log) (d : ℕ) (p : List ℕ) (fine : refusal ru
       let few = stands .few in
       let size = stands .size in
       let within = stands .top .held .within in
-      let below = settled-le-size (formulas-of rule) K in
+      let below = joint-le-size (formulas-of rule) K in
       let at = stands .top .at in
       let held = stands .top .held .few in
       rw (

@@ -11,6 +11,7 @@ use lib.ListN.{length, getD, drop, set, length-set}
 use lib.Seq.{drop-set-lt, getD-set-same, getD-set-other}
 use Rattle.mtl.specs.Formula.{Formula}
 use Rattle.mtl.specs.Log.{Log}
+use Rattle.mtl.specs.Progress.{joint-progress}
 use Rattle.mtl.proofs.Bounded.{le-or-lt}
 use Rattle.rule.specs.declared.Entry.{Entry}
 use Rattle.rule.specs.Entries.{count, decoded}
@@ -25,7 +26,7 @@ use Rattle.engine.specs.Block.{word}
 use Rattle.engine.specs.Layout.{Laid}
 use Rattle.engine.proofs.Rows.{rows-ok, has-at, column-is-part}
 use Rattle.monitor.specs.Checkpoint.{need}
-use Rattle.monitor.specs.Verdicts.{formulas-of, settled}
+use Rattle.monitor.specs.Verdicts.{formulas-of}
 use Rattle.monitor.specs.Stands.{Top}
 use Rattle.monitor.specs.Code.{Fits, Tops, Holding, Holds, Gave, Proceeded}
 use Rattle.monitor.proofs.Meaning.{rule-whole}
@@ -102,17 +103,17 @@ module _ (time size : ℕ) (ws : List ℕ) (room : 16 ≤ length ws) where
 -- c and "more", from what was given and what is held then
 record Counted (fs : List Formula) (L : Log) (d c room : ℕ) (held : Bool) (ws′ : List ℕ) : Type 0 where
   top : Top fs L (d + c) ws′
-  count : c ≡ min (settled fs L - d) room
-  more : held ≡ ltb (d + c) (settled fs L)
+  count : c ≡ min (joint-progress fs L - d) room
+  more : held ≡ ltb (d + c) (joint-progress fs L)
 
 counted : (fs : List Formula) (L : Log) (d c room : ℕ) (more : Bool) (ws′ : List ℕ) → c ≤ room →
-    (c < room → settled fs L ≡ d + c) → (more ≡ true → 0 < word ws′ 4) → Holding fs L (d + c) more ws′ → Counted fs L d c room more ws′
+    (c < room → joint-progress fs L ≡ d + c) → (more ≡ true → 0 < word ws′ 4) → Holding fs L (d + c) more ws′ → Counted fs L d c room more ws′
 counted fs L d c room true ws′ fits short some top =
-    let ahead : d + c < settled fs L = omega (arith, top .held .within, some refl) in
+    let ahead : d + c < joint-progress fs L = omega (arith, top .held .within, some refl) in
     let full : room ≤ c = ⊎-elim (λ le. le) (λ lt. omega (arith, short lt)) (le-or-lt room c) in
-    record { top = top; count = omega arith; more = sym (lt-ltb (d + c) (settled fs L) ahead) }
+    record { top = top; count = omega arith; more = sym (lt-ltb (d + c) (joint-progress fs L) ahead) }
 counted fs L d c room false ws′ fits short some (top, is-open) =
-    record { top = top; count = omega arith; more = sym (le-ltb (d + c) (settled fs L) (omega arith)) }
+    record { top = top; count = omega arith; more = sym (le-ltb (d + c) (joint-progress fs L) (omega arith)) }
 
 pub proceeded : (rule table s : List ℕ) (k : ℕ) (ws sheet : List ℕ) (c : ℕ) (ws₁ sheet₁ : List ℕ) (more : Bool) (ws₂ : List ℕ)
     (time size : ℕ) → Tabled rule table k → 16 ≤ length ws → ((i : ℕ) → getD s i 0 < 256) →

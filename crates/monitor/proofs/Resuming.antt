@@ -15,6 +15,7 @@ use Rattle.mtl.specs.Formula.{Formula}
 use Rattle.mtl.specs.Log.{Log, NeverFalls, Continues}
 use Rattle.mtl.specs.Satisfaction.{any}
 use Rattle.mtl.proofs.Bounded.{and-iff, leb-iff, le-or-lt}
+use Rattle.mtl.proofs.Joint.{joint-le-size}
 use Rattle.rule.specs.Entries.{count, decoded}
 use Rattle.rule.specs.Refusal.{before, refusal}
 use Rattle.rule.proofs.Headers.{first-zero, or-left}
@@ -38,7 +39,6 @@ use Rattle.monitor.specs.declared.check.Checked.the-variants.{Passed, Fa
 use Rattle.monitor.specs.declared.Resumed.{Resumed}
 use Rattle.monitor.specs.declared.Resumed.the-variants.{Given, Refused}
 use Rattle.monitor.proofs.Sizes.{sized-refusal, enough, stops}
-use Rattle.monitor.proofs.Meaning.{settled-le-size}
 use Rattle.monitor.proofs.Held.{held-longer, states-longer}
 
 -- refusals 1 to 9
@@ -179,7 +179,7 @@ module _ (rule log p sheet : List ℕ) (ok : refusal rule ≡ 0) (room : need ru
       Top (formulas-of rule) L (d + c) ws′ → Stands rule L (d + c) (ws′ ++ drop (need rule) p)
   stands-now K L d stands longer never agrees top =
       let reached : d ≤ K .size =
-      omega (arith, stands .top .held .within, settled-le-size (formulas-of rule) K) in
+      omega (arith, stands .top .held .within, joint-le-size (formulas-of rule) K) in
       let before : last-time (records-of log) (seen (take (need rule) p)) (last (take (need rule) p)) ≡ last-of L =
       rw (was 2 (omega arith), was 3 (omega arith), stands .size, stands .time)
       (time-seen (records-of log) K L d longer agrees reached) in

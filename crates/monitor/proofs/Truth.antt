@@ -9,7 +9,7 @@ use native.Mathlib.Omega.{arith}
 use lib.ListN.{length, getD}
 use Rattle.mtl.specs.Formula.{Formula}
 use Rattle.mtl.specs.Log.{Log}
-use Rattle.mtl.specs.Progress.{progress}
+use Rattle.mtl.specs.Progress.{progress, joint-progress}
 use Rattle.mtl.specs.Satisfaction.{sat}
 use Rattle.mtl.proofs.Printed.{sat-iff}
 use Rattle.mtl.proofs.Streams.{stream-iff}
@@ -19,7 +19,7 @@ use Rattle.bits.proofs.Laws.{number-lt}
 use Rattle.rule.specs.Entries.{count, decoded}
 use Rattle.rule.specs.Accepted.{Whole}
 use Rattle.rule.proofs.Acceptance.{accepted}
-use Rattle.monitor.specs.Verdicts.{formulas-of, settled, byte-of, verdict, first-records, answered}
+use Rattle.monitor.specs.Verdicts.{formulas-of, byte-of, verdict, first-records, answered}
 use Rattle.monitor.specs.Calls.{Untouched, Call, given-by, brought-by, laid, Calls, Says, Demand2}
 use Rattle.monitor.proofs.Meaning.{rule-whole}
 use Rattle.monitor.proofs.VerdictBytes.{length-verdicts, verdict-at}
@@ -30,9 +30,9 @@ number-iff true = (λ e. refl, λ e. refl)
 number-iff false = (λ e. absurd (omega arith), λ e. cc)
 
 -- at a settled position the byte says of each formula what the formula itself says there
-says : (Holds : Formula → Type 0) (fs : List Formula) (K : Log) (i : ℕ) → i < settled fs K →
+says : (Holds : Formula → Type 0) (fs : List Formula) (K : Log) (i : ℕ) → i < joint-progress fs K →
     ((φ : Formula) → i < progress φ K → (sat φ K i ≡ true) ↔ Holds φ) → Says Holds fs (verdict fs K i)
-unfolding settled byte-of
+unfolding joint-progress byte-of
 says Holds [] K i h each = refl
 says Holds (φ ∷ []) K i h each = Iff·trans (number-iff (sat φ K i)) (each φ (omega arith))
 says Holds (φ ∷ (ψ ∷ fs)) K i h each =
@@ -67,8 +67,8 @@ module _ (rule log : List ℕ) (untouched : Untouched log) (h : List Call) (poin
       ((φ : Formula) → i < progress φ (first-records log (brought-by h)) → (sat φ (first-records log (brought-by h)) i ≡ true) ↔ Holds φ) →
       Says Holds (formulas-of rule) (getD (laid h) i 0)
   byte-says Holds i l each =
-      let (settled-there, is) = byte-at i l in
-      subst (Says Holds (formulas-of rule)) (sym is) (says Holds (formulas-of rule) (first-records log (brought-by h)) i settled-there each)
+      let (answered-there, is) = byte-at i l in
+      subst (Says Holds (formulas-of rule)) (sym is) (says Holds (formulas-of rule) (first-records log (brought-by h)) i answered-there each)
 
   -- THE THEOREM
   pub demand-2 : Demand2 rule log h

@@ -9,8 +9,9 @@ use lib.ListN.{length, getD, take, length-append, List·getD-append}
 use lib.Seq.{take-suc, getD-take, getD-at, ext-getD, length-take-le}
 use Rattle.mtl.specs.Formula.{Formula}
 use Rattle.mtl.specs.Log.{Log, NeverFalls, Continues}
+use Rattle.mtl.specs.Progress.{joint-progress}
 use Rattle.mtl.proofs.Bounded.{le-or-lt}
-use Rattle.monitor.specs.Verdicts.{settled, verdict, verdicts}
+use Rattle.monitor.specs.Verdicts.{verdict, verdicts}
 use Rattle.monitor.proofs.Meaning.{verdict-stays}
 
 module _ (fs : List Formula) (L : Log) where
@@ -58,7 +59,7 @@ module _ (fs : List Formula) (L : Log) where
       (λ i l. getD-take d (verdicts fs L m) i 0 (omega arith) ∙ verdict-at m i (omega arith) ∙ sym (verdict-at d i (omega arith)))
 
 -- verdicts that are settled stay on a longer log
-pub verdicts-stay : (fs : List Formula) (K L : Log) → Continues K L → NeverFalls L → (d : ℕ) → d ≤ settled fs K → verdicts fs K d ≡ verdicts fs L d
+pub verdicts-stay : (fs : List Formula) (K L : Log) → Continues K L → NeverFalls L → (d : ℕ) → d ≤ joint-progress fs K → verdicts fs K d ≡ verdicts fs L d
 unfolding verdicts
 verdicts-stay fs K L longer falls zero h = refl
 verdicts-stay fs K L longer falls (suc d) h =

@@ -7,6 +7,7 @@ use lib.ListN.{length, getD, drop, set}
 use lib.Dec.{eqb, ltb}
 use Rattle.mtl.specs.Formula.{Formula}
 use Rattle.mtl.specs.Log.{Log, NeverFalls}
+use Rattle.mtl.specs.Progress.{joint-progress}
 use Rattle.rule.specs.declared.Entry.{Entry}
 use Rattle.rule.specs.Entries.{entry}
 use Rattle.rule.specs.Refusal.{refusal}
@@ -16,7 +17,7 @@ use Rattle.engine.specs.Table.{RowsOk, column, Has}
 use Rattle.trace.specs.Format.{record-count}
 use Rattle.trace.specs.Order.{last-time}
 use Rattle.monitor.specs.Checkpoint.{format, given, seen, last, held-count, need, block-at, copy-head, copy-ends}
-use Rattle.monitor.specs.Verdicts.{formulas-of, settled, verdict}
+use Rattle.monitor.specs.Verdicts.{formulas-of, verdict}
 use Rattle.monitor.specs.Stands.{Top}
 use Rattle.monitor.specs.declared.check.Sized.{Sized}
 use Rattle.monitor.specs.declared.check.Sized.the-variants.{Words, Stopped}
@@ -71,7 +72,7 @@ all-yes s ws = set (set ws 4 (min (record-count s - given ws) 64)) 5 (2 ^ 64 - 1
 -- `hold` fills the header's buffer where it is empty: false where nothing more is settled
 abbrev pub Holding : List Formula → Log → ℕ → Bool → List ℕ → Type 0
 Holding fs L d true ws′ = Top fs L d ws′
-Holding fs L d false ws′ = Top fs L d ws′ × (settled fs L ≡ d)
+Holding fs L d false ws′ = Top fs L d ws′ × (joint-progress fs L ≡ d)
 
 pub record Holds (t s : List ℕ) (n : ℕ) (ws : List ℕ) (r : Bool) (ws′ : List ℕ) : Type 0 where
   pub words-length : length ws′ ≡ length ws
@@ -101,7 +102,7 @@ pub record Gave (t s : List ℕ) (n : ℕ) (ws sheet : List ℕ) (c : ℕ) (ws�
   pub count : given ws′ ≡ given ws + c
   pub header : (i : ℕ) → i < 16 → (i ≡ 1 → ⊥) → (i ≡ 4 → ⊥) → (i ≡ 5 → ⊥) → word ws′ i ≡ word ws i
   pub meaning : (fs : List Formula) (L : Log) (d : ℕ) → Tops fs t n → NeverFalls L → Agrees s L d → Top fs L d ws →
-      Giving fs L d c ws′ sheet′ × (c < length sheet → settled fs L ≡ d + c)
+      Giving fs L d c ws′ sheet′ × (c < length sheet → joint-progress fs L ≡ d + c)
 
 -- an accepted call on exactly the words that the rule needs
 pub record Proceeded (rule s ws sheet : List ℕ) (c : ℕ) (more : Bool) (ws′ sheet′ : List ℕ) : Type 0 where
@@ -116,8 +117,8 @@ pub record Proceeded (rule s ws sheet : List ℕ) (c : ℕ) (more : Bool) (ws′
   pub fits : last ws < 2 ^ 32 → last ws′ < 2 ^ 32
   pub entries : word ws′ 6 ≡ word ws 6
   pub meaning : (L : Log) (d : ℕ) → NeverFalls L → Agrees s L d → Top (formulas-of rule) L d ws →
-      Giving (formulas-of rule) L d c ws′ sheet′ × (c ≡ min (settled (formulas-of rule) L - d) (length sheet)) ×
-      (more ≡ ltb (d + c) (settled (formulas-of rule) L))
+      Giving (formulas-of rule) L d c ws′ sheet′ × (c ≡ min (joint-progress (formulas-of rule) L - d) (length sheet)) ×
+      (more ≡ ltb (d + c) (joint-progress (formulas-of rule) L))
 
 abbrev pub Proceeds : (rule s ws sheet : List ℕ) → Resumed → (ws′ sheet′ : List ℕ) → Type 0
 Proceeds rule s ws sheet (Given c more) ws′ sheet′ = Proceeded rule s ws sheet c more ws′ sheet′

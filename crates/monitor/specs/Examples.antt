@@ -8,7 +8,7 @@ use lib.Dec.{eqb, ltb}
 use lib.ListN.{length, take, drop, replicate}
 use Rattle.mtl.specs.Formula.{has-next, reach}
 use Rattle.mtl.specs.Satisfaction.{any, all, sat}
-use Rattle.mtl.specs.Progress.{run, progress}
+use Rattle.mtl.specs.Progress.{run, progress, joint-progress}
 use Rattle.rule.specs.Entries.{first-entries}
 use Rattle.rule.specs.Words.{offset}
 use Rattle.rule.specs.Postfix.{push-kind, read}
@@ -17,7 +17,7 @@ use Rattle.rule.specs.Measure.{farthest, measured}
 use Rattle.trace.specs.Format.{record-count, records-of}
 use Rattle.trace.specs.Order.{last-time}
 use Rattle.monitor.specs.Refusal.{log-refusal}
-use Rattle.monitor.specs.Verdicts.{settled, byte-of, verdicts, answered, all-verdicts}
+use Rattle.monitor.specs.Verdicts.{byte-of, verdicts, answered, all-verdicts}
 
 -- BYTES
 
@@ -275,5 +275,5 @@ rows =
 
 -- every row computes; an edit of the definitions that breaks rows has their numbers in its error
 pub every-row : wrong 1 rows ≡ []
-unfolding wrong rows computes computes-refusal computes-verdicts same event-set first-entries offset push-kind read header-refusal entries-refusal has-next reach any all sat run progress farthest settled byte-of verdicts
+unfolding wrong rows computes computes-refusal computes-verdicts same event-set first-entries offset push-kind read header-refusal entries-refusal has-next reach any all sat run progress farthest joint-progress byte-of verdicts
 every-row = refl

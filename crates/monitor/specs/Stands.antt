@@ -8,17 +8,18 @@ use lib.ListN.{length, take, drop}
 use lib.Dec.{eqb}
 use Rattle.mtl.specs.Formula.{Formula}
 use Rattle.mtl.specs.Log.{Log}
+use Rattle.mtl.specs.Progress.{joint-progress}
 use Rattle.bits.specs.Packed.{bit, number}
 use Rattle.rule.specs.Entries.{count}
 use Rattle.engine.specs.Block.{word}
 use Rattle.engine.specs.State.{State}
 use Rattle.monitor.specs.Checkpoint.{format, given, seen, last, held-count, held-bits, need}
-use Rattle.monitor.specs.Verdicts.{formulas-of, settled, verdict}
+use Rattle.monitor.specs.Verdicts.{formulas-of, verdict}
 
 -- what was answered and not given yet: a word with the verdicts at the count positions from d on, all of them settled
 pub record Held (fs : List Formula) (L : Log) (d count bits : ℕ) : Type 0 where
   pub few : count ≤ 64
-  pub within : d + count ≤ settled fs L
+  pub within : d + count ≤ joint-progress fs L
   pub same : (i : ℕ) → i < count → verdict fs L (d + i) ≡ number (bit bits i)
 
 -- the state of the rule's formula at position g; an empty rule has none, and its words have nothing to remember

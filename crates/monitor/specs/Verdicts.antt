@@ -1,6 +1,6 @@
--- The meaning of a rule: its formulas, how many positions it has answered, and its verdict at a position. The promises, both
--- demands and the examples speak of a rule through these.
-use Prim.Native.Nat.{ℕ, zero, suc, _+_, _*_, min}
+-- The meaning of a rule: its formulas, the number of positions that they have answered together (`joint-progress` of the logic),
+-- and their verdict at a position. The promises, both demands and the examples speak of a rule through these.
+use Prim.Native.Nat.{ℕ, zero, suc, _+_, _*_}
 use mathlib.Core.Bool.{Bool}
 use mathlib.Core.List.{List, [], _∷_, _++_}
 use mathlib.Core.Option.{Option, none, some}
@@ -8,7 +8,7 @@ use lib.ListN.{take}
 use Rattle.mtl.specs.Formula.{Formula}
 use Rattle.mtl.specs.Log.{Log}
 use Rattle.mtl.specs.Satisfaction.{sat}
-use Rattle.mtl.specs.Progress.{progress}
+use Rattle.mtl.specs.Progress.{joint-progress}
 use Rattle.bits.specs.Packed.{bit, number}
 use Rattle.rule.specs.Entries.{count, decoded}
 use Rattle.rule.specs.Postfix.{formulas}
@@ -22,11 +22,6 @@ formulas-or (some fs) = fs
 
 abbrev pub formulas-of : List ℕ → List Formula
 formulas-of rule = formulas-or (formulas (decoded rule) (count rule))
-
--- The answered number A: as many positions as every formula has answered. Of an empty rule, "A equals N".
-unfoldable pub settled : List Formula → Log → ℕ
-settled [] L = L .size
-settled (φ ∷ fs) L = min (progress φ L) (settled fs L)
 
 -- The verdict byte, from whether each formula holds: "each byte 1 for yes or 0 for no". Of an empty rule, "every position is yes".
 -- Of several formulas, which no rule has yet, bit k would be that of formula k.
@@ -55,7 +50,7 @@ first-records log n = log-of (take (8 * n) (records-of log))
 
 -- the answered number A of a rule on the first n records
 abbrev pub answered : (rule log : List ℕ) → ℕ → ℕ
-answered rule log n = settled (formulas-of rule) (first-records log n)
+answered rule log n = joint-progress (formulas-of rule) (first-records log n)
 
 -- "The verdicts of an untouched log are A bytes": all verdicts of a rule on the first n records
 abbrev pub all-verdicts : (rule log : List ℕ) → ℕ → List ℕ

@@ -16,9 +16,9 @@ use Rattle.rule.specs.declared.Totals.{Totals}
 use Rattle.rule.specs.Words.{words, limit}
 use Rattle.rule.specs.Postfix.{at-most-one, stack-after, formulas}
 use Rattle.rule.specs.Refusal.{misshapen-at, misplaced-at, lacking, over-limit, entries-refusal}
-use Rattle.rule.specs.Measure.{Answer, refused, far, farthest, reach-of}
+use Rattle.rule.specs.Measure.{Answer, refused, far, some-next, farthest, reach-of}
 use Rattle.rule.specs.Code.{totals, next-at, measured-entries, largest, reading}
-use Rattle.rule.proofs.Nexts.{nexts, next-is}
+use Rattle.rule.proofs.Nexts.{next-is}
 
 none-of : (o : Option (List Formula)) → reading o ≡ Faulty → lacking o ≡ true
 none-of none p = refl
@@ -34,7 +34,7 @@ far-or-none φ true e = rw (sym (or-false (has-next φ)) ∙ e) (omega arith)
 far-or-none φ false e = rw (sym (or-false (has-next φ)) ∙ e)
 
 -- the reach, once the largest of the formulas' own is known
-far-of : (o : Option (List Formula)) (most : ℕ) (next : Bool) → ((fs : List Formula) → at-most-one o ≡ some fs → nexts fs ≡ next) →
+far-of : (o : Option (List Formula)) (most : ℕ) (next : Bool) → ((fs : List Formula) → at-most-one o ≡ some fs → some-next fs ≡ next) →
     reading (at-most-one o) ≡ Reach most → reach-of (at-most-one o) ≡ cond next unbounded most
 unfolding farthest largest
 far-of none most next h e = cc

@@ -1,6 +1,6 @@
 -- What the call `measure` (document 01's weigh) answers.
 use Prim.Native.Nat.{ℕ, max}
-use mathlib.Core.Bool.{cond}
+use mathlib.Core.Bool.{Bool, false, cond, _||_}
 use mathlib.Core.List.{List, [], _∷_}
 use mathlib.Core.Option.{Option, none, some}
 use lib.Dec.{eqb}
@@ -28,6 +28,11 @@ answer (Refused n) = record { number = n; words = 0; reach = 0 }
 -- "A rule with next has reach 4,294,967,295, meaning none."
 abbrev pub far : Formula → ℕ
 far φ = cond (has-next φ) unbounded (formula-reach φ)
+
+-- some formula has next
+abbrev pub some-next : List Formula → Bool
+some-next [] = false
+some-next (φ ∷ fs) = has-next φ || some-next fs
 
 -- the largest over the formulas, and 0 where there is none
 unfoldable pub farthest : List Formula → ℕ
