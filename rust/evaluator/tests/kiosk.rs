@@ -234,8 +234,9 @@ fn refused_logs() -> Vec<(Vec<u8>, u32)> {
     logs
 }
 
-/// 1 to 8, but for 3, which no longer occurs; 12 and 14. The program cannot meet the others of carry on: no need is above its 8,192 words (9), it carries
-/// on once, from the point that open left for the rule (10, 11) with no record seen (13).
+/// 1 to 8, but for 3, which no longer occurs; 12 and 14. The program cannot meet the others of carry on: no need is
+/// above its 8,192 words (9), it carries on once, from the point that open left for the rule (10, 11) with no record
+/// seen (13).
 #[test]
 fn refusals() {
     let mut outcomes = Outcomes::default();

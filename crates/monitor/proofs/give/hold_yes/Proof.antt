@@ -12,8 +12,10 @@ returns : tie.Need-returns
 returns c =
     let a = c .before .before .before .before .before .args in
     let n = c .not-given .ensures in
-    let size = c .before .count .ensures in
-    (rw (n, size), rw (n, size) (some-left (given (a .words .now)) (record-count (a .records .now))))
+    let size = c .before .count .ensures in (
+      rw (n, size),
+      rw (n, size) (some-left (given (a .words .now)) (record-count (a .records .now))),
+    )
 
 pub hold-yes-spec : {M : Type 1} → statement M
 hold-yes-spec =
