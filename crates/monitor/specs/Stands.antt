@@ -22,7 +22,7 @@ pub record Held (fs : List Formula) (L : Log) (d count bits : ℕ) : Type 0 wher
   pub within : d + count ≤ joint-progress fs L
   pub same : (i : ℕ) → i < count → verdict fs L (d + i) ≡ number (bit bits i)
 
--- the state of the rule's formula at position g; an empty rule has none, and its words have nothing to remember
+-- the state of the rule's formula at position g; an empty rule has none, and its words have nothing to remember. No rule has two.
 abbrev pub States : List Formula → Log → ℕ → List ℕ → Type 0
 States [] L g ws = Unit {0}
 States (φ ∷ []) L g ws = State φ L g ws

@@ -13,6 +13,9 @@ use super::Resumed;
 use super::header;
 use super::sheet;
 
+// a word of answers that are all yes
+const ALL_YES: u64 = 18446744073709551615;
+
 // How many positions of a log of so many have no verdict yet, as far as one word goes.
 fn not_given(given: u64, size: u64) -> u64
     ensures { λ r. ⌜ r ≡ min (size - given) 64 ⌝ }
@@ -33,7 +36,7 @@ fn hold_yes(records: &[u8], words: &mut [u64]) -> bool
 {
     let count = not_given(words[header::GIVEN], trace::count(records) as u64);
     words[header::HELD_COUNT] = count;
-    words[header::HELD_BITS] = 18446744073709551615;
+    words[header::HELD_BITS] = ALL_YES;
     count != 0
 }
 
