@@ -27,7 +27,7 @@ use Rattle.monitor.specs.Verdicts.{formulas-of, verdicts, first-records,
 use Rattle.monitor.specs.Stands.{Stands}
 use Rattle.monitor.specs.Open.{Opens}
 use Rattle.monitor.specs.Resume.{resumed-number, Gives, Resumes}
-use Rattle.monitor.specs.Calls.{Untouched, Call, given-by, brought-by, laid, Brings, Lends, point-after, OneCall, Calls, Each, AllWhenCaughtUp, OneRun, Keeps, Demand3}
+use Rattle.monitor.specs.Calls.{Untouched, Call, given-by, brought-by, laid, the-call, Brings, BringsAfter, Lends, point-after, OneCall, Calls, Each, AllWhenCaughtUp, OneRun, Keeps, Demand3}
 use Rattle.monitor.specs.Calls.OneCall.{refused, accepted}
 use Rattle.monitor.specs.Calls.Calls.{opened, and-then}
 use Rattle.monitor.specs.declared.Opened.{Opened}
@@ -244,11 +244,7 @@ module _ (rule log : List ℕ) (untouched : Untouched log) where
   -- after an accepted call on the words p
   module _ (h : List Call) (point p : List ℕ) (before : Invariant h point) (lends : Lends point p)
       (n : ℕ) (log′ sheet : List ℕ) (c : ℕ) (more : Bool) (p′ sheet′ : List ℕ)
-      (no-fewer : brought-by h ≤ n) (brings : Brings log (given-by h) n log′)
-      (resumes : Resumes rule log′ p sheet (Given c more) p′ sheet′) where
-    abbrev this : Call
-    this = record { records = n; room = length sheet; count = c; more = more; bytes = take c sheet′ }
-
+      (brought : BringsAfter log h n log′) (resumes : Resumes rule log′ p sheet (Given c more) p′ sheet′) where
     accepted-whole : length point ≤ length p
     accepted-whole =
         let size = before .size in
@@ -259,7 +255,7 @@ module _ (rule log : List ℕ) (untouched : Untouched log) where
     accepted-stands =
         stands-lent rule (first-records log (brought-by h)) (given-by h) point p (before .size) lends accepted-whole (before .stands)
 
-    after-accepted : Invariant (this ∷ h) (point-after point p′)
+    after-accepted : Invariant (the-call n sheet c more sheet′ ∷ h) (point-after point p′)
     unfolding given-by brought-by laid Each AllWhenCaughtUp
     after-accepted =
         let old = brought-by h in
@@ -267,10 +263,10 @@ module _ (rule log : List ℕ) (untouched : Untouched log) where
         let fs = formulas-of rule in
         let all = answered rule log n in
         let new = first-records log n in
-        let step = gives d n log′ brings old p no-fewer (before .fine) accepted-stands sheet c more p′ sheet′ resumes in
+        let step = gives d n log′ (brought .brings) old p (brought .no-fewer) (before .fine) accepted-stands sheet c more p′ sheet′ resumes in
         let bytes : laid h ++ take c sheet′ ≡ verdicts fs new (d + c) =
         ap (λ vs. vs ++ take c sheet′) (before .bytes) ∙
-        gives-bytes d n log′ brings old p no-fewer (before .fine) accepted-stands sheet c more p′ sheet′ resumes in
+        gives-bytes d n log′ (brought .brings) old p (brought .no-fewer) (before .fine) accepted-stands sheet c more p′ sheet′ resumes in
         let within = step .stands .top .held .within in
         let same-length = resumes .sheet-length in
         let whole = accepted-whole in
@@ -304,8 +300,8 @@ module _ (rule log : List ℕ) (untouched : Untouched log) where
       Invariant h′ (point-after point p′)
   after-call point p before lends (refused rule′ log′ sheet number p′ sheet′ resumes) =
       rw (resumes .words .1, after-unchanged point p lends) before
-  after-call {h} point p before lends (accepted n log′ sheet c more p′ sheet′ no-fewer brings resumes) =
-      after-accepted h point p before lends n log′ sheet c more p′ sheet′ no-fewer brings resumes
+  after-call {h} point p before lends (accepted n log′ sheet c more p′ sheet′ brought resumes) =
+      after-accepted h point p before lends n log′ sheet c more p′ sheet′ brought resumes
 
   pub invariant : {h : List Call} {point : List ℕ} → Calls rule log h point → Invariant h point
   invariant (opened lent p opens) = after-open lent p opens
@@ -346,7 +342,7 @@ open-keeps rule words (OpenRefused n) fresh fine opens = record { behind = ap (d
 call-keeps : (rule log : List ℕ) {h h′ : List Call} (p : List ℕ) {p′ : List ℕ} → refusal rule ≡ 0 → OneCall rule log h p h′ p′ → Keeps rule p p′
 call-keeps rule log p fine (refused rule′ log′ sheet number p′ sheet′ resumes) =
     record { behind = ap (drop (measured rule .words)) (resumes .words .1); number = resumes .point-length }
-call-keeps rule log p fine (accepted n log′ sheet c more p′ sheet′ no-fewer brings resumes) =
+call-keeps rule log p fine (accepted n log′ sheet c more p′ sheet′ brought resumes) =
     record { behind = rw (exactly-enough rule fine .1) (resumes .words .beyond); number = resumes .point-length }
 
 -- THE THEOREM
@@ -361,8 +357,8 @@ demand-3 rule log untouched h point calls =
       first = rw (i .bytes, length-verdicts fs L (given-by h)) (sym (take-verdicts fs L (given-by h) (answered rule log (brought-by h)) (omega arith)));
       all = i .all;
       each = i .each;
-      not-refused = λ p lends whole n log′ sheet no-fewer brings.
-          never-refused rule log untouched (given-by h) n log′ brings (brought-by h) p no-fewer (i .fine)
+      not-refused = λ p lends whole n log′ sheet brought.
+          never-refused rule log untouched (given-by h) n log′ (brought .brings) (brought-by h) p (brought .no-fewer) (i .fine)
           (stands-lent rule L (given-by h) point p size lends whole (i .stands)) sheet;
       too-few = λ p short log′ sheet r p′ sheet′. nine rule log′ p sheet r p′ sheet′ (i .fine) (omega arith);
       size = size ∙ sym (exactly-enough rule (i .fine) .1);

@@ -38,6 +38,10 @@ pub record Call : Type 0 where
   pub more : Bool
   pub bytes : List ℕ
 
+-- one with c verdicts, which left the sheet as sheet′
+abbrev pub the-call : (n : ℕ) (sheet : List ℕ) (c : ℕ) (more : Bool) (sheet′ : List ℕ) → Call
+the-call n sheet c more sheet′ = record { records = n; room = length sheet; count = c; more = more; bytes = take c sheet′ }
+
 -- of the accepted calls, the latest first: "d is the sum of c over the accepted calls before it"
 unfoldable pub given-by : List Call → ℕ
 given-by [] = 0
@@ -61,6 +65,11 @@ pub record Brings (log : List ℕ) (d n : ℕ) (log′ : List ℕ) : Type 0 wher
   pub header : take 8 log′ ≡ take 8 log
   pub same : (i : ℕ) → 8 + 8 * d ≤ i → i < 8 + 8 * n → getD log′ i 0 ≡ getD log i 0
 
+-- after the accepted calls h, "no fewer than the accepted call before it brought"
+pub record BringsAfter (log : List ℕ) (h : List Call) (n : ℕ) (log′ : List ℕ) : Type 0 where
+  pub no-fewer : brought-by h ≤ n
+  pub brings : Brings log (given-by h) n log′
+
 -- "Each gets the point as the call before left it": the words p that a call lends are the point's as far as both go. Behind the
 -- point any words may stand; if they are fewer than the point's, they are the first of them.
 abbrev pub Lends : (point p : List ℕ) → Type 0
@@ -75,10 +84,9 @@ pub data OneCall (rule log : List ℕ) (h : List Call) (p : List ℕ) : List Cal
   -- "refused, whatever rule, log and sheet it brought"
   refused : (rule′ log′ sheet : List ℕ) (n : ℕ) (p′ sheet′ : List ℕ) →
       Resumes rule′ log′ p sheet (Refused n) p′ sheet′ → OneCall rule log h p h p′
-  -- "or it brings the rule, this header and the records .., no fewer than the accepted call before it brought"
+  -- "or it brings the rule, this header and the records"
   accepted : (n : ℕ) (log′ sheet : List ℕ) (c : ℕ) (more : Bool) (p′ sheet′ : List ℕ) →
-      brought-by h ≤ n → Brings log (given-by h) n log′ → Resumes rule log′ p sheet (Given c more) p′ sheet′ →
-      OneCall rule log h p (record { records = n; room = length sheet; count = c; more = more; bytes = take c sheet′ } ∷ h) p′
+      BringsAfter log h n log′ → Resumes rule log′ p sheet (Given c more) p′ sheet′ → OneCall rule log h p (the-call n sheet c more sheet′ ∷ h) p′
 
 -- a list of calls: its accepted calls, the latest first, and the point, as many words as weigh gave, as its last call left it
 pub data Calls (rule log : List ℕ) : List Call → List ℕ → Type 0 where
@@ -153,7 +161,7 @@ pub record Demand3 (rule log : List ℕ) (h : List Call) (point : List ℕ) : Ty
   pub each : Each rule log h
   -- 4. "A call that brings rule and log in this way is not refused.", the point being whole in the words that it lends
   pub not-refused : (p : List ℕ) → Lends point p → length point ≤ length p →
-      (n : ℕ) (log′ sheet : List ℕ) → brought-by h ≤ n → Brings log (given-by h) n log′ →
+      (n : ℕ) (log′ sheet : List ℕ) → BringsAfter log h n log′ →
       (number : ℕ) (p′ sheet′ : List ℕ) → Resumes rule log′ p sheet (Refused number) p′ sheet′ → ⊥
   -- with fewer words it meets 9, whatever they, the log and the sheet hold
   pub too-few : (p : List ℕ) → length p < length point →
