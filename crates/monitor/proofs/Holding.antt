@@ -1,13 +1,12 @@
 -- The header as the last entry's buffered operand: what asking that entry does to it, and what a rule without one holds there.
 use Prim.Native.Nat.{ℕ, _+_, _-_, _≤_, _<_, _^_, min}
 use mathlib.Core.Bool.{Bool, true, false}
-use mathlib.Core.Bool.{not as negate}
 use mathlib.Core.Logic.{⊎-elim}
 use mathlib.Core.Path.{_≡_, refl, sym, _∙_}
 use mathlib.Core.List.{List, [], _∷_, _++_}
 use native.Mathlib.Omega.{arith}
-use borrow.Author.Tests.{lt-ltb, le-ltb, ltb-true, ltb-false, eq-eqb, ne-eqb}
-use lib.Dec.{eqb, ltb}
+use borrow.Author.Tests.{lt-ltb, le-ltb, ltb-true, ltb-false, ne-eqb}
+use lib.Dec.{ltb}
 use lib.ListN.{length, take, drop, set, length-append, length-drop, length-set, List·getD-append}
 use lib.Seq.{length-take-le, drop-set-lt, getD-take, getD-set-same, getD-set-other}
 use Rattle.mtl.specs.Formula.{Formula}
@@ -162,11 +161,11 @@ module _ (s ws : List ℕ) (room : 16 ≤ length ws) where
       }
 
 -- a record is left exactly if some are counted
-pub some-left : (given size : ℕ) → negate (eqb (min (size - given) 64) 0) ≡ ltb given size
+pub some-left : (given size : ℕ) → ltb 0 (min (size - given) 64) ≡ ltb given size
 some-left given size =
     ⊎-elim
-    (λ (l : size ≤ given). rw (le-ltb given size l, eq-eqb (min (size - given) 64) 0 (omega arith)))
-    (λ (l : given < size). rw (lt-ltb given size l, ne-eqb (min (size - given) 64) 0 (λ e. omega arith)))
+    (λ (l : size ≤ given). rw (le-ltb given size l, le-ltb 0 (min (size - given) 64) (omega arith)))
+    (λ (l : given < size). rw (lt-ltb given size l, lt-ltb 0 (min (size - given) 64) (omega arith)))
     (le-or-lt size given)
 
 -- what a rule with no entry holds

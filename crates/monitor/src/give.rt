@@ -37,7 +37,7 @@ fn hold_yes(records: &[u8], words: &mut [u64]) -> bool
     let count = not_given(words[header::GIVEN], trace::count(records) as u64);
     words[header::HELD_COUNT] = count;
     words[header::HELD_BITS] = ALL_YES;
-    count != 0
+    count > 0
 }
 
 // Asks the last of count entries where nothing is held. False where nothing more is settled.
