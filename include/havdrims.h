@@ -37,13 +37,14 @@ extern "C" {
 enum havdrims_refusal {
     HAVDRIMS_RULE_MARK = 1,       /* the rule is shorter than 8 bytes or lacks its mark */
     HAVDRIMS_RULE_VERSION = 2,    /* the rule's version is not 1 */
-    HAVDRIMS_ENTRY_COUNT = 3,     /* the entry count is 0 */
+                                  /* 3 no longer occurs: a rule without entries says yes at every position */
     HAVDRIMS_RULE_LENGTH = 4,     /* the count is above 128, a spare byte is not zero, or the length is not
                                      8 + 10 * count */
     HAVDRIMS_ENTRY_FIELD = 5,     /* some kind is above 6, some letter above 31, or some unused field not zero */
     HAVDRIMS_INTERVAL = 6,        /* some low or finite high is above 3,600, some low is above its high, or until has
                                      no upper end */
-    HAVDRIMS_SHAPE = 7,           /* some entry lacks an operand, or the whole leaves other than one formula */
+    HAVDRIMS_SHAPE = 7,           /* some entry lacks an operand, or the whole leaves other than one formula and the
+                                     count is not 0 */
     HAVDRIMS_TOO_MANY_WORDS = 8,  /* the need is above 8,192 words */
     HAVDRIMS_SHORT_POINT = 9,     /* the lent point is shorter than the need */
     HAVDRIMS_FOREIGN_POINT = 10,  /* the point does not begin as a point of this library with a copy of this rule */
@@ -69,7 +70,7 @@ enum havdrims_refusal {
 /*
  * Weighs a rule of rule_len bytes.
  *
- * *words becomes the number of words that a point of this rule needs, 32 to 8,192. *reach becomes the rule's reach
+ * *words becomes the number of words that a point of this rule needs, 16 to 8,192. *reach becomes the rule's reach
  * in seconds: a record has its verdict, at the latest, once the log has a record more than that much later; or
  * HAVDRIMS_NO_REACH.
  *

@@ -57,7 +57,7 @@ pub const MOST_STACK: usize = 65_536;
 /// What a rule needs.
 #[derive(Clone, Copy, Debug, PartialEq, Eq)]
 pub struct Needs {
-    /// The 64-bit words that a checkpoint of the rule takes: 32 to 8,192.
+    /// The 64-bit words that a checkpoint of the rule takes: 16 to 8,192, and 16 for a rule without entries alone.
     pub words: usize,
     /// A position is answered once the last record lies more than so many seconds after it; none for a rule with
     /// next.
