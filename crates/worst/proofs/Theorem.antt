@@ -8,7 +8,7 @@ use native.Mathlib.Nat.{div-eq-of-lt, one-le-pow, pow-suc}
 use native.Mathlib.Omega.{arith}
 use lib.Dec.{eqb}
 use borrow.Author.Tests.{leb-true, le-leb, ne-eqb}
-use Rattle.mtl.specs.Formula.{reach, has-next}
+use Rattle.mtl.specs.Formula.{unbounded, reach, has-next, untils-end}
 use Rattle.mtl.specs.Formula.Formula.{letter}
 use Rattle.mtl.specs.Log.{Log, NeverFalls}
 use Rattle.mtl.specs.Satisfaction.{sat}
@@ -25,24 +25,26 @@ use Rattle.worst.specs.Most.{most, MostWaiting}
 use Rattle.worst.proofs.Outcome.{accepted}
 use Rattle.worst.proofs.Counting.{count-le, distinct-le, distinct-rising}
 
--- an open position lies at most high before the last record
-near : (low high : ℕ) (L : Log) → NeverFalls L → (i : ℕ) → i < L .size → is-open (waiting low high) L i ≡ true → L .time (L .size - 1) ≤ L .time i + high
-unfolding reach has-next
-near low high L falls i h o =
-    let waits = leb-true (progress (waiting low high) L) i o in
-    let answered : L .time i + high < L .time (L .size - 1) → i < progress (waiting low high) L =
-    λ far. reach-answered (waiting low high) L refl falls i h (omega arith) in
-    ⊎-elim (λ k. k) (λ far. absurd (let k = answered far in omega arith)) (le-or-lt (L .time (L .size - 1)) (L .time i + high))
+-- every interval with an upper end, and every log whose times never fall
+module _ (low high : ℕ) (ends : high ≡ unbounded → ⊥) (L : Log) (falls : NeverFalls L) where
+  -- an open position lies at most high before the last record
+  near : (i : ℕ) → i < L .size → is-open (waiting low high) L i ≡ true → L .time (L .size - 1) ≤ L .time i + high
+  unfolding reach has-next untils-end
+  near i h o =
+      let waits = leb-true (progress (waiting low high) L) i o in
+      let answered : L .time i + high < L .time (L .size - 1) → i < progress (waiting low high) L =
+      λ far. reach-answered (waiting low high) L refl (rw (ne-eqb high unbounded ends)) falls i h (omega arith) in
+      ⊎-elim (λ k. k) (λ far. absurd (let k = answered far in omega arith)) (le-or-lt (L .time (L .size - 1)) (L .time i + high))
 
--- THEOREM. "no log of n records whose times never fall has more"
-pub no-more : (low high : ℕ) (L : Log) → NeverFalls L → open-times (waiting low high) L ≤ most high (L .size)
-no-more low high L falls =
-    let last = L .time (L .size - 1) in
-    let all = count-le (L .size) (new-value (is-open (waiting low high) L) (L .time)) in
-    let window =
-    distinct-le (is-open (waiting low high) L) (L .time) (last - high) (last + 1) (L .size) falls
-    (λ i h o. let before = falls i (L .size - 1) (omega arith) (omega arith) in let k = near low high L falls i h o in (omega arith, omega arith)) in
-    omega arith
+  -- THEOREM. "no log of n records whose times never fall has more"
+  pub no-more : open-times (waiting low high) L ≤ most high (L .size)
+  no-more =
+      let last = L .time (L .size - 1) in
+      let all = count-le (L .size) (new-value (is-open (waiting low high) L) (L .time)) in
+      let window =
+      distinct-le (is-open (waiting low high) L) (L .time) (last - high) (last + 1) (L .size) falls
+      (λ i h o. let before = falls i (L .size - 1) (omega arith) (omega arith) in let k = near i h o in (omega arith, omega arith)) in
+      omega arith
 
 -- in letter 0's event set no other letter stands
 alone : (k : ℕ) → bit (2 ^ 0) k ≡ eqb k 0
@@ -77,7 +79,7 @@ module _ (low high n : ℕ) (ok : high ≤ 3600) where
   not-settled (inr (unmet, inl (k, g, b, f))) =
       let all = progress-letter (worst high n) 0 in
       true-and-false (letters k 0 (omega (arith, size))) f
-  not-settled (inr (unmet, inr (q, g, b, c, late))) =
+  not-settled (inr (unmet, inr (q, g, b, c, (late, ends)))) =
       let there = time q (omega (arith, size)) in
       omega arith
 
@@ -105,7 +107,7 @@ most-waiting low high n lent z =
       time = time low high n ok;
       letters = letters low high n ok;
       reached = reached low high n ok;
-      no-more = λ L is falls. subst (λ (k : ℕ). open-times (waiting low high) L ≤ most high k) is (no-more low high L falls);
+      no-more = λ L is falls. subst (λ (k : ℕ). open-times (waiting low high) L ≤ most high k) is (no-more low high (λ u. omega arith) L falls);
       well-formed = made-well (time-of high) events-of n (a .few);
       ordered = made-ordered (time-of high) events-of n (λ i h. omega arith) (λ i j le h. omega arith);
     }

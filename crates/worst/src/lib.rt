@@ -6,13 +6,24 @@ ghost use lib.ListN.{length};
 ghost use Rattle.trace.specs.Making.{records-bytes, put};
 ghost use Rattle.worst.specs.Written.{time-of, events-of};
 ghost use Rattle.worst.specs.Refusal.{no-room};
-ghost use Rattle.worst.specs.Call.{checked, checked-number, Writes};
+ghost use Rattle.worst.specs.Call.{answer, checked, checked-number, Writes};
 use rule::Entry;
 
 // What `worst_log` answers: how many bytes the log has.
 pub enum Made {
     Length(usize),
     Refused(u32),
+}
+
+impl Made {
+    pub fn number(self) -> u32
+        ensures { λ r. ⌜ r ≡ answer self .number ⌝ }
+    {
+        match self {
+            Made::Length(_) => 0,
+            Made::Refused(n) => n,
+        }
+    }
 }
 
 // What the checks answer: the number of records.

@@ -28,13 +28,15 @@ loop-again c =
     let l = c .before .before .before .before .before .before .loop in
     let s = c .before .before .before .smaller in
     let w = c .before .before .write-record in
+    let wrote : w .last .0 ≡ put (l .log) (l .at) (record-bytes (s .result) (events-of (l .i))) = w .ensures in
+    let time : s .result ≡ time-of (a .high) (l .i) = s .ensures in
     let before = put (a .log .now) 8 (records-bytes (time-of (a .high)) events-of (l .i)) in (
       omega arith,
       omega arith,
       w .kept .0 ∙ l .inv .2,
-      w .ensures ∙
+      wrote ∙
           ap (λ (b : List ℕ). put b (l .at) (record-bytes (s .result) (events-of (l .i)))) (l .inv .3) ∙
-          ap (λ (t : ℕ). put before (l .at) (record-bytes t (events-of (l .i)))) (s .ensures) ∙
+          ap (λ (t : ℕ). put before (l .at) (record-bytes t (events-of (l .i)))) time ∙
           ap (λ (k : ℕ). put before k (record-bytes (time-of (a .high) (l .i)) (events-of (l .i)))) (l .inv .1) ∙
           put-record (time-of (a .high)) events-of (a .log .now) (l .i) (omega arith),
     )
