@@ -3,11 +3,11 @@ use Prim.Native.Nat.{ℕ, _+_, _*_, _≤_}
 use mathlib.Core.Bool.{Bool, true, false, cond}
 use mathlib.Core.List.{List}
 use mathlib.Core.Logic.{_⊎_, inl, inr}
-use mathlib.Core.Path.{_≡_, refl, ap, _∙_}
+use mathlib.Core.Path.{_≡_, refl, sym, ap, _∙_}
 use native.Mathlib.Omega.{arith}
 use lib.Dec.{ltb, eqb}
 use lib.ListN.{length}
-use borrow.Author.Tests.{ltb-false, eqb-true, eq-eqb}
+use borrow.Author.Tests.{ltb-false, eqb-true, eqb-false, eq-eqb}
 use Rattle.rule.specs.Postfix.{root}
 use Rattle.rule.specs.Refusal.{first}
 use Rattle.rule.proofs.Headers.{or-left, or-right}
@@ -17,7 +17,7 @@ use Rattle.trace.proofs.Making.{put-log}
 use Rattle.worst.specs.Waiting.{waiting}
 use Rattle.worst.specs.Written.{time-of, events-of}
 use Rattle.worst.specs.Refusal.{interval-fault, size-of, no-room, worst-refusal}
-use Rattle.worst.specs.Call.{checked, answer, Writes}
+use Rattle.worst.specs.Call.{Answer, answer, checked, Writes}
 use Rattle.worst.specs.declared.Made.the-variants.{Length, Refused}
 use Rattle.worst.specs.declared.Checked.the-variants.{Passed, Stopped}
 
@@ -87,3 +87,17 @@ module _ (low high n : ℕ) (log : List ℕ) where
         answer = simp z (ap (λ (l : ℕ). answer (Length l)) size);
         bytes = simp z (is ∙ put-log (time-of high) events-of log k (omega arith) ∙ rw (size, same));
       }
+
+  -- a refusal has a number
+  pub not-zero : (k : ℕ) (log′ : List ℕ) → Writes low high n log (Refused k) log′ → k ≡ 0 → ⊥
+  not-zero k log′ w zero = go (eqb (worst-refusal low high n lent) 0) refl
+    where
+      go : (b : Bool) → eqb (worst-refusal low high n lent) 0 ≡ b → ⊥
+      go true z =
+          let e : answer (Refused k) ≡ answer (Length (size-of n)) = w .answer ∙ simp z in
+          let none : 0 ≡ size-of n = ap (λ (a : Answer). a .length) e in
+          omega arith
+      go false z =
+          let e : answer (Refused k) ≡ answer (Refused (worst-refusal low high n lent)) = w .answer ∙ simp z in
+          let same : k ≡ worst-refusal low high n lent = ap (λ (a : Answer). a .number) e in
+          eqb-false (worst-refusal low high n lent) 0 z (sym same ∙ zero)

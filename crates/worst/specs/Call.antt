@@ -39,7 +39,10 @@ abbrev pub checked-number : Checked → ℕ
 checked-number (Passed n) = 0
 checked-number (Stopped n) = n
 
+-- the lent bytes afterwards: "In every lent buffer the bytes behind what a call writes are kept"; a refused call writes nothing
+abbrev pub buffer-after : (low high n : ℕ) (log : List ℕ) → List ℕ
+buffer-after low high n log = if-written low high n (length log) (worst-bytes high n ++ drop (size-of n) log) log
+
 pub record Writes (low high n : ℕ) (log : List ℕ) (r : Made) (log′ : List ℕ) : Type 0 where
   pub answer : answer r ≡ answered low high n (length log)
-  -- "In every lent buffer the bytes behind what a call writes are kept"; a refused call writes nothing
-  pub bytes : log′ ≡ if-written low high n (length log) (worst-bytes high n ++ drop (size-of n) log) log
+  pub bytes : log′ ≡ buffer-after low high n log

@@ -177,12 +177,22 @@ fn the_program() {
     assert_eq!(tool(&directory, &["to-text", "day.klg"]).1, P1);
     assert_eq!(tool(&directory, &["formula", "rule.krl"]).1, "e0 until[0,2] e1\nwords 70, reach 2 seconds\n");
 
+    let (done, out, _) = tool(&directory, &["worst", "0", "2", "5", "worst.klg"]);
+    assert!(done.status.success());
+    assert_eq!(out, "worst.klg: 5 records, 3 seconds waiting\n");
+    assert_eq!(tool(&directory, &["to-text", "worst.klg"]).1, "0 e0\n1 e0\n2 e0\n2 e0\n2 e0\n");
+
     let (failed, _, err) = tool(&directory, &["to-log", "bad.txt", "bad.klg"]);
     assert!(!failed.status.success() && !directory.join("bad.klg").exists());
     assert_eq!(err, "bad.txt, line 2: second 0 comes after second 1\n");
     let (failed, _, err) = tool(&directory, &["formula", "day.klg"]);
     assert!(!failed.status.success());
     assert_eq!(err, "day.klg: refused 1: The rule is shorter than 8 bytes or lacks its mark.\n");
+    let (failed, _, err) = tool(&directory, &["worst", "3", "2", "5", "bad.klg"]);
+    assert!(!failed.status.success() && !directory.join("bad.klg").exists());
+    assert!(err.starts_with("refused 6: "));
+    assert!(tool(&directory, &["worst", "0", "2", "1000001", "bad.klg"]).2.starts_with("refused 19: "));
+    assert_eq!(tool(&directory, &["worst", "0", "2", "-1", "bad.klg"]).2, "`-1` is no number, or too large a one\n");
     assert!(tool(&directory, &["to-text", "none.klg"]).2.starts_with("none.klg: "));
     assert!(tool(&directory, &[]).2.starts_with("kiosk-text to-log TEXT LOG"));
     fs::remove_dir_all(&directory).unwrap();
