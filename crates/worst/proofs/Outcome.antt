@@ -17,7 +17,8 @@ use Rattle.trace.proofs.Making.{put-log}
 use Rattle.worst.specs.Waiting.{waiting}
 use Rattle.worst.specs.Written.{time-of, events-of}
 use Rattle.worst.specs.Refusal.{interval-fault, size-of, no-room, worst-refusal}
-use Rattle.worst.specs.Call.{Answer, answer, checked, Writes}
+use Rattle.worst.specs.Call.{Answer, answer, Writes}
+use Rattle.worst.specs.Code.{checked}
 use Rattle.worst.specs.declared.Made.the-variants.{Length, Refused}
 use Rattle.worst.specs.declared.Checked.the-variants.{Passed, Stopped}
 

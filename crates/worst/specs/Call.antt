@@ -9,8 +9,6 @@ use Rattle.worst.specs.Written.{worst-bytes}
 use Rattle.worst.specs.Refusal.{size-of, worst-refusal}
 use Rattle.worst.specs.declared.Made.{Made}
 use Rattle.worst.specs.declared.Made.the-variants.{Length, Refused}
-use Rattle.worst.specs.declared.Checked.{Checked}
-use Rattle.worst.specs.declared.Checked.the-variants.{Passed, Stopped}
 
 -- "a call that writes a rule, a log or a text gives its length too", or a refusal's number
 pub record Answer : Type 0 where
@@ -30,14 +28,6 @@ module _ (low high n lent : ℕ) where
   abbrev pub answered : Answer
   answered =
       if-written (record { number = 0; length = size-of n }) (record { number = worst-refusal low high n lent; length = 0 })
-
-  -- what the checks answer, before anything is written
-  abbrev pub checked : Checked
-  checked = if-written (Passed n) (Stopped (worst-refusal low high n lent))
-
-abbrev pub checked-number : Checked → ℕ
-checked-number (Passed n) = 0
-checked-number (Stopped n) = n
 
 -- the lent bytes afterwards: "In every lent buffer the bytes behind what a call writes are kept"; a refused call writes nothing
 abbrev pub buffer-after : (low high n : ℕ) (log : List ℕ) → List ℕ

@@ -6,7 +6,8 @@ ghost use lib.ListN.{length};
 ghost use Rattle.trace.specs.Making.{records-bytes, put};
 ghost use Rattle.worst.specs.Written.{time-of, events-of};
 ghost use Rattle.worst.specs.Refusal.{no-room};
-ghost use Rattle.worst.specs.Call.{answer, checked, checked-number, Writes};
+ghost use Rattle.worst.specs.Call.{answer, Writes};
+ghost use Rattle.worst.specs.Code.{checked, checked-number};
 use rule::Entry;
 
 // What `worst_log` answers: how many bytes the log has.

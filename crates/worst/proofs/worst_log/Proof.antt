@@ -7,7 +7,7 @@ use lib.ListN.{length}
 use borrow.Author.Needs.{needs}
 use Rattle.trace.specs.Making.{records-bytes, put}
 use Rattle.worst.specs.Written.{time-of, events-of}
-use Rattle.worst.specs.Call.{checked-number}
+use Rattle.worst.specs.Code.{checked-number}
 use Rattle.worst.proofs.Outcome.{Accepted, passes, writes-nothing, writes-log}
 use Rattle.worst.proofs.worst_log.Statement.{statement}
 use Rattle.worst.proofs.worst_log.Tie as tie
