@@ -1,20 +1,17 @@
 -- What is known in each case of the checks' answer.
 use Prim.Native.Nat.{ℕ, _+_, _*_, _≤_}
-use mathlib.Core.Bool.{Bool, true, false, cond}
+use mathlib.Core.Bool.{Bool, true, false, cond, _&&_, _||_, not, true≢false}
 use mathlib.Core.List.{List}
-use mathlib.Core.Logic.{_⊎_, inl, inr}
 use mathlib.Core.Path.{_≡_, refl, sym, ap, _∙_}
 use native.Mathlib.Omega.{arith}
 use lib.Dec.{ltb, eqb}
 use lib.ListN.{length}
 use borrow.Author.Tests.{ltb-false, eqb-true, eqb-false, eq-eqb}
-use Rattle.rule.specs.Postfix.{root}
+use Rattle.mtl.specs.Formula.{unbounded}
 use Rattle.rule.specs.Refusal.{first}
 use Rattle.rule.proofs.Headers.{or-left, or-right}
-use Rattle.rule.proofs.Ranges.{in-range}
 use Rattle.trace.specs.Making.{header, records-bytes, put}
 use Rattle.trace.proofs.Making.{put-log}
-use Rattle.worst.specs.Waiting.{waiting}
 use Rattle.worst.specs.Written.{time-of, events-of}
 use Rattle.worst.specs.Refusal.{interval-fault, size-of, no-room, worst-refusal}
 use Rattle.worst.specs.Call.{Answer, answer, Writes}
@@ -27,6 +24,12 @@ neither true b e = absurd (omega arith)
 neither false true e = absurd (omega arith)
 neither false false e = (refl, refl)
 
+-- refusal 6 of an until: a, high above 3,600 and not without end, or without end
+at-most : (a above endless : Bool) → a || (above && not endless) || (endless && true) ≡ false → above ≡ false
+at-most a false endless e = refl
+at-most a true true e = absurd (true≢false (or-right (a || false) true e))
+at-most a true false e = absurd (true≢false (or-right a true (or-left (a || true) false e)))
+
 -- the call writes the log
 pub record Accepted (low high n lent : ℕ) : Type 0 where
   pub zero : worst-refusal low high n lent ≡ 0
@@ -36,12 +39,7 @@ pub record Accepted (low high n lent : ℕ) : Type 0 where
 
 module _ (low high n lent : ℕ) where
   high-le : interval-fault low high ≡ false → high ≤ 3600
-  high-le f = pick (in-range (root (waiting low high)) refl f .high)
-    where
-      pick : (high ≤ 3600) ⊎ ((high ≡ 4294967295) × (_≡_ {A = ℕ} 6 3 ⊎ _≡_ {A = ℕ} 6 5)) → high ≤ 3600
-      pick (inl h) = h
-      pick (inr (u, inl k)) = absurd (omega arith)
-      pick (inr (u, inr k)) = absurd (omega arith)
+  high-le f = ltb-false 3600 high (at-most (ltb 3600 low || ltb high low) (ltb 3600 high) (eqb high unbounded) f)
 
   pub accepted : worst-refusal low high n lent ≡ 0 → Accepted low high n lent
   accepted z =
