@@ -5,6 +5,7 @@ use mathlib.Core.Bool.{Bool, cond}
 use mathlib.Core.Path.{_≡_}
 use mathlib.Core.List.{List}
 use lib.Dec.{eqb}
+use lib.ListN.{length}
 use Rattle.bits.specs.Packed.{number}
 use Rattle.rule.specs.Measure.{measured}
 use Rattle.monitor.specs.Open.{Opens, opened-number}
@@ -12,6 +13,7 @@ use Rattle.monitor.specs.Resume.{Resumes, resumed-number, resumed-count, resume
 use Rattle.monitor.specs.Tally.{tallied}
 use Rattle.monitor.specs.declared.Opened.{Opened}
 use Rattle.monitor.specs.declared.Resumed.{Resumed}
+use Rattle.worst.specs.Call.{answered, buffer-after}
 
 -- the new value where the call was accepted, else the old one
 abbrev pub or-kept : (number old new : ℕ) → ℕ
@@ -42,3 +44,8 @@ pub record TallyCall (sheet : List ℕ) (noes yeses r noes′ yeses′ : ℕ) : 
   pub number : r ≡ tallied sheet .number
   pub no-count : noes′ ≡ or-kept r noes (tallied sheet .no-count)
   pub yes-count : yeses′ ≡ or-kept r yeses (tallied sheet .yes-count)
+
+pub record WorstLogCall (low high n : ℕ) (log : List ℕ) (w r : ℕ) (log′ : List ℕ) (w′ : ℕ) : Type 0 where
+  pub number : r ≡ answered low high n (length log) .number
+  pub written : w′ ≡ or-kept r w (answered low high n (length log) .length)
+  pub bytes : log′ ≡ buffer-after low high n log

@@ -190,7 +190,7 @@ fn is_misshapen(e: Entry) -> bool
 }
 
 // Refusal 6, of one entry.
-fn is_misplaced(e: Entry) -> bool
+pub fn is_misplaced(e: Entry) -> bool
     ensures { λ r. ⌜ r ≡ misplaced e ⌝ }
 {
     let unbounded = e.high == UNBOUNDED;

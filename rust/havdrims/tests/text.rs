@@ -186,12 +186,22 @@ fn the_program() {
 
     let empty = tool(&directory, &["formula", "empty.krl"]).1;
     assert_eq!(empty, "empty: every position is yes\nwords 16, reach 0 seconds\n");
+    let (done, out, _) = tool(&directory, &["worst", "0", "2", "5", "worst.klg"]);
+    assert!(done.status.success());
+    assert_eq!(out, "worst.klg: 5 records, 3 seconds waiting\n");
+    assert_eq!(tool(&directory, &["to-text", "worst.klg"]).1, "0 e0\n1 e0\n2 e0\n2 e0\n2 e0\n");
+
     let (failed, _, err) = tool(&directory, &["to-log", "bad.txt", "bad.klg"]);
     assert!(!failed.status.success() && !directory.join("bad.klg").exists());
     assert_eq!(err, "bad.txt, line 2: second 0 comes after second 1\n");
     let (failed, _, err) = tool(&directory, &["formula", "day.klg"]);
     assert!(!failed.status.success());
     assert_eq!(err, "day.klg: refused 1: The rule is shorter than 8 bytes or lacks its mark.\n");
+    let (failed, _, err) = tool(&directory, &["worst", "3", "2", "5", "bad.klg"]);
+    assert!(!failed.status.success() && !directory.join("bad.klg").exists());
+    assert!(err.starts_with("refused 6: "));
+    assert!(tool(&directory, &["worst", "0", "2", "1000001", "bad.klg"]).2.starts_with("refused 19: "));
+    assert_eq!(tool(&directory, &["worst", "0", "2", "-1", "bad.klg"]).2, "`-1` is no number, or too large a one\n");
     assert!(tool(&directory, &["to-text", "none.klg"]).2.starts_with("none.klg: "));
     assert!(tool(&directory, &[]).2.starts_with("kiosk-text to-log TEXT LOG"));
     fs::remove_dir_all(&directory).unwrap();

@@ -1,15 +1,20 @@
-//! Turns a log typed as text into a .klg file and back, and shows a rule file as a formula.
+//! Turns a log typed as text into a .klg file and back, shows a rule file as a formula, and writes a log to try a
+//! kiosk with.
 
-use havdrims::{measure, text};
+use havdrims::{measure, text, worst_log};
 use std::env;
 use std::fs;
 use std::io::{self, Write};
 use std::process::ExitCode;
+use std::str::FromStr;
 
 const USAGE: &str = "\
 kiosk-text to-log TEXT LOG     write the log file that the text describes
 kiosk-text to-text LOG         print a log file as text
 kiosk-text formula RULE        print a rule file as a formula, its words and its reach
+kiosk-text worst LOW HIGH N FILE
+                               write the log of N records that keeps most seconds waiting for the rule
+                               e0 until[LOW,HIGH] e1
 
 A text has a line for each record, the seconds and then the letters, as in `12 e0 e3` or `12 none`.
 What follows a # is passed over.";
@@ -38,6 +43,22 @@ fn formula(path: &str) -> Result<String, String> {
     Ok(format!("{formula}\nwords {}, reach {reach}\n", needs.words))
 }
 
+/// The most records of a log.
+const MOST_RECORDS: u64 = 1_000_000;
+
+fn number<T: FromStr>(word: &str) -> Result<T, String> {
+    word.parse().map_err(|_| format!("`{word}` is no number, or too large a one"))
+}
+
+fn worst(low: &str, high: &str, records: &str, log: &str) -> Result<String, String> {
+    let (low, high, records): (u32, u32, u64) = (number(low)?, number(high)?, number(records)?);
+    // With more records than a log may have the call is refused, whatever the room.
+    let mut bytes = vec![0; 8 + 8 * records.min(MOST_RECORDS) as usize];
+    let length = worst_log(low, high, records, &mut bytes).map_err(|refusal| refusal.to_string())?;
+    fs::write(log, &bytes[..length]).map_err(|fault| format!("{log}: {fault}"))?;
+    Ok(format!("{log}: {records} records, {} seconds waiting\n", records.min(u64::from(high) + 1)))
+}
+
 fn main() -> ExitCode {
     let arguments: Vec<String> = env::args().skip(1).collect();
     let words: Vec<&str> = arguments.iter().map(String::as_str).collect();
@@ -45,6 +66,7 @@ fn main() -> ExitCode {
         ["to-log", text, log] => to_log(text, log),
         ["to-text", log] => to_text(log),
         ["formula", rule] => formula(rule),
+        ["worst", low, high, records, log] => worst(low, high, records, log),
         _ => Err(USAGE.to_string()),
     };
     match answer {

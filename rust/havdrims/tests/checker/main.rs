@@ -11,3 +11,4 @@ mod large;
 mod lists;
 mod runner;
 mod single;
+mod worst;
