@@ -1,4 +1,6 @@
 -- What the header's answer says of the whole answer, and what an accepted header says of the bytes.
+-- (Cases is named first so that the worked rows are checked before any theorem.)
+use Rattle.rule.proofs.Cases
 use Prim.Native.Nat.{ℕ, suc, _+_, _*_, _≤_, _<_}
 use native.Mathlib.Omega.{arith}
 use borrow.Author.Tests.{eqb-true, eqb-false, ltb-false, not-false}
