@@ -6,9 +6,10 @@ use mathlib.Core.Bool.{false}
 use mathlib.Core.Path.{_≡_, refl, sym, ap, _∙_}
 use mathlib.Core.Logic.{⊎-elim}
 use native.Mathlib.Nat.{add-assoc, not-suc-le-zero}
+use native.Mathlib.Numerals.{add-one}
 use native.Mathlib.Omega.{arith}
 use lib.ListN.{length, getD, take, drop, length-append, length-drop}
-use lib.Seq.{length-take-le, take-at, drop-at, drop-drop, sets, sets-eq, getD-append-add}
+use lib.Seq.{length-take-le, take-at, drop-at, drop-drop, sets, sets-eq, length-sets, getD-append-add}
 use Rattle.mtl.proofs.Bounded.{le-or-lt}
 use Rattle.trace.specs.Format.{word-at, record-count, time-at, events-at, records-of, malformed}
 use Rattle.trace.specs.Order.{disordered}
@@ -18,6 +19,12 @@ use Rattle.trace.proofs.Laws.{well-formed-iff, ordered-iff}
 -- stores one behind the other
 pub stored : (buffer : List ℕ) (at : ℕ) (bytes : List ℕ) → at + length bytes ≤ length buffer → sets buffer at bytes ≡ put buffer at bytes
 stored buffer at bytes fits = sets-eq bytes buffer at fits ∙ append-assoc (take at buffer) bytes (drop (at + length bytes) buffer)
+
+pub length-put : (buffer : List ℕ) (at : ℕ) (bytes : List ℕ) → at + length bytes ≤ length buffer → length (put buffer at bytes) ≡ length buffer
+length-put buffer at bytes fits = ap length (sym (stored buffer at bytes fits)) ∙ length-sets buffer at bytes
+
+pub put-nothing : (buffer : List ℕ) (at : ℕ) → at ≤ length buffer → buffer ≡ put buffer at []
+put-nothing buffer at fits = stored buffer at [] (omega arith)
 
 -- bytes written behind bytes that were written: both at once
 module _ (buffer : List ℕ) (at : ℕ) (first second : List ℕ) (fits : at + (length first + length second) ≤ length buffer) where
@@ -140,3 +147,19 @@ module _ (time events : ℕ → ℕ) where
             omega arith,
         λ h. omega arith,
       )
+
+  -- the loop that writes the records behind the header: one more
+  pub put-record : (buffer : List ℕ) (n : ℕ) → 8 + n * 8 + 8 ≤ length buffer →
+      put (put buffer 8 (records-bytes time events n)) (8 + n * 8) (record-bytes (time n) (events n)) ≡ put buffer 8 (records-bytes time events (n + 1))
+  unfolding records-bytes
+  put-record buffer n fits =
+      let size = records-length n in
+      rw (← size, add-one) (put-behind buffer 8 (records-bytes time events n) (record-bytes (time n) (events n)) (omega arith))
+
+  -- header and records
+  pub put-log : (buffer : List ℕ) (n : ℕ) → 8 + n * 8 ≤ length buffer →
+      put (put buffer 0 header) 8 (records-bytes time events n) ≡ log-bytes time events n ++ drop (8 + n * 8) buffer
+  put-log buffer n fits =
+      let size = records-length n in
+      let total : 0 + length (log-bytes time events n) ≡ 8 + n * 8 = omega (arith, length-append header (records-bytes time events n)) in
+      put-behind buffer 0 header (records-bytes time events n) (omega arith) ∙ ap (λ (k : ℕ). log-bytes time events n ++ drop k buffer) total
