@@ -9,14 +9,11 @@ use Rattle.bits.specs.Packed.{number}
 use Rattle.bits.proofs.Laws.{number-lt}
 use Rattle.simulation.specs.Generator.{state-after}
 use Rattle.simulation.specs.Kiosk.{is-off, is-warming, is-free, is-printing, over, with-head, end-print, join, end-warming, switch-off, begin-print, begin-warming, second-of, kiosk-after}
+use Rattle.simulation.specs.Arrivals.{customers}
 use Rattle.simulation.specs.declared.Settings.{Settings}
 use Rattle.simulation.specs.declared.kiosk.Kiosk.{Kiosk}
 use Rattle.simulation.specs.declared.kiosk.Head.{Head}
 use Rattle.simulation.specs.declared.kiosk.Head.the-variants.{Off, Warming, Idle, Printing}
-
--- who has come: those finished, printing and waiting
-abbrev pub come : Kiosk → ℕ
-come k = k .finished + number (is-printing (k .head)) + k .waiting
 
 -- the head goes from one state to another only where neither or both print
 
@@ -63,32 +60,32 @@ served true (suc w) = rw (lt-ltb 0 (suc w) (omega arith)) (omega arith)
 
 -- step by step
 
-end-print-come : (time now : ℕ) (k : Kiosk) → come (end-print time now k) ≡ come k
+end-print-kept : (time now : ℕ) (k : Kiosk) → customers (end-print time now k) ≡ customers k
 unfolding end-print
-end-print-come time now k = let e = ended-head (k .head) (over time now (k .head)) now in omega arith
+end-print-kept time now k = let e = ended-head (k .head) (over time now (k .head)) now in omega arith
 
-join-come : (gap draw : ℕ) (k : Kiosk) → come (join gap draw k) ≡ come k + number (join gap draw k .joined)
+join-kept : (gap draw : ℕ) (k : Kiosk) → customers (join gap draw k) ≡ customers k + number (join gap draw k .joined)
 unfolding join
-join-come gap draw k = omega arith
+join-kept gap draw k = omega arith
 
-end-warming-come : (time now : ℕ) (k : Kiosk) → come (end-warming time now k) ≡ come k
+end-warming-kept : (time now : ℕ) (k : Kiosk) → customers (end-warming time now k) ≡ customers k
 unfolding end-warming
-end-warming-come time now k = rw (warmed-head (k .head) (over time now (k .head)) now)
+end-warming-kept time now k = rw (warmed-head (k .head) (over time now (k .head)) now)
 
-switch-off-come : (time now : ℕ) (k : Kiosk) → come (switch-off time now k) ≡ come k
+switch-off-kept : (time now : ℕ) (k : Kiosk) → customers (switch-off time now k) ≡ customers k
 unfolding switch-off
-switch-off-come time now k = rw (off-head (k .head) (over time now (k .head)))
+switch-off-kept time now k = rw (off-head (k .head) (over time now (k .head)))
 
-begin-print-come : (now : ℕ) (k : Kiosk) → come (begin-print now k) ≡ come k
+begin-print-kept : (now : ℕ) (k : Kiosk) → customers (begin-print now k) ≡ customers k
 unfolding begin-print
-begin-print-come now k =
+begin-print-kept now k =
     let e = printing-head (k .head) (ltb 0 (k .waiting)) now in
     let some = served (is-free (k .head)) (k .waiting) in
     omega arith
 
-begin-warming-come : (now : ℕ) (k : Kiosk) → come (begin-warming now k) ≡ come k
+begin-warming-kept : (now : ℕ) (k : Kiosk) → customers (begin-warming now k) ≡ customers k
 unfolding begin-warming
-begin-warming-come now k = rw (warming-head (k .head) (ltb 0 (k .waiting)) now)
+begin-warming-kept now k = rw (warming-head (k .head) (ltb 0 (k .waiting)) now)
 
 module _ (s : Settings) (now draw : ℕ) (k : Kiosk) where
   abbrev k₁ : Kiosk
@@ -111,22 +108,22 @@ module _ (s : Settings) (now draw : ℕ) (k : Kiosk) where
   joined-is = refl
 
   -- who comes in a second is who joins in it
-  pub second-come : come (second-of s now draw k) ≡ come k + number (second-of s now draw k .joined)
+  pub second-customers : customers (second-of s now draw k) ≡ customers k + number (second-of s now draw k .joined)
   unfolding second-of
-  second-come =
-      begin-warming-come now k₅
-      ∙ begin-print-come now k₄
-      ∙ switch-off-come (s .switchoff) now k₃
-      ∙ end-warming-come (s .warmup) now k₂
-      ∙ join-come (s .gap) draw k₁
-      ∙ ap (λ (n : ℕ). n + number (k₂ .joined)) (end-print-come (s .print) now k)
-      ∙ ap (λ (b : Bool). come k + number b) (sym joined-is)
+  second-customers =
+      begin-warming-kept now k₅
+      ∙ begin-print-kept now k₄
+      ∙ switch-off-kept (s .switchoff) now k₃
+      ∙ end-warming-kept (s .warmup) now k₂
+      ∙ join-kept (s .gap) draw k₁
+      ∙ ap (λ (n : ℕ). n + number (k₂ .joined)) (end-print-kept (s .print) now k)
+      ∙ ap (λ (b : Bool). customers k + number b) (sym joined-is)
 
 -- one a second at most
-pub few-come : (s : Settings) (seed n : ℕ) → come (kiosk-after s seed n) ≤ n
+pub few-customers : (s : Settings) (seed n : ℕ) → customers (kiosk-after s seed n) ≤ n
 unfolding kiosk-after
-few-come s seed zero = omega arith
-few-come s seed (suc n) =
+few-customers s seed zero = omega arith
+few-customers s seed (suc n) =
     let draw = state-after seed (suc n) in
     let k = kiosk-after s seed n in
-    omega (arith, few-come s seed n, second-come s n draw k, number-lt (second-of s n draw k .joined))
+    omega (arith, few-customers s seed n, second-customers s n draw k, number-lt (second-of s n draw k .joined))

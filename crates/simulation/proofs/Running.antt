@@ -12,7 +12,7 @@ use Rattle.simulation.specs.Kiosk.{second-of, events-of, kiosk-after}
 use Rattle.simulation.specs.Simulate.{time-of, events-in}
 use Rattle.simulation.specs.declared.Settings.{Settings}
 use Rattle.simulation.specs.declared.kiosk.Kiosk.{Kiosk}
-use Rattle.simulation.proofs.Kept.{few-come}
+use Rattle.simulation.proofs.Kept.{few-customers}
 
 pub next-state : (seed t state : ℕ) → state ≡ state-after seed t → xorshift state ≡ state-after seed (t + 1)
 unfolding state-after
@@ -21,7 +21,7 @@ next-state seed t state e = rw (add-one, e)
 module _ (s : Settings) (seed t : ℕ) where
   -- no count of a run outgrows its seconds
   pub small : (k : Kiosk) → k ≡ kiosk-after s seed t → t < 3600 → (k .finished < 3600) × (k .waiting < 3600)
-  small k e h = rw e (omega (arith, few-come s seed t))
+  small k e h = rw e (omega (arith, few-customers s seed t))
 
   pub next-kiosk : (state : ℕ) (k : Kiosk) → state ≡ state-after seed (t + 1) → k ≡ kiosk-after s seed t → second-of s t state k ≡ kiosk-after s seed (t + 1)
   unfolding kiosk-after

@@ -28,8 +28,19 @@ fn step(x: u32) -> u32
     left(right(left(x, 13), 17), 5)
 }
 
+// A draw moves the generator on by one step, and is its new state.
+pub fn draw(g: &mut Generator) -> u32
+    ensures { λ r. ⌜ (r ≡ xorshift (now (g .entry) .state)) × (now (g .exit) .state ≡ r) ⌝ }
+{
+    let next = step(g.state);
+    g.state = next;
+    next
+}
+
+// The draw that a generator in this state makes. Who calls this needs no reference to a generator.
 pub fn drawn(state: u32) -> u32
     ensures { λ r. ⌜ r ≡ xorshift state ⌝ }
 {
-    step(state)
+    let mut g = Generator { state: state };
+    draw(&mut g)
 }

@@ -1,8 +1,9 @@
 // A second of the kiosk: the six steps of document 02's paper 12, in its order.
 ghost use mathlib.Core.Bool.{cond};
 ghost use mathlib.Core.Path.{_≡_};
-ghost use Prim.Native.Nat.{_≤_, _<_};
-ghost use Rattle.simulation.specs.Kiosk.{is-off, is-warming, is-free, is-printing, since-of, over, with-head, started, end-print, join, end-warming, switch-off, begin-print, begin-warming, second-of, letter, events-of};
+ghost use Prim.Native.Nat.{_+_, _≤_, _<_};
+ghost use lib.Dec.{leb};
+ghost use Rattle.simulation.specs.Kiosk.{is-off, is-warming, is-free, is-printing, since-of, with-head, started, end-print, join, end-warming, switch-off, begin-print, begin-warming, second-of, letter, events-of};
 use super::Settings;
 
 // What the head does, with the second in which it began.
@@ -35,11 +36,11 @@ fn since(head: Head) -> u32
     }
 }
 
-// Whether the head has done what it does for `time` seconds.
-fn is_over(head: Head, time: u32, now: u32) -> bool
-    ensures { λ r. ⌜ r ≡ over time now head ⌝ }
+// Whether `time` seconds have passed.
+fn is_over(since: u32, time: u32, now: u32) -> bool
+    ensures { λ r. ⌜ r ≡ leb (since + time) now ⌝ }
 {
-    since(head) as u64 + time as u64 <= now as u64
+    since as u64 + time as u64 <= now as u64
 }
 
 fn is_off(head: Head) -> bool
@@ -96,7 +97,7 @@ fn with_head(k: Kiosk, head: Head) -> Kiosk
     ensures { λ r. ⌜ r ≡ with-head k head ⌝ }
 {
     Kiosk {
-        head: head,
+        head,
         finished: k.finished,
         waiting: k.waiting,
         began: k.began,
@@ -125,14 +126,16 @@ fn end_print(k: Kiosk, time: u32, now: u32) -> Kiosk
     ensures { λ r. ⌜ r ≡ end-print time now k ⌝ }
 {
     let head = k.head;
-    let ended = is_printing(head) & is_over(head, time, now);
+    let began = since(head);
+    let ended = is_printing(head) & is_over(began, time, now);
+    let finished = k.finished + bits::flag(ended);
     Kiosk {
         head: either(ended, Head::Idle(now), head),
-        finished: k.finished + bits::flag(ended),
+        finished,
         waiting: k.waiting,
         began: k.began,
         joined: k.joined,
-        ended: ended,
+        ended,
     }
 }
 
@@ -143,12 +146,13 @@ fn join(k: Kiosk, gap: u32, draw: u32) -> Kiosk
 {
     let head = k.head;
     let joined = draw % gap == 0;
+    let waiting = k.waiting + bits::flag(joined);
     Kiosk {
-        head: head,
+        head,
         finished: k.finished,
-        waiting: k.waiting + bits::flag(joined),
+        waiting,
         began: k.began,
-        joined: joined,
+        joined,
         ended: k.ended,
     }
 }
@@ -158,7 +162,8 @@ fn end_warming(k: Kiosk, time: u32, now: u32) -> Kiosk
     ensures { λ r. ⌜ r ≡ end-warming time now k ⌝ }
 {
     let head = k.head;
-    let due = is_warming(head) & is_over(head, time, now);
+    let began = since(head);
+    let due = is_warming(head) & is_over(began, time, now);
     with_head(k, either(due, Head::Idle(now), head))
 }
 
@@ -167,7 +172,8 @@ fn switch_off(k: Kiosk, time: u32, now: u32) -> Kiosk
     ensures { λ r. ⌜ r ≡ switch-off time now k ⌝ }
 {
     let head = k.head;
-    let due = is_free(head) & is_over(head, time, now);
+    let idle = since(head);
+    let due = is_free(head) & is_over(idle, time, now);
     with_head(k, either(due, Head::Off, head))
 }
 
@@ -177,11 +183,12 @@ fn begin_print(k: Kiosk, now: u32) -> Kiosk
 {
     let head = k.head;
     let began = is_free(head) & (0 < k.waiting);
+    let waiting = k.waiting - bits::flag(began);
     Kiosk {
         head: either(began, Head::Printing(now), head),
         finished: k.finished,
-        waiting: k.waiting - bits::flag(began),
-        began: began,
+        waiting,
+        began,
         joined: k.joined,
         ended: k.ended,
     }

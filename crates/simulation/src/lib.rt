@@ -38,7 +38,8 @@ fn are_wrong(s: Settings) -> bool
     ensures { λ r. ⌜ r ≡ wrong-settings s ⌝ }
 {
     is_outside(1, 600, s.warmup)
-        | (is_outside(1, 600, s.print) | (is_outside(1, 3600, s.switchoff) | is_outside(1, 3600, s.gap)))
+        | (is_outside(1, 600, s.print)
+            | (is_outside(1, 3600, s.switchoff) | is_outside(1, 3600, s.gap)))
 }
 
 // Refusal 26.

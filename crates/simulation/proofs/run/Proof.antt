@@ -13,13 +13,6 @@ use Rattle.simulation.specs.Simulate.{time-of, events-in}
 use Rattle.simulation.proofs.Running.{next-state, small, next-kiosk, next-log}
 use Rattle.simulation.proofs.run.Statement.{statement}
 use Rattle.simulation.proofs.run.Tie as tie
-use Rattle.simulation.proofs.run.Reads as reads
-use Rattle.simulation.proofs.run.Lts as lts
-use Rattle.simulation.proofs.generator.drawn.Reads as drawn-reads
-use Rattle.simulation.proofs.kiosk.events.Reads as events-reads
-use Rattle.simulation.proofs.kiosk.second.Reads as second-reads
-use Rattle.simulation.proofs.kiosk.start.Reads as start-reads
-use Rattle.trace.proofs.write_record.Reads as write-record-reads
 
 abbrev Inv-loop : tie.InvT-loop
 Inv-loop s seconds seed log₀ state₀ k₀ t₀ log state k t =

@@ -12,13 +12,6 @@ use Rattle.simulation.proofs.Outcome.{InRange, in-range, refuses, accep
 use borrow.Author.Needs.{needs}
 use Rattle.simulation.proofs.simulate.Statement.{statement}
 use Rattle.simulation.proofs.simulate.Tie as tie
-use Rattle.simulation.proofs.simulate.Reads as reads
-use Rattle.simulation.proofs.simulate.Lts as lts
-use Rattle.bits.proofs.flag.Reads as flag-reads
-use Rattle.simulation.proofs.is_refused.Reads as is-refused-reads
-use Rattle.simulation.proofs.kiosk.is_printing.Reads as is-printing-reads
-use Rattle.simulation.proofs.run.Reads as run-reads
-use Rattle.trace.proofs.write_header.Reads as write-header-reads
 
 returns : tie.Need-returns
 returns c =

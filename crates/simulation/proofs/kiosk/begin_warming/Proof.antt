@@ -1,30 +1,13 @@
-use Rattle.simulation.specs.Kiosk.{begin-warming}
+-- `simulation::kiosk::begin_warming` meets its contract: by the contracts of what it calls. Assumes nothing.
 use borrow.Author.Needs.{needs}
+use Rattle.simulation.specs.Kiosk.{begin-warming}
 use Rattle.simulation.proofs.kiosk.begin_warming.Statement.{statement}
 use Rattle.simulation.proofs.kiosk.begin_warming.Tie as tie
-use Rattle.simulation.proofs.kiosk.begin_warming.Reads as reads
-use Rattle.simulation.proofs.kiosk.begin_warming.Lts as lts
-use Rattle.simulation.proofs.kiosk.either.Reads as either-reads
-use Rattle.simulation.proofs.kiosk.is_off.Reads as is-off-reads
-use Rattle.simulation.proofs.kiosk.with_head.Reads as with-head-reads
 
--- src/kiosk.rt:195:18
-is-off-requires : tie.Need-is-off-requires
-is-off-requires c κs = search needs
-
--- src/kiosk.rt:196:18
-either-requires : tie.Need-either-requires
-either-requires c κs = search needs
-
--- src/kiosk.rt:196:5
-with-head-requires : tie.Need-with-head-requires
-with-head-requires c κs = search needs
-
--- src/kiosk.rt:191:1
 returns : tie.Need-returns
 unfolding begin-warming
 returns c = cc
 
 pub begin-warming-spec : {M : Type 1} → statement M
 begin-warming-spec =
-    tie.close (tie.spec is-off-requires either-requires with-head-requires returns)
+    tie.close (tie.spec (λ c κs. search needs) (λ c κs. search needs) (λ c κs. search needs) returns)
