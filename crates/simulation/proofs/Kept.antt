@@ -1,5 +1,5 @@
 -- What holds of the kiosk after every second: nobody is lost. Assumes nothing.
-use Prim.Native.Nat.{ℕ, zero, suc, _+_, _-_, _≤_, _<_}
+use Prim.Native.Nat.{ℕ, zero, suc, _+_, _≤_}
 use mathlib.Core.Bool.{Bool, true, false, cond, _&&_}
 use mathlib.Core.Path.{_≡_, refl, sym, ap, _∙_}
 use native.Mathlib.Omega.{arith}
@@ -8,7 +8,7 @@ use borrow.Author.Tests.{lt-ltb}
 use Rattle.bits.specs.Packed.{number}
 use Rattle.bits.proofs.Laws.{number-lt}
 use Rattle.simulation.specs.Generator.{state-after}
-use Rattle.simulation.specs.Kiosk.{is-off, is-warming, is-free, is-printing, over, with-head, end-print, join, end-warming, switch-off, begin-print, begin-warming, second-of, kiosk-after}
+use Rattle.simulation.specs.Kiosk.{is-off, is-warming, is-free, is-printing, over, end-print, join, end-warming, switch-off, begin-print, begin-warming, second-of, kiosk-after}
 use Rattle.simulation.specs.Arrivals.{customers}
 use Rattle.simulation.specs.declared.Settings.{Settings}
 use Rattle.simulation.specs.declared.kiosk.Kiosk.{Kiosk}

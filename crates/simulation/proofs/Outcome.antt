@@ -1,8 +1,8 @@
 -- What refusal 26 and its absence make of a call. Assumes nothing.
 use Prim.Native.Nat.{ℕ, _+_, _*_, _≤_, _<_}
-use mathlib.Core.Bool.{Bool, true, false, _||_}
+use mathlib.Core.Bool.{Bool, true, false, cond, _||_, true≢false}
 use mathlib.Core.List.{List}
-use mathlib.Core.Path.{_≡_, refl, sym, ap, _∙_}
+use mathlib.Core.Path.{_≡_, ap, _∙_}
 use native.Mathlib.Omega.{arith}
 use lib.Dec.{ltb, eqb}
 use lib.ListN.{length}
@@ -12,9 +12,8 @@ use Rattle.trace.specs.Making.{header, records-bytes, put}
 use Rattle.trace.proofs.Laws.{neither}
 use Rattle.trace.proofs.Making.{put-log}
 use Rattle.simulation.specs.Kiosk.{is-printing, kiosk-after}
-use Rattle.simulation.specs.Simulate.{outside, wrong-settings, log-length, out-of-range, time-of, events-in, given, answer, Answer, Simulates}
+use Rattle.simulation.specs.Simulate.{outside, wrong-settings, log-length, out-of-range, time-of, events-in, given, answer, Answer, simulated, Simulates}
 use Rattle.simulation.specs.declared.Settings.{Settings}
-use Rattle.simulation.specs.declared.Simulated.{Simulated}
 use Rattle.simulation.specs.declared.Simulated.the-variants.{Refused, Done}
 use Rattle.simulation.specs.declared.kiosk.Kiosk.{Kiosk}
 
@@ -44,6 +43,14 @@ in-range s seconds seed room e =
   where
     positive : (n : ℕ) → (n ≡ 0 → ⊥) → 0 < n
     positive n h = omega (arith, h)
+
+-- the one number with which a call can be refused
+pub refused-with : (s : Settings) (seconds seed room n : ℕ) → answer (Refused n) ≡ simulated s seconds seed room → n ≡ 26
+refused-with s seconds seed room n e = by (out-of-range s seconds seed room) e
+  where
+    by : (b : Bool) → answer (Refused n) ≡ cond b (record { refused = true; number = 26; written = 0; finished = 0; printing = 0; waiting = 0 }) (given s seconds seed) → n ≡ 26
+    by true e = ap (λ (a : Answer). a .number) e
+    by false e = absurd (true≢false (ap (λ (a : Answer). a .refused) e))
 
 module _ (s : Settings) (seconds seed : ℕ) (log : List ℕ) where
   pub refuses : out-of-range s seconds seed (length log) ≡ true → Simulates s seconds seed log (Refused 26) log

@@ -7,11 +7,11 @@ use mathlib.Core.Path.{_≡_, refl, sym, ap, ap₂, _∙_}
 use native.Mathlib.Omega.{arith}
 use Rattle.bits.specs.Packed.{bit, number}
 use Rattle.bits.proofs.Laws.{number-lt}
-use Rattle.trace.specs.Format.{time-at, events-at, has-letter, records-of, malformed}
+use Rattle.trace.specs.Format.{time-at, events-at, records-of, malformed}
 use Rattle.trace.specs.Order.{disordered}
 use Rattle.trace.proofs.Making.{time-back, events-back, made-well, made-ordered}
 use Rattle.simulation.specs.Generator.{state-after}
-use Rattle.simulation.specs.Kiosk.{is-warm, is-printing, letter, second-of, events-of, kiosk-after}
+use Rattle.simulation.specs.Kiosk.{is-warm, is-printing, letter, events-of, kiosk-after}
 use Rattle.simulation.specs.Simulate.{time-of, events-in, log-of, given}
 use Rattle.simulation.specs.Arrivals.{arrivals, customers}
 use Rattle.simulation.specs.declared.Settings.{Settings}

@@ -1,5 +1,5 @@
 -- The kiosk of paper 12: what it is, and a second of it.
-use Prim.Native.Nat.{ℕ, zero, suc, _+_, _-_, _*_, _%_}
+use Prim.Native.Nat.{ℕ, zero, suc, _+_, _-_, _%_}
 use mathlib.Core.Bool.{Bool, true, false, cond, _&&_, _||_}
 use lib.Dec.{leb, ltb, eqb}
 use Rattle.bits.specs.Packed.{number}
@@ -9,7 +9,8 @@ use Rattle.simulation.specs.declared.kiosk.Kiosk.{Kiosk}
 use Rattle.simulation.specs.declared.kiosk.Head.{Head}
 use Rattle.simulation.specs.declared.kiosk.Head.the-variants.{Off, Warming, Idle, Printing}
 
--- the head: off; warming or printing since the second in which that began; warm and free since it is idle
+-- What the head does, with the second in which that began; `Idle` is warm and free. Beside it and the counts a kiosk has what
+-- happened in the last second: `began` for letter 1, `joined` for letter 2, `ended` for letter 3.
 
 abbrev pub is-off : Head → Bool
 is-off Off = true
@@ -44,7 +45,7 @@ since-of (Warming since) = since
 since-of (Idle since) = since
 since-of (Printing since) = since
 
--- "its time after it began": the head has done what it does for that long
+-- "Warming or a print is due its time after it began"; a head "idle for the switch-off time"
 abbrev pub over : (time now : ℕ) → Head → Bool
 over time now head = leb (since-of head + time) now
 
@@ -116,9 +117,12 @@ begin-warming now k = with-head k (cond (is-off (k .head) && ltb 0 (k .waiting))
 -- "In each second, in order"
 unfoldable pub second-of : Settings → (now draw : ℕ) → Kiosk → Kiosk
 second-of s now draw k =
-    begin-warming now
-    (begin-print now
-    (switch-off (s .switchoff) now (end-warming (s .warmup) now (join (s .gap) draw (end-print (s .print) now k)))))
+    let k₁ = end-print (s .print) now k in
+    let k₂ = join (s .gap) draw k₁ in
+    let k₃ = end-warming (s .warmup) now k₂ in
+    let k₄ = switch-off (s .switchoff) now k₃ in
+    let k₅ = begin-print now k₄ in
+    begin-warming now k₅
 
 -- "letter k is the bit worth 2 to the k"
 abbrev pub letter : (stands : Bool) (worth : ℕ) → ℕ

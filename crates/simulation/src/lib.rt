@@ -4,7 +4,7 @@ ghost use Prim.Native.Nat.{_≤_, _<_};
 ghost use lib.ListN.{length};
 ghost use Rattle.trace.specs.Making.{records-bytes, put};
 ghost use Rattle.simulation.specs.Kiosk.{kiosk-after};
-ghost use Rattle.simulation.specs.Simulate.{outside, wrong-settings, out-of-range, log-length, time-of, events-in, Simulates};
+ghost use Rattle.simulation.specs.Simulate.{outside, wrong-settings, out-of-range, log-length, time-of, events-in, answer, Simulates};
 use kiosk::Kiosk;
 
 mod generator;
@@ -18,6 +18,7 @@ pub struct Settings {
     pub gap: u32,
 }
 
+// What `simulate` answers: how many bytes the log has, and how many customers are where.
 pub enum Simulated {
     Refused(u32),
     Done {
@@ -26,6 +27,22 @@ pub enum Simulated {
         printing: u64,
         waiting: u64,
     },
+}
+
+impl Simulated {
+    pub fn number(self) -> u32
+        ensures { λ r. ⌜ r ≡ answer self .number ⌝ }
+    {
+        match self {
+            Simulated::Refused(n) => n,
+            Simulated::Done {
+                written: _,
+                finished: _,
+                printing: _,
+                waiting: _,
+            } => 0,
+        }
+    }
 }
 
 fn is_outside(low: u32, high: u32, x: u32) -> bool

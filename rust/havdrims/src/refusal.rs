@@ -31,10 +31,11 @@ pub enum Refusal {
     FewerRecords,
     TimeFalls,
     SheetByte,
+    Settings = 26,
 }
 
-/// Every refusal, by its number less one, with the paper's words.
-const SENTENCES: [(Refusal, &str); 15] = [
+/// Every refusal, in the order of their numbers, with the paper's words.
+const SENTENCES: [(Refusal, &str); 16] = [
     (Refusal::RuleMark, "The rule is shorter than 8 bytes or lacks its mark."),
     (Refusal::RuleVersion, "The rule's version is not 1."),
     (Refusal::EntryCount, "The entry count is 0."),
@@ -61,23 +62,24 @@ const SENTENCES: [(Refusal, &str); 15] = [
          time is below the last time seen.",
     ),
     (Refusal::SheetByte, "A sheet given to tally has a byte above 1."),
+    (Refusal::Settings, "A setting, the seconds or the seed is outside its range or the lent log buffer is short."),
 ];
 
 impl Refusal {
-    /// The paper's number, 1 to 15.
+    /// The paper's number, 1 to 15 or 26.
     pub fn number(self) -> u32 {
         self as u32
     }
 
     /// The refusal with this number, if there is one.
     pub fn from_number(number: u32) -> Option<Refusal> {
-        let at = number.checked_sub(1)? as usize;
-        SENTENCES.get(at).map(|&(refusal, _)| refusal)
+        SENTENCES.iter().map(|&(refusal, _)| refusal).find(|refusal| refusal.number() == number)
     }
 
     /// The paper's sentence.
     pub fn sentence(self) -> &'static str {
-        SENTENCES[self as usize - 1].1
+        let own = SENTENCES.iter().find(|&&(refusal, _)| refusal == self);
+        own.expect("every refusal has its sentence").1
     }
 }
 
@@ -104,10 +106,10 @@ mod tests {
 
     #[test]
     fn numbers_and_sentences() {
-        assert_eq!(Refusal::from_number(0), None);
-        assert_eq!(Refusal::from_number(16), None);
-        for (at, (refusal, sentence)) in SENTENCES.into_iter().enumerate() {
-            let number = at as u32 + 1;
+        let numbers: Vec<u32> = (0..40).filter(|&number| Refusal::from_number(number).is_some()).collect();
+        assert_eq!(numbers, [1, 2, 3, 4, 5, 6, 7, 8, 9, 10, 11, 12, 13, 14, 15, 26]);
+        assert_eq!(numbers.len(), SENTENCES.len());
+        for (number, (refusal, sentence)) in numbers.into_iter().zip(SENTENCES) {
             assert_eq!(refusal.number(), number);
             assert_eq!(Refusal::from_number(number), Some(refusal));
             assert_eq!(refusal.to_string(), format!("refused {number}: {sentence}"));

@@ -4,7 +4,7 @@ use Rattle.simulation.proofs.are_wrong.Statement.{statement}
 use Rattle.simulation.proofs.are_wrong.Tie as tie
 
 returns : tie.Need-returns
-returns c = cc
+returns c = simp (c .is-outside4 .ensures, c .before .is-outside3 .ensures, c .before .before .is-outside2 .ensures, c .before .before .before .is-outside .ensures)
 
 pub are-wrong-spec : {M : Type 1} → statement M
 are-wrong-spec =

@@ -4,7 +4,7 @@ use Rattle.simulation.proofs.is_refused.Statement.{statement}
 use Rattle.simulation.proofs.is_refused.Tie as tie
 
 returns : tie.Need-returns
-returns c = cc
+returns c = simp (c .are-wrong .ensures)
 
 pub is-refused-spec : {M : Type 1} → statement M
 is-refused-spec = tie.close (tie.spec (λ c κs. search needs) (λ c. search needs) (λ c. search needs) returns)

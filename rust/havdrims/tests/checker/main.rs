@@ -10,4 +10,5 @@ mod guard;
 mod large;
 mod lists;
 mod runner;
+mod simulate;
 mod single;

@@ -10,7 +10,7 @@ sub-waiting c = rw (c .before .flag .ensures) (served (c .before .before .before
 
 returns : tie.Need-returns
 unfolding begin-print
-returns c = cc
+returns c = simp (c .either .ensures, c .before .before .flag .ensures, c .before .before .before .before .is-free .ensures)
 
 pub begin-print-spec : {M : Type 1} → statement M
 begin-print-spec =

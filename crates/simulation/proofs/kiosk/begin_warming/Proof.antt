@@ -6,7 +6,7 @@ use Rattle.simulation.proofs.kiosk.begin_warming.Tie as tie
 
 returns : tie.Need-returns
 unfolding begin-warming
-returns c = cc
+returns c = simp (c .with-head .ensures, c .before .either .ensures, c .before .before .before .is-off .ensures)
 
 pub begin-warming-spec : {M : Type 1} → statement M
 begin-warming-spec =

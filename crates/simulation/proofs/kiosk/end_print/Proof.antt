@@ -12,7 +12,7 @@ add-finished c = let b = c .before .before .before .is-printing .result && c .be
 
 returns : tie.Need-returns
 unfolding end-print
-returns c = cc
+returns c = simp (c .either .ensures, c .before .before .flag .ensures, c .before .before .before .is-over .ensures, c .before .before .before .before .is-printing .ensures, c .before .before .before .before .before .since .ensures)
 
 pub end-print-spec : {M : Type 1} → statement M
 end-print-spec =

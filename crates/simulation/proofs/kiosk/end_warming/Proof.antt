@@ -6,7 +6,7 @@ use Rattle.simulation.proofs.kiosk.end_warming.Tie as tie
 
 returns : tie.Need-returns
 unfolding end-warming
-returns c = cc
+returns c = simp (c .with-head .ensures, c .before .either .ensures, c .before .before .is-over .ensures, c .before .before .before .is-warming .ensures, c .before .before .before .before .since .ensures)
 
 pub end-warming-spec : {M : Type 1} → statement M
 end-warming-spec =

@@ -6,7 +6,7 @@ use Rattle.simulation.proofs.kiosk.events.Tie as tie
 
 returns : tie.Need-returns
 unfolding events-of
-returns c = cc
+returns c = simp (c .letter4 .ensures .0, c .before .letter3 .ensures .0, c .before .before .letter2 .ensures .0, c .before .before .before .letter .ensures .0, c .before .before .before .before .is-printing .ensures, c .before .before .before .before .before .is-free .ensures)
 
 pub events-spec : {M : Type 1} → statement M
 events-spec =

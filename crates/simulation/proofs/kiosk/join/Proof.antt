@@ -13,7 +13,7 @@ add-waiting c = let a = c .before .before .args in record { fits = omega (arith,
 
 returns : tie.Need-returns
 unfolding join
-returns c = cc
+returns c = simp (c .before .flag .ensures)
 
 pub join-spec : {M : Type 1} → statement M
 join-spec = tie.close (tie.spec (λ c. search needs) (λ c κs. search needs) add-waiting returns)

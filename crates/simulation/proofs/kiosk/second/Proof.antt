@@ -11,7 +11,7 @@ join-requires c κs = (rw (c .end-print .ensures) (omega arith), omega arith)
 
 returns : tie.Need-returns
 unfolding second-of
-returns c = cc
+returns c = simp (c .begin-warming .ensures, c .before .begin-print .ensures, c .before .before .switch-off .ensures, c .before .before .before .end-warming .ensures, c .before .before .before .before .join .ensures, c .before .before .before .before .before .end-print .ensures)
 
 pub second-spec : {M : Type 1} → statement M
 second-spec =

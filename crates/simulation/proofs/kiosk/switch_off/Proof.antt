@@ -6,7 +6,7 @@ use Rattle.simulation.proofs.kiosk.switch_off.Tie as tie
 
 returns : tie.Need-returns
 unfolding switch-off
-returns c = cc
+returns c = simp (c .with-head .ensures, c .before .either .ensures, c .before .before .is-over .ensures, c .before .before .before .is-free .ensures, c .before .before .before .before .since .ensures)
 
 pub switch-off-spec : {M : Type 1} → statement M
 switch-off-spec =
