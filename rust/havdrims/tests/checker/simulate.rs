@@ -67,11 +67,12 @@ fn whole(simulated: &Simulated) {
 fn random_kiosks() {
     let body = |r: &mut Random, counts: &mut Counts| {
         let most = r.pick(&[2, 5, 40, 600]);
+        let idle = r.pick(&[most, 3600]);
         let gap = r.pick(&[2, 5, 40, 3600]);
         let settings = Settings {
             warm_up: r.from_to(1, most) as u32,
             print_time: r.from_to(1, most) as u32,
-            switch_off: r.from_to(1, r.pick(&[most, 3600])) as u32,
+            switch_off: r.from_to(1, idle) as u32,
             mean_gap: r.from_to(1, gap) as u32,
         };
         let longest = r.pick(&[3, 60, 3600]);
