@@ -23,8 +23,8 @@ extern "C" {
  * A length counts the elements of its buffer: bytes, or 64-bit words for a point. A buffer of length 0 is not
  * touched, and its pointer may be null. Words are aligned as uint64_t is.
  *
- * The last two pointers of measure, resume and tally, and the last four of simulate, each point to a number of the
- * caller's and are never null.
+ * The last two pointers of measure, resume and tally, the last of worst_log, and the last four of simulate each point
+ * to a number of the caller's and are never null.
  *
  * What a call writes (point, sheet, a log that it makes, the numbers behind its last pointers) shares no byte with
  * anything else that the call is given. What it only reads may overlap.
@@ -38,13 +38,14 @@ extern "C" {
 enum havdrims_refusal {
     HAVDRIMS_RULE_MARK = 1,       /* the rule is shorter than 8 bytes or lacks its mark */
     HAVDRIMS_RULE_VERSION = 2,    /* the rule's version is not 1 */
-    HAVDRIMS_ENTRY_COUNT = 3,     /* the entry count is 0 */
+                                  /* 3 no longer occurs: a rule without entries says yes at every position */
     HAVDRIMS_RULE_LENGTH = 4,     /* the count is above 128, a spare byte is not zero, or the length is not
                                      8 + 10 * count */
     HAVDRIMS_ENTRY_FIELD = 5,     /* some kind is above 6, some letter above 31, or some unused field not zero */
     HAVDRIMS_INTERVAL = 6,        /* some low or finite high is above 3,600, some low is above its high, or until has
                                      no upper end */
-    HAVDRIMS_SHAPE = 7,           /* some entry lacks an operand, or the whole leaves other than one formula */
+    HAVDRIMS_SHAPE = 7,           /* some entry lacks an operand, or the whole leaves other than one formula and the
+                                     count is not 0 */
     HAVDRIMS_TOO_MANY_WORDS = 8,  /* the need is above 8,192 words */
     HAVDRIMS_SHORT_POINT = 9,     /* the lent point is shorter than the need */
     HAVDRIMS_FOREIGN_POINT = 10,  /* the point does not begin as a point of this library with a copy of this rule */
@@ -56,6 +57,8 @@ enum havdrims_refusal {
     HAVDRIMS_TIME_FALLS = 14,     /* some record after the first without a verdict has a time below that of the
                                      record before it, or the first new record's time is below the last time seen */
     HAVDRIMS_SHEET_BYTE = 15,     /* a sheet given to tally has a byte above 1 */
+    HAVDRIMS_LOG_ROOM = 19,       /* the number of records is above 1,000,000, or the lent log buffer is under
+                                     8 + 8 * records bytes */
     HAVDRIMS_SETTINGS = 26        /* a setting, the seconds or the seed given to simulate is outside its range, or the
                                      lent log buffer is short */
 };
@@ -72,7 +75,7 @@ enum havdrims_refusal {
 /*
  * Weighs a rule of rule_len bytes.
  *
- * *words becomes the number of words that a point of this rule needs, 32 to 8,192. *reach becomes the rule's reach
+ * *words becomes the number of words that a point of this rule needs, 16 to 8,192. *reach becomes the rule's reach
  * in seconds: a record has its verdict, at the latest, once the log has a record more than that much later; or
  * HAVDRIMS_NO_REACH.
  *
@@ -117,6 +120,21 @@ uint32_t havdrims_resume(const uint8_t *rule, size_t rule_len, const uint8_t *lo
  * Refusal: 15.
  */
 uint32_t havdrims_tally(const uint8_t *sheet, size_t sheet_len, uint64_t *no, uint64_t *yes);
+
+/*
+ * Writes the log that keeps most seconds waiting: for the rule "letter 0 until letter 1, within low to high seconds",
+ * a log of exactly `records` records none of which is settled, and among whose times are as many distinct ones as the
+ * open records of any log of `records` records can have: the smaller of `records` and high + 1. Record i has letter 0
+ * alone, and as its time the smaller of i and high.
+ *
+ * log      takes the log, header included. Its bytes behind the log are kept.
+ *
+ * *written becomes the log's length, 8 + 8 * records bytes.
+ *
+ * Refusals: 6 for the interval, as of an until in a rule; then 19.
+ */
+uint32_t havdrims_worst_log(uint32_t low, uint32_t high, uint64_t records, uint8_t *log, size_t log_len,
+                            uint64_t *written);
 
 /*
  * A kiosk to try settings on: simulates so many seconds of it, from time 0, with the head off and nobody there, and

@@ -11,10 +11,11 @@ use Rattle.rule.specs.Measure.{measured}
 use Rattle.monitor.specs.Open.{Opens, opened-number}
 use Rattle.monitor.specs.Resume.{Resumes, resumed-number, resumed-count, resumed-more}
 use Rattle.monitor.specs.Tally.{tallied}
-use Rattle.simulation.specs.Simulate.{simulated, log-after}
-use Rattle.simulation.specs.declared.Settings.{Settings}
 use Rattle.monitor.specs.declared.Opened.{Opened}
 use Rattle.monitor.specs.declared.Resumed.{Resumed}
+use Rattle.worst.specs.Call.{answered, buffer-after}
+use Rattle.simulation.specs.Simulate.{simulated, log-after}
+use Rattle.simulation.specs.declared.Settings.{Settings}
 
 -- the new value where the call was accepted, else the old one
 abbrev pub or-kept : (number old new : ℕ) → ℕ
@@ -45,6 +46,11 @@ pub record TallyCall (sheet : List ℕ) (noes yeses r noes′ yeses′ : ℕ) : 
   pub number : r ≡ tallied sheet .number
   pub no-count : noes′ ≡ or-kept r noes (tallied sheet .no-count)
   pub yes-count : yeses′ ≡ or-kept r yeses (tallied sheet .yes-count)
+
+pub record WorstLogCall (low high n : ℕ) (log : List ℕ) (w r : ℕ) (log′ : List ℕ) (w′ : ℕ) : Type 0 where
+  pub number : r ≡ answered low high n (length log) .number
+  pub written : w′ ≡ or-kept r w (answered low high n (length log) .length)
+  pub bytes : log′ ≡ buffer-after low high n log
 
 abbrev pub settings : (warm-up print-time switch-off mean-gap : ℕ) → Settings
 settings w p o g = record { warmup = w; print = p; switchoff = o; gap = g }

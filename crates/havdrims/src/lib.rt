@@ -1,12 +1,13 @@
 // The C interface: the library's calls under plain names. Each answers 0, or the refusal's number, and then every number
 // behind a pointer is as it was. include/havdrims.h says what a C programmer needs to know.
-ghost use Rattle.havdrims.specs.Interface.{MeasureCall, OpenCall, ResumeCall, TallyCall, settings, SimulateCall};
+ghost use Rattle.havdrims.specs.Interface.{MeasureCall, OpenCall, ResumeCall, TallyCall, WorstLogCall, settings, SimulateCall};
 use monitor::Opened;
 use monitor::Resumed;
 use monitor::Tallied;
 use rule::Measured;
 use simulation::Settings;
 use simulation::Simulated;
+use worst::Made;
 
 // Document 01's weigh.
 #[no_mangle]
@@ -70,6 +71,25 @@ pub extern "C" fn havdrims_tally(sheet: &[u8], no: &mut u64, yes: &mut u64) -> u
     };
     *no = n as u64;
     *yes = y as u64;
+    0
+}
+
+// Writes the log that keeps most seconds waiting.
+#[no_mangle]
+pub extern "C" fn havdrims_worst_log(
+    low: u32,
+    high: u32,
+    records: u64,
+    log: &mut [u8],
+    written: &mut u64,
+) -> u32
+    ensures { λ r. ⌜ WorstLogCall low high records (now (log .entry)) (now (written .entry)) r (now (log .exit)) (now (written .exit)) ⌝ }
+{
+    let made = worst::worst_log(low, high, records, log);
+    let Made::Length(length) = made else {
+        return made.number();
+    };
+    *written = length as u64;
     0
 }
 

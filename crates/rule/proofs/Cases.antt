@@ -1,4 +1,4 @@
--- The measuring rows of document 01, worked out by the definitions.
+-- The measuring rows of document 01, and those of an empty rule, worked out by the definitions.
 use Prim.Native.Nat.{ℕ, _/_, _%_}
 use mathlib.Core.Path.{_≡_, refl}
 use mathlib.Core.List.{List, [], _∷_, _++_}
@@ -11,7 +11,7 @@ use Rattle.rule.specs.Entries.{first-entries}
 use Rattle.rule.specs.Words.{offset}
 use Rattle.rule.specs.Postfix.{push-kind, read, postfix}
 use Rattle.rule.specs.Refusal.{header-refusal, entries-refusal}
-use Rattle.rule.specs.Measure.{measured}
+use Rattle.rule.specs.Measure.{farthest, measured}
 
 abbrev pub bytes-of : ℕ → List ℕ
 bytes-of n = n / 16777216 ∷ n / 65536 % 256 ∷ n / 256 % 256 ∷ n % 256 ∷ []
@@ -23,6 +23,10 @@ body (e ∷ es) = e .kind ∷ e .letter ∷ bytes-of (e .low) ++ bytes-of (e .hi
 -- the rule of a formula, as document 01 has it in bytes
 unfoldable pub rule-of : Formula → List ℕ
 rule-of φ = 0x4B ∷ 0x52 ∷ 0x4C ∷ 0 ∷ 1 ∷ length (postfix φ) ∷ 0 ∷ 0 ∷ body (postfix φ)
+
+-- the rule with nothing in it
+abbrev no-entry : List ℕ
+no-entry = 0x4B ∷ 0x52 ∷ 0x4C ∷ 0 ∷ 1 ∷ 0 ∷ 0 ∷ 0 ∷ []
 
 -- the answer of weighing
 abbrev pub Weighs : List ℕ → ℕ → ℕ → ℕ → Type 0
@@ -41,8 +45,10 @@ pub rows :
     × Weighs (rule-of (P10 447)) 8 0 0
     × Weighs (rule-of (until 0 3600 (letter 0) (letter 1))) 0 7266 3600
     × Weighs (rule-of (until 0 3601 (letter 0) (letter 1))) 6 0 0
-    × Weighs (set (set (rule-of P1) 4 2) 5 0) 2 0 0
+    × Weighs (set (rule-of P1 ++ (0 ∷ [])) 4 2) 2 0 0
     × Weighs (rule-of (next 1 unbounded (letter 0))) 0 48 unbounded
     × Weighs (rule-of (until 0 unbounded (letter 0) (letter 1))) 6 0 0
-unfolding rule-of body postfix header-refusal entries-refusal first-entries any offset read push-kind reach has-next
-rows = (refl, refl, refl, refl, refl, refl, refl, refl, refl)
+    × Weighs no-entry 0 16 0
+    × Weighs (no-entry ++ body (postfix (letter 0))) 4 0 0
+unfolding rule-of body postfix header-refusal entries-refusal first-entries any offset read push-kind reach has-next farthest
+rows = (refl, refl, refl, refl, refl, refl, refl, refl, refl, refl, refl)

@@ -4,8 +4,8 @@ ghost use Prim.Native.Nat.{_+_, _*_, _%_, _<_, _≤_, _^_};
 ghost use lib.ListN.{length};
 ghost use Rattle.bits.specs.Packed.{number, Packed};
 ghost use Rattle.trace.specs.Format.{word-at, record-count, time-at, has-letter, records-of, wrong-mark, version-of, wrong-spare, malformed};
-ghost use Rattle.trace.specs.Making.{header, word-bytes, record-bytes, put};
 ghost use Rattle.trace.specs.Order.{falls, starts-below, disordered, last-time};
+ghost use Rattle.trace.specs.Making.{header, word-bytes, record-bytes, put};
 
 fn wide(x: u8) -> u64
     ensures { λ r. ⌜ (r ≡ x) × (r < 256) ⌝ }

@@ -37,6 +37,19 @@ extern "C" {
     /// See [`havdrims_measure`].
     pub fn havdrims_tally(sheet: *const u8, sheet_len: usize, no: *mut u64, yes: *mut u64) -> u32;
 
+    /// The log that keeps most seconds waiting.
+    ///
+    /// # Safety
+    /// See [`havdrims_measure`].
+    pub fn havdrims_worst_log(
+        low: u32,
+        high: u32,
+        records: u64,
+        log: *mut u8,
+        log_len: usize,
+        written: *mut u64,
+    ) -> u32;
+
     /// A kiosk to try settings on: its log.
     ///
     /// # Safety

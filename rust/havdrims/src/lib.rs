@@ -6,11 +6,10 @@
 //! words that the caller lends and keeps. A record that has its verdict is never read again, so the kiosk may
 //! overwrite it.
 //!
-//! There are four calls: [`measure`] (weigh), [`open`], [`resume`] (carry on) and [`tally`]. Each yields its result
-//! or one [`Refusal`], and a refused call changes nothing. The checker is proved; this crate only hands slices on
-//! to it. Nothing here allocates, and a thread with [`MOST_STACK`] bytes of stack can make every call.
-//!
-//! Besides there is [`simulate`], a kiosk to try settings on: it writes the log of a simulated kiosk.
+//! The calls: [`measure`] (weigh), [`open`], [`resume`] (carry on) and [`tally`]; and [`worst_log`] and [`simulate`],
+//! which write logs to try a kiosk or its settings with. Each yields its result or one [`Refusal`], and a refused call
+//! changes nothing. The checker is proved; this crate only hands slices on to it. Nothing here allocates, and a thread
+//! with [`MOST_STACK`] bytes of stack can make every call.
 //!
 //! # Example
 //!
@@ -59,7 +58,7 @@ pub const MOST_STACK: usize = 65_536;
 /// What a rule needs.
 #[derive(Clone, Copy, Debug, PartialEq, Eq)]
 pub struct Needs {
-    /// The 64-bit words that a checkpoint of the rule takes: 32 to 8,192.
+    /// The 64-bit words that a checkpoint of the rule takes: 16 to 8,192, and 16 for a rule without entries alone.
     pub words: usize,
     /// A position is answered once the last record lies more than so many seconds after it; none for a rule with
     /// next.
@@ -133,6 +132,18 @@ pub fn tally(sheet: &[u8]) -> Result<Tally, Refusal> {
     let number = unsafe { ffi::havdrims_tally(sheet.as_ptr(), sheet.len(), &mut no, &mut yes) };
     refusal::checked(number)?;
     Ok(Tally { no, yes })
+}
+
+/// Writes a log of exactly `records` records that keeps most seconds waiting, for the rule "letter 0 until letter 1,
+/// within `low` to `high` seconds": none of them is settled, and they have as many distinct times as the open records
+/// of such a log can have, the smaller of `records` and `high` + 1. Gives the log's length, 8 + 8 × `records` bytes;
+/// the bytes behind are kept. Refusals: 6 for the interval, and 19.
+pub fn worst_log(low: u32, high: u32, records: u64, log: &mut [u8]) -> Result<usize, Refusal> {
+    let mut written = 0;
+    // SAFETY: the pointers and the length are those of a slice and of a number, which do not overlap.
+    let number = unsafe { ffi::havdrims_worst_log(low, high, records, log.as_mut_ptr(), log.len(), &mut written) };
+    refusal::checked(number)?;
+    Ok(written as usize)
 }
 
 /// The settings of a simulated kiosk, in seconds.

@@ -17,9 +17,8 @@ use std::fmt;
 #[non_exhaustive]
 pub enum Refusal {
     RuleMark = 1,
-    RuleVersion,
-    EntryCount,
-    RuleLength,
+    RuleVersion = 2,
+    RuleLength = 4,
     EntryField,
     Interval,
     Shape,
@@ -31,21 +30,25 @@ pub enum Refusal {
     FewerRecords,
     TimeFalls,
     SheetByte,
+    LogRoom = 19,
     Settings = 26,
 }
 
-/// Every refusal, in the order of their numbers, with the paper's words.
+/// Every refusal, in the order of their numbers, with the paper's words. Number 3 no longer occurs: it was that of a
+/// rule without entries.
 const SENTENCES: [(Refusal, &str); 16] = [
     (Refusal::RuleMark, "The rule is shorter than 8 bytes or lacks its mark."),
     (Refusal::RuleVersion, "The rule's version is not 1."),
-    (Refusal::EntryCount, "The entry count is 0."),
     (Refusal::RuleLength, "The count is above 128, a spare byte is not zero, or the length is not 8 + 10 × count."),
     (Refusal::EntryField, "Some kind is above 6, some letter above 31, or some unused field not zero."),
     (
         Refusal::Interval,
         "Some low or finite high is above 3,600, some low is above its high, or until has no upper end.",
     ),
-    (Refusal::Shape, "Some entry lacks an operand, or the whole leaves other than one formula."),
+    (
+        Refusal::Shape,
+        "Some entry lacks an operand, or the whole leaves other than one formula and the entry count is not 0.",
+    ),
     (Refusal::TooManyWords, "The need is above 8,192 words."),
     (Refusal::ShortPoint, "The lent point is shorter than the need."),
     (Refusal::ForeignPoint, "The point does not begin as a point of this library with a copy of this rule."),
@@ -62,11 +65,12 @@ const SENTENCES: [(Refusal, &str); 16] = [
          time is below the last time seen.",
     ),
     (Refusal::SheetByte, "A sheet given to tally has a byte above 1."),
+    (Refusal::LogRoom, "The number of records is above 1,000,000 or the lent buffer is under 8 + 8 × n bytes."),
     (Refusal::Settings, "A setting, the seconds or the seed is outside its range or the lent log buffer is short."),
 ];
 
 impl Refusal {
-    /// The paper's number, 1 to 15 or 26.
+    /// The paper's number: 1 to 15 but for 3, 19 or 26.
     pub fn number(self) -> u32 {
         self as u32
     }
@@ -107,7 +111,7 @@ mod tests {
     #[test]
     fn numbers_and_sentences() {
         let numbers: Vec<u32> = (0..40).filter(|&number| Refusal::from_number(number).is_some()).collect();
-        assert_eq!(numbers, [1, 2, 3, 4, 5, 6, 7, 8, 9, 10, 11, 12, 13, 14, 15, 26]);
+        assert_eq!(numbers, [1, 2, 4, 5, 6, 7, 8, 9, 10, 11, 12, 13, 14, 15, 19, 26]);
         assert_eq!(numbers.len(), SENTENCES.len());
         for (number, (refusal, sentence)) in numbers.into_iter().zip(SENTENCES) {
             assert_eq!(refusal.number(), number);

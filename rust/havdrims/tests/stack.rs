@@ -5,7 +5,7 @@ use evaluator::log;
 use evaluator::random::{self, LogShape, Random};
 use evaluator::rule::{self, Entry, NEXT, NO_END, PREVIOUS, SINCE, UNTIL};
 use evaluator::{cases, model, reading};
-use havdrims::{measure, open, resume, simulate, tally, Resumed, Settings, Tally, MOST_STACK};
+use havdrims::{measure, open, resume, simulate, tally, worst_log, Resumed, Settings, Tally, MOST_STACK};
 use std::ffi::{c_int, c_long, c_void};
 use std::io::Write;
 use std::{ptr, slice};
@@ -150,11 +150,14 @@ fn every_call_on_a_small_stack() {
     let (simulated, simulating) = on_small_stack(|| simulate(&settings, 3600, 1, &mut made));
     assert_eq!(simulated.map(|given| given.written), Ok(made.len()));
     let [measuring, opening, resuming, tallying] = most;
+    let mut made = vec![0; 8 + 8 * 5000];
+    let (length, making) = on_small_stack(|| worst_log(0, 3600, 5000, &mut made));
+    assert_eq!(length, Ok(made.len()));
     // Past the test harness, which would hold back what a passing test prints.
     let _ = writeln!(
         std::io::stderr(),
         "most bytes of stack: measure {measuring}, open {opening}, resume {resuming}, tally {tallying}, \
-         simulate {simulating}"
+         worst_log {making}, simulate {simulating}"
     );
     assert!(resuming > PAGE, "the stack was not measured");
     let header = include_str!("../../../include/havdrims.h");

@@ -3,7 +3,7 @@
 use evaluator::random::{self, LogShape, Random, RuleShape};
 use evaluator::rule::{self, Entry, NEXT, NO_END, PREVIOUS, SINCE, UNTIL};
 use evaluator::{cases, log};
-use havdrims::text::{formula, log_from_text, log_to_text};
+use havdrims::text::{formula, log_from_text, log_to_text, EMPTY};
 use havdrims::Refusal;
 use std::path::Path;
 use std::process::{Command, Output};
@@ -75,6 +75,7 @@ fn formulas() {
     let both = [a, Entry::timed(NEXT, 1, 1), Entry::timed(PREVIOUS, 0, 3600)];
     assert_eq!(shown(&both), "prev[0,3600] next[1,1] e0");
     assert_eq!(shown(&[a, Entry::timed(NEXT, 1, NO_END)]), "next[1,inf] e0");
+    assert_eq!(shown(&[]), EMPTY);
     assert_eq!(formula(b"KRL"), Err(Refusal::RuleMark));
 }
 
@@ -149,6 +150,10 @@ fn formulas_read_back_are_the_rule() {
     for _ in 0..5_000 {
         let entries = random::valid_entries(&mut r, RuleShape { entries: 20, letters: 32, high: 50 });
         let shown = formula(&rule::encode(&entries)).unwrap();
+        if entries.is_empty() {
+            assert_eq!(shown, EMPTY);
+            continue;
+        }
         let mut reader = Reader { rest: &shown, entries: Vec::new() };
         reader.or();
         assert_eq!((reader.rest, reader.entries), ("", entries), "{shown}");
@@ -170,6 +175,7 @@ fn the_program() {
     fs::write(directory.join("day.txt"), P1).unwrap();
     fs::write(directory.join("bad.txt"), "1\n0\n").unwrap();
     fs::write(directory.join("rule.krl"), rule::encode(&cases::p1_entries())).unwrap();
+    fs::write(directory.join("empty.krl"), rule::encode(&[])).unwrap();
 
     let (done, out, _) = tool(&directory, &["to-log", "day.txt", "day.klg"]);
     assert!(done.status.success());
@@ -178,12 +184,24 @@ fn the_program() {
     assert_eq!(tool(&directory, &["to-text", "day.klg"]).1, P1);
     assert_eq!(tool(&directory, &["formula", "rule.krl"]).1, "e0 until[0,2] e1\nwords 70, reach 2 seconds\n");
 
+    let empty = tool(&directory, &["formula", "empty.krl"]).1;
+    assert_eq!(empty, "empty: every position is yes\nwords 16, reach 0 seconds\n");
+    let (done, out, _) = tool(&directory, &["worst", "0", "2", "5", "worst.klg"]);
+    assert!(done.status.success());
+    assert_eq!(out, "worst.klg: 5 records, 3 seconds waiting\n");
+    assert_eq!(tool(&directory, &["to-text", "worst.klg"]).1, "0 e0\n1 e0\n2 e0\n2 e0\n2 e0\n");
+
     let (failed, _, err) = tool(&directory, &["to-log", "bad.txt", "bad.klg"]);
     assert!(!failed.status.success() && !directory.join("bad.klg").exists());
     assert_eq!(err, "bad.txt, line 2: second 0 comes after second 1\n");
     let (failed, _, err) = tool(&directory, &["formula", "day.klg"]);
     assert!(!failed.status.success());
     assert_eq!(err, "day.klg: refused 1: The rule is shorter than 8 bytes or lacks its mark.\n");
+    let (failed, _, err) = tool(&directory, &["worst", "3", "2", "5", "bad.klg"]);
+    assert!(!failed.status.success() && !directory.join("bad.klg").exists());
+    assert!(err.starts_with("refused 6: "));
+    assert!(tool(&directory, &["worst", "0", "2", "1000001", "bad.klg"]).2.starts_with("refused 19: "));
+    assert_eq!(tool(&directory, &["worst", "0", "2", "-1", "bad.klg"]).2, "`-1` is no number, or too large a one\n");
     assert!(tool(&directory, &["to-text", "none.klg"]).2.starts_with("none.klg: "));
 
     let options = "simulate run.klg --seed 6 --seconds 9 --warm-up 1 --print-time 2 --switch-off 1 --mean-gap 3";

@@ -1,15 +1,20 @@
-//! Turns a log typed as text into a .klg file and back, shows a rule file as a formula, and simulates a kiosk.
+//! Turns a log typed as text into a .klg file and back, shows a rule file as a formula, and writes logs to try a kiosk
+//! with.
 
-use havdrims::{measure, simulate, text, Settings};
+use havdrims::{measure, simulate, text, worst_log, Settings};
 use std::env;
 use std::fs;
 use std::io::{self, Write};
 use std::process::ExitCode;
+use std::str::FromStr;
 
 const USAGE: &str = "\
 kiosk-text to-log TEXT LOG     write the log file that the text describes
 kiosk-text to-text LOG         print a log file as text
 kiosk-text formula RULE        print a rule file as a formula, its words and its reach
+kiosk-text worst LOW HIGH N FILE
+                               write the log of N records that keeps most seconds waiting for the rule
+                               e0 until[LOW,HIGH] e1
 kiosk-text simulate LOG OPTIONS
                                write the log file of a simulated kiosk, a record for each second. All options, in
                                any order: --seconds (0 to 3600) --warm-up and --print-time (1 to 600) --switch-off
@@ -40,6 +45,22 @@ fn formula(path: &str) -> Result<String, String> {
     let formula = text::formula(&rule).map_err(refused)?;
     let reach = needs.reach.map_or("none".to_string(), |seconds| format!("{seconds} seconds"));
     Ok(format!("{formula}\nwords {}, reach {reach}\n", needs.words))
+}
+
+/// The most records of a log.
+const MOST_RECORDS: u64 = 1_000_000;
+
+fn number<T: FromStr>(word: &str) -> Result<T, String> {
+    word.parse().map_err(|_| format!("`{word}` is no number, or too large a one"))
+}
+
+fn worst(low: &str, high: &str, records: &str, log: &str) -> Result<String, String> {
+    let (low, high, records): (u32, u32, u64) = (number(low)?, number(high)?, number(records)?);
+    // With more records than a log may have the call is refused, whatever the room.
+    let mut bytes = vec![0; 8 + 8 * records.min(MOST_RECORDS) as usize];
+    let length = worst_log(low, high, records, &mut bytes).map_err(|refusal| refusal.to_string())?;
+    fs::write(log, &bytes[..length]).map_err(|fault| format!("{log}: {fault}"))?;
+    Ok(format!("{log}: {records} records, {} seconds waiting\n", records.min(u64::from(high) + 1)))
 }
 
 const OPTIONS: [&str; 6] = ["--seconds", "--warm-up", "--print-time", "--switch-off", "--mean-gap", "--seed"];
@@ -81,6 +102,7 @@ fn main() -> ExitCode {
         ["to-log", text, log] => to_log(text, log),
         ["to-text", log] => to_text(log),
         ["formula", rule] => formula(rule),
+        ["worst", low, high, records, log] => worst(low, high, records, log),
         ["simulate", log, options @ ..] => simulated(log, options),
         _ => Err(USAGE.to_string()),
     };

@@ -156,7 +156,7 @@ fn another_rule() {
         let kiosk = Kiosk::new(r, 8, 10);
         let mut rule = kiosk.rule.clone();
         let count = (rule.len() - 8) / 10;
-        for _ in 0..r.from_to(1, 2) {
+        for _ in 0..r.from_to(1, 2).min(count) {
             let at = 8 + 10 * r.below(count);
             match rule[at] {
                 0 => rule[at + 1] = r.below(32) as u8,

@@ -12,3 +12,4 @@ mod lists;
 mod runner;
 mod simulate;
 mod single;
+mod worst;
