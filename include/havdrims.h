@@ -23,10 +23,10 @@ extern "C" {
  * A length counts the elements of its buffer: bytes, or 64-bit words for a point. A buffer of length 0 is not
  * touched, and its pointer may be null. Words are aligned as uint64_t is.
  *
- * The last two pointers of measure, resume and tally, and the last of worst_log, each point to a number of the
- * caller's and are never null.
+ * The last two pointers of measure, resume and tally, the last of worst_log, and the last four of simulate each point
+ * to a number of the caller's and are never null.
  *
- * What a call writes (point, sheet, the log of worst_log, the numbers behind its last pointers) shares no byte with
+ * What a call writes (point, sheet, a log that it makes, the numbers behind its last pointers) shares no byte with
  * anything else that the call is given. What it only reads may overlap.
  *
  * The formats of rule, log and sheet are those of docs/FORMATS.md. A point's words are the library's own, in the
@@ -57,8 +57,10 @@ enum havdrims_refusal {
     HAVDRIMS_TIME_FALLS = 14,     /* some record after the first without a verdict has a time below that of the
                                      record before it, or the first new record's time is below the last time seen */
     HAVDRIMS_SHEET_BYTE = 15,     /* a sheet given to tally has a byte above 1 */
-    HAVDRIMS_LOG_ROOM = 19        /* the number of records is above 1,000,000, or the lent log buffer is under
+    HAVDRIMS_LOG_ROOM = 19,       /* the number of records is above 1,000,000, or the lent log buffer is under
                                      8 + 8 * records bytes */
+    HAVDRIMS_SETTINGS = 26        /* a setting, the seconds or the seed given to simulate is outside its range, or the
+                                     lent log buffer is short */
 };
 
 /* No position of the rule is sure to be answered after any time: the reach of a rule with next. */
@@ -133,6 +135,30 @@ uint32_t havdrims_tally(const uint8_t *sheet, size_t sheet_len, uint64_t *no, ui
  */
 uint32_t havdrims_worst_log(uint32_t low, uint32_t high, uint64_t records, uint8_t *log, size_t log_len,
                             uint64_t *written);
+
+/*
+ * A kiosk to try settings on: simulates so many seconds of it, from time 0, with the head off and nobody there, and
+ * writes its log, a record for each second, into the first 8 + 8 * seconds bytes of `log`. The bytes behind are kept.
+ *
+ * seconds      0 to 3,600
+ * warm_up      how long the head takes to warm up, 1 to 600 seconds
+ * print_time   how long a print takes, 1 to 600 seconds
+ * switch_off   how long a warm head is idle before it goes off, 1 to 3,600 seconds
+ * mean_gap     1 to 3,600: a customer joins in a second whose draw is divisible by it
+ * seed         the generator's first state, not 0; the same seed gives the same customers
+ *
+ * In the log letter 0 stands in a second that ends with a warm head, letter 1 where a print begins, letter 2 where a
+ * customer joins, and letter 3 where a print ends.
+ *
+ * *written becomes the log's length in bytes, *finished the number of prints that ended, *printing 1 if a print goes
+ * on at the end and else 0, *waiting the number of customers whose print has not begun. The last three sum to the
+ * customers who joined.
+ *
+ * Refusal: 26.
+ */
+uint32_t havdrims_simulate(uint32_t seconds, uint32_t warm_up, uint32_t print_time, uint32_t switch_off,
+                           uint32_t mean_gap, uint32_t seed, uint8_t *log, size_t log_len,
+                           uint64_t *written, uint64_t *finished, uint64_t *printing, uint64_t *waiting);
 
 #ifdef __cplusplus
 }

@@ -33,7 +33,7 @@ use Rattle.worst.proofs.Outcome.{not-zero}
 use Rattle.havdrims.specs.Interface.{or-kept, flag, MeasureCall, OpenCall, ResumeCall, TallyCall, WorstLogCall}
 
 -- a number that is not 0 keeps what stood behind the pointer
-kept : (n old new : ℕ) → (n ≡ 0 → ⊥) → old ≡ or-kept n old new
+pub kept : (n old new : ℕ) → (n ≡ 0 → ⊥) → old ≡ or-kept n old new
 kept n old new h = rw (ne-eqb n 0 h)
 
 byte-is : (b : Bool) → boolByte b ≡ flag b

@@ -14,6 +14,8 @@ use Rattle.monitor.specs.Tally.{tallied}
 use Rattle.monitor.specs.declared.Opened.{Opened}
 use Rattle.monitor.specs.declared.Resumed.{Resumed}
 use Rattle.worst.specs.Call.{answered, buffer-after}
+use Rattle.simulation.specs.Simulate.{simulated, log-after}
+use Rattle.simulation.specs.declared.Settings.{Settings}
 
 -- the new value where the call was accepted, else the old one
 abbrev pub or-kept : (number old new : ℕ) → ℕ
@@ -49,3 +51,14 @@ pub record WorstLogCall (low high n : ℕ) (log : List ℕ) (w r : ℕ) (log′ 
   pub number : r ≡ answered low high n (length log) .number
   pub written : w′ ≡ or-kept r w (answered low high n (length log) .length)
   pub bytes : log′ ≡ buffer-after low high n log
+
+abbrev pub settings : (warm-up print-time switch-off mean-gap : ℕ) → Settings
+settings w p o g = record { warmup = w; print = p; switchoff = o; gap = g }
+
+pub record SimulateCall (s : Settings) (seconds seed : ℕ) (log : List ℕ) (w f p q r : ℕ) (log′ : List ℕ) (w′ f′ p′ q′ : ℕ) : Type 0 where
+  pub number : r ≡ simulated s seconds seed (length log) .number
+  pub bytes : log′ ≡ log-after s seconds seed log
+  pub written : w′ ≡ or-kept r w (simulated s seconds seed (length log) .written)
+  pub finished : f′ ≡ or-kept r f (simulated s seconds seed (length log) .finished)
+  pub printing : p′ ≡ or-kept r p (simulated s seconds seed (length log) .printing)
+  pub waiting : q′ ≡ or-kept r q (simulated s seconds seed (length log) .waiting)

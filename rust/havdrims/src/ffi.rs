@@ -49,4 +49,23 @@ extern "C" {
         log_len: usize,
         written: *mut u64,
     ) -> u32;
+
+    /// A kiosk to try settings on: its log.
+    ///
+    /// # Safety
+    /// See [`havdrims_measure`].
+    pub fn havdrims_simulate(
+        seconds: u32,
+        warm_up: u32,
+        print_time: u32,
+        switch_off: u32,
+        mean_gap: u32,
+        seed: u32,
+        log: *mut u8,
+        log_len: usize,
+        written: *mut u64,
+        finished: *mut u64,
+        printing: *mut u64,
+        waiting: *mut u64,
+    ) -> u32;
 }
