@@ -189,7 +189,7 @@ fn reason(rule: &[u8], log: &[u8], point: &[u64]) -> u32
     requires { ⌜ (refusal (now rule) ≡ 0) × (need (now rule) ≤ length (now point)) ⌝ }
     ensures { λ r. ⌜ r ≡ point-refusal (decoded (now (rule .entry))) (count (now (rule .entry))) (now (log .entry)) (now (point .entry)) ⌝ }
 {
-    let entries = rule::entries(rule);
+    let entries = rule::decode(rule);
     let count = rule::entry_count(rule);
     let records = trace::records(log);
     let given = point[header::GIVEN] as usize;

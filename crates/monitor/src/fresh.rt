@@ -44,7 +44,7 @@ pub fn write(rule: &[u8], words: &mut [u64])
     requires { ⌜ (refusal (now rule) ≡ 0) × (length (now words) ≡ need (now rule)) ⌝ }
     ensures { λ _. ⌜ Fresh (decoded (now (rule .entry))) (count (now (rule .entry))) (now (words .exit)) ⌝ }
 {
-    let entries = rule::entries(rule);
+    let entries = rule::decode(rule);
     let count = rule::entry_count(rule);
     clear(words);
     words[header::FORMAT] = check::FORMAT;

@@ -106,7 +106,7 @@ pub fn proceed(rule: &[u8], records: &[u8], words: &mut [u64], sheet: &mut [u8])
     requires { ⌜ (refusal (now rule) ≡ 0) × (length (now words) ≡ need (now rule)) × (given (now words) ≤ 1000000) ⌝ }
     ensures { λ r. ⌜ Proceeds (now (rule .entry)) (now (records .entry)) (now (words .entry)) (now (sheet .entry)) r (now (words .exit)) (now (sheet .exit)) ⌝ }
 {
-    let entries = rule::entries(rule);
+    let entries = rule::decode(rule);
     let count = rule::entry_count(rule);
     let table = engine::layout::lay_out(entries, count);
     let given = give(&table, count, records, words, sheet);

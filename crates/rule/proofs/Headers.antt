@@ -7,7 +7,7 @@ use mathlib.Core.Bool.{Bool, true, false, cond, _||_, not}
 use mathlib.Core.List.{List}
 use lib.Dec.{eqb, ltb}
 use lib.ListN.{length}
-use Rattle.rule.specs.declared.Header.the-variants.{Count, Stopped}
+use Rattle.rule.specs.declared.refusals.Header.the-variants.{Count, Stopped}
 use Rattle.rule.specs.Bytes.{byte}
 use Rattle.rule.specs.Entries.{count, decoded}
 use Rattle.rule.specs.Refusal.{first, before, unmarked, other-version, malformed, header-refusal}

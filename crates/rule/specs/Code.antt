@@ -9,11 +9,11 @@ use Rattle.mtl.specs.Formula.{Formula}
 use Rattle.mtl.specs.Formula.{reach as formula-reach}
 use Rattle.mtl.specs.Satisfaction.{any}
 use Rattle.rule.specs.declared.Entry.{Entry}
-use Rattle.rule.specs.declared.Totals.{Totals}
-use Rattle.rule.specs.declared.Header.{Header}
-use Rattle.rule.specs.declared.Header.the-variants.{Count, Stopped}
-use Rattle.rule.specs.declared.Reading.{Reading}
-use Rattle.rule.specs.declared.Reading.the-variants.{Reach, Faulty}
+use Rattle.rule.specs.declared.weighing.Totals.{Totals}
+use Rattle.rule.specs.declared.refusals.Header.{Header}
+use Rattle.rule.specs.declared.refusals.Header.the-variants.{Count, Stopped}
+use Rattle.rule.specs.declared.weighing.Reading.{Reading}
+use Rattle.rule.specs.declared.weighing.Reading.the-variants.{Reach, Faulty}
 use Rattle.rule.specs.Entries.{count, entry}
 use Rattle.rule.specs.Words.{own, offset}
 use Rattle.rule.specs.Refusal.{misshapen, misplaced, misshapen-at, misplaced-at, header-refusal, entries-refusal}

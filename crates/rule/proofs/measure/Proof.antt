@@ -25,11 +25,11 @@ returns c =
     ap refused (c .number .ensures ∙ ap header-number (c .before .enum-told .given .1))
     ∙ stopped _ _ (sym (c .before .before .before .check-header .ensures) ∙ c .before .enum-told .given .1)
 
-entries-requires : tie.Need-entries-requires
-entries-requires c κs = search needs
+decode-requires : tie.Need-decode-requires
+decode-requires c κs = search needs
 
-measure-entries-requires : tie.Need-measure-entries-requires
-measure-entries-requires c κs =
+weigh-requires : tie.Need-weigh-requires
+weigh-requires c κs =
     let d = counted _ _ (sym (c .before .before .before .before .check-header .ensures) ∙ c .before .before .header .given .1) in
     let h = headed _ (d .accepted) in
     omega (arith, d .is-count, h .few)
@@ -37,8 +37,8 @@ measure-entries-requires c κs =
 returns-2 : tie.Need-returns-2
 returns-2 c =
     let d = counted _ _ (sym (c .before .before .before .before .before .check-header .ensures) ∙ c .before .before .before .header .given .1) in
-    c .measure-entries .ensures
-    ∙ ap₂ measured-entries (c .before .entries .ensures) (d .is-count)
+    c .weigh .ensures
+    ∙ ap₂ measured-entries (c .before .decode .ensures) (d .is-count)
     ∙ sym (d .answer-is)
 
 pub measure-spec : {M : Type 1} → statement M
@@ -50,6 +50,6 @@ measure-spec =
     enum-told
     number-requires
     returns
-    entries-requires
-    measure-entries-requires
+    decode-requires
+    weigh-requires
     returns-2)

@@ -6,8 +6,8 @@ use Rattle.monitor.proofs.Sizes.{fits-in}
 use Rattle.monitor.proofs.check.reason.Statement.{statement}
 use Rattle.monitor.proofs.check.reason.Tie as tie
 
-entries-requires : tie.Need-entries-requires
-entries-requires c κs = search needs
+decode-requires : tie.Need-decode-requires
+decode-requires c κs = search needs
 
 entry-count-requires : tie.Need-entry-count-requires
 entry-count-requires c κs = search needs
@@ -44,11 +44,11 @@ refuse-requires-3 c κs = search needs
 
 is-foreign-requires : tie.Need-is-foreign-requires
 is-foreign-requires c κs =
-    fits-in (c .before .before .before .before .before .before .before .before .before .before .before .before .before .before .before .args .rule .now) _ _ _ (c .before .before .before .before .before .before .before .before .before .before .before .before .before .before .before .pre .0) (c .before .before .before .before .before .before .before .before .before .before .before .entries .ensures) (c .before .before .before .before .before .before .before .before .before .before .entry-count .ensures .0) (c .before .before .before .before .before .before .before .before .before .before .before .before .before .before .before .pre .1)
+    fits-in (c .before .before .before .before .before .before .before .before .before .before .before .before .before .before .before .args .rule .now) _ _ _ (c .before .before .before .before .before .before .before .before .before .before .before .before .before .before .before .pre .0) (c .before .before .before .before .before .before .before .before .before .before .before .decode .ensures) (c .before .before .before .before .before .before .before .before .before .before .entry-count .ensures .0) (c .before .before .before .before .before .before .before .before .before .before .before .before .before .before .before .pre .1)
 
 is-outside-requires : tie.Need-is-outside-requires
 is-outside-requires c κs =
-    fits-in (c .before .before .before .before .before .before .before .before .before .before .before .before .before .before .before .before .args .rule .now) _ _ _ (c .before .before .before .before .before .before .before .before .before .before .before .before .before .before .before .before .pre .0) (c .before .before .before .before .before .before .before .before .before .before .before .before .entries .ensures) (c .before .before .before .before .before .before .before .before .before .before .before .entry-count .ensures .0) (c .before .before .before .before .before .before .before .before .before .before .before .before .before .before .before .before .pre .1)
+    fits-in (c .before .before .before .before .before .before .before .before .before .before .before .before .before .before .before .before .args .rule .now) _ _ _ (c .before .before .before .before .before .before .before .before .before .before .before .before .before .before .before .before .pre .0) (c .before .before .before .before .before .before .before .before .before .before .before .before .decode .ensures) (c .before .before .before .before .before .before .before .before .before .before .before .entry-count .ensures .0) (c .before .before .before .before .before .before .before .before .before .before .before .before .before .before .before .before .pre .1)
 
 refuse-requires-4 : tie.Need-refuse-requires-4
 refuse-requires-4 c κs = search needs
@@ -72,14 +72,14 @@ returns c =
       c .before .before .before .before .before .before .before .before .before .is-disordered .ensures,
       c .before .before .before .before .before .before .before .before .before .before .before .before .before .records .ensures,
       c .before .before .before .before .before .before .before .before .before .before .before .before .before .before .entry-count .ensures .0,
-      c .before .before .before .before .before .before .before .before .before .before .before .before .before .before .before .entries .ensures,
+      c .before .before .before .before .before .before .before .before .before .before .before .before .before .before .before .decode .ensures,
     )
 
 pub reason-spec : {M : Type 1} → statement M
 reason-spec =
     tie.close
     (tie.spec
-    entries-requires
+    decode-requires
     entry-count-requires
     records-requires
     shared-slice-read-given

@@ -15,16 +15,16 @@ table-of d =
     let s = d .before .before .before .before .before .before .before in
     tabled
     (s .args .rule .now)
-    (d .before .before .entries .result)
+    (d .before .before .decode .result)
     (d .before .entry-count .result)
     (d .lay-out .result)
     (s .pre .0)
-    (d .before .before .entries .ensures)
+    (d .before .before .decode .ensures)
     (d .before .entry-count .ensures .0)
     (d .lay-out .ensures)
 
-entries-requires : tie.Need-entries-requires
-entries-requires c κs = search needs
+decode-requires : tie.Need-decode-requires
+decode-requires c κs = search needs
 
 entry-count-requires : tie.Need-entry-count-requires
 entry-count-requires c κs = search needs
@@ -33,7 +33,7 @@ lay-out-requires : tie.Need-lay-out-requires
 lay-out-requires c κs =
     let s = c .before .before .before .before .before .before in
     let a = accepted (s .args .rule .now) (s .pre .0) in
-    rw (c .before .entries .ensures, c .entry-count .ensures .0) (a .few-entries, a .well-formed)
+    rw (c .before .decode .ensures, c .entry-count .ensures .0) (a .few-entries, a .well-formed)
 
 give-requires : tie.Need-give-requires
 give-requires c κs =
@@ -107,7 +107,7 @@ pub proceed-spec : {M : Type 1} → statement M
 proceed-spec =
     tie.close
     (tie.spec
-    entries-requires
+    decode-requires
     entry-count-requires
     lay-out-requires
     give-requires

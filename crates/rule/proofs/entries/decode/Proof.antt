@@ -1,4 +1,4 @@
--- `rule::entries` meets its contract. The loop's invariant: the first k entries of the table are those in the bytes.
+-- `entries::decode` meets its contract. The loop's invariant: the first k entries of the table are those in the bytes.
 use Prim.Native.Nat.{_<_, zero-le, _≤_, _-_}
 use native.Mathlib.Numerals.{add-one}
 use native.Mathlib.Omega.{arith}
@@ -7,8 +7,8 @@ use mathlib.Core.Path.{refl, sym, _∙_, _≡_}
 use lib.ListN.{length-set, length, take}
 use lib.Seq.{take-suc-set, take-all}
 use Rattle.rule.specs.Entries.{first-entries}
-use Rattle.rule.proofs.entries.Statement.{statement}
-use Rattle.rule.proofs.entries.Tie as tie
+use Rattle.rule.proofs.entries.decode.Statement.{statement}
+use Rattle.rule.proofs.entries.decode.Tie as tie
 
 abbrev Inv-loop : tie.InvT-loop
 Inv-loop rule table₀ k₀ table k = (k ≤ 128) × (length table ≡ 128) × (take k table ≡ first-entries rule k)
@@ -48,8 +48,8 @@ returns c =
     let e : i .k ≡ 128 = omega arith in
     sym (take-all 128 (i .table) (omega arith)) ∙ (rw e at (i .inv .2))
 
-pub entries-spec : {M : Type 1} → statement M
-entries-spec =
+pub decode-spec : {M : Type 1} → statement M
+decode-spec =
     tie.close
     (tie.spec
     Inv-loop
