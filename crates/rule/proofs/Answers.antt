@@ -1,4 +1,4 @@
--- What the checks of the entries, taken in their order, say of the answer: one law for each way out of `weigh`.
+-- What the checks of the entries, taken in their order, say of the answer: one law for each way out of `measure_entries`.
 use Prim.Native.Nat.{ℕ, _+_, _≤_, _<_, max}
 use native.Mathlib.Omega.{arith}
 use borrow.Author.Tests.{lt-ltb, le-ltb}
@@ -11,8 +11,8 @@ use Rattle.mtl.specs.Formula.{Formula, unbounded, has-next}
 use Rattle.mtl.specs.Formula.{reach as formula-reach}
 use Rattle.mtl.specs.Satisfaction.{any}
 use Rattle.rule.specs.declared.Entry.{Entry}
-use Rattle.rule.specs.declared.weighing.Reading.the-variants.{Reach, Faulty}
-use Rattle.rule.specs.declared.weighing.Totals.{Totals}
+use Rattle.rule.specs.declared.measuring.Reading.the-variants.{Reach, Faulty}
+use Rattle.rule.specs.declared.measuring.Totals.{Totals}
 use Rattle.rule.specs.Words.{words, limit}
 use Rattle.rule.specs.Postfix.{at-most-one, stack-after, formulas}
 use Rattle.rule.specs.Refusal.{misshapen-at, misplaced-at, lacking, over-limit, entries-refusal}

@@ -1,7 +1,8 @@
 // The entries of a rule, decoded from its bytes (document 01, "Rule and log as bytes").
 ghost use mathlib.Core.Path.{_≡_};
-ghost use Prim.Native.Nat.{_<_};
-ghost use Rattle.rule.specs.Entries.{count, entry-of, decoded};
+ghost use Prim.Native.Nat.{_≤_, _<_};
+ghost use Rattle.rule.specs.Entries.{count, entry-of};
+ghost use Rattle.rule.specs.Code.{filled};
 use super::Entry;
 use super::bytes;
 
@@ -21,9 +22,10 @@ fn entry_at(rule: &[u8], k: usize) -> Entry
     }
 }
 
-// The decoded rule. Behind its last entry stand blank ones.
-pub fn decode(rule: &[u8]) -> [Entry; 128]
-    ensures { λ r. ⌜ r ≡ decoded (now (rule .entry)) ⌝ }
+// The first count entries, each decoded once. Behind the last of them stand blank ones.
+pub fn decode(rule: &[u8], count: usize) -> [Entry; 128]
+    requires { ⌜ count ≤ 128 ⌝ }
+    ensures { λ r. ⌜ r ≡ filled (now (rule .entry)) count ⌝ }
 {
     let mut table = [Entry {
         kind: 0,
@@ -32,7 +34,7 @@ pub fn decode(rule: &[u8]) -> [Entry; 128]
         high: 0,
     }; 128];
     let mut k: usize = 0;
-    while k < 128 {
+    while k < count {
         table[k] = entry_at(rule, k);
         k += 1;
     }

@@ -1,18 +1,19 @@
-// Rules: `bytes` reads numbers, `entries` decodes, `refusals` checks the header and single entries, and `weighing` takes the entries together.
+// Rules: `bytes` reads numbers, `entries` decodes, `refusals` checks the header and single entries, and `measuring` takes the entries together.
 ghost use mathlib.Core.Path.{_≡_};
 ghost use Rattle.rule.specs.Measure.{answer, measured};
 
 mod bytes;
 mod entries;
+mod measuring;
 mod refusals;
-mod weighing;
 
 pub use bytes::byte_at;
 pub use entries::decode;
-pub use entries::entry_count;
-use refusals::Header;
+pub use measuring::measure_decoded;
+pub use measuring::own_words;
+pub use refusals::Header;
+pub use refusals::check_header;
 pub use refusals::is_misplaced;
-pub use weighing::own_words;
 
 // "kind (8 bits), letter (8 bits), low (32 bits), high (32 bits)"
 pub struct Entry {
@@ -43,9 +44,6 @@ impl Measured {
 pub fn measure(rule: &[u8]) -> Measured
     ensures { λ r. ⌜ answer r ≡ measured (now (rule .entry)) ⌝ }
 {
-    let header = refusals::check_header(rule);
-    let Header::Count(count) = header else {
-        return Measured::Refused(header.number());
-    };
-    weighing::weigh(entries::decode(rule), count)
+    let header = check_header(rule);
+    measure_decoded(header, decode(rule, header.count()))
 }

@@ -1,7 +1,7 @@
 // Refusals 1 to 6, of a rule's header and of one entry (document 01, "Where a call stops").
 ghost use mathlib.Core.Path.{_≡_};
 ghost use Rattle.rule.specs.Refusal.{first, misshapen, misplaced, header-refusal};
-ghost use Rattle.rule.specs.Code.{header, header-number};
+ghost use Rattle.rule.specs.Code.{header, header-number, header-count};
 use super::Entry;
 use super::bytes;
 use super::entries;
@@ -29,6 +29,16 @@ impl Header {
         match self {
             Header::Count(_) => 0,
             Header::Stopped(n) => n,
+        }
+    }
+
+    // 0 where the header is refused: then there is nothing to decode.
+    pub fn count(self) -> usize
+        ensures { λ r. ⌜ r ≡ header-count self ⌝ }
+    {
+        match self {
+            Header::Count(n) => n,
+            Header::Stopped(_) => 0,
         }
     }
 }

@@ -1,11 +1,11 @@
--- `weighing::weigh` meets its contract: one law for each way out.
+-- `measuring::measure_entries` meets its contract: one law for each way out.
 use native.Mathlib.Omega.{arith}
 use borrow.Author.Needs.{needs}
 use mathlib.Core.Path.{sym, _∙_}
 use mathlib.Core.Bool.{true, false}
 use Rattle.rule.proofs.Answers.{stop5, stop6, stop7, stop8, passes}
-use Rattle.rule.proofs.weighing.weigh.Statement.{statement}
-use Rattle.rule.proofs.weighing.weigh.Tie as tie
+use Rattle.rule.proofs.measuring.measure_entries.Statement.{statement}
+use Rattle.rule.proofs.measuring.measure_entries.Tie as tie
 
 add-up-requires : tie.Need-add-up-requires
 add-up-requires c κs = search needs
@@ -65,8 +65,8 @@ returns-6 c =
     passes (a .table) (a .count) (r .result) (r .ensures .0) _ false (omega arith) (c .before .before .before .before .before .before .before .before .if1 .left) (c .before .before .before .before .before .before .before .if2 .left)
     (sym (c .before .before .before .before .before .before .read .ensures) ∙ c .before .before .before .before .reach .given .1) (omega arith) (c .if4 .left)
 
-pub weigh-spec : {M : Type 1} → statement M
-weigh-spec =
+pub measure-entries-spec : {M : Type 1} → statement M
+measure-entries-spec =
     tie.close
     (tie.spec
     add-up-requires

@@ -4,12 +4,13 @@ ghost use Prim.Native.Nat.{_+_, _≤_, _<_, max};
 ghost use Rattle.rule.specs.Words.{own};
 ghost use Rattle.rule.specs.Postfix.{formulas};
 ghost use Rattle.rule.specs.Measure.{answer};
-ghost use Rattle.rule.specs.Code.{joined-reach, totals, with-entry, reading, measured-entries};
+ghost use Rattle.rule.specs.Code.{joined-reach, totals, with-entry, reading, measured-entries, header-count, measured-by};
 ghost use Rattle.rule.specs.Operands.{operands};
 use super::Entry;
 use super::Measured;
 use super::entries;
 use super::refusals;
+use super::refusals::Header;
 
 // What reading the entries in postfix order answers: the reach of the formula, 0 where there is no entry.
 enum Reading {
@@ -138,7 +139,7 @@ fn read(table: [Entry; 128], count: usize) -> Reading
 }
 
 // Refusals 5 to 8, or the words and the reach.
-pub fn weigh(table: [Entry; 128], count: usize) -> Measured
+fn measure_entries(table: [Entry; 128], count: usize) -> Measured
     requires { ⌜ count ≤ 128 ⌝ }
     ensures { λ r. ⌜ answer r ≡ measured-entries table count ⌝ }
 {
@@ -166,4 +167,15 @@ pub fn weigh(table: [Entry; 128], count: usize) -> Measured
         words: words as usize,
         reach,
     }
+}
+
+// The header's refusal, or what comes of the entries.
+pub fn measure_decoded(header: Header, table: [Entry; 128]) -> Measured
+    requires { ⌜ header-count header ≤ 128 ⌝ }
+    ensures { λ r. ⌜ answer r ≡ measured-by header table ⌝ }
+{
+    let Header::Count(count) = header else {
+        return Measured::Refused(header.number());
+    };
+    measure_entries(table, count)
 }
