@@ -1,4 +1,5 @@
 -- `check::size_of` meets its contract: it goes by what weighing answered, as `sized-by` does.
+use Prim.Native.Nat.{_≤_, _<_}
 use native.Mathlib.Omega.{arith}
 use mathlib.Core.Path.{sym, ap, _∙_}
 use borrow.Author.Tests.{lt-ltb, le-ltb}
@@ -26,10 +27,14 @@ returns c =
     ap Stopped (c .number .ensures ∙ ap (λ (r : Measured). answer r .number) told) ∙ sym (ap (λ (r : Measured). sized-by r (a .lent)) told)
 
 returns-2 : tie.Need-returns-2
-returns-2 c = rw (c .before .before .measured .given .1, lt-ltb _ _ (c .if1 .taken))
+returns-2 c =
+    let l : c .before .before .before .before .args .lent < c .before .before .measured .given .0 .0 = omega arith in
+    rw (c .before .before .measured .given .1, lt-ltb _ _ l)
 
 returns-3 : tie.Need-returns-3
-returns-3 c = rw (c .before .before .measured .given .1, le-ltb _ _ (c .if1 .left))
+returns-3 c =
+    let l : c .before .before .measured .given .0 .0 ≤ c .before .before .before .before .args .lent = omega arith in
+    rw (c .before .before .measured .given .1, le-ltb _ _ l)
 
 pub size-of-spec : {M : Type 1} → statement M
 size-of-spec =
