@@ -10,19 +10,9 @@ use Rattle.rule.specs.declared.Entry.{Entry}
 use Rattle.rule.specs.Entries.{first-entries}
 use Rattle.rule.specs.Words.{offset}
 use Rattle.rule.specs.Postfix.{push-kind, read, postfix}
+use Rattle.rule.specs.Encoding.{body, encoded, rule-of}
 use Rattle.rule.specs.Refusal.{header-refusal, entries-refusal}
 use Rattle.rule.specs.Measure.{measured}
-
-abbrev pub bytes-of : ℕ → List ℕ
-bytes-of n = n / 16777216 ∷ n / 65536 % 256 ∷ n / 256 % 256 ∷ n % 256 ∷ []
-
-unfoldable pub body : List Entry → List ℕ
-body [] = []
-body (e ∷ es) = e .kind ∷ e .letter ∷ bytes-of (e .low) ++ bytes-of (e .high) ++ body es
-
--- the rule of a formula, as document 01 has it in bytes
-unfoldable pub rule-of : Formula → List ℕ
-rule-of φ = 0x4B ∷ 0x52 ∷ 0x4C ∷ 0 ∷ 1 ∷ length (postfix φ) ∷ 0 ∷ 0 ∷ body (postfix φ)
 
 -- the answer of weighing
 abbrev pub Weighs : List ℕ → ℕ → ℕ → ℕ → Type 0
@@ -42,5 +32,5 @@ pub rows :
     × Weighs (rule-of (until 0 3600 (letter 0) (letter 1))) 0 7266 3600
     × Weighs (rule-of (until 0 3601 (letter 0) (letter 1))) 6 0 0
     × Weighs (set (set (rule-of P1) 4 2) 5 0) 2 0 0
-unfolding rule-of body postfix header-refusal entries-refusal first-entries any offset read push-kind reach has-next
+unfolding encoded body postfix header-refusal entries-refusal first-entries any offset read push-kind reach has-next
 rows = (refl, refl, refl, refl, refl, refl, refl)

@@ -75,7 +75,7 @@ fn wide(x: u8) -> u32
 }
 
 // A byte past the end reads as 0, so that every read is safe and every check can be made on any bytes.
-fn byte_at(s: &[u8], at: usize) -> u8
+pub fn byte_at(s: &[u8], at: usize) -> u8
     ensures { λ r. ⌜ r ≡ byte (now (s .entry)) at ⌝ }
 {
     if at < s.len() { s[at] } else { 0 }

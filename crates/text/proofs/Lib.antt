@@ -1,0 +1,8 @@
+-- Laws of tokens, of the grammar and of the buffer that the functions' proofs cite.
+pub mod Cases
+pub mod Words
+pub mod Lexing
+pub mod Buffer
+pub mod Grammar
+pub mod Complete
+pub mod Levels
