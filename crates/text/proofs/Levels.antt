@@ -127,6 +127,9 @@ infix-entry k w φ ψ b =
     let o : infix-of k w ≡ Infix.until (w .low) (w .high) = simp p in
     ap (λ (x : Infix). postfix (infix-meaning x φ ψ)) o ∙ ap (λ (j : ℕ). postfix φ ++ postfix ψ ++ (entry j w ∷ [])) (sym (eqb-true k 6 r)))
 
+regrouped : (es xs ys : List Entry) (e : Entry) → ((es ++ xs) ++ ys) ++ (e ∷ []) ≡ es ++ (xs ++ ys ++ (e ∷ []))
+regrouped es xs ys e = simp append-assoc
+
 -- one call of the reader of tokens
 fuel : (P : ℕ → Type 0) (m f : ℕ) → m < f → ((g : ℕ) → m ≤ g → P (suc g)) → P f
 fuel P m zero h k = absurd (not-suc-le-zero h)
@@ -174,14 +177,14 @@ module _ (text : List ℕ) (place : ℕ) (x : Lexeme) (l : Lexed text place x) w
     less-inside = omega (arith, l .moves (λ e. omega arith))
 
     pub atom-empty : (out out′ : List ℕ) (n : ℕ) → Answers ors none text out (x .next) n Fault out′ → Answers atom none text out place n Fault out′
-    atom-empty out out′ n no f h =
+    atom-empty out out′ n bad f h =
         fuel (λ (m : ℕ). phrase m atom none (tokens (drop place text)) ≡ none) (size atom text place) f h
-        (λ g k. inside g ∙ ap (λ (o : Option (Phrase ors)). then o closed) (no g (omega (arith, less-inside))))
+        (λ g k. inside g ∙ ap (λ (o : Option (Phrase ors)). then o closed) (bad g (omega (arith, less-inside))))
 
-    module _ (out out′ : List ℕ) (n p m : ℕ) (yes : Reads ors none text out (x .next) n p m out′) (y : Lexeme) (ly : Lexed text p y) where
+    module _ (out out′ : List ℕ) (n p m : ℕ) (ok : Reads ors none text out (x .next) n p m out′) (y : Lexeme) (ly : Lexed text p y) where
       around : (g : ℕ) → size atom text place ≤ g
-          → phrase (suc g) atom none (tokens (drop place text)) ≡ closed (record { tree = yes .tree; rest = tokens (drop p text) })
-      around g k = inside g ∙ ap (λ (o : Option (Phrase ors)). then o closed) (yes .finds g (omega (arith, less-inside)))
+          → phrase (suc g) atom none (tokens (drop place text)) ≡ closed (record { tree = ok .tree; rest = tokens (drop p text) })
+      around g k = inside g ∙ ap (λ (o : Option (Phrase ors)). then o closed) (ok .finds g (omega (arith, less-inside)))
 
       pub atom-unclosed : (y .kind ≡ 10 → ⊥) → Answers atom none text out place n Fault out′
       atom-unclosed c f h =
@@ -192,16 +195,16 @@ module _ (text : List ℕ) (place : ℕ) (x : Lexeme) (l : Lexed text place x) w
       unfolding meaning
       atom-brackets c =
           record {
-            tree = Tree.brackets (yes .tree);
-            moves = omega (arith, l .forward, yes .moves, ly .forward);
+            tree = Tree.brackets (ok .tree);
+            moves = omega (arith, l .forward, ok .moves, ly .forward);
             finds = λ f h.
-                fuel (λ (j : ℕ). phrase j atom none (tokens (drop place text)) ≡ some (record { tree = Tree.brackets (yes .tree); rest = tokens (drop (y .next) text) }))
+                fuel (λ (j : ℕ). phrase j atom none (tokens (drop place text)) ≡ some (record { tree = Tree.brackets (ok .tree); rest = tokens (drop (y .next) text) }))
                 (size atom text place) f h
                 (λ g k.
                 around g k
                 ∙ simp (eq-eqb (first (tokens (drop p text))) 10 (sym (ly .kind-is) ∙ c))
-                (ap (λ (us : List Token). some (record { tree = Tree.brackets (yes .tree); rest = us })) (sym (ly .rest-is))));
-            holds = yes .holds;
+                (ap (λ (us : List Token). some (record { tree = Tree.brackets (ok .tree); rest = us })) (sym (ly .rest-is))));
+            holds = ok .holds;
           }
 
   -- A word before its operand.
@@ -212,23 +215,23 @@ module _ (text : List ℕ) (place : ℕ) (x : Lexeme) (l : Lexed text place x) w
   pub prefixed-atom : (out out′ : List ℕ) (n : ℕ) (r : Read) → before-operand (x .kind) ≡ false → Answers atom none text out place n r out′
       → Answers prefixed none text out place n r out′
   unfolding phrase meaning
-  prefixed-atom out out′ n (Phrased p m) b yes =
+  prefixed-atom out out′ n (Phrased p m) b ok =
       record {
-        tree = Tree.tight (yes .tree);
-        moves = yes .moves;
+        tree = Tree.tight (ok .tree);
+        moves = ok .moves;
         finds = λ f h.
-            fuel (λ (j : ℕ). phrase j prefixed none (tokens (drop place text)) ≡ some (record { tree = Tree.tight (yes .tree); rest = tokens (drop p text) }))
+            fuel (λ (j : ℕ). phrase j prefixed none (tokens (drop place text)) ≡ some (record { tree = Tree.tight (ok .tree); rest = tokens (drop p text) }))
             (size prefixed text place) f h
             (λ g k.
             simp (tested before-operand false b)
-            (ap (λ (o : Option (Phrase atom)). then o (λ (q : Phrase atom). some (record { tree = Tree.tight (q .tree); rest = q .rest }))) (yes .finds g (omega arith))));
-        holds = yes .holds;
+            (ap (λ (o : Option (Phrase atom)). then o (λ (q : Phrase atom). some (record { tree = Tree.tight (q .tree); rest = q .rest }))) (ok .finds g (omega arith))));
+        holds = ok .holds;
       }
-  prefixed-atom out out′ n Fault b no = λ f h.
+  prefixed-atom out out′ n Fault b bad = λ f h.
       fuel (λ (j : ℕ). phrase j prefixed none (tokens (drop place text)) ≡ none) (size prefixed text place) f h
       (λ g k.
       simp (tested before-operand false b)
-      (ap (λ (o : Option (Phrase atom)). then o (λ (q : Phrase atom). some (record { tree = Tree.tight (q .tree); rest = q .rest }))) (no g (omega arith))))
+      (ap (λ (o : Option (Phrase atom)). then o (λ (q : Phrase atom). some (record { tree = Tree.tight (q .tree); rest = q .rest }))) (bad g (omega arith))))
 
   module _ (b : before-operand (x .kind) ≡ true) where
     operator : (g : ℕ) → phrase (suc g) prefixed none (tokens (drop place text))
@@ -270,33 +273,229 @@ module _ (text : List ℕ) (place : ℕ) (x : Lexeme) (l : Lexed text place x) w
           (t .1)
 
       pub prefixed-fault : (out out′ : List ℕ) (n : ℕ) → Answers prefixed none text out next n Fault out′ → Answers prefixed none text out place n Fault out′
-      prefixed-fault out out′ n no f h =
+      prefixed-fault out out′ n bad f h =
           fuel (λ (j : ℕ). phrase j prefixed none (tokens (drop place text)) ≡ none) (size prefixed text place) f h
           (λ g k.
           operand g
           ∙ ap (λ (o : Option (Phrase prefixed)). then o (λ (q : Phrase prefixed). some (record { tree = Tree.one (prefix-of (x .kind) w₀) (q .tree); rest = q .rest })))
-          (no g (omega (arith, less-behind))))
+          (bad g (omega (arith, less-behind))))
 
       pub prefixed-one : (out out′ out″ : List ℕ) (n p m r : ℕ) → Reads prefixed none text out next n p m out′
           → Puts out′ m (record { kind = x .kind; letter = 0; low = low; high = high }) r out″
           → Answers prefixed none text out place n (Phrased p r) out″
       unfolding meaning
-      prefixed-one out out′ out″ n p m r yes put =
+      prefixed-one out out′ out″ n p m r ok put =
           record {
-            tree = Tree.one (prefix-of (x .kind) w₀) (yes .tree);
-            moves = omega (arith, l .forward, t .3, yes .moves);
+            tree = Tree.one (prefix-of (x .kind) w₀) (ok .tree);
+            moves = omega (arith, l .forward, t .3, ok .moves);
             finds = λ f h.
-                fuel (λ (j : ℕ). phrase j prefixed none (tokens (drop place text)) ≡ some (record { tree = Tree.one (prefix-of (x .kind) w₀) (yes .tree); rest = tokens (drop p text) }))
+                fuel (λ (j : ℕ). phrase j prefixed none (tokens (drop place text)) ≡ some (record { tree = Tree.one (prefix-of (x .kind) w₀) (ok .tree); rest = tokens (drop p text) }))
                 (size prefixed text place) f h
                 (λ g k.
                 operand g
                 ∙ ap (λ (o : Option (Phrase prefixed)). then o (λ (q : Phrase prefixed). some (record { tree = Tree.one (prefix-of (x .kind) w₀) (q .tree); rest = q .rest })))
-                (yes .finds g (omega (arith, less-behind))));
+                (ok .finds g (omega (arith, less-behind))));
             holds = λ es h.
                 subst (λ (us : List Entry). Holds out″ r us)
-                (append-assoc es (postfix (meaning (yes .tree))) _
+                (append-assoc es (postfix (meaning (ok .tree))) _
                 ∙ ap (λ (us : List Entry). es ++ us)
-                (ap (λ (v : ℕ). postfix (meaning (yes .tree)) ++ (record { kind = x .kind; letter = 0; low = low; high = v } ∷ [])) (t .2)
-                ∙ sym (prefix-entry (x .kind) (tokens (drop (x .next) text)) w₀ (meaning (yes .tree)) b (t .1))))
-                (holds-put out′ out″ m r (record { kind = x .kind; letter = 0; low = low; high = high }) (es ++ postfix (meaning (yes .tree))) put (yes .holds es h));
+                (ap (λ (v : ℕ). postfix (meaning (ok .tree)) ++ (record { kind = x .kind; letter = 0; low = low; high = v } ∷ [])) (t .2)
+                ∙ sym (prefix-entry (x .kind) (tokens (drop (x .next) text)) w₀ (meaning (ok .tree)) b (t .1))))
+                (holds-put out′ out″ m r (record { kind = x .kind; letter = 0; low = low; high = high }) (es ++ postfix (meaning (ok .tree))) put (ok .holds es h));
           }
+
+full : (out : List ℕ) (n : ℕ) (es : List Entry) → Holds out n es → Holds out n (es ++ [])
+full out n es h = subst (λ (l : List Entry). Holds out n l) (sym (append-nil es)) h
+
+-- A word between its operands.
+
+abbrev timed-rest : ℕ → Phrase prefixed → Option (Phrase timed)
+timed-rest g p =
+    cond (between-operands (first (p .rest)))
+    (then (timing (first (p .rest)) (tail (p .rest)))
+    (λ (w : Timing).
+    then (phrase g timed none (w .rest))
+    (λ (q : Phrase timed). some (record { tree = Tree.two (p .tree) (infix-of (first (p .rest)) w) (q .tree); rest = q .rest }))))
+    (some (record { tree = Tree.untimed (p .tree); rest = p .rest }))
+
+pub timed-none : (text out out′ : List ℕ) (place n : ℕ) → Answers prefixed none text out place n Fault out′ → Answers timed none text out place n Fault out′
+unfolding phrase
+timed-none text out out′ place n bad f h =
+    fuel (λ (j : ℕ). phrase j timed none (tokens (drop place text)) ≡ none) (size timed text place) f h
+    (λ g k. ap (λ (o : Option (Phrase prefixed)). then o (timed-rest g)) (bad g (omega arith)))
+
+module _
+    (text out out′ : List ℕ)
+    (place n p m : ℕ)
+    (ok : Reads prefixed none text out place n p m out′)
+    (x : Lexeme)
+    (l : Lexed text p x)
+  where
+    rest-of : (g : ℕ) → size timed text place ≤ g
+        → phrase (suc g) timed none (tokens (drop place text)) ≡ timed-rest g (record { tree = ok .tree; rest = tokens (drop p text) })
+    unfolding phrase
+    rest-of g k = ap (λ (o : Option (Phrase prefixed)). then o (timed-rest g)) (ok .finds g (omega arith))
+
+    pub timed-alone : between-operands (x .kind) ≡ false → Answers timed none text out place n (Phrased p m) out′
+    unfolding meaning
+    timed-alone b =
+        record {
+          tree = Tree.untimed (ok .tree);
+          moves = ok .moves;
+          finds = λ f h.
+              fuel (λ (j : ℕ). phrase j timed none (tokens (drop place text)) ≡ some (record { tree = Tree.untimed (ok .tree); rest = tokens (drop p text) }))
+              (size timed text place) f h
+              (λ g k. rest-of g k ∙ simp (tested text p x l between-operands false b));
+          holds = ok .holds;
+        }
+
+    module _ (b : between-operands (x .kind) ≡ true) where
+      between : (g : ℕ) → size timed text place ≤ g → phrase (suc g) timed none (tokens (drop place text))
+          ≡ then (timing (x .kind) (tokens (drop (x .next) text)))
+          (λ (w : Timing). then (phrase g timed none (w .rest)) (λ (q : Phrase timed). some (record { tree = Tree.two (ok .tree) (infix-of (x .kind) w) (q .tree); rest = q .rest })))
+      between g k =
+          rest-of g k
+          ∙ simp (tested text p x l between-operands true b)
+          (ap₂ (λ (j : ℕ) (us : List Token).
+          then (timing j us)
+          (λ (w : Timing). then (phrase g timed none (w .rest)) (λ (q : Phrase timed). some (record { tree = Tree.two (ok .tree) (infix-of j w) (q .tree); rest = q .rest }))))
+          (sym (l .kind-is)) (sym (l .rest-is)))
+
+      pub timed-missing : (out″ : List ℕ) → Timed (x .kind) text (x .next) Missing → Answers timed none text out place n Fault out″
+      timed-missing out″ t f h =
+          fuel (λ (j : ℕ). phrase j timed none (tokens (drop place text)) ≡ none) (size timed text place) f h
+          (λ g k.
+          between g k
+          ∙ ap (λ (o : Option Timing).
+          then o (λ (w : Timing). then (phrase g timed none (w .rest)) (λ (q : Phrase timed). some (record { tree = Tree.two (ok .tree) (infix-of (x .kind) w) (q .tree); rest = q .rest }))))
+          t)
+
+      not-last : x .kind ≡ 15 → ⊥
+      not-last e = let z : false ≡ true = sym (ap between-operands e) ∙ b in let w : _≡_ {A = ℕ} 0 1 = cc in omega arith
+
+      module _ (low high next : ℕ) (t : Timed (x .kind) text (x .next) (Interval low high next)) where
+        abbrev w₁ : Timing
+        w₁ = record { low = low; high = t .0; rest = tokens (drop next text) }
+
+        pub less-right : size timed text next < size timed text place
+        less-right = omega (arith, l .moves not-last, t .3, ok .moves)
+
+        right : (g : ℕ) → size timed text place ≤ g → phrase (suc g) timed none (tokens (drop place text))
+            ≡ then (phrase g timed none (tokens (drop next text))) (λ (q : Phrase timed). some (record { tree = Tree.two (ok .tree) (infix-of (x .kind) w₁) (q .tree); rest = q .rest }))
+        right g k =
+            between g k
+            ∙ ap (λ (o : Option Timing).
+            then o (λ (w : Timing). then (phrase g timed none (w .rest)) (λ (q : Phrase timed). some (record { tree = Tree.two (ok .tree) (infix-of (x .kind) w) (q .tree); rest = q .rest }))))
+            (t .1)
+
+        pub timed-fault : (out″ : List ℕ) → Answers timed none text out′ next m Fault out″ → Answers timed none text out place n Fault out″
+        timed-fault out″ bad f h =
+            fuel (λ (j : ℕ). phrase j timed none (tokens (drop place text)) ≡ none) (size timed text place) f h
+            (λ g k.
+            right g k
+            ∙ ap (λ (o : Option (Phrase timed)). then o (λ (q : Phrase timed). some (record { tree = Tree.two (ok .tree) (infix-of (x .kind) w₁) (q .tree); rest = q .rest })))
+            (bad g (omega (arith, less-right))))
+
+        pub timed-two : (out″ out‴ : List ℕ) (p′ m′ r : ℕ) → Reads timed none text out′ next m p′ m′ out″
+            → Puts out″ m′ (record { kind = x .kind; letter = 0; low = low; high = high }) r out‴
+            → Answers timed none text out place n (Phrased p′ r) out‴
+        unfolding meaning
+        timed-two out″ out‴ p′ m′ r ok′ put =
+            record {
+              tree = Tree.two (ok .tree) (infix-of (x .kind) w₁) (ok′ .tree);
+              moves = omega (arith, ok .moves, l .forward, t .3, ok′ .moves);
+              finds = λ f h.
+                  fuel (λ (j : ℕ). phrase j timed none (tokens (drop place text)) ≡ some (record { tree = Tree.two (ok .tree) (infix-of (x .kind) w₁) (ok′ .tree); rest = tokens (drop p′ text) }))
+                  (size timed text place) f h
+                  (λ g k.
+                  right g k
+                  ∙ ap (λ (o : Option (Phrase timed)). then o (λ (q : Phrase timed). some (record { tree = Tree.two (ok .tree) (infix-of (x .kind) w₁) (q .tree); rest = q .rest })))
+                  (ok′ .finds g (omega (arith, less-right))));
+              holds = λ es h.
+                  subst (λ (us : List Entry). Holds out‴ r us)
+                  (regrouped es (postfix (meaning (ok .tree))) (postfix (meaning (ok′ .tree))) (record { kind = x .kind; letter = 0; low = low; high = high })
+                  ∙ ap (λ (us : List Entry). es ++ us)
+                  (ap (λ (v : ℕ). postfix (meaning (ok .tree)) ++ postfix (meaning (ok′ .tree)) ++ (record { kind = x .kind; letter = 0; low = low; high = v } ∷ [])) (t .2)
+                  ∙ sym (infix-entry (x .kind) w₁ (meaning (ok .tree)) (meaning (ok′ .tree)) b)))
+                  (holds-put out″ out‴ m′ r (record { kind = x .kind; letter = 0; low = low; high = high }) ((es ++ postfix (meaning (ok .tree))) ++ postfix (meaning (ok′ .tree))) put
+                  (ok′ .holds (es ++ postfix (meaning (ok .tree))) (full out′ m (es ++ postfix (meaning (ok .tree))) (ok .holds es h))));
+            }
+
+-- or, behind what stands before it.
+
+abbrev ors-rest : ℕ → Option (Tree ors) → Phrase timed → Option (Phrase ors)
+ors-rest g before p =
+    cond (eqb (first (p .rest)) 2) (phrase g ors (some (joined before (p .tree))) (tail (p .rest))) (some (record { tree = joined before (p .tree); rest = p .rest }))
+
+pub ors-none : (before : Option (Tree ors)) (text out out′ : List ℕ) (place n : ℕ) → Answers timed none text out place n Fault out′
+    → Answers ors before text out place n Fault out′
+unfolding phrase
+ors-none before text out out′ place n bad f h =
+    fuel (λ (j : ℕ). phrase j ors before (tokens (drop place text)) ≡ none) (size ors text place) f h
+    (λ g k. ap (λ (o : Option (Phrase timed)). then o (ors-rest g before)) (bad g (omega arith)))
+
+joined-holds : (before : Option (Tree ors)) (later : Bool) (u : Tree timed) (out out′ out″ : List ℕ) (n m r : ℕ) → later ≡ given before → Joins later out′ m r out″
+    → ((es : List Entry) → Holds out n (es ++ []) → Holds out′ m (es ++ postfix (meaning u)))
+    → (es : List Entry) → Holds out n (es ++ written before) → Holds out″ r (es ++ postfix (meaning (joined before u)))
+unfolding meaning postfix
+joined-holds none true u out out′ out″ n m r g j k es h = absurd (let w : _≡_ {A = ℕ} 0 1 = cc in omega arith)
+joined-holds none false u out out′ out″ n m r g j k es h =
+    subst (λ (o : List ℕ). Holds o r (es ++ postfix (meaning u))) (sym (j .1)) (subst (λ (i : ℕ). Holds out′ i (es ++ postfix (meaning u))) (sym (j .0)) (k es h))
+joined-holds (some t) false u out out′ out″ n m r g j k es h = absurd (let w : _≡_ {A = ℕ} 0 1 = cc in omega arith)
+joined-holds (some t) true u out out′ out″ n m r g j k es h =
+    subst (λ (us : List Entry). Holds out″ r us) (regrouped es (postfix (meaning t)) (postfix (meaning u)) or-entry)
+    (holds-put out′ out″ m r or-entry ((es ++ postfix (meaning t)) ++ postfix (meaning u)) j
+    (k (es ++ postfix (meaning t)) (full out n (es ++ postfix (meaning t)) h)))
+
+module _
+    (before : Option (Tree ors))
+    (later : Bool)
+    (is : later ≡ given before)
+    (text out out′ out″ : List ℕ)
+    (place n p m r : ℕ)
+    (ok : Reads timed none text out place n p m out′)
+    (join : Joins later out′ m r out″)
+    (x : Lexeme)
+    (l : Lexed text p x)
+  where
+    term : (g : ℕ) → size ors text place ≤ g
+        → phrase (suc g) ors before (tokens (drop place text)) ≡ ors-rest g before (record { tree = ok .tree; rest = tokens (drop p text) })
+    unfolding phrase
+    term g k = ap (λ (o : Option (Phrase timed)). then o (ors-rest g before)) (ok .finds g (omega arith))
+
+    pub ors-end : (x .kind ≡ 2 → ⊥) → Answers ors before text out place n (Phrased p r) out″
+    ors-end e =
+        record {
+          tree = joined before (ok .tree);
+          moves = ok .moves;
+          finds = λ f h.
+              fuel (λ (j : ℕ). phrase j ors before (tokens (drop place text)) ≡ some (record { tree = joined before (ok .tree); rest = tokens (drop p text) }))
+              (size ors text place) f h
+              (λ g k. term g k ∙ simp (ne-eqb (first (tokens (drop p text))) 2 (λ z. e (l .kind-is ∙ z))));
+          holds = joined-holds before later (ok .tree) out out′ out″ n m r is join (ok .holds);
+        }
+
+    pub less-term : x .kind ≡ 2 → size ors text (x .next) < size ors text place
+    less-term e = omega (arith, l .moves (λ z. omega arith), ok .moves)
+
+    pub ors-more : (q : Read) (out‴ : List ℕ) → x .kind ≡ 2 → Answers ors (some (joined before (ok .tree))) text out″ (x .next) r q out‴
+        → Answers ors before text out place n q out‴
+    ors-more (Phrased p′ m′) out‴ e ok′ =
+        record {
+          tree = ok′ .tree;
+          moves = omega (arith, ok .moves, l .forward, ok′ .moves);
+          finds = λ f h.
+              fuel (λ (j : ℕ). phrase j ors before (tokens (drop place text)) ≡ some (record { tree = ok′ .tree; rest = tokens (drop p′ text) }))
+              (size ors text place) f h
+              (λ g k.
+              term g k
+              ∙ simp (eq-eqb (first (tokens (drop p text))) 2 (sym (l .kind-is) ∙ e))
+              (ap (phrase g ors (some (joined before (ok .tree)))) (sym (l .rest-is)) ∙ ok′ .finds g (omega (arith, less-term e))));
+          holds = λ es h. ok′ .holds es (joined-holds before later (ok .tree) out out′ out″ n m r is join (ok .holds) es h);
+        }
+    ors-more Fault out‴ e bad = λ f h.
+        fuel (λ (j : ℕ). phrase j ors before (tokens (drop place text)) ≡ none) (size ors text place) f h
+        (λ g k.
+        term g k
+        ∙ simp (eq-eqb (first (tokens (drop p text))) 2 (sym (l .kind-is) ∙ e))
+        (ap (phrase g ors (some (joined before (ok .tree)))) (sym (l .rest-is)) ∙ bad g (omega (arith, less-term e))))

@@ -1,3 +1,6 @@
+-- The cycle of calls {atom, ors, prefixed, timed}: each level calls the next tighter one at its own place, itself behind what it
+-- has read, and the brackets lead back to the lowest. "Remaining bytes and level fall": the measure is four times the bytes left,
+-- and the level.
 use Prim.Native.Nat.{ℕ, _<_}
 use borrow.Fn.Kinds.{In}
 use borrow.Fn.PlainCycle.{Measures, is, falls, and}
@@ -19,18 +22,37 @@ use Rattle.text.proofs.level.join.Reads as join-reads
 use Rattle.text.proofs.token.token_at.Reads as token-at-reads
 use Rattle.text.proofs.level.+atom+ors+prefixed+timed.{statement}
 use Rattle.text.proofs.level.+atom+ors+prefixed+timed.Tie.{close}
+use borrow.Author.Needs.{needs}
+use native.Mathlib.Omega.{arith}
+use borrow.Author.Tests.{not-true, not-false}
+use mathlib.Core.Path.{_≡_, refl, subst}
+use mathlib.Core.List.{List}
+use mathlib.Core.Option.{Option, none, some}
+use Rattle.text.specs.Grammar.{Level, Tree}
+use Rattle.text.specs.Reader.{Timed, joined, size, Answers}
+use Rattle.text.specs.declared.level.Ends.{Ends}
+use Rattle.text.specs.declared.level.Read.{Read}
+use Rattle.text.proofs.Levels.{atom-letter, atom-neither, less-inside, atom-empty, atom-unclosed, atom-brackets, prefixed-atom, prefixed-missing, less-behind, prefixed-fault, prefixed-one, timed-none, timed-alone, timed-missing, less-right, timed-fault, timed-two, ors-none, ors-more, ors-end}
+
+-- what a call answered, by its variant
+told : (l : Level) (before : Option (Tree Level.ors)) (text out : List ℕ) (place n : ℕ) (out′ : List ℕ) {r q : Read} → r ≡ q
+    → Answers l before text out place n r out′ → Answers l before text out place n q out′
+told l before text out place n out′ e h = subst (λ (x : Read). Answers l before text out place n x out′) e h
+
+told-ends : (k : ℕ) (text : List ℕ) (place : ℕ) {r q : Ends} → r ≡ q → Timed k text place r → Timed k text place q
+told-ends k text place e h = subst (λ (x : Ends). Timed k text place x) e h
 
 abbrev μ-atom : Measures 2 atom-kinds.ps ℕ
-μ-atom κs a = ?
+μ-atom κs a = size Level.atom (a .0 .now) (a .1 .0)
 
 abbrev μ-ors : Measures 2 ors-kinds.ps ℕ
-μ-ors κs a = ?
+μ-ors κs a = size Level.ors (a .0 .now) (a .1 .0)
 
 abbrev μ-prefixed : Measures 2 prefixed-kinds.ps ℕ
-μ-prefixed κs a = ?
+μ-prefixed κs a = size Level.prefixed (a .0 .now) (a .1 .0)
 
 abbrev μ-timed : Measures 2 timed-kinds.ps ℕ
-μ-timed κs a = ?
+μ-timed κs a = size Level.timed (a .0 .now) (a .1 .0)
 
 abbrev atom-at : ℕ → In 2 atom-kinds.ps
 atom-at t = and 2 atom-kinds.ps (is 2 atom-kinds.ps μ-atom t) atom.Pre
@@ -48,8 +70,7 @@ abbrev prefixed-at : ℕ → In 2 prefixed-kinds.ps
 prefixed-at t = and 2 prefixed-kinds.ps (is 2 prefixed-kinds.ps μ-prefixed t) prefixed.Pre
 
 abbrev prefixed-below : ℕ → In 2 prefixed-kinds.ps
-prefixed-below t =
-    and 2 prefixed-kinds.ps (falls 2 prefixed-kinds.ps _<_ μ-prefixed t) prefixed.Pre
+prefixed-below t = and 2 prefixed-kinds.ps (falls 2 prefixed-kinds.ps _<_ μ-prefixed t) prefixed.Pre
 
 abbrev timed-at : ℕ → In 2 timed-kinds.ps
 timed-at t = and 2 timed-kinds.ps (is 2 timed-kinds.ps μ-timed t) timed.Pre
@@ -57,776 +78,110 @@ timed-at t = and 2 timed-kinds.ps (is 2 timed-kinds.ps μ-timed t) timed.Pre
 abbrev timed-below : ℕ → In 2 timed-kinds.ps
 timed-below t = and 2 timed-kinds.ps (falls 2 timed-kinds.ps _<_ μ-timed t) timed.Pre
 
--- src/level.rt:70:9
-atom-token-at-requires : (t : ℕ) → atom-lts.Need-token-at-requires (
-  token-at-reads.Asked,
-  token-at-reads.Learnt,
-  put-reads.Asked,
-  put-reads.Learnt,
-  ors-below t,
-  ors.Post,
-) (atom-at t) atom.Post
-atom-token-at-requires t c κs = ?
-
--- src/level.rt:74:20
-atom-put-requires : (t : ℕ) → atom-lts.Need-put-requires (
-  token-at-reads.Asked,
-  token-at-reads.Learnt,
-  put-reads.Asked,
-  put-reads.Learnt,
-  ors-below t,
-  ors.Post,
-) (atom-at t) atom.Post
-atom-put-requires t c κs = ?
-
--- src/level.rt:72:9
-atom-returns : (t : ℕ) → atom-lts.Need-returns (
-  token-at-reads.Asked,
-  token-at-reads.Learnt,
-  put-reads.Asked,
-  put-reads.Learnt,
-  ors-below t,
-  ors.Post,
-) (atom-at t) atom.Post
-atom-returns t c = ?
-
--- src/level.rt:78:9
-atom-returns-2 : (t : ℕ) → atom-lts.Need-returns-2 (
-  token-at-reads.Asked,
-  token-at-reads.Learnt,
-  put-reads.Asked,
-  put-reads.Learnt,
-  ors-below t,
-  ors.Post,
-) (atom-at t) atom.Post
-atom-returns-2 t c = ?
-
--- src/level.rt:80:50
-atom-ors-requires : (t : ℕ) → atom-lts.Need-ors-requires (
-  token-at-reads.Asked,
-  token-at-reads.Learnt,
-  put-reads.Asked,
-  put-reads.Learnt,
-  ors-below t,
-  ors.Post,
-) (atom-at t) atom.Post
-atom-ors-requires t c κs = ?
-
--- src/level.rt:80:29
-atom-enum-known-inside : (t : ℕ) → atom-lts.Need-enum-known-inside (
-  token-at-reads.Asked,
-  token-at-reads.Learnt,
-  put-reads.Asked,
-  put-reads.Learnt,
-  ors-below t,
-  ors.Post,
-) (atom-at t) atom.Post
-atom-enum-known-inside t c = ?
-
--- src/level.rt:81:9
-atom-enum-told : (t : ℕ) → atom-lts.Need-enum-told (
-  token-at-reads.Asked,
-  token-at-reads.Learnt,
-  put-reads.Asked,
-  put-reads.Learnt,
-  ors-below t,
-  ors.Post,
-) (atom-at t) atom.Post
-atom-enum-told t c = ?
-
--- src/level.rt:81:9
-atom-returns-3 : (t : ℕ) → atom-lts.Need-returns-3 (
-  token-at-reads.Asked,
-  token-at-reads.Learnt,
-  put-reads.Asked,
-  put-reads.Learnt,
-  ors-below t,
-  ors.Post,
-) (atom-at t) atom.Post
-atom-returns-3 t c = ?
-
--- src/level.rt:83:9
-atom-token-at-requires-2 : (t : ℕ) → atom-lts.Need-token-at-requires-2 (
-  token-at-reads.Asked,
-  token-at-reads.Learnt,
-  put-reads.Asked,
-  put-reads.Learnt,
-  ors-below t,
-  ors.Post,
-) (atom-at t) atom.Post
-atom-token-at-requires-2 t c κs = ?
-
--- src/level.rt:85:9
-atom-returns-4 : (t : ℕ) → atom-lts.Need-returns-4 (
-  token-at-reads.Asked,
-  token-at-reads.Learnt,
-  put-reads.Asked,
-  put-reads.Learnt,
-  ors-below t,
-  ors.Post,
-) (atom-at t) atom.Post
-atom-returns-4 t c = ?
-
--- src/level.rt:67:1
-atom-returns-5 : (t : ℕ) → atom-lts.Need-returns-5 (
-  token-at-reads.Asked,
-  token-at-reads.Learnt,
-  put-reads.Asked,
-  put-reads.Learnt,
-  ors-below t,
-  ors.Post,
-) (atom-at t) atom.Post
-atom-returns-5 t c = ?
-
--- src/level.rt:142:50
-ors-timed-requires : (t : ℕ) → ors-lts.Need-timed-requires (
-  timed-below t,
-  timed.Post,
-  join-reads.Asked,
-  join-reads.Learnt,
-  token-at-reads.Asked,
-  token-at-reads.Learnt,
-  ors-below t,
-  ors.Post,
-) (ors-at t) ors.Post
-ors-timed-requires t c κs = ?
-
--- src/level.rt:142:29
-ors-enum-known-behind : (t : ℕ) → ors-lts.Need-enum-known-behind (
-  timed-below t,
-  timed.Post,
-  join-reads.Asked,
-  join-reads.Learnt,
-  token-at-reads.Asked,
-  token-at-reads.Learnt,
-  ors-below t,
-  ors.Post,
-) (ors-at t) ors.Post
-ors-enum-known-behind t c = ?
-
--- src/level.rt:143:9
-ors-enum-told : (t : ℕ) → ors-lts.Need-enum-told (
-  timed-below t,
-  timed.Post,
-  join-reads.Asked,
-  join-reads.Learnt,
-  token-at-reads.Asked,
-  token-at-reads.Learnt,
-  ors-below t,
-  ors.Post,
-) (ors-at t) ors.Post
-ors-enum-told t c = ?
-
--- src/level.rt:143:9
-ors-returns : (t : ℕ) → ors-lts.Need-returns (
-  timed-below t,
-  timed.Post,
-  join-reads.Asked,
-  join-reads.Learnt,
-  token-at-reads.Asked,
-  token-at-reads.Learnt,
-  ors-below t,
-  ors.Post,
-) (ors-at t) ors.Post
-ors-returns t c = ?
-
--- src/level.rt:145:9
-ors-join-requires : (t : ℕ) → ors-lts.Need-join-requires (
-  timed-below t,
-  timed.Post,
-  join-reads.Asked,
-  join-reads.Learnt,
-  token-at-reads.Asked,
-  token-at-reads.Learnt,
-  ors-below t,
-  ors.Post,
-) (ors-at t) ors.Post
-ors-join-requires t c κs = ?
-
--- src/level.rt:146:9
-ors-token-at-requires : (t : ℕ) → ors-lts.Need-token-at-requires (
-  timed-below t,
-  timed.Post,
-  join-reads.Asked,
-  join-reads.Learnt,
-  token-at-reads.Asked,
-  token-at-reads.Learnt,
-  ors-below t,
-  ors.Post,
-) (ors-at t) ors.Post
-ors-token-at-requires t c κs = ?
-
--- src/level.rt:148:9
-ors-ors-requires : (t : ℕ) → ors-lts.Need-ors-requires (
-  timed-below t,
-  timed.Post,
-  join-reads.Asked,
-  join-reads.Learnt,
-  token-at-reads.Asked,
-  token-at-reads.Learnt,
-  ors-below t,
-  ors.Post,
-) (ors-at t) ors.Post
-ors-ors-requires t c κs = ?
-
--- src/level.rt:148:9
-ors-returns-2 : (t : ℕ) → ors-lts.Need-returns-2 (
-  timed-below t,
-  timed.Post,
-  join-reads.Asked,
-  join-reads.Learnt,
-  token-at-reads.Asked,
-  token-at-reads.Learnt,
-  ors-below t,
-  ors.Post,
-) (ors-at t) ors.Post
-ors-returns-2 t c = ?
-
--- src/level.rt:139:1
-ors-returns-3 : (t : ℕ) → ors-lts.Need-returns-3 (
-  timed-below t,
-  timed.Post,
-  join-reads.Asked,
-  join-reads.Learnt,
-  token-at-reads.Asked,
-  token-at-reads.Learnt,
-  ors-below t,
-  ors.Post,
-) (ors-at t) ors.Post
-ors-returns-3 t c = ?
-
--- src/level.rt:97:9
-prefixed-token-at-requires : (t : ℕ) → prefixed-lts.Need-token-at-requires (
-  token-at-reads.Asked,
-  token-at-reads.Learnt,
-  atom-below t,
-  atom.Post,
-  interval-reads.Asked,
-  interval-reads.Learnt,
-  prefixed-below t,
-  prefixed.Post,
-  put-reads.Asked,
-  put-reads.Learnt,
-) (prefixed-at t) prefixed.Post
-prefixed-token-at-requires t c κs = ?
-
--- src/level.rt:100:9
-prefixed-atom-requires : (t : ℕ) → prefixed-lts.Need-atom-requires (
-  token-at-reads.Asked,
-  token-at-reads.Learnt,
-  atom-below t,
-  atom.Post,
-  interval-reads.Asked,
-  interval-reads.Learnt,
-  prefixed-below t,
-  prefixed.Post,
-  put-reads.Asked,
-  put-reads.Learnt,
-) (prefixed-at t) prefixed.Post
-prefixed-atom-requires t c κs = ?
-
--- src/level.rt:100:9
-prefixed-returns : (t : ℕ) → prefixed-lts.Need-returns (
-  token-at-reads.Asked,
-  token-at-reads.Learnt,
-  atom-below t,
-  atom.Post,
-  interval-reads.Asked,
-  interval-reads.Learnt,
-  prefixed-below t,
-  prefixed.Post,
-  put-reads.Asked,
-  put-reads.Learnt,
-) (prefixed-at t) prefixed.Post
-prefixed-returns t c = ?
-
--- src/level.rt:102:46
-prefixed-interval-requires : (t : ℕ) → prefixed-lts.Need-interval-requires (
-  token-at-reads.Asked,
-  token-at-reads.Learnt,
-  atom-below t,
-  atom.Post,
-  interval-reads.Asked,
-  interval-reads.Learnt,
-  prefixed-below t,
-  prefixed.Post,
-  put-reads.Asked,
-  put-reads.Learnt,
-) (prefixed-at t) prefixed.Post
-prefixed-interval-requires t c κs = ?
-
--- src/level.rt:102:26
-prefixed-enum-known-low : (t : ℕ) → prefixed-lts.Need-enum-known-low (
-  token-at-reads.Asked,
-  token-at-reads.Learnt,
-  atom-below t,
-  atom.Post,
-  interval-reads.Asked,
-  interval-reads.Learnt,
-  prefixed-below t,
-  prefixed.Post,
-  put-reads.Asked,
-  put-reads.Learnt,
-) (prefixed-at t) prefixed.Post
-prefixed-enum-known-low t c = ?
-
--- src/level.rt:103:9
-prefixed-enum-told : (t : ℕ) → prefixed-lts.Need-enum-told (
-  token-at-reads.Asked,
-  token-at-reads.Learnt,
-  atom-below t,
-  atom.Post,
-  interval-reads.Asked,
-  interval-reads.Learnt,
-  prefixed-below t,
-  prefixed.Post,
-  put-reads.Asked,
-  put-reads.Learnt,
-) (prefixed-at t) prefixed.Post
-prefixed-enum-told t c = ?
-
--- src/level.rt:103:9
-prefixed-returns-2 : (t : ℕ) → prefixed-lts.Need-returns-2 (
-  token-at-reads.Asked,
-  token-at-reads.Learnt,
-  atom-below t,
-  atom.Post,
-  interval-reads.Asked,
-  interval-reads.Learnt,
-  prefixed-below t,
-  prefixed.Post,
-  put-reads.Asked,
-  put-reads.Learnt,
-) (prefixed-at t) prefixed.Post
-prefixed-returns-2 t c = ?
-
--- src/level.rt:105:50
-prefixed-prefixed-requires : (t : ℕ) → prefixed-lts.Need-prefixed-requires (
-  token-at-reads.Asked,
-  token-at-reads.Learnt,
-  atom-below t,
-  atom.Post,
-  interval-reads.Asked,
-  interval-reads.Learnt,
-  prefixed-below t,
-  prefixed.Post,
-  put-reads.Asked,
-  put-reads.Learnt,
-) (prefixed-at t) prefixed.Post
-prefixed-prefixed-requires t c κs = ?
-
--- src/level.rt:105:29
-prefixed-enum-known-behind : (t : ℕ) → prefixed-lts.Need-enum-known-behind (
-  token-at-reads.Asked,
-  token-at-reads.Learnt,
-  atom-below t,
-  atom.Post,
-  interval-reads.Asked,
-  interval-reads.Learnt,
-  prefixed-below t,
-  prefixed.Post,
-  put-reads.Asked,
-  put-reads.Learnt,
-) (prefixed-at t) prefixed.Post
-prefixed-enum-known-behind t c = ?
-
--- src/level.rt:106:9
-prefixed-enum-told-2 : (t : ℕ) → prefixed-lts.Need-enum-told-2 (
-  token-at-reads.Asked,
-  token-at-reads.Learnt,
-  atom-below t,
-  atom.Post,
-  interval-reads.Asked,
-  interval-reads.Learnt,
-  prefixed-below t,
-  prefixed.Post,
-  put-reads.Asked,
-  put-reads.Learnt,
-) (prefixed-at t) prefixed.Post
-prefixed-enum-told-2 t c = ?
-
--- src/level.rt:106:9
-prefixed-returns-3 : (t : ℕ) → prefixed-lts.Need-returns-3 (
-  token-at-reads.Asked,
-  token-at-reads.Learnt,
-  atom-below t,
-  atom.Post,
-  interval-reads.Asked,
-  interval-reads.Learnt,
-  prefixed-below t,
-  prefixed.Post,
-  put-reads.Asked,
-  put-reads.Learnt,
-) (prefixed-at t) prefixed.Post
-prefixed-returns-3 t c = ?
-
--- src/level.rt:110:16
-prefixed-put-requires : (t : ℕ) → prefixed-lts.Need-put-requires (
-  token-at-reads.Asked,
-  token-at-reads.Learnt,
-  atom-below t,
-  atom.Post,
-  interval-reads.Asked,
-  interval-reads.Learnt,
-  prefixed-below t,
-  prefixed.Post,
-  put-reads.Asked,
-  put-reads.Learnt,
-) (prefixed-at t) prefixed.Post
-prefixed-put-requires t c κs = ?
-
--- src/level.rt:94:1
-prefixed-returns-4 : (t : ℕ) → prefixed-lts.Need-returns-4 (
-  token-at-reads.Asked,
-  token-at-reads.Learnt,
-  atom-below t,
-  atom.Post,
-  interval-reads.Asked,
-  interval-reads.Learnt,
-  prefixed-below t,
-  prefixed.Post,
-  put-reads.Asked,
-  put-reads.Learnt,
-) (prefixed-at t) prefixed.Post
-prefixed-returns-4 t c = ?
-
--- src/level.rt:118:48
-timed-prefixed-requires : (t : ℕ) → timed-lts.Need-prefixed-requires (
-  prefixed-below t,
-  prefixed.Post,
-  token-at-reads.Asked,
-  token-at-reads.Learnt,
-  interval-reads.Asked,
-  interval-reads.Learnt,
-  timed-below t,
-  timed.Post,
-  put-reads.Asked,
-  put-reads.Learnt,
-) (timed-at t) timed.Post
-timed-prefixed-requires t c κs = ?
-
--- src/level.rt:118:29
-timed-enum-known-left : (t : ℕ) → timed-lts.Need-enum-known-left (
-  prefixed-below t,
-  prefixed.Post,
-  token-at-reads.Asked,
-  token-at-reads.Learnt,
-  interval-reads.Asked,
-  interval-reads.Learnt,
-  timed-below t,
-  timed.Post,
-  put-reads.Asked,
-  put-reads.Learnt,
-) (timed-at t) timed.Post
-timed-enum-known-left t c = ?
-
--- src/level.rt:119:9
-timed-enum-told : (t : ℕ) → timed-lts.Need-enum-told (
-  prefixed-below t,
-  prefixed.Post,
-  token-at-reads.Asked,
-  token-at-reads.Learnt,
-  interval-reads.Asked,
-  interval-reads.Learnt,
-  timed-below t,
-  timed.Post,
-  put-reads.Asked,
-  put-reads.Learnt,
-) (timed-at t) timed.Post
-timed-enum-told t c = ?
-
--- src/level.rt:119:9
-timed-returns : (t : ℕ) → timed-lts.Need-returns (
-  prefixed-below t,
-  prefixed.Post,
-  token-at-reads.Asked,
-  token-at-reads.Learnt,
-  interval-reads.Asked,
-  interval-reads.Learnt,
-  timed-below t,
-  timed.Post,
-  put-reads.Asked,
-  put-reads.Learnt,
-) (timed-at t) timed.Post
-timed-returns t c = ?
-
--- src/level.rt:121:9
-timed-token-at-requires : (t : ℕ) → timed-lts.Need-token-at-requires (
-  prefixed-below t,
-  prefixed.Post,
-  token-at-reads.Asked,
-  token-at-reads.Learnt,
-  interval-reads.Asked,
-  interval-reads.Learnt,
-  timed-below t,
-  timed.Post,
-  put-reads.Asked,
-  put-reads.Learnt,
-) (timed-at t) timed.Post
-timed-token-at-requires t c κs = ?
-
--- src/level.rt:124:9
-timed-returns-2 : (t : ℕ) → timed-lts.Need-returns-2 (
-  prefixed-below t,
-  prefixed.Post,
-  token-at-reads.Asked,
-  token-at-reads.Learnt,
-  interval-reads.Asked,
-  interval-reads.Learnt,
-  timed-below t,
-  timed.Post,
-  put-reads.Asked,
-  put-reads.Learnt,
-) (timed-at t) timed.Post
-timed-returns-2 t c = ?
-
--- src/level.rt:126:46
-timed-interval-requires : (t : ℕ) → timed-lts.Need-interval-requires (
-  prefixed-below t,
-  prefixed.Post,
-  token-at-reads.Asked,
-  token-at-reads.Learnt,
-  interval-reads.Asked,
-  interval-reads.Learnt,
-  timed-below t,
-  timed.Post,
-  put-reads.Asked,
-  put-reads.Learnt,
-) (timed-at t) timed.Post
-timed-interval-requires t c κs = ?
-
--- src/level.rt:126:26
-timed-enum-known-low : (t : ℕ) → timed-lts.Need-enum-known-low (
-  prefixed-below t,
-  prefixed.Post,
-  token-at-reads.Asked,
-  token-at-reads.Learnt,
-  interval-reads.Asked,
-  interval-reads.Learnt,
-  timed-below t,
-  timed.Post,
-  put-reads.Asked,
-  put-reads.Learnt,
-) (timed-at t) timed.Post
-timed-enum-known-low t c = ?
-
--- src/level.rt:127:9
-timed-enum-told-2 : (t : ℕ) → timed-lts.Need-enum-told-2 (
-  prefixed-below t,
-  prefixed.Post,
-  token-at-reads.Asked,
-  token-at-reads.Learnt,
-  interval-reads.Asked,
-  interval-reads.Learnt,
-  timed-below t,
-  timed.Post,
-  put-reads.Asked,
-  put-reads.Learnt,
-) (timed-at t) timed.Post
-timed-enum-told-2 t c = ?
-
--- src/level.rt:127:9
-timed-returns-3 : (t : ℕ) → timed-lts.Need-returns-3 (
-  prefixed-below t,
-  prefixed.Post,
-  token-at-reads.Asked,
-  token-at-reads.Learnt,
-  interval-reads.Asked,
-  interval-reads.Learnt,
-  timed-below t,
-  timed.Post,
-  put-reads.Asked,
-  put-reads.Learnt,
-) (timed-at t) timed.Post
-timed-returns-3 t c = ?
-
--- src/level.rt:129:49
-timed-timed-requires : (t : ℕ) → timed-lts.Need-timed-requires (
-  prefixed-below t,
-  prefixed.Post,
-  token-at-reads.Asked,
-  token-at-reads.Learnt,
-  interval-reads.Asked,
-  interval-reads.Learnt,
-  timed-below t,
-  timed.Post,
-  put-reads.Asked,
-  put-reads.Learnt,
-) (timed-at t) timed.Post
-timed-timed-requires t c κs = ?
-
--- src/level.rt:129:29
-timed-enum-known-right : (t : ℕ) → timed-lts.Need-enum-known-right (
-  prefixed-below t,
-  prefixed.Post,
-  token-at-reads.Asked,
-  token-at-reads.Learnt,
-  interval-reads.Asked,
-  interval-reads.Learnt,
-  timed-below t,
-  timed.Post,
-  put-reads.Asked,
-  put-reads.Learnt,
-) (timed-at t) timed.Post
-timed-enum-known-right t c = ?
-
--- src/level.rt:130:9
-timed-enum-told-3 : (t : ℕ) → timed-lts.Need-enum-told-3 (
-  prefixed-below t,
-  prefixed.Post,
-  token-at-reads.Asked,
-  token-at-reads.Learnt,
-  interval-reads.Asked,
-  interval-reads.Learnt,
-  timed-below t,
-  timed.Post,
-  put-reads.Asked,
-  put-reads.Learnt,
-) (timed-at t) timed.Post
-timed-enum-told-3 t c = ?
-
--- src/level.rt:130:9
-timed-returns-4 : (t : ℕ) → timed-lts.Need-returns-4 (
-  prefixed-below t,
-  prefixed.Post,
-  token-at-reads.Asked,
-  token-at-reads.Learnt,
-  interval-reads.Asked,
-  interval-reads.Learnt,
-  timed-below t,
-  timed.Post,
-  put-reads.Asked,
-  put-reads.Learnt,
-) (timed-at t) timed.Post
-timed-returns-4 t c = ?
-
--- src/level.rt:134:16
-timed-put-requires : (t : ℕ) → timed-lts.Need-put-requires (
-  prefixed-below t,
-  prefixed.Post,
-  token-at-reads.Asked,
-  token-at-reads.Learnt,
-  interval-reads.Asked,
-  interval-reads.Learnt,
-  timed-below t,
-  timed.Post,
-  put-reads.Asked,
-  put-reads.Learnt,
-) (timed-at t) timed.Post
-timed-put-requires t c κs = ?
-
--- src/level.rt:115:1
-timed-returns-5 : (t : ℕ) → timed-lts.Need-returns-5 (
-  prefixed-below t,
-  prefixed.Post,
-  token-at-reads.Asked,
-  token-at-reads.Learnt,
-  interval-reads.Asked,
-  interval-reads.Learnt,
-  timed-below t,
-  timed.Post,
-  put-reads.Asked,
-  put-reads.Learnt,
-) (timed-at t) timed.Post
-timed-returns-5 t c = ?
-
 pub +atom+ors+prefixed+timed-spec : {M : Type 1} → statement M
-+atom+ors+prefixed+timed-spec = close μ-atom μ-ors μ-prefixed μ-timed (λ t. atom-lts.spec (
-  token-at-reads.Asked,
-  token-at-reads.Learnt,
-  put-reads.Asked,
-  put-reads.Learnt,
-  ors-below t,
-  ors.Post,
-)
++atom+ors+prefixed+timed-spec =
+    close
+    μ-atom
+    μ-ors
+    μ-prefixed
+    μ-timed
+    (λ t.
+    atom-lts.spec
+    ( token-at-reads.Asked, token-at-reads.Learnt, put-reads.Asked, put-reads.Learnt, ors-below t, ors.Post, )
     (atom-at t)
     atom.Post
-    (atom-token-at-requires t)
-    (atom-put-requires t)
-    (atom-returns t)
-    (atom-returns-2 t)
-    (atom-ors-requires t)
-    (atom-enum-known-inside t)
-    (atom-enum-told t)
-    (atom-returns-3 t)
-    (atom-token-at-requires-2 t)
-    (atom-returns-4 t)
-    (atom-returns-5 t))
-    (λ t. ors-lts.spec (
-      timed-below t,
-      timed.Post,
-      join-reads.Asked,
-      join-reads.Learnt,
-      token-at-reads.Asked,
-      token-at-reads.Learnt,
-      ors-below t,
-      ors.Post,
-    )
+    (λ c κs. search needs)
+    (λ c κs. search needs)
+    (λ c. atom-letter (c .before .before .before .before .before .before .args .text .now) (c .before .before .before .before .before .before .args .at) (c .before .before .before .before .token-at .result) (c .before .before .before .before .token-at .ensures) (c .before .before .before .before .before .before .args .out .now) (c .put .last .0) (c .before .before .before .before .before .before .args .count) (c .put .result) (c .before .before .if1 .taken) (c .put .ensures))
+    (λ c. atom-neither (c .before .before .before .before .before .before .args .text .now) (c .before .before .before .before .before .before .args .at) (c .before .before .before .before .token-at .result) (c .before .before .before .before .token-at .ensures) (c .before .before .before .before .before .before .args .out .now) (c .before .before .before .before .before .before .args .out .now) (c .before .before .before .before .before .before .args .count) (c .before .before .if1 .left) (c .if2 .taken))
+    (λ c κs. (let less = less-inside (c .before .before .before .before .before .before .before .args .text .now) (c .before .before .before .before .before .before .before .args .at) (c .before .before .before .before .before .token-at .result) (c .before .before .before .before .before .token-at .ensures) (c .before .if2 .left) in omega (arith, c .before .before .before .before .before .before .before .pre .0), tt))
+    (λ c. search needs)
+    (λ c. search needs)
+    (λ c. atom-empty (c .before .before .before .before .before .before .before .before .before .before .args .text .now) (c .before .before .before .before .before .before .before .before .before .before .args .at) (c .before .before .before .before .before .before .before .before .token-at .result) (c .before .before .before .before .before .before .before .before .token-at .ensures) (c .before .before .before .before .if2 .left) (c .before .before .before .before .before .before .before .before .before .before .args .out .now) (c .before .before .ors .last .1 .1 .1 .0) (c .before .before .before .before .before .before .before .before .before .before .args .count)
+    (told Level.ors none (c .before .before .before .before .before .before .before .before .before .before .args .text .now) (c .before .before .before .before .before .before .before .before .before .before .args .out .now) (c .before .before .before .before .before .before .before .before .token-at .result .next) (c .before .before .before .before .before .before .before .before .before .before .args .count) (c .before .before .ors .last .1 .1 .1 .0) (c .enum-told .given .1) (c .before .before .ors .ensures none refl)))
+    (λ c κs. search needs)
+    (λ c. atom-unclosed (c .before .before .before .before .before .before .before .before .before .before .before .before .before .before .args .text .now) (c .before .before .before .before .before .before .before .before .before .before .before .before .before .before .args .at) (c .before .before .before .before .before .before .before .before .before .before .before .before .token-at .result) (c .before .before .before .before .before .before .before .before .before .before .before .before .token-at .ensures) (c .before .before .before .before .before .before .before .before .if2 .left) (c .before .before .before .before .before .before .before .before .before .before .before .before .before .before .args .out .now) (c .before .before .before .before .before .before .ors .last .1 .1 .1 .0) (c .before .before .before .before .before .before .before .before .before .before .before .before .before .before .args .count)
+    (c .before .before .before .before .inside .given .0 .0) (c .before .before .before .before .inside .given .0 .1 .0)
+    (told Level.ors none (c .before .before .before .before .before .before .before .before .before .before .before .before .before .before .args .text .now) (c .before .before .before .before .before .before .before .before .before .before .before .before .before .before .args .out .now) (c .before .before .before .before .before .before .before .before .before .before .before .before .token-at .result .next) (c .before .before .before .before .before .before .before .before .before .before .before .before .before .before .args .count) (c .before .before .before .before .before .before .ors .last .1 .1 .1 .0) (c .before .before .before .before .inside .given .1) (c .before .before .before .before .before .before .ors .ensures none refl))
+    (c .before .before .token-at2 .result) (c .before .before .token-at2 .ensures) (c .if3 .taken))
+    (λ c. atom-brackets (c .before .before .before .before .before .before .before .before .before .before .before .before .before .before .args .text .now) (c .before .before .before .before .before .before .before .before .before .before .before .before .before .before .args .at) (c .before .before .before .before .before .before .before .before .before .before .before .before .token-at .result) (c .before .before .before .before .before .before .before .before .before .before .before .before .token-at .ensures) (c .before .before .before .before .before .before .before .before .if2 .left) (c .before .before .before .before .before .before .before .before .before .before .before .before .before .before .args .out .now) (c .before .before .before .before .before .before .ors .last .1 .1 .1 .0) (c .before .before .before .before .before .before .before .before .before .before .before .before .before .before .args .count)
+    (c .before .before .before .before .inside .given .0 .0) (c .before .before .before .before .inside .given .0 .1 .0)
+    (told Level.ors none (c .before .before .before .before .before .before .before .before .before .before .before .before .before .before .args .text .now) (c .before .before .before .before .before .before .before .before .before .before .before .before .before .before .args .out .now) (c .before .before .before .before .before .before .before .before .before .before .before .before .token-at .result .next) (c .before .before .before .before .before .before .before .before .before .before .before .before .before .before .args .count) (c .before .before .before .before .before .before .ors .last .1 .1 .1 .0) (c .before .before .before .before .inside .given .1) (c .before .before .before .before .before .before .ors .ensures none refl))
+    (c .before .before .token-at2 .result) (c .before .before .token-at2 .ensures) (c .if3 .left)))
+    (λ t.
+    ors-lts.spec
+    ( timed-below t, timed.Post, join-reads.Asked, join-reads.Learnt, token-at-reads.Asked, token-at-reads.Learnt, ors-below t, ors.Post, )
     (ors-at t)
     ors.Post
-    (ors-timed-requires t)
-    (ors-enum-known-behind t)
-    (ors-enum-told t)
-    (ors-returns t)
-    (ors-join-requires t)
-    (ors-token-at-requires t)
-    (ors-ors-requires t)
-    (ors-returns-2 t)
-    (ors-returns-3 t))
-    (λ t. prefixed-lts.spec (
-      token-at-reads.Asked,
-      token-at-reads.Learnt,
-      atom-below t,
-      atom.Post,
-      interval-reads.Asked,
-      interval-reads.Learnt,
-      prefixed-below t,
-      prefixed.Post,
-      put-reads.Asked,
-      put-reads.Learnt,
-    )
+    (λ c κs. (omega (arith, c .before .before .pre .0), tt))
+    (λ c. search needs)
+    (λ c. search needs)
+    (λ c. λ before is. ors-none before (c .before .before .before .before .before .args .text .now) (c .before .before .before .before .before .args .out .now) (c .before .before .timed .last .1 .1 .0) (c .before .before .before .before .before .args .at) (c .before .before .before .before .before .args .count)
+    (told Level.timed none (c .before .before .before .before .before .args .text .now) (c .before .before .before .before .before .args .out .now) (c .before .before .before .before .before .args .at) (c .before .before .before .before .before .args .count) (c .before .before .timed .last .1 .1 .0) (c .enum-told .given .1) (c .before .before .timed .ensures)))
+    (λ c κs. search needs)
+    (λ c κs. search needs)
+    (λ c κs. (let ok = (told Level.timed none (c .before .before .before .before .before .before .before .before .before .before .before .before .args .text .now) (c .before .before .before .before .before .before .before .before .before .before .before .before .args .out .now) (c .before .before .before .before .before .before .before .before .before .before .before .before .args .at) (c .before .before .before .before .before .before .before .before .before .before .before .before .args .count) (c .before .before .before .before .before .before .before .before .before .timed .last .1 .1 .0) (c .before .before .before .before .before .before .before .behind .given .1) (c .before .before .before .before .before .before .before .before .before .timed .ensures)) in
+    let x = c .before .before .before .token-at .ensures in
+    let m = x .moves (λ z. omega (arith, c .before .if1 .taken)) in
+    omega (arith, ok .moves, c .before .before .before .before .before .before .before .before .before .before .before .before .pre .0), tt))
+    (λ c. λ before is. ors-more before (c .before .before .before .before .before .before .before .before .before .before .before .before .before .args .later) is (c .before .before .before .before .before .before .before .before .before .before .before .before .before .args .text .now) (c .before .before .before .before .before .before .before .before .before .before .before .before .before .args .out .now) (c .before .before .before .before .before .before .before .before .before .before .timed .last .1 .1 .0) (c .before .before .before .before .before .join .last .1 .0) (c .before .before .before .before .before .before .before .before .before .before .before .before .before .args .at) (c .before .before .before .before .before .before .before .before .before .before .before .before .before .args .count) (c .before .before .before .before .before .before .before .before .behind .given .0 .0) (c .before .before .before .before .before .before .before .before .behind .given .0 .1 .0) (c .before .before .before .before .before .join .result)
+    (told Level.timed none (c .before .before .before .before .before .before .before .before .before .before .before .before .before .args .text .now) (c .before .before .before .before .before .before .before .before .before .before .before .before .before .args .out .now) (c .before .before .before .before .before .before .before .before .before .before .before .before .before .args .at) (c .before .before .before .before .before .before .before .before .before .before .before .before .before .args .count) (c .before .before .before .before .before .before .before .before .before .before .timed .last .1 .1 .0) (c .before .before .before .before .before .before .before .before .behind .given .1) (c .before .before .before .before .before .before .before .before .before .before .timed .ensures))
+    (c .before .before .before .before .before .join .ensures) (c .before .before .before .before .token-at .result) (c .before .before .before .before .token-at .ensures) (c .ors .result) (c .ors .last .1 .1 .1 .0) (c .before .before .if1 .taken)
+    (c .ors .ensures (some (joined before ((told Level.timed none (c .before .before .before .before .before .before .before .before .before .before .before .before .before .args .text .now) (c .before .before .before .before .before .before .before .before .before .before .before .before .before .args .out .now) (c .before .before .before .before .before .before .before .before .before .before .before .before .before .args .at) (c .before .before .before .before .before .before .before .before .before .before .before .before .before .args .count) (c .before .before .before .before .before .before .before .before .before .before .timed .last .1 .1 .0) (c .before .before .before .before .before .before .before .before .behind .given .1) (c .before .before .before .before .before .before .before .before .before .before .timed .ensures)) .tree))) refl))
+    (λ c. λ before is. ors-end before (c .before .before .before .before .before .before .before .before .before .before .before .args .later) is (c .before .before .before .before .before .before .before .before .before .before .before .args .text .now) (c .before .before .before .before .before .before .before .before .before .before .before .args .out .now) (c .before .before .before .before .before .before .before .before .timed .last .1 .1 .0) (c .before .before .before .join .last .1 .0) (c .before .before .before .before .before .before .before .before .before .before .before .args .at) (c .before .before .before .before .before .before .before .before .before .before .before .args .count) (c .before .before .before .before .before .before .behind .given .0 .0) (c .before .before .before .before .before .before .behind .given .0 .1 .0) (c .before .before .before .join .result)
+    (told Level.timed none (c .before .before .before .before .before .before .before .before .before .before .before .args .text .now) (c .before .before .before .before .before .before .before .before .before .before .before .args .out .now) (c .before .before .before .before .before .before .before .before .before .before .before .args .at) (c .before .before .before .before .before .before .before .before .before .before .before .args .count) (c .before .before .before .before .before .before .before .before .timed .last .1 .1 .0) (c .before .before .before .before .before .before .behind .given .1) (c .before .before .before .before .before .before .before .before .timed .ensures))
+    (c .before .before .before .join .ensures) (c .before .before .token-at .result) (c .before .before .token-at .ensures) (c .if1 .left)))
+    (λ t.
+    prefixed-lts.spec
+    ( token-at-reads.Asked, token-at-reads.Learnt, atom-below t, atom.Post, interval-reads.Asked, interval-reads.Learnt, prefixed-below t, prefixed.Post, put-reads.Asked, put-reads.Learnt, )
     (prefixed-at t)
     prefixed.Post
-    (prefixed-token-at-requires t)
-    (prefixed-atom-requires t)
-    (prefixed-returns t)
-    (prefixed-interval-requires t)
-    (prefixed-enum-known-low t)
-    (prefixed-enum-told t)
-    (prefixed-returns-2 t)
-    (prefixed-prefixed-requires t)
-    (prefixed-enum-known-behind t)
-    (prefixed-enum-told-2 t)
-    (prefixed-returns-3 t)
-    (prefixed-put-requires t)
-    (prefixed-returns-4 t))
-    λ t. timed-lts.spec (
-      prefixed-below t,
-      prefixed.Post,
-      token-at-reads.Asked,
-      token-at-reads.Learnt,
-      interval-reads.Asked,
-      interval-reads.Learnt,
-      timed-below t,
-      timed.Post,
-      put-reads.Asked,
-      put-reads.Learnt,
-    )
+    (λ c κs. search needs)
+    (λ c κs. (omega (arith, c .before .before .before .before .pre .0), tt))
+    (λ c. prefixed-atom (c .before .before .before .before .before .args .text .now) (c .before .before .before .before .before .args .at) (c .before .before .before .token-at .result) (c .before .before .before .token-at .ensures) (c .before .before .before .before .before .args .out .now) (c .atom .last .1 .1 .0) (c .before .before .before .before .before .args .count) (c .atom .result) (not-true _ (c .before .before .if1 .taken)) (c .atom .ensures))
+    (λ c κs. search needs)
+    (λ c. search needs)
+    (λ c. search needs)
+    (λ c. prefixed-missing (c .before .before .before .before .before .before .args .text .now) (c .before .before .before .before .before .before .args .at) (c .before .before .before .before .token-at .result) (c .before .before .before .before .token-at .ensures) (not-false _ (c .before .before .before .if1 .left)) (c .before .before .before .before .before .before .args .out .now) (c .before .before .before .before .before .before .args .out .now) (c .before .before .before .before .before .before .args .count) (told-ends (c .before .before .before .before .token-at .result .kind) (c .before .before .before .before .before .before .args .text .now) (c .before .before .before .before .token-at .result .next) (c .enum-told .given .1) (c .before .before .interval .ensures)))
+    (λ c κs. (let less = less-behind (c .before .before .before .before .before .before .before .before .args .text .now) (c .before .before .before .before .before .before .before .before .args .at) (c .before .before .before .before .before .before .token-at .result) (c .before .before .before .before .before .before .token-at .ensures) (not-false _ (c .before .before .before .before .before .if1 .left)) (c .before .before .low .given .0 .0) (c .before .before .low .given .0 .1 .0) (c .before .before .low .given .0 .1 .1 .0) (told-ends (c .before .before .before .before .before .before .token-at .result .kind) (c .before .before .before .before .before .before .before .before .args .text .now) (c .before .before .before .before .before .before .token-at .result .next) (c .before .before .low .given .1) (c .before .before .before .before .interval .ensures)) in omega (arith, c .before .before .before .before .before .before .before .before .pre .0), tt))
+    (λ c. search needs)
+    (λ c. search needs)
+    (λ c. prefixed-fault (c .before .before .before .before .before .before .before .before .before .before .before .args .text .now) (c .before .before .before .before .before .before .before .before .before .before .before .args .at) (c .before .before .before .before .before .before .before .before .before .token-at .result) (c .before .before .before .before .before .before .before .before .before .token-at .ensures) (not-false _ (c .before .before .before .before .before .before .before .before .if1 .left)) (c .before .before .before .before .before .low .given .0 .0) (c .before .before .before .before .before .low .given .0 .1 .0) (c .before .before .before .before .before .low .given .0 .1 .1 .0) (told-ends (c .before .before .before .before .before .before .before .before .before .token-at .result .kind) (c .before .before .before .before .before .before .before .before .before .before .before .args .text .now) (c .before .before .before .before .before .before .before .before .before .token-at .result .next) (c .before .before .before .before .before .low .given .1) (c .before .before .before .before .before .before .before .interval .ensures)) (c .before .before .before .before .before .before .before .before .before .before .before .args .out .now) (c .before .before .prefixed .last .1 .1 .0) (c .before .before .before .before .before .before .before .before .before .before .before .args .count)
+    (told Level.prefixed none (c .before .before .before .before .before .before .before .before .before .before .before .args .text .now) (c .before .before .before .before .before .before .before .before .before .before .before .args .out .now) (c .before .before .before .before .before .low .given .0 .1 .1 .0) (c .before .before .before .before .before .before .before .before .before .before .before .args .count) (c .before .before .prefixed .last .1 .1 .0) (c .enum-told2 .given .1) (c .before .before .prefixed .ensures)))
+    (λ c κs. search needs)
+    (λ c. prefixed-one (c .before .before .before .before .before .before .before .before .before .before .before .before .before .before .args .text .now) (c .before .before .before .before .before .before .before .before .before .before .before .before .before .before .args .at) (c .before .before .before .before .before .before .before .before .before .before .before .before .token-at .result) (c .before .before .before .before .before .before .before .before .before .before .before .before .token-at .ensures) (not-false _ (c .before .before .before .before .before .before .before .before .before .before .before .if1 .left)) (c .before .before .before .before .before .before .before .before .low .given .0 .0) (c .before .before .before .before .before .before .before .before .low .given .0 .1 .0) (c .before .before .before .before .before .before .before .before .low .given .0 .1 .1 .0) (told-ends (c .before .before .before .before .before .before .before .before .before .before .before .before .token-at .result .kind) (c .before .before .before .before .before .before .before .before .before .before .before .before .before .before .args .text .now) (c .before .before .before .before .before .before .before .before .before .before .before .before .token-at .result .next) (c .before .before .before .before .before .before .before .before .low .given .1) (c .before .before .before .before .before .before .before .before .before .before .interval .ensures)) (c .before .before .before .before .before .before .before .before .before .before .before .before .before .before .args .out .now) (c .before .before .before .before .before .prefixed .last .1 .1 .0) (c .put .last .0) (c .before .before .before .before .before .before .before .before .before .before .before .before .before .before .args .count) (c .before .before .before .behind .given .0 .0) (c .before .before .before .behind .given .0 .1 .0) (c .put .result)
+    (told Level.prefixed none (c .before .before .before .before .before .before .before .before .before .before .before .before .before .before .args .text .now) (c .before .before .before .before .before .before .before .before .before .before .before .before .before .before .args .out .now) (c .before .before .before .before .before .before .before .before .low .given .0 .1 .1 .0) (c .before .before .before .before .before .before .before .before .before .before .before .before .before .before .args .count) (c .before .before .before .before .before .prefixed .last .1 .1 .0) (c .before .before .before .behind .given .1) (c .before .before .before .before .before .prefixed .ensures)) (c .put .ensures)))
+    (λ t.
+    timed-lts.spec
+    ( prefixed-below t, prefixed.Post, token-at-reads.Asked, token-at-reads.Learnt, interval-reads.Asked, interval-reads.Learnt, timed-below t, timed.Post, put-reads.Asked, put-reads.Learnt, )
     (timed-at t)
     timed.Post
-    (timed-prefixed-requires t)
-    (timed-enum-known-left t)
-    (timed-enum-told t)
-    (timed-returns t)
-    (timed-token-at-requires t)
-    (timed-returns-2 t)
-    (timed-interval-requires t)
-    (timed-enum-known-low t)
-    (timed-enum-told-2 t)
-    (timed-returns-3 t)
-    (timed-timed-requires t)
-    (timed-enum-known-right t)
-    (timed-enum-told-3 t)
-    (timed-returns-4 t)
-    (timed-put-requires t)
-    (timed-returns-5 t)
+    (λ c κs. (omega (arith, c .before .before .pre .0), tt))
+    (λ c. search needs)
+    (λ c. search needs)
+    (λ c. timed-none (c .before .before .before .before .before .args .text .now) (c .before .before .before .before .before .args .out .now) (c .before .before .prefixed .last .1 .1 .0) (c .before .before .before .before .before .args .at) (c .before .before .before .before .before .args .count)
+    (told Level.prefixed none (c .before .before .before .before .before .args .text .now) (c .before .before .before .before .before .args .out .now) (c .before .before .before .before .before .args .at) (c .before .before .before .before .before .args .count) (c .before .before .prefixed .last .1 .1 .0) (c .enum-told .given .1) (c .before .before .prefixed .ensures)))
+    (λ c κs. search needs)
+    (λ c. timed-alone (c .before .before .before .before .before .before .before .before .args .text .now) (c .before .before .before .before .before .before .before .before .args .out .now) (c .before .before .before .before .before .prefixed .last .1 .1 .0) (c .before .before .before .before .before .before .before .before .args .at) (c .before .before .before .before .before .before .before .before .args .count) (c .before .before .before .left .given .0 .0) (c .before .before .before .left .given .0 .1 .0)
+    (told Level.prefixed none (c .before .before .before .before .before .before .before .before .args .text .now) (c .before .before .before .before .before .before .before .before .args .out .now) (c .before .before .before .before .before .before .before .before .args .at) (c .before .before .before .before .before .before .before .before .args .count) (c .before .before .before .before .before .prefixed .last .1 .1 .0) (c .before .before .before .left .given .1) (c .before .before .before .before .before .prefixed .ensures))
+    (c .before .token-at .result) (c .before .token-at .ensures) (not-true _ (c .if1 .taken)))
+    (λ c κs. search needs)
+    (λ c. search needs)
+    (λ c. search needs)
+    (λ c. timed-missing (c .before .before .before .before .before .before .before .before .before .before .before .args .text .now) (c .before .before .before .before .before .before .before .before .before .before .before .args .out .now) (c .before .before .before .before .before .before .before .before .prefixed .last .1 .1 .0) (c .before .before .before .before .before .before .before .before .before .before .before .args .at) (c .before .before .before .before .before .before .before .before .before .before .before .args .count) (c .before .before .before .before .before .before .left .given .0 .0) (c .before .before .before .before .before .before .left .given .0 .1 .0)
+    (told Level.prefixed none (c .before .before .before .before .before .before .before .before .before .before .before .args .text .now) (c .before .before .before .before .before .before .before .before .before .before .before .args .out .now) (c .before .before .before .before .before .before .before .before .before .before .before .args .at) (c .before .before .before .before .before .before .before .before .before .before .before .args .count) (c .before .before .before .before .before .before .before .before .prefixed .last .1 .1 .0) (c .before .before .before .before .before .before .left .given .1) (c .before .before .before .before .before .before .before .before .prefixed .ensures))
+    (c .before .before .before .before .token-at .result) (c .before .before .before .before .token-at .ensures) (not-false _ (c .before .before .before .if1 .left)) (c .before .before .before .before .before .before .before .before .prefixed .last .1 .1 .0) (told-ends (c .before .before .before .before .token-at .result .kind) (c .before .before .before .before .before .before .before .before .before .before .before .args .text .now) (c .before .before .before .before .token-at .result .next) (c .enum-told2 .given .1) (c .before .before .interval .ensures)))
+    (λ c κs. (let less = less-right (c .before .before .before .before .before .before .before .before .before .before .before .before .before .args .text .now) (c .before .before .before .before .before .before .before .before .before .before .before .before .before .args .out .now) (c .before .before .before .before .before .before .before .before .before .before .prefixed .last .1 .1 .0) (c .before .before .before .before .before .before .before .before .before .before .before .before .before .args .at) (c .before .before .before .before .before .before .before .before .before .before .before .before .before .args .count) (c .before .before .before .before .before .before .before .before .left .given .0 .0) (c .before .before .before .before .before .before .before .before .left .given .0 .1 .0)
+    (told Level.prefixed none (c .before .before .before .before .before .before .before .before .before .before .before .before .before .args .text .now) (c .before .before .before .before .before .before .before .before .before .before .before .before .before .args .out .now) (c .before .before .before .before .before .before .before .before .before .before .before .before .before .args .at) (c .before .before .before .before .before .before .before .before .before .before .before .before .before .args .count) (c .before .before .before .before .before .before .before .before .before .before .prefixed .last .1 .1 .0) (c .before .before .before .before .before .before .before .before .left .given .1) (c .before .before .before .before .before .before .before .before .before .before .prefixed .ensures))
+    (c .before .before .before .before .before .before .token-at .result) (c .before .before .before .before .before .before .token-at .ensures) (not-false _ (c .before .before .before .before .before .if1 .left)) (c .before .before .low .given .0 .0) (c .before .before .low .given .0 .1 .0) (c .before .before .low .given .0 .1 .1 .0) (told-ends (c .before .before .before .before .before .before .token-at .result .kind) (c .before .before .before .before .before .before .before .before .before .before .before .before .before .args .text .now) (c .before .before .before .before .before .before .token-at .result .next) (c .before .before .low .given .1) (c .before .before .before .before .interval .ensures)) in omega (arith, c .before .before .before .before .before .before .before .before .before .before .before .before .before .pre .0), tt))
+    (λ c. search needs)
+    (λ c. search needs)
+    (λ c. timed-fault (c .before .before .before .before .before .before .before .before .before .before .before .before .before .before .before .before .args .text .now) (c .before .before .before .before .before .before .before .before .before .before .before .before .before .before .before .before .args .out .now) (c .before .before .before .before .before .before .before .before .before .before .before .before .before .prefixed .last .1 .1 .0) (c .before .before .before .before .before .before .before .before .before .before .before .before .before .before .before .before .args .at) (c .before .before .before .before .before .before .before .before .before .before .before .before .before .before .before .before .args .count) (c .before .before .before .before .before .before .before .before .before .before .before .left .given .0 .0) (c .before .before .before .before .before .before .before .before .before .before .before .left .given .0 .1 .0)
+    (told Level.prefixed none (c .before .before .before .before .before .before .before .before .before .before .before .before .before .before .before .before .args .text .now) (c .before .before .before .before .before .before .before .before .before .before .before .before .before .before .before .before .args .out .now) (c .before .before .before .before .before .before .before .before .before .before .before .before .before .before .before .before .args .at) (c .before .before .before .before .before .before .before .before .before .before .before .before .before .before .before .before .args .count) (c .before .before .before .before .before .before .before .before .before .before .before .before .before .prefixed .last .1 .1 .0) (c .before .before .before .before .before .before .before .before .before .before .before .left .given .1) (c .before .before .before .before .before .before .before .before .before .before .before .before .before .prefixed .ensures))
+    (c .before .before .before .before .before .before .before .before .before .token-at .result) (c .before .before .before .before .before .before .before .before .before .token-at .ensures) (not-false _ (c .before .before .before .before .before .before .before .before .if1 .left)) (c .before .before .before .before .before .low .given .0 .0) (c .before .before .before .before .before .low .given .0 .1 .0) (c .before .before .before .before .before .low .given .0 .1 .1 .0) (told-ends (c .before .before .before .before .before .before .before .before .before .token-at .result .kind) (c .before .before .before .before .before .before .before .before .before .before .before .before .before .before .before .before .args .text .now) (c .before .before .before .before .before .before .before .before .before .token-at .result .next) (c .before .before .before .before .before .low .given .1) (c .before .before .before .before .before .before .before .interval .ensures)) (c .before .before .timed .last .1 .1 .0)
+    (told Level.timed none (c .before .before .before .before .before .before .before .before .before .before .before .before .before .before .before .before .args .text .now) (c .before .before .before .before .before .before .before .before .before .before .before .before .before .prefixed .last .1 .1 .0) (c .before .before .before .before .before .low .given .0 .1 .1 .0) (c .before .before .before .before .before .before .before .before .before .before .before .left .given .0 .1 .0) (c .before .before .timed .last .1 .1 .0) (c .enum-told3 .given .1) (c .before .before .timed .ensures)))
+    (λ c κs. search needs)
+    (λ c. timed-two (c .before .before .before .before .before .before .before .before .before .before .before .before .before .before .before .before .before .before .before .args .text .now) (c .before .before .before .before .before .before .before .before .before .before .before .before .before .before .before .before .before .before .before .args .out .now) (c .before .before .before .before .before .before .before .before .before .before .before .before .before .before .before .before .prefixed .last .1 .1 .0) (c .before .before .before .before .before .before .before .before .before .before .before .before .before .before .before .before .before .before .before .args .at) (c .before .before .before .before .before .before .before .before .before .before .before .before .before .before .before .before .before .before .before .args .count) (c .before .before .before .before .before .before .before .before .before .before .before .before .before .before .left .given .0 .0) (c .before .before .before .before .before .before .before .before .before .before .before .before .before .before .left .given .0 .1 .0)
+    (told Level.prefixed none (c .before .before .before .before .before .before .before .before .before .before .before .before .before .before .before .before .before .before .before .args .text .now) (c .before .before .before .before .before .before .before .before .before .before .before .before .before .before .before .before .before .before .before .args .out .now) (c .before .before .before .before .before .before .before .before .before .before .before .before .before .before .before .before .before .before .before .args .at) (c .before .before .before .before .before .before .before .before .before .before .before .before .before .before .before .before .before .before .before .args .count) (c .before .before .before .before .before .before .before .before .before .before .before .before .before .before .before .before .prefixed .last .1 .1 .0) (c .before .before .before .before .before .before .before .before .before .before .before .before .before .before .left .given .1) (c .before .before .before .before .before .before .before .before .before .before .before .before .before .before .before .before .prefixed .ensures))
+    (c .before .before .before .before .before .before .before .before .before .before .before .before .token-at .result) (c .before .before .before .before .before .before .before .before .before .before .before .before .token-at .ensures) (not-false _ (c .before .before .before .before .before .before .before .before .before .before .before .if1 .left)) (c .before .before .before .before .before .before .before .before .low .given .0 .0) (c .before .before .before .before .before .before .before .before .low .given .0 .1 .0) (c .before .before .before .before .before .before .before .before .low .given .0 .1 .1 .0) (told-ends (c .before .before .before .before .before .before .before .before .before .before .before .before .token-at .result .kind) (c .before .before .before .before .before .before .before .before .before .before .before .before .before .before .before .before .before .before .before .args .text .now) (c .before .before .before .before .before .before .before .before .before .before .before .before .token-at .result .next) (c .before .before .before .before .before .before .before .before .low .given .1) (c .before .before .before .before .before .before .before .before .before .before .interval .ensures)) (c .before .before .before .before .before .timed .last .1 .1 .0) (c .put .last .0) (c .before .before .before .right .given .0 .0) (c .before .before .before .right .given .0 .1 .0) (c .put .result)
+    (told Level.timed none (c .before .before .before .before .before .before .before .before .before .before .before .before .before .before .before .before .before .before .before .args .text .now) (c .before .before .before .before .before .before .before .before .before .before .before .before .before .before .before .before .prefixed .last .1 .1 .0) (c .before .before .before .before .before .before .before .before .low .given .0 .1 .1 .0) (c .before .before .before .before .before .before .before .before .before .before .before .before .before .before .left .given .0 .1 .0) (c .before .before .before .before .before .timed .last .1 .1 .0) (c .before .before .before .right .given .1) (c .before .before .before .before .before .timed .ensures)) (c .put .ensures)))
