@@ -205,27 +205,28 @@ unfolding some-unknown
 some-unknown-is [] = refl
 some-unknown-is (t ∷ ts) = ap (λ (b : Bool). b || some-unknown ts) (kind-unknown t)
 
+-- no token has the number of the end
+pub not-the-end : (t : Token) → kind t ≡ 15 → ⊥
+not-the-end (Token.letter k) e = omega arith
+not-the-end (Token.number n) e = omega arith
+not-the-end Token.not e = omega arith
+not-the-end Token.or e = omega arith
+not-the-end Token.prev e = omega arith
+not-the-end Token.next e = omega arith
+not-the-end Token.since e = omega arith
+not-the-end Token.until e = omega arith
+not-the-end Token.inf e = omega arith
+not-the-end Token.opening e = omega arith
+not-the-end Token.closing e = omega arith
+not-the-end Token.from e = omega arith
+not-the-end Token.to e = omega arith
+not-the-end Token.comma e = omega arith
+not-the-end Token.unknown e = omega arith
+
 ends-known : (ts : List Token) → first ts ≡ 15 → some-unknown ts ≡ false
 unfolding some-unknown
 ends-known [] e = refl
-ends-known (t ∷ ts) e = absurd (below t e)
-  where
-    below : (t : Token) → kind t ≡ 15 → ⊥
-    below (Token.letter k) e = omega arith
-    below (Token.number n) e = omega arith
-    below Token.not e = omega arith
-    below Token.or e = omega arith
-    below Token.prev e = omega arith
-    below Token.next e = omega arith
-    below Token.since e = omega arith
-    below Token.until e = omega arith
-    below Token.inf e = omega arith
-    below Token.opening e = omega arith
-    below Token.closing e = omega arith
-    below Token.from e = omega arith
-    below Token.to e = omega arith
-    below Token.comma e = omega arith
-    below Token.unknown e = omega arith
+ends-known (t ∷ ts) e = absurd (not-the-end t e)
 
 -- the three ways on from a token in the search for an unknown one
 module _ (text : List ℕ) (place : ℕ) (x : Lexeme) (l : Lexed text place x) where

@@ -6,7 +6,6 @@ ghost use mathlib.Core.Option.{none};
 ghost use lib.Dec.{eqb};
 ghost use Rattle.text.specs.Grammar.Level.{timed as timed-level, prefixed as prefixed-level, atom as atom-level};
 ghost use Rattle.text.specs.Reader.{Timed, Joins, Answers, AnswersAfter};
-
 use super::entries;
 use super::token;
 
@@ -77,7 +76,11 @@ fn atom(text: &[u8], at: usize, out: &mut [u8; 1288], count: usize) -> Read
     if token.kind != token::OPENING {
         return Read::Fault;
     }
-    let Read::Formula { at: inside, count: n } = ors(text, token.next, false, out, count) else {
+    let Read::Formula {
+        at: inside,
+        count: n,
+    } = ors(text, token.next, false, out, count)
+    else {
         return Read::Fault;
     };
     let closing = token::token_at(text, inside);
@@ -102,7 +105,11 @@ fn prefixed(text: &[u8], at: usize, out: &mut [u8; 1288], count: usize) -> Read
     let Ends::Interval { low, high, next } = interval(text, token.next, kind) else {
         return Read::Fault;
     };
-    let Read::Formula { at: behind, count: n } = prefixed(text, next, out, count) else {
+    let Read::Formula {
+        at: behind,
+        count: n,
+    } = prefixed(text, next, out, count)
+    else {
         return Read::Fault;
     };
     Read::Formula {
@@ -126,7 +133,11 @@ fn timed(text: &[u8], at: usize, out: &mut [u8; 1288], count: usize) -> Read
     let Ends::Interval { low, high, next } = interval(text, token.next, kind) else {
         return Read::Fault;
     };
-    let Read::Formula { at: right, count: m } = timed(text, next, out, n) else {
+    let Read::Formula {
+        at: right,
+        count: m,
+    } = timed(text, next, out, n)
+    else {
         return Read::Fault;
     };
     Read::Formula {
@@ -139,7 +150,11 @@ fn timed(text: &[u8], at: usize, out: &mut [u8; 1288], count: usize) -> Read
 pub fn ors(text: &[u8], at: usize, later: bool, out: &mut [u8; 1288], count: usize) -> Read
     ensures { λ r. ⌜ AnswersAfter later (now (text .entry)) (now (out .entry)) at count r (now (out .exit)) ⌝ }
 {
-    let Read::Formula { at: behind, count: n } = timed(text, at, out, count) else {
+    let Read::Formula {
+        at: behind,
+        count: n,
+    } = timed(text, at, out, count)
+    else {
         return Read::Fault;
     };
     let m = join(later, out, n);
@@ -147,7 +162,10 @@ pub fn ors(text: &[u8], at: usize, later: bool, out: &mut [u8; 1288], count: usi
     if token.kind == token::OR {
         return ors(text, token.next, true, out, m);
     }
-    Read::Formula { at: behind, count: m }
+    Read::Formula {
+        at: behind,
+        count: m,
+    }
 }
 
 // The entry of the or between a term and those before it.

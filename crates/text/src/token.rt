@@ -8,23 +8,37 @@ ghost use Rattle.text.specs.Tokens.{runs, single, extended, longer, nume
 ghost use Rattle.text.specs.Tokens.{sign as sign-of};
 ghost use Rattle.text.specs.Reader.{kind, Marks, Skips, RunsTo, Lexed};
 
-
 // The kinds of token. Those of words that have entries are the kinds of entries.
 pub const LETTER: u8 = 0;
+
 pub const NOT: u8 = 1;
+
 pub const OR: u8 = 2;
+
 pub const PREV: u8 = 3;
+
 pub const NEXT: u8 = 4;
+
 pub const SINCE: u8 = 5;
+
 pub const UNTIL: u8 = 6;
+
 pub const NUMBER: u8 = 7;
+
 pub const INF: u8 = 8;
+
 pub const OPENING: u8 = 9;
+
 pub const CLOSING: u8 = 10;
+
 pub const FROM: u8 = 11;
+
 pub const TO: u8 = 12;
+
 pub const COMMA: u8 = 13;
+
 pub const UNKNOWN: u8 = 14;
+
 pub const END: u8 = 15;
 
 // What no number of four digits reaches.
@@ -97,7 +111,13 @@ fn lengthen(run: u64, front: u32) -> u32
 fn number(run: u64) -> u32
     ensures { λ r. ⌜ (r ≡ numeral run) × (r ≤ 10000) ⌝ }
 {
-    lengthen(run, lengthen(run / 256, lengthen(run / 65536, single_digit(run / 16777216))))
+    lengthen(
+        run,
+        lengthen(
+            run / 256,
+            lengthen(run / 65536, single_digit(run / 16777216)),
+        ),
+    )
 }
 
 fn letter_mark(value: u32) -> Mark

@@ -87,7 +87,7 @@ pub +atom+ors+prefixed+timed-spec : {M : Type 1} → statement M
     μ-timed
     (λ t.
     atom-lts.spec
-    ( token-at-reads.Asked, token-at-reads.Learnt, put-reads.Asked, put-reads.Learnt, ors-below t, ors.Post, )
+    (token-at-reads.Asked, token-at-reads.Learnt, put-reads.Asked, put-reads.Learnt, ors-below t, ors.Post)
     (atom-at t)
     atom.Post
     (λ c κs. search needs)
@@ -110,7 +110,7 @@ pub +atom+ors+prefixed+timed-spec : {M : Type 1} → statement M
     (c .before .before .token-at2 .result) (c .before .before .token-at2 .ensures) (c .if3 .left)))
     (λ t.
     ors-lts.spec
-    ( timed-below t, timed.Post, join-reads.Asked, join-reads.Learnt, token-at-reads.Asked, token-at-reads.Learnt, ors-below t, ors.Post, )
+    (timed-below t, timed.Post, join-reads.Asked, join-reads.Learnt, token-at-reads.Asked, token-at-reads.Learnt, ors-below t, ors.Post)
     (ors-at t)
     ors.Post
     (λ c κs. (omega (arith, c .before .before .pre .0), tt))
@@ -120,10 +120,13 @@ pub +atom+ors+prefixed+timed-spec : {M : Type 1} → statement M
     (told Level.timed none (c .before .before .before .before .before .args .text .now) (c .before .before .before .before .before .args .out .now) (c .before .before .before .before .before .args .at) (c .before .before .before .before .before .args .count) (c .before .before .timed .last .1 .1 .0) (c .enum-told .given .1) (c .before .before .timed .ensures)))
     (λ c κs. search needs)
     (λ c κs. search needs)
-    (λ c κs. (let ok = (told Level.timed none (c .before .before .before .before .before .before .before .before .before .before .before .before .args .text .now) (c .before .before .before .before .before .before .before .before .before .before .before .before .args .out .now) (c .before .before .before .before .before .before .before .before .before .before .before .before .args .at) (c .before .before .before .before .before .before .before .before .before .before .before .before .args .count) (c .before .before .before .before .before .before .before .before .before .timed .last .1 .1 .0) (c .before .before .before .before .before .before .before .behind .given .1) (c .before .before .before .before .before .before .before .before .before .timed .ensures)) in
-    let x = c .before .before .before .token-at .ensures in
-    let m = x .moves (λ z. omega (arith, c .before .if1 .taken)) in
-    omega (arith, ok .moves, c .before .before .before .before .before .before .before .before .before .before .before .before .pre .0), tt))
+    (λ c κs. (
+      let ok = (told Level.timed none (c .before .before .before .before .before .before .before .before .before .before .before .before .args .text .now) (c .before .before .before .before .before .before .before .before .before .before .before .before .args .out .now) (c .before .before .before .before .before .before .before .before .before .before .before .before .args .at) (c .before .before .before .before .before .before .before .before .before .before .before .before .args .count) (c .before .before .before .before .before .before .before .before .before .timed .last .1 .1 .0) (c .before .before .before .before .before .before .before .behind .given .1) (c .before .before .before .before .before .before .before .before .before .timed .ensures)) in
+          let x = c .before .before .before .token-at .ensures in
+          let m = x .moves (λ z. omega (arith, c .before .if1 .taken)) in
+          omega (arith, ok .moves, c .before .before .before .before .before .before .before .before .before .before .before .before .pre .0),
+      tt,
+    ))
     (λ c. λ before is. ors-more before (c .before .before .before .before .before .before .before .before .before .before .before .before .before .args .later) is (c .before .before .before .before .before .before .before .before .before .before .before .before .before .args .text .now) (c .before .before .before .before .before .before .before .before .before .before .before .before .before .args .out .now) (c .before .before .before .before .before .before .before .before .before .before .timed .last .1 .1 .0) (c .before .before .before .before .before .join .last .1 .0) (c .before .before .before .before .before .before .before .before .before .before .before .before .before .args .at) (c .before .before .before .before .before .before .before .before .before .before .before .before .before .args .count) (c .before .before .before .before .before .before .before .before .behind .given .0 .0) (c .before .before .before .before .before .before .before .before .behind .given .0 .1 .0) (c .before .before .before .before .before .join .result)
     (told Level.timed none (c .before .before .before .before .before .before .before .before .before .before .before .before .before .args .text .now) (c .before .before .before .before .before .before .before .before .before .before .before .before .before .args .out .now) (c .before .before .before .before .before .before .before .before .before .before .before .before .before .args .at) (c .before .before .before .before .before .before .before .before .before .before .before .before .before .args .count) (c .before .before .before .before .before .before .before .before .before .before .timed .last .1 .1 .0) (c .before .before .before .before .before .before .before .before .behind .given .1) (c .before .before .before .before .before .before .before .before .before .before .timed .ensures))
     (c .before .before .before .before .before .join .ensures) (c .before .before .before .before .token-at .result) (c .before .before .before .before .token-at .ensures) (c .ors .result) (c .ors .last .1 .1 .1 .0) (c .before .before .if1 .taken)
@@ -133,7 +136,7 @@ pub +atom+ors+prefixed+timed-spec : {M : Type 1} → statement M
     (c .before .before .before .join .ensures) (c .before .before .token-at .result) (c .before .before .token-at .ensures) (c .if1 .left)))
     (λ t.
     prefixed-lts.spec
-    ( token-at-reads.Asked, token-at-reads.Learnt, atom-below t, atom.Post, interval-reads.Asked, interval-reads.Learnt, prefixed-below t, prefixed.Post, put-reads.Asked, put-reads.Learnt, )
+    (token-at-reads.Asked, token-at-reads.Learnt, atom-below t, atom.Post, interval-reads.Asked, interval-reads.Learnt, prefixed-below t, prefixed.Post, put-reads.Asked, put-reads.Learnt)
     (prefixed-at t)
     prefixed.Post
     (λ c κs. search needs)
@@ -153,7 +156,7 @@ pub +atom+ors+prefixed+timed-spec : {M : Type 1} → statement M
     (told Level.prefixed none (c .before .before .before .before .before .before .before .before .before .before .before .before .before .before .args .text .now) (c .before .before .before .before .before .before .before .before .before .before .before .before .before .before .args .out .now) (c .before .before .before .before .before .before .before .before .low .given .0 .1 .1 .0) (c .before .before .before .before .before .before .before .before .before .before .before .before .before .before .args .count) (c .before .before .before .before .before .prefixed .last .1 .1 .0) (c .before .before .before .behind .given .1) (c .before .before .before .before .before .prefixed .ensures)) (c .put .ensures)))
     (λ t.
     timed-lts.spec
-    ( prefixed-below t, prefixed.Post, token-at-reads.Asked, token-at-reads.Learnt, interval-reads.Asked, interval-reads.Learnt, timed-below t, timed.Post, put-reads.Asked, put-reads.Learnt, )
+    (prefixed-below t, prefixed.Post, token-at-reads.Asked, token-at-reads.Learnt, interval-reads.Asked, interval-reads.Learnt, timed-below t, timed.Post, put-reads.Asked, put-reads.Learnt)
     (timed-at t)
     timed.Post
     (λ c κs. (omega (arith, c .before .before .pre .0), tt))
@@ -171,9 +174,12 @@ pub +atom+ors+prefixed+timed-spec : {M : Type 1} → statement M
     (λ c. timed-missing (c .before .before .before .before .before .before .before .before .before .before .before .args .text .now) (c .before .before .before .before .before .before .before .before .before .before .before .args .out .now) (c .before .before .before .before .before .before .before .before .prefixed .last .1 .1 .0) (c .before .before .before .before .before .before .before .before .before .before .before .args .at) (c .before .before .before .before .before .before .before .before .before .before .before .args .count) (c .before .before .before .before .before .before .left .given .0 .0) (c .before .before .before .before .before .before .left .given .0 .1 .0)
     (told Level.prefixed none (c .before .before .before .before .before .before .before .before .before .before .before .args .text .now) (c .before .before .before .before .before .before .before .before .before .before .before .args .out .now) (c .before .before .before .before .before .before .before .before .before .before .before .args .at) (c .before .before .before .before .before .before .before .before .before .before .before .args .count) (c .before .before .before .before .before .before .before .before .prefixed .last .1 .1 .0) (c .before .before .before .before .before .before .left .given .1) (c .before .before .before .before .before .before .before .before .prefixed .ensures))
     (c .before .before .before .before .token-at .result) (c .before .before .before .before .token-at .ensures) (not-false _ (c .before .before .before .if1 .left)) (c .before .before .before .before .before .before .before .before .prefixed .last .1 .1 .0) (told-ends (c .before .before .before .before .token-at .result .kind) (c .before .before .before .before .before .before .before .before .before .before .before .args .text .now) (c .before .before .before .before .token-at .result .next) (c .enum-told2 .given .1) (c .before .before .interval .ensures)))
-    (λ c κs. (let less = less-right (c .before .before .before .before .before .before .before .before .before .before .before .before .before .args .text .now) (c .before .before .before .before .before .before .before .before .before .before .before .before .before .args .out .now) (c .before .before .before .before .before .before .before .before .before .before .prefixed .last .1 .1 .0) (c .before .before .before .before .before .before .before .before .before .before .before .before .before .args .at) (c .before .before .before .before .before .before .before .before .before .before .before .before .before .args .count) (c .before .before .before .before .before .before .before .before .left .given .0 .0) (c .before .before .before .before .before .before .before .before .left .given .0 .1 .0)
-    (told Level.prefixed none (c .before .before .before .before .before .before .before .before .before .before .before .before .before .args .text .now) (c .before .before .before .before .before .before .before .before .before .before .before .before .before .args .out .now) (c .before .before .before .before .before .before .before .before .before .before .before .before .before .args .at) (c .before .before .before .before .before .before .before .before .before .before .before .before .before .args .count) (c .before .before .before .before .before .before .before .before .before .before .prefixed .last .1 .1 .0) (c .before .before .before .before .before .before .before .before .left .given .1) (c .before .before .before .before .before .before .before .before .before .before .prefixed .ensures))
-    (c .before .before .before .before .before .before .token-at .result) (c .before .before .before .before .before .before .token-at .ensures) (not-false _ (c .before .before .before .before .before .if1 .left)) (c .before .before .low .given .0 .0) (c .before .before .low .given .0 .1 .0) (c .before .before .low .given .0 .1 .1 .0) (told-ends (c .before .before .before .before .before .before .token-at .result .kind) (c .before .before .before .before .before .before .before .before .before .before .before .before .before .args .text .now) (c .before .before .before .before .before .before .token-at .result .next) (c .before .before .low .given .1) (c .before .before .before .before .interval .ensures)) in omega (arith, c .before .before .before .before .before .before .before .before .before .before .before .before .before .pre .0), tt))
+    (λ c κs. (
+      let less = less-right (c .before .before .before .before .before .before .before .before .before .before .before .before .before .args .text .now) (c .before .before .before .before .before .before .before .before .before .before .before .before .before .args .out .now) (c .before .before .before .before .before .before .before .before .before .before .prefixed .last .1 .1 .0) (c .before .before .before .before .before .before .before .before .before .before .before .before .before .args .at) (c .before .before .before .before .before .before .before .before .before .before .before .before .before .args .count) (c .before .before .before .before .before .before .before .before .left .given .0 .0) (c .before .before .before .before .before .before .before .before .left .given .0 .1 .0)
+          (told Level.prefixed none (c .before .before .before .before .before .before .before .before .before .before .before .before .before .args .text .now) (c .before .before .before .before .before .before .before .before .before .before .before .before .before .args .out .now) (c .before .before .before .before .before .before .before .before .before .before .before .before .before .args .at) (c .before .before .before .before .before .before .before .before .before .before .before .before .before .args .count) (c .before .before .before .before .before .before .before .before .before .before .prefixed .last .1 .1 .0) (c .before .before .before .before .before .before .before .before .left .given .1) (c .before .before .before .before .before .before .before .before .before .before .prefixed .ensures))
+          (c .before .before .before .before .before .before .token-at .result) (c .before .before .before .before .before .before .token-at .ensures) (not-false _ (c .before .before .before .before .before .if1 .left)) (c .before .before .low .given .0 .0) (c .before .before .low .given .0 .1 .0) (c .before .before .low .given .0 .1 .1 .0) (told-ends (c .before .before .before .before .before .before .token-at .result .kind) (c .before .before .before .before .before .before .before .before .before .before .before .before .before .args .text .now) (c .before .before .before .before .before .before .token-at .result .next) (c .before .before .low .given .1) (c .before .before .before .before .interval .ensures)) in omega (arith, c .before .before .before .before .before .before .before .before .before .before .before .before .before .pre .0),
+      tt,
+    ))
     (λ c. search needs)
     (λ c. search needs)
     (λ c. timed-fault (c .before .before .before .before .before .before .before .before .before .before .before .before .before .before .before .before .args .text .now) (c .before .before .before .before .before .before .before .before .before .before .before .before .before .before .before .before .args .out .now) (c .before .before .before .before .before .before .before .before .before .before .before .before .before .prefixed .last .1 .1 .0) (c .before .before .before .before .before .before .before .before .before .before .before .before .before .before .before .before .args .at) (c .before .before .before .before .before .before .before .before .before .before .before .before .before .before .before .before .args .count) (c .before .before .before .before .before .before .before .before .before .before .before .left .given .0 .0) (c .before .before .before .before .before .before .before .before .before .before .before .left .given .0 .1 .0)
