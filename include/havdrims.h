@@ -18,13 +18,15 @@ extern "C" {
  *
  * The caller owns every buffer, before, during and after the call. The library allocates nothing, keeps no pointer
  * and has no state of its own: all that it knows between two calls is in the point. Calls on different points may
- * run at the same time.
+ * run at the same time. A thread with a stack of HAVDRIMS_MOST_STACK bytes can make every call, whatever the rule.
  *
  * A length counts the elements of its buffer: bytes, or 64-bit words for a point. A buffer of length 0 is not
  * touched, and its pointer may be null. Words are aligned as uint64_t is.
  *
- * Nothing may overlap: what a call writes (point, sheet, the numbers behind its last pointers) shares no byte with
- * anything else that the call is given.
+ * The last two pointers of measure, resume and tally each point to a number of the caller's and are never null.
+ *
+ * What a call writes (point, sheet, the numbers behind its last two pointers) shares no byte with anything else that
+ * the call is given. What it only reads may overlap.
  *
  * The formats of rule, log and sheet are those of docs/FORMATS.md. A point's words are the library's own, in the
  * byte order of the machine: save them and hand them back as they are.
@@ -61,6 +63,9 @@ enum havdrims_refusal {
 /* The most words that a point can need. */
 #define HAVDRIMS_MOST_WORDS 8192
 
+/* The most bytes of stack that a call needs: measured and tested on x86-64 Linux, not proved. */
+#define HAVDRIMS_MOST_STACK 65536
+
 /*
  * Weighs a rule of rule_len bytes.
  *
@@ -88,7 +93,7 @@ uint32_t havdrims_open(const uint8_t *rule, size_t rule_len, uint64_t *point, si
  * log     the whole log from its header on, with the records of the accepted calls before and any number of new
  *         ones behind them. A record that has its verdict is not read again: it may hold any bytes. The others must
  *         be as they were; if they are not, or if the point was not left by this library, the call still returns and
- *         writes nothing outside point and sheet, but its verdicts mean nothing.
+ *         writes only point, sheet, *given and *more, but its verdicts mean nothing.
  * point   as open or the last accepted call left it. It becomes the point to carry on from. Words behind the need
  *         are kept.
  * sheet   takes the verdicts. Its bytes behind them are kept. It may be of any length, 0 included.

@@ -9,13 +9,13 @@ use native.Mathlib.Omega.{arith}
 use lib.ListN.{length, getD, take, drop, length-drop}
 use lib.Dec.{eqb}
 use lib.Seq.{take-take, drop-drop, getD-take, getD-drop, length-take-le}
-use Rattle.mtl.specs.Formula.{Formula}
+use Rattle.mtl.specs.Formula.{Formula, unbounded}
 use Rattle.mtl.specs.Formula.Formula.{letter, not, or, previous, next, since, until}
 use Rattle.mtl.specs.Log.{Log}
 use Rattle.mtl.proofs.Bounded.{le-or-lt}
 use Rattle.rule.specs.declared.Entry.{Entry}
 use Rattle.rule.specs.Entries.{entry}
-use Rattle.rule.specs.Words.{unbounded, ring-words, own-words, own, offset}
+use Rattle.rule.specs.Words.{ring-words, own-words, own, offset}
 use Rattle.rule.specs.Postfix.{root}
 use Rattle.rule.specs.Operands.{operands, span, left, part, FormulaAt, Unary, Binary}
 use Rattle.rule.specs.Accepted.{WellFormed}

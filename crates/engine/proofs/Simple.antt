@@ -63,7 +63,7 @@ module _ (s b : List ℕ) (room : 16 ≤ length b) (n : ℕ) (some : 0 < n) wher
             };
             buffers = tt;
           },
-          record { left = λ e. absurd (false≢true e); right = λ e. absurd (false≢true e) },
+          record { left = λ e. absurd (false≢true e); right = λ e. absurd (false≢true e); taken = omega (arith, at 0); answered = omega (arith, at 5) },
         )
 
     -- not and next store nothing more; φ is either, and ψ its operand
@@ -75,7 +75,7 @@ module _ (s b : List ℕ) (room : 16 ≤ length b) (n : ℕ) (some : 0 < n) wher
         let range = core .range in
         let most = fits right in
         taken-right φ core n g′ (took-right n b) reached (omega (arith, at 0, at 1, at 3, at 5, at 6, at 7, at 8, at 9, at 10)) own single whole h
-        (record { at = at 0; count = at 3; bits = at 4; head = at 14; ends = at 15 })
+        (record { at = at 0; count = at 3; bits = at 4; answered = omega (arith, at 5); head = at 14; ends = at 15 })
         right
 
     pub not-batch : (φ : Formula) → n ≤ right-count b → right-bits b < 2 ^ 64 → Ready (not φ) L g b →
@@ -110,7 +110,7 @@ module _ (s b : List ℕ) (room : 16 ≤ length b) (n : ℕ) (some : 0 < n) wher
         (omega (arith, at 0, at 1, at 3, at 5, at 6, at 7, at 8, at 9, at 10))
         (omega (arith, at 0))
         (λ x. x) l r
-        (record { right = record { at = at 0; count = at 3; bits = at 4; head = at 14; ends = at 15 }; count = at 1; bits = at 2 })
+        (record { right = record { at = at 0; count = at 3; bits = at 4; answered = omega (arith, at 5); head = at 14; ends = at 15 }; count = at 1; bits = at 2 })
         left right
         in (
           record {
@@ -209,7 +209,7 @@ module _ (s b : List ℕ) (room : 16 ≤ length b) (n : ℕ) (some : 0 < n) wher
             refl
             (λ x. x)
             h
-            (record { at = at 0; count = at 3; bits = at 4; head = at 14; ends = at 15 })
+            (record { at = at 0; count = at 3; bits = at 4; answered = omega (arith, at 5); head = at 14; ends = at 15 })
             right
             in (
               record { some = some; buffer = record { within = omega arith; packed = previous-packed near word inside packed } },

@@ -11,7 +11,7 @@ use Rattle.mtl.specs.Progress.{progress}
 use Rattle.bits.specs.Packed.{Packed}
 use Rattle.bits.proofs.Laws.{packed-first}
 use Rattle.trace.specs.Format.{record-count}
-use Rattle.engine.specs.Block.{word, taken, left-count, left-bits, right-count, right-bits, kind-of, high-of, cells-of, InRange, Own, Core, Buffer, LeftBuffer, RightBuffer, Buffers, Ready}
+use Rattle.engine.specs.Block.{word, taken, left-count, left-bits, right-count, right-bits, answered, kind-of, high-of, cells-of, InRange, Own, Core, Buffer, LeftBuffer, RightBuffer, Buffers, Ready}
 use Rattle.engine.specs.Step.{Agrees, Moved, has-left}
 use Rattle.engine.proofs.Words.{Store, put, available, copied, later, fits}
 
@@ -53,6 +53,7 @@ pub record TookRight (n : ℕ) (b b′ : List ℕ) : Type 0 where
   pub at : taken b′ ≡ taken b + n
   pub count : right-count b′ ≡ right-count b - n
   pub bits : right-bits b′ ≡ right-bits b / 2 ^ n
+  pub answered : answered b ≤ answered b′
   pub head : word b′ 14 ≡ word b 14
   pub ends : word b′ 15 ≡ word b 15
 
@@ -72,7 +73,7 @@ module _ (φ : Formula) {L : Log} {g : ℕ} {b : List ℕ} (core : Core φ L g b
       core = record { reached = reached; range = range; copy = copied (took .head) (took .ends) (core .copy); own = own };
       buffers = whole (later n h (took .at) (took .count) (took .bits) right);
     },
-    record { left = λ e. absurd (false≢true (sym single ∙ e)); right = λ e. omega arith },
+    record { left = λ e. absurd (false≢true (sym single ∙ e)); right = λ e. omega arith; taken = omega arith; answered = took .answered },
   )
 
   -- ψ and χ are the operands
@@ -87,5 +88,5 @@ module _ (φ : Formula) {L : Log} {g : ℕ} {b : List ℕ} (core : Core φ L g b
             later n r (both .at) (both .count) (both .bits) right,
           );
         },
-        record { left = λ e. omega arith; right = λ e. omega arith },
+        record { left = λ e. omega arith; right = λ e. omega arith; taken = omega arith; answered = both .answered },
       )

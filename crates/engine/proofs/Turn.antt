@@ -8,14 +8,14 @@ use mathlib.Core.List.{List, []}
 use mathlib.Core.Path.{_≡_, refl, sym, ap, _∙_}
 use lib.ListN.{length, getD, length-set}
 use borrow.Author.Tests.{ne-eqb}
-use Rattle.mtl.specs.Formula.{Formula}
+use Rattle.mtl.specs.Formula.{Formula, unbounded}
 use Rattle.mtl.specs.Formula.Formula.{since}
 use Rattle.mtl.specs.Log.{Log, NeverFalls}
 use Rattle.mtl.specs.Satisfaction.{sat, since-at}
 use Rattle.mtl.specs.Progress.{progress}
 use Rattle.bits.specs.Packed.{bit, with-bit, Packed}
 use Rattle.bits.proofs.Laws.{with-bit-lt, packed-none, packed-push, packed-same}
-use Rattle.rule.specs.Words.{unbounded, ring-words}
+use Rattle.rule.specs.Words.{ring-words}
 use Rattle.trace.specs.Format.{record-count, time-at}
 use Rattle.trace.proofs.Laws.{time-bound}
 use Rattle.engine.specs.Block.{word, taken, left-count, left-bits, right-count, right-bits, Ready, took-both}
@@ -200,6 +200,7 @@ module _ (low high : ℕ) (s b : List ℕ) where
                   at = at;
                   count = count-right;
                   bits = words 4 ∙ ap (λ (x : ℕ). x / 2 ^ n) (turned-word 4 (omega arith));
+                  answered = omega (arith, kept 5 (omega arith));
                   head = kept 14 (omega arith);
                   ends = kept 15 (omega arith);
                 };

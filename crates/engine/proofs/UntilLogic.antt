@@ -5,7 +5,7 @@ use mathlib.Core.Logic.{_⊎_, inl, inr, ⊎-elim}
 use mathlib.Core.Path.{_≡_, sym, _∙_, ap}
 use native.Mathlib.Omega.{arith}
 use lib.Dec.{eqb}
-use Rattle.mtl.proofs.Bounded.{true-and-false, le-or-lt}
+use Rattle.mtl.proofs.Bounded.{true-and-false, le-or-lt, Above}
 use Rattle.mtl.proofs.Until.{SettledYes, SettledNo, Ended}
 use Rattle.engine.specs.Block.{Until}
 
@@ -48,9 +48,9 @@ module _ {low high : ℕ} {time : ℕ → ℕ} {left right : ℕ → Bool} {size
 
   -- .. and where there is none to take, g is not settled
   pub stuck : Waits low high time left right size g p → m ≡ p → SettledYes low high time left right size m g ⊎ SettledNo low high time left right size m g → ⊥
-  stuck w e (inl (j, b, (a, v, r, l))) = let n = w .early j a (omega arith) r in omega arith
+  stuck w e (inl (j, b, (a, v, r, l))) = let n = w .early j a (omega arith) r in let far = v .0 in omega arith
   stuck w e (inr (n, inl (k, a, b, f))) = true-and-false (w .held k a (omega arith)) f
-  stuck w e (inr (n, inr (q, a, b, c, v))) = let k = w .near q a (omega arith) c in omega arith
+  stuck w e (inr (n, inr (q, a, b, c, (late, ends)))) = let k = w .near q a (omega arith) c in omega arith
 
   module _ {ll lr lt : ℕ} (u : Until low high time left right g p ll lr lt) (some : g < p) where
     -- a later position to answer
@@ -71,7 +71,7 @@ module _ {low high : ℕ} {time : ℕ → ℕ} {left right : ℕ → Bool} {size
     met r h =
         let t = u .last-time some in
         let n = u .not-over some in
-        (p - 1, omega arith, (omega arith, (omega arith, n), u .last-right some ∙ r, λ k a b. u .left-held k a (omega arith)))
+        (p - 1, omega arith, (omega arith, (omega arith, inl n), u .last-right some ∙ r, λ k a b. u .left-held k a (omega arith)))
 
     module _ (unmet : eqb lr 1 ≡ true → lt - time g < low) where
       early : (k : ℕ) → g ≤ k → k < p → right k ≡ true → time k - time g < low
@@ -87,22 +87,22 @@ module _ {low high : ℕ} {time : ℕ → ℕ} {left right : ℕ → Bool} {size
           (le-or-lt (k + 2) p)
 
       -- left failed there, or position p lies more than high after g
-      pub over : (eqb ll 1 ≡ false) ⊎ ((p < size) × (high < time p - time g)) → SettledNo low high time left right size m g
+      pub over : (eqb ll 1 ≡ false) ⊎ ((p < size) × Above high (time p - time g)) → SettledNo low high time left right size m g
       over d = (none d, ended d)
         where
-          ended : (eqb ll 1 ≡ false) ⊎ ((p < size) × (high < time p - time g)) → Ended low high time left right size m g
+          ended : (eqb ll 1 ≡ false) ⊎ ((p < size) × Above high (time p - time g)) → Ended low high time left right size m g
           ended (inl f) = inl (p - 1, omega arith, omega arith, u .last-left some ∙ f)
           ended (inr (h, v)) = inr (p, omega arith, behind, h, v)
 
-          none : (eqb ll 1 ≡ false) ⊎ ((p < size) × (high < time p - time g)) → SettledYes low high time left right size m g → ⊥
+          none : (eqb ll 1 ≡ false) ⊎ ((p < size) × Above high (time p - time g)) → SettledYes low high time left right size m g → ⊥
           none d (j, b, (a, v, r, l)) =
               ⊎-elim
               (λ c.
               ⊎-elim
               (λ f. true-and-false (l (p - 1) (omega arith) (omega arith)) (u .last-left some ∙ f))
-              (λ o. let f = falls p j c (omega arith) in let h = o .1 in omega arith)
+              (λ o. let f = falls p j c (omega arith) in let h = o .1 .0 in ⊎-elim (λ near. omega arith) (o .1 .1) (v .1))
               d)
-              (λ c. let n = early j a c r in omega arith)
+              (λ c. let n = early j a c r in let far = v .0 in omega arith)
               (le-or-lt p j)
 
       -- neither: g waits

@@ -7,18 +7,19 @@ use mathlib.Core.Logic.{_⊎_, inl, inr, ⊎-elim}
 use mathlib.Core.Path.{_≡_, refl, sym, _∙_, ap}
 use native.Mathlib.Omega.{arith}
 use lib.Dec.{eqb, leb, ltb}
-use lib.ListN.{length}
+use lib.ListN.{length, getD}
 use borrow.Author.Tests.{eqb-true, eq-eqb, leb-true, leb-false, lt-ltb, le-ltb, not-true, not-false}
 use Rattle.mtl.specs.Formula.{Formula}
 use Rattle.mtl.specs.Formula.Formula.{until}
 use Rattle.mtl.specs.Log.{Log, NeverFalls}
 use Rattle.mtl.specs.Satisfaction.{sat}
 use Rattle.mtl.specs.Progress.{progress}
-use Rattle.mtl.proofs.Bounded.{and-iff, or-iff, le-or-lt}
+use Rattle.mtl.proofs.Bounded.{and-iff, or-iff, le-or-lt, Above, above-small}
 use Rattle.mtl.proofs.Until.{answered-operands, answered-fits, until-answered, until-yes, until-no}
 use Rattle.bits.specs.Packed.{number, with-bit}
 use Rattle.bits.proofs.Laws.{number-lt, packed-none, packed-push}
 use Rattle.trace.specs.Format.{record-count, time-at}
+use Rattle.trace.proofs.Laws.{time-bound}
 use Rattle.engine.specs.Block.{
   word,
   taken,
@@ -93,7 +94,7 @@ next-is s p last =
     (le-or-lt (record-count s) p)
 
 -- the heads stand at g and p, on a log that the records are from position `first` on
-module _ (low high : ℕ) (φ ψ : Formula) (s : List ℕ) (L : Log) (first : ℕ) (falls : NeverFalls L) (agrees : Agrees s L first)
+module _ (low high : ℕ) (φ ψ : Formula) (s : List ℕ) (byte : (i : ℕ) → getD s i 0 < 256) (L : Log) (first : ℕ) (falls : NeverFalls L) (agrees : Agrees s L first)
     (g p : ℕ) (from : first ≤ g) (behind : p ≤ answered-operands φ ψ L) (last : Last)
     (u : Until low high (L .time) (sat φ L) (sat ψ L) g p (number (last .left)) (number (last .right)) (last .time)) where
   -- what each finding says of g
@@ -107,7 +108,7 @@ module _ (low high : ℕ) (φ ψ : Formula) (s : List ℕ) (L : Log) (first : �
 
     -- if the time tested lies more than high after g, it is that of position p, since the last one's does not
     late : is-over high (time-at s g) last (next-time s p last) ≡ true →
-        (eqb (number (last .left)) 1 ≡ false) ⊎ ((p < L .size) × (high < L .time p - L .time g))
+        (eqb (number (last .left)) 1 ≡ false) ⊎ ((p < L .size) × Above high (L .time p - L .time g))
     late d =
         ⊎-elim
         (λ f. inl (is-number (last .left) ∙ not-true (last .left) f))
@@ -115,15 +116,16 @@ module _ (low high : ℕ) (φ ψ : Formula) (s : List ℕ) (L : Log) (first : �
         (or-iff (negate (last .left)) (ltb high (next-time s p last - time-at s g)) .0 d)
       where
         inside : ltb high (next-time s p last - time-at s g) ≡ true → (p < record-count s) × (next-time s p last ≡ time-at s p) →
-            (p < L .size) × (high < L .time p - L .time g)
+            (p < L .size) × Above high (L .time p - L .time g)
         inside v (h, e) =
             let z = agrees .size in
             let t = agrees .same p (omega arith) (omega arith) .time in
             let b = begins in
-            (omega arith, omega (arith, leb-true))
+            let small = time-bound s byte p in
+            (omega arith, above-small high (L .time g) (L .time p) (omega arith) (omega (arith, leb-true)))
 
         outside : ltb high (next-time s p last - time-at s g) ≡ true → (record-count s ≤ p) × (next-time s p last ≡ last .time) →
-            (p < L .size) × (high < L .time p - L .time g)
+            (p < L .size) × Above high (L .time p - L .time g)
         outside v (h, e) =
             let t = u .last-time some in
             let n = u .not-over some in
@@ -181,7 +183,7 @@ module _ (low high : ℕ) (φ ψ : Formula) (s : List ℕ) (L : Log) (first : �
       (found low high s g p last Unknown e)
 
 -- one turn of a walk
-module _ (low high : ℕ) (s : List ℕ) (g at n left right : ℕ) (from : Last) (bits count took : ℕ) (last : Last)
+module _ (low high : ℕ) (s : List ℕ) (byte : (i : ℕ) → getD s i 0 < 256) (g at n left right : ℕ) (from : Last) (bits count took : ℕ) (last : Last)
     (most : took ≤ n) where
   -- all n positions lie below the operands' numbers
   operands : {φ ψ : Formula} {L : Log} → Buffer φ L at n left → Buffer ψ L at n right → at + took ≤ answered-operands φ ψ L
@@ -192,7 +194,7 @@ module _ (low high : ℕ) (s : List ℕ) (g at n left right : ℕ) (from : Last)
       Walks low high s g at n left right from (with-bit bits count v) (count + 1) took last
   walks-known v e h small walks φ ψ L falls agrees a b start =
       let r = walks φ ψ L falls agrees a b start in
-      let m = finds low high φ ψ s L g falls agrees (g + count) (at + took) (omega arith) (operands a b) last (r .heads) (Known v) e in
+      let m = finds low high φ ψ s byte L g falls agrees (g + count) (at + took) (omega arith) (operands a b) last (r .heads) (Known v) e in
       let some = known-behind low high s (g + count) (at + took) last v e in
       let inside = m .0 in
       record {
@@ -210,7 +212,7 @@ module _ (low high : ℕ) (s : List ℕ) (g at n left right : ℕ) (from : Last)
       Walks low high s g at n left right from bits count (took + 1) (take-spec s at took left right)
   walks-unknown e h walks φ ψ L falls agrees a b start =
       let r = walks φ ψ L falls agrees a b start in
-      let w = finds low high φ ψ s L g falls agrees (g + count) (at + took) (omega arith) (operands a b) last (r .heads) Unknown e in
+      let w = finds low high φ ψ s byte L g falls agrees (g + count) (at + took) (omega arith) (operands a b) last (r .heads) Unknown e in
       let x = a .within in
       let y = b .within in
       let z = w .ahead in
@@ -254,6 +256,7 @@ wanted-ends s b Open t = refl
 -- a step on block b that has walked over n positions
 pub record Went (low high : ℕ) (s b : List ℕ) (n : ℕ) (w : Walked) : Type 0 where
   pub room : 16 ≤ length b
+  pub byte : (i : ℕ) → getD s i 0 < 256
   pub some : Available (taken b) (min (left-count b) (right-count b)) (record-count s) n
   pub within : Limits (answered b) (taken b) n (w .bits) (w .count) (w .took) (last-of b) (w .last)
   pub waiting : w .count < 64 → Waiting low high s (answered b) (taken b) n (w .count) (w .took) (w .last)
@@ -319,7 +322,7 @@ module _ {low high : ℕ} {s b : List ℕ} {n : ℕ} {w : Walked} (went : Went l
         (omega (arith, at 0, at 1, at 3, at 5, at 6, at 7, at 8, at 9, at 10, fits lefts))
         (at 5 ∙ ap (λ (q : ℕ). q + w .count) i, rw (at 0, at 6, at 7, at 8) (reached .heads))
         (λ q. q) (omega arith) (omega arith)
-        (record { right = record { at = at 0; count = at 3; bits = at 4; head = at 14; ends = at 15 }; count = at 1; bits = at 2 })
+        (record { right = record { at = at 0; count = at 3; bits = at 4; answered = omega (arith, at 5); head = at 14; ends = at 15 }; count = at 1; bits = at 2 })
         (ready .buffers .0) (ready .buffers .1)
 
     pub answers-some : 0 < w .count → Stepped (until low high φ ψ) L g b (Batch (w .bits) (w .count)) b′
@@ -335,7 +338,7 @@ module _ {low high : ℕ} {s b : List ℕ} {n : ℕ} {w : Walked} (went : Went l
           let r = ready .core .reached in
           let behind : taken b + w .took ≤ answered-operands φ ψ L = omega arith in
           let waits =
-          finds low high φ ψ s L g falls agrees (g + w .count) (taken b + w .took) (omega arith) behind (w .last) (reached .heads) Unknown
+          finds low high φ ψ s (went .byte) L g falls agrees (g + w .count) (taken b + w .took) (omega arith) behind (w .last) (reached .heads) Unknown
           (rw (ready .core .own .0) at (went .waiting (omega arith) .unknown)) in
           let never : g + w .count < progress (until low high φ ψ) L → ⊥ =
           λ l.

@@ -12,8 +12,9 @@ use lib.ListN.{length, getD, drop, length-append, length-drop, List·getD-append
 use lib.Seq.{getD-drop, getD-append-seam}
 use borrow.Author.Tests.{leb-true, ltb-true, ltb-false, le-leb, lt-ltb, eqb-true, eq-eqb}
 use Rattle.mtl.specs.Satisfaction.{since-at}
-use Rattle.mtl.proofs.Bounded.{true-and-false, same-test, and-iff, since-at-iff}
-use Rattle.rule.specs.Words.{unbounded, ring-words}
+use Rattle.mtl.specs.Formula.{unbounded}
+use Rattle.mtl.proofs.Bounded.{true-and-false, same-test, and-iff, at-most-small, since-at-iff}
+use Rattle.rule.specs.Words.{ring-words}
 use Rattle.engine.specs.Ring.{Witness, Witnesses, dropped, kept, newest-is, turned, reaches}
 
 -- dropped: the first k, each more than high before `at`; the next one is not
@@ -220,11 +221,12 @@ module _ (high : ℕ) (time : ℕ → ℕ) where
               let near : time g - getD times 0 0 ≤ high = rw last at b in
               let far = leb-true low (time g - getD times 0 0) m in
               let h = v .before in
-              some .1 (j, omega arith, ((omega arith, omega arith), v .held, λ k a c. v .since k a (omega arith))),
+              some .1 (j, omega arith, ((omega arith, inl (omega arith)), v .held, λ k a c. v .since k a (omega arith))),
           λ e.
               let (j, h, (within, r, held)) = some .0 e in
               let v : Witness left right (g + 1) j = record { before = omega arith; held = r; since = λ k a c. held k a (omega arith) } in
-              let (i, l, s) = w .complete j v (rw last (within .1)) in
+              let (i, l, s) = w .complete j v (rw last (at-most-small high (time j) (time g) small (within .1))) in
+              let far = within .0 in
               let f = no-later times (w .rising) 0 i (omega arith) l in
               let near : getD times i 0 ≤ time j = ⊎-elim (λ q. omega arith) (λ q. q .1) s in
               both .1 (lt-ltb 0 (length times) (omega arith), le-leb low (time g - getD times 0 0) (omega arith)),

@@ -8,7 +8,7 @@ use mathlib.Core.Logic.{_⊎_}
 use lib.ListN.{getD, length}
 use lib.Dec.{ltb, leb, eqb}
 use Rattle.bits.specs.Packed.{bit}
-use Rattle.rule.specs.Words.{unbounded}
+use Rattle.mtl.specs.Formula.{unbounded}
 use Rattle.trace.specs.Format.{time-at}
 
 -- the cell that is `at` cells behind the first, in a ring of `cells`: past the last comes the first again

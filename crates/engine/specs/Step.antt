@@ -9,7 +9,7 @@ use Rattle.mtl.specs.Log.{Log, NeverFalls, Agree}
 use Rattle.mtl.specs.Progress.{progress}
 use Rattle.trace.specs.Format.{record-count}
 use Rattle.trace.specs.Log.{log-of}
-use Rattle.engine.specs.Block.{taken, left-count, right-count, Buffer, Ready}
+use Rattle.engine.specs.Block.{taken, left-count, right-count, answered, Buffer, Ready}
 use Rattle.engine.specs.declared.operator.Step.{Step}
 use Rattle.engine.specs.declared.operator.Step.the-variants.{Batch, Left, Right, Again, Open}
 
@@ -56,10 +56,12 @@ right-of (next low high φ) = φ
 right-of (since low high φ ψ) = ψ
 right-of (until low high φ ψ) = ψ
 
--- every position taken is taken out of the buffers: the operands themselves stay where they stand
+-- every position taken is taken out of the buffers: the operands themselves stay where they stand; and no head goes back
 pub record Moved (φ : Formula) (b b′ : List ℕ) : Type 0 where
   pub left : has-left φ ≡ true → taken b′ + left-count b′ ≡ taken b + left-count b
   pub right : has-right φ ≡ true → taken b′ + right-count b′ ≡ taken b + right-count b
+  pub taken : taken b ≤ taken b′
+  pub answered : answered b ≤ answered b′
 
 -- a batch: the answers at some positions from g on
 pub record Batched (φ : Formula) (L : Log) (g bits count : ℕ) : Type 0 where

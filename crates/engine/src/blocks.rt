@@ -5,6 +5,7 @@ ghost use lib.ListN.{length};
 ghost use Rattle.engine.specs.Block.{taken, left-count, right-count, took-right, took-both};
 ghost use Rattle.engine.specs.Ask.{stored};
 use super::time;
+use super::word;
 
 // Puts a batch into the buffer at slot.
 pub fn store(words: &mut [u64], slot: usize, bits: u64, count: u64)
@@ -34,11 +35,11 @@ pub fn take_right(block: &mut [u64], n: u64)
     requires { ⌜ (16 ≤ length (now block)) × (n ≤ right-count (now block)) × (taken (now block) + n < 2 ^ 64) ⌝ }
     ensures { λ _. ⌜ now (block .exit) ≡ took-right n (now (block .entry)) ⌝ }
 {
-    let count = block[3] - n;
-    let bits = bits::rest(block[4], n);
-    block[0] = block[0] + n;
-    block[3] = count;
-    block[4] = bits;
+    let count = block[word::RIGHT_COUNT] - n;
+    let bits = bits::rest(block[word::RIGHT_BITS], n);
+    block[word::TAKEN] = block[word::TAKEN] + n;
+    block[word::RIGHT_COUNT] = count;
+    block[word::RIGHT_BITS] = bits;
 }
 
 // Takes n positions out of both operands' buffers.
@@ -46,9 +47,9 @@ pub fn take_both(block: &mut [u64], n: u64)
     requires { ⌜ (16 ≤ length (now block)) × (n ≤ left-count (now block)) × (n ≤ right-count (now block)) × (taken (now block) + n < 2 ^ 64) ⌝ }
     ensures { λ _. ⌜ now (block .exit) ≡ took-both n (now (block .entry)) ⌝ }
 {
-    let count = block[1] - n;
-    let bits = bits::rest(block[2], n);
+    let count = block[word::LEFT_COUNT] - n;
+    let bits = bits::rest(block[word::LEFT_BITS], n);
     take_right(block, n);
-    block[1] = count;
-    block[2] = bits;
+    block[word::LEFT_COUNT] = count;
+    block[word::LEFT_BITS] = bits;
 }

@@ -7,6 +7,7 @@ ghost use Rattle.mtl.specs.Formula.Formula.{not as not-formula, or as or-formul
 ghost use Rattle.engine.specs.Step.{Steps, Ends};
 use super::blocks;
 use super::operator::Step;
+use super::word;
 
 // Turns every answer of the operand.
 pub fn step_not(records: &[u8], block: &mut [u64]) -> Step
@@ -14,14 +15,18 @@ pub fn step_not(records: &[u8], block: &mut [u64]) -> Step
     ensures { λ r. ⌜ Ends false true (now (records .entry)) (now (block .entry)) r (now (block .exit)) ⌝ }
     ensures { λ r. ⌜ ((φ : Formula) → Steps (not-formula φ) (now (records .entry)) (now (block .entry)) r (now (block .exit))) ⌝ }
 {
-    if block[3] == 0 {
+    if block[word::RIGHT_COUNT] == 0 {
         return Step::Right;
     }
-    let count = blocks::available(block[0], block[3], trace::count(records) as u64);
+    let count = blocks::available(
+        block[word::TAKEN],
+        block[word::RIGHT_COUNT],
+        trace::count(records) as u64,
+    );
     if count == 0 {
         return Step::Open;
     }
-    let bits = !block[4];
+    let bits = !block[word::RIGHT_BITS];
     blocks::take_right(block, count);
     Step::Batch { bits, count }
 }
@@ -32,18 +37,18 @@ pub fn step_or(records: &[u8], block: &mut [u64]) -> Step
     ensures { λ r. ⌜ Ends true true (now (records .entry)) (now (block .entry)) r (now (block .exit)) ⌝ }
     ensures { λ r. ⌜ ((φ ψ : Formula) → Steps (or-formula φ ψ) (now (records .entry)) (now (block .entry)) r (now (block .exit))) ⌝ }
 {
-    if block[1] == 0 {
+    if block[word::LEFT_COUNT] == 0 {
         return Step::Left;
     }
-    if block[3] == 0 {
+    if block[word::RIGHT_COUNT] == 0 {
         return Step::Right;
     }
-    let both = blocks::smaller(block[1], block[3]);
-    let count = blocks::available(block[0], both, trace::count(records) as u64);
+    let both = blocks::smaller(block[word::LEFT_COUNT], block[word::RIGHT_COUNT]);
+    let count = blocks::available(block[word::TAKEN], both, trace::count(records) as u64);
     if count == 0 {
         return Step::Open;
     }
-    let bits = block[2] | block[4];
+    let bits = block[word::LEFT_BITS] | block[word::RIGHT_BITS];
     blocks::take_both(block, count);
     Step::Batch { bits, count }
 }

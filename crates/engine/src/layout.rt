@@ -7,6 +7,7 @@ ghost use lib.Seq.{sets};
 ghost use Rattle.rule.specs.Accepted.{WellFormed};
 ghost use Rattle.engine.specs.Table.{column, takes-left};
 ghost use Rattle.engine.specs.Layout.{first, first-from, left-from, row-of, Laid};
+use super::table;
 use rule::Entry;
 
 // or, since, until.
@@ -67,7 +68,11 @@ fn words_of(takes: bool, operand: usize, table: &[u64; 1024]) -> u64
     requires { ⌜ operand < 128 ⌝ }
     ensures { λ r. ⌜ r ≡ cond takes (column 7 (now (table .entry)) operand) 0 ⌝ }
 {
-    if takes { table[operand * 8 + 7] } else { 0 }
+    if takes {
+        table[operand * 8 + table::WORDS]
+    } else {
+        0
+    }
 }
 
 // A row, at its place: a words for the left operand and c for the right one.
@@ -76,13 +81,13 @@ fn put(table: &mut [u64; 1024], at: usize, e: Entry, left: usize, a: u64, c: u64
     ensures { λ _. ⌜ now (table .exit) ≡ sets (now (table .entry)) at (row-of e left a c) ⌝ }
 {
     table[at] = e.kind as u64;
-    table[at + 1] = e.letter as u64;
-    table[at + 2] = e.low as u64;
-    table[at + 3] = e.high as u64;
-    table[at + 4] = left as u64;
-    table[at + 5] = a;
-    table[at + 6] = c;
-    table[at + 7] = a + c + rule::own_words(e);
+    table[at + table::LETTER] = e.letter as u64;
+    table[at + table::LOW] = e.low as u64;
+    table[at + table::HIGH] = e.high as u64;
+    table[at + table::LEFT] = left as u64;
+    table[at + table::LEFT_WORDS] = a;
+    table[at + table::RIGHT_WORDS] = c;
+    table[at + table::WORDS] = a + c + rule::own_words(e);
 }
 
 // The rows of an accepted rule's entries, each from those of its operands, which stand before it; 0 behind them.

@@ -6,6 +6,7 @@ ghost use Rattle.mtl.specs.Formula.Formula.{letter as letter-formula};
 ghost use Rattle.engine.specs.Step.{Steps, Ends};
 use super::blocks;
 use super::operator::Step;
+use super::word;
 
 // Up to 64 records from the head on.
 pub fn step_letter(letter: u64, records: &[u8], block: &mut [u64]) -> Step
@@ -13,12 +14,12 @@ pub fn step_letter(letter: u64, records: &[u8], block: &mut [u64]) -> Step
     ensures { λ r. ⌜ Ends false false (now (records .entry)) (now (block .entry)) r (now (block .exit)) ⌝ }
     ensures { λ r. ⌜ Steps (letter-formula letter) (now (records .entry)) (now (block .entry)) r (now (block .exit)) ⌝ }
 {
-    let at = block[0];
+    let at = block[word::TAKEN];
     let count = blocks::available(at, 64, trace::count(records) as u64);
     if count == 0 {
         return Step::Open;
     }
     let bits = trace::letter_bits(records, at as usize, count as usize, letter);
-    block[0] = at + count;
+    block[word::TAKEN] = at + count;
     Step::Batch { bits, count }
 }

@@ -18,6 +18,7 @@ mod since;
 mod table;
 mod time;
 mod until;
+pub mod word;
 
 use operator::Step;
 
@@ -32,13 +33,13 @@ pub fn answer(table: &[u64; 1024], records: &[u8], k: usize, words: &mut [u64]) 
     requires { ⌜ (k < 128) × RowsOk (now table) k × (length (now words) ≡ column 7 (now table) k) ⌝ }
     ensures { λ r. ⌜ Answers (now (table .entry)) (now (records .entry)) k (now (words .entry)) r (now (words .exit)) ⌝ }
 {
-    let kind = table::field(table, k, 0);
-    let letter = table::field(table, k, 1);
-    let low = table::field(table, k, 2);
-    let high = table::field(table, k, 3);
-    let left = table::field(table, k, 4) as usize;
-    let middle = table::field(table, k, 5) as usize;
-    let own = middle + table::field(table, k, 6) as usize;
+    let kind = table::field(table, k, table::KIND);
+    let letter = table::field(table, k, table::LETTER);
+    let low = table::field(table, k, table::LOW);
+    let high = table::field(table, k, table::HIGH);
+    let left = table::field(table, k, table::LEFT) as usize;
+    let middle = table::field(table, k, table::LEFT_WORDS) as usize;
+    let own = middle + table::field(table, k, table::RIGHT_WORDS) as usize;
     let end = words.len();
     loop {
         let step = operator::advance(kind, letter, low, high, records, &mut words[own..end]);
@@ -51,13 +52,29 @@ pub fn answer(table: &[u64; 1024], records: &[u8], k: usize, words: &mut [u64]) 
             }
             Step::Again => {}
             Step::Left => {
-                let filled = ask(table, records, left, 0, middle, own + 1, words);
+                let filled = ask(
+                    table,
+                    records,
+                    left,
+                    0,
+                    middle,
+                    own + word::LEFT_COUNT,
+                    words,
+                );
                 if !filled {
                     return Reply::Open;
                 }
             }
             Step::Right => {
-                let filled = ask(table, records, k - 1, middle, own, own + 3, words);
+                let filled = ask(
+                    table,
+                    records,
+                    k - 1,
+                    middle,
+                    own,
+                    own + word::RIGHT_COUNT,
+                    words,
+                );
                 if !filled {
                     return Reply::Open;
                 }

@@ -8,6 +8,7 @@ ghost use Rattle.engine.specs.Step.{Steps, Ends};
 use super::blocks;
 use super::operator::Step;
 use super::time;
+use super::word;
 
 // Each position is answered from the one before it; of the last, the operand's answer and the time are kept.
 pub fn step_previous(low: u64, high: u64, records: &[u8], block: &mut [u64]) -> Step
@@ -15,21 +16,28 @@ pub fn step_previous(low: u64, high: u64, records: &[u8], block: &mut [u64]) -> 
     ensures { λ r. ⌜ Ends false true (now (records .entry)) (now (block .entry)) r (now (block .exit)) ⌝ }
     ensures { λ r. ⌜ ((φ : Formula) → Steps (previous low high φ) (now (records .entry)) (now (block .entry)) r (now (block .exit))) ⌝ }
 {
-    let at = block[0];
-    if block[3] == 0 {
+    let at = block[word::TAKEN];
+    if block[word::RIGHT_COUNT] == 0 {
         return Step::Right;
     }
-    let count = blocks::available(at, block[3], trace::count(records) as u64);
+    let count = blocks::available(at, block[word::RIGHT_COUNT], trace::count(records) as u64);
     if count == 0 {
         return Step::Open;
     }
-    let operand = block[4];
-    let kept = (0 < at) & (block[6] == 1);
-    let near = time::near(low, high, block[8], records, at as usize, count as usize);
+    let operand = block[word::RIGHT_BITS];
+    let kept = (0 < at) & (block[word::LAST_LEFT] == 1);
+    let near = time::near(
+        low,
+        high,
+        block[word::LAST_TIME],
+        records,
+        at as usize,
+        count as usize,
+    );
     let bits = near & bits::move_up(operand, kept);
     blocks::take_right(block, count);
-    block[6] = bits::rest(operand, count - 1) % 2;
-    block[8] = trace::time(records, (at + (count - 1)) as usize);
+    block[word::LAST_LEFT] = bits::rest(operand, count - 1) % 2;
+    block[word::LAST_TIME] = trace::time(records, (at + (count - 1)) as usize);
     Step::Batch { bits, count }
 }
 
@@ -39,11 +47,11 @@ pub fn step_next(low: u64, high: u64, records: &[u8], block: &mut [u64]) -> Step
     ensures { λ r. ⌜ Ends false true (now (records .entry)) (now (block .entry)) r (now (block .exit)) ⌝ }
     ensures { λ r. ⌜ ((φ : Formula) → Steps (next low high φ) (now (records .entry)) (now (block .entry)) r (now (block .exit))) ⌝ }
 {
-    let at = block[0];
-    if block[3] == 0 {
+    let at = block[word::TAKEN];
+    if block[word::RIGHT_COUNT] == 0 {
         return Step::Right;
     }
-    let count = blocks::available(at, block[3], trace::count(records) as u64);
+    let count = blocks::available(at, block[word::RIGHT_COUNT], trace::count(records) as u64);
     if count == 0 {
         return Step::Open;
     }
@@ -53,7 +61,7 @@ pub fn step_next(low: u64, high: u64, records: &[u8], block: &mut [u64]) -> Step
     }
     let before = trace::time(records, (at - 1) as usize);
     let near = time::near(low, high, before, records, at as usize, count as usize);
-    let bits = near & block[4];
+    let bits = near & block[word::RIGHT_BITS];
     blocks::take_right(block, count);
     Step::Batch { bits, count }
 }

@@ -7,6 +7,7 @@ ghost use lib.ListN.{length};
 ghost use Rattle.rule.specs.Words.{ring-words};
 ghost use Rattle.engine.specs.Ring.{Ring, Rings, wrap, dropped, kept, pushed, reaches, turned};
 use super::time;
+use super::word;
 
 // The number of cells that a since with this high has.
 pub fn cells_for(high: u64) -> u64
@@ -40,8 +41,8 @@ fn drop_old(cells: u64, high: u64, at: u64, block: &mut [u64])
     requires { ⌜ (0 < cells) × (cells < 2 ^ 32) × (16 + cells ≤ length (now block)) ⌝ }
     ensures { λ _. ⌜ Rings cells (dropped high at) (now (block .entry)) (now (block .exit)) ⌝ }
 {
-    let mut start = at_most(block[9], cells - 1);
-    let mut count = at_most(block[10], cells);
+    let mut start = at_most(block[word::RING_START], cells - 1);
+    let mut count = at_most(block[word::RING_COUNT], cells);
     while 0 < count {
         if time::gap(block[cell(cells, start)], at) <= high {
             break;
@@ -49,8 +50,8 @@ fn drop_old(cells: u64, high: u64, at: u64, block: &mut [u64])
         start = cell(cells, start + 1) as u64 - 16;
         count -= 1;
     }
-    block[9] = start;
-    block[10] = count;
+    block[word::RING_START] = start;
+    block[word::RING_COUNT] = count;
 }
 
 // Drops all of them, unless `left` holds.
@@ -59,7 +60,7 @@ fn keep_if(left: bool, block: &mut [u64])
     ensures { λ _. ⌜ ((cells : ℕ) → Rings cells (kept left) (now (block .entry)) (now (block .exit))) ⌝ }
 {
     if !left {
-        block[10] = 0;
+        block[word::RING_COUNT] = 0;
     }
 }
 
@@ -68,13 +69,13 @@ fn push_if(cells: u64, right: bool, at: u64, block: &mut [u64])
     requires { ⌜ (0 < cells) × (cells < 2 ^ 32) × (16 + cells ≤ length (now block)) ⌝ }
     ensures { λ _. ⌜ Rings cells (pushed cells right at) (now (block .entry)) (now (block .exit)) ⌝ }
 {
-    let start = at_most(block[9], cells - 1);
-    let count = at_most(block[10], cells);
+    let start = at_most(block[word::RING_START], cells - 1);
+    let count = at_most(block[word::RING_COUNT], cells);
     if right & (count < cells) {
         if (count == 0) || (block[cell(cells, start + count - 1)] != at) {
             let end = cell(cells, start + count);
             block[end] = at;
-            block[10] = count + 1;
+            block[word::RING_COUNT] = count + 1;
         }
     }
 }
@@ -84,8 +85,8 @@ fn reaches_back(cells: u64, low: u64, at: u64, block: &[u64]) -> bool
     requires { ⌜ (0 < cells) × (cells < 2 ^ 32) × (16 + cells ≤ length (now block)) ⌝ }
     ensures { λ r. ⌜ ((qs : List ℕ) → Ring cells (now (block .entry)) qs → r ≡ reaches low at qs) ⌝ }
 {
-    let start = at_most(block[9], cells - 1);
-    (0 < block[10]) & (low <= time::gap(block[cell(cells, start)], at))
+    let start = at_most(block[word::RING_START], cells - 1);
+    (0 < block[word::RING_COUNT]) & (low <= time::gap(block[cell(cells, start)], at))
 }
 
 // One position's turn: the times more than high before it are dropped, all of them where left fails, and its own is

@@ -13,6 +13,7 @@ ghost use Rattle.engine.specs.Ring.{Ring, Rings, turns, reached};
 use super::blocks;
 use super::operator::Step;
 use super::ring;
+use super::word;
 
 // The turns of n positions from `from` on, where left and right are the operands' words of answers; gives the since's.
 fn turn_all(
@@ -49,20 +50,20 @@ pub fn step_since(low: u64, high: u64, records: &[u8], block: &mut [u64]) -> Ste
     ensures { λ r. ⌜ Ends true true (now (records .entry)) (now (block .entry)) r (now (block .exit)) ⌝ }
     ensures { λ r. ⌜ ((φ ψ : Formula) → Steps (since low high φ ψ) (now (records .entry)) (now (block .entry)) r (now (block .exit))) ⌝ }
 {
-    let at = block[0];
-    if block[1] == 0 {
+    let at = block[word::TAKEN];
+    if block[word::LEFT_COUNT] == 0 {
         return Step::Left;
     }
-    if block[3] == 0 {
+    if block[word::RIGHT_COUNT] == 0 {
         return Step::Right;
     }
-    let both = blocks::smaller(block[1], block[3]);
+    let both = blocks::smaller(block[word::LEFT_COUNT], block[word::RIGHT_COUNT]);
     let count = blocks::available(at, both, trace::count(records) as u64);
     if count == 0 {
         return Step::Open;
     }
-    let left = block[2];
-    let right = block[4];
+    let left = block[word::LEFT_BITS];
+    let right = block[word::RIGHT_BITS];
     let bits = turn_all(
         low,
         high,

@@ -3,6 +3,23 @@ ghost use mathlib.Core.Path.{_≡_};
 ghost use Prim.Native.Nat.{_<_};
 ghost use Rattle.engine.specs.Table.{column};
 
+// The columns of a row: an entry's fields, the left operand's entry, the operands' words, and all words.
+pub const KIND: usize = 0;
+
+pub const LETTER: usize = 1;
+
+pub const LOW: usize = 2;
+
+pub const HIGH: usize = 3;
+
+pub const LEFT: usize = 4;
+
+pub const LEFT_WORDS: usize = 5;
+
+pub const RIGHT_WORDS: usize = 6;
+
+pub const WORDS: usize = 7;
+
 // Column j of row k.
 pub fn field(table: &[u64; 1024], k: usize, j: usize) -> u64
     requires { ⌜ (k < 128) × (j < 8) ⌝ }

@@ -1,6 +1,6 @@
 // Gaps between times. A gap that would be negative is 0, so that no words make it wrap.
 ghost use mathlib.Core.Path.{_≡_};
-ghost use Prim.Native.Nat.{_+_, _-_, _≤_};
+ghost use Prim.Native.Nat.{_+_, _-_, _≤_, _<_, _^_};
 ghost use Rattle.mtl.specs.Satisfaction.{within as within-spec};
 ghost use Rattle.bits.specs.Packed.{Packed};
 ghost use Rattle.trace.specs.Format.{record-count};
@@ -13,8 +13,9 @@ pub fn gap(earlier: u64, later: u64) -> u64
     if earlier <= later { later - earlier } else { 0 }
 }
 
-// low ≤ gap ≤ high.
+// low ≤ gap ≤ high. A gap to a 32-bit time never lies above the high that means no upper end.
 pub fn within(low: u64, high: u64, earlier: u64, later: u64) -> bool
+    requires { ⌜ later < 2 ^ 32 ⌝ }
     ensures { λ r. ⌜ r ≡ within-spec low high earlier later ⌝ }
 {
     let g = gap(earlier, later);

@@ -12,6 +12,7 @@ ghost use Rattle.engine.specs.Settle.{settle-spec, look-spec, take-spec,
 use super::blocks;
 use super::operator::Step;
 use super::time;
+use super::word;
 
 // What is known of the next position to answer.
 pub enum Settled {
@@ -124,12 +125,12 @@ fn put_back(block: &mut [u64], w: Walked)
     requires { ⌜ (16 ≤ length (now block)) × (w .took ≤ left-count (now block)) × (w .took ≤ right-count (now block)) × (taken (now block) + w .took < 2 ^ 64) × (answered (now block) + w .count < 2 ^ 64) ⌝ }
     ensures { λ _. ⌜ now (block .exit) ≡ walked w (now (block .entry)) ⌝ }
 {
-    let answered = block[5] + w.count;
+    let answered = block[word::ANSWERED] + w.count;
     blocks::take_both(block, w.took);
-    block[5] = answered;
-    block[6] = bits::flag(w.last.left);
-    block[7] = bits::flag(w.last.right);
-    block[8] = w.last.time;
+    block[word::ANSWERED] = answered;
+    block[word::LAST_LEFT] = bits::flag(w.last.left);
+    block[word::LAST_RIGHT] = bits::flag(w.last.right);
+    block[word::LAST_TIME] = w.last.time;
 }
 
 // The operand whose buffer is empty; Open where neither is, which only forged words bring about.
@@ -137,10 +138,10 @@ fn wanted(block: &[u64]) -> Step
     requires { ⌜ 16 ≤ length (now block) ⌝ }
     ensures { λ r. ⌜ Wants (now (block .entry)) r ⌝ }
 {
-    if block[1] == 0 {
+    if block[word::LEFT_COUNT] == 0 {
         return Step::Left;
     }
-    if block[3] == 0 {
+    if block[word::RIGHT_COUNT] == 0 {
         return Step::Right;
     }
     Step::Open
@@ -152,26 +153,30 @@ pub fn step_until(low: u64, high: u64, records: &[u8], block: &mut [u64]) -> Ste
     ensures { λ r. ⌜ Ends true true (now (records .entry)) (now (block .entry)) r (now (block .exit)) ⌝ }
     ensures { λ r. ⌜ ((φ ψ : Formula) → Steps (until low high φ ψ) (now (records .entry)) (now (block .entry)) r (now (block .exit))) ⌝ }
 {
-    let at = block[0];
+    let at = block[word::TAKEN];
     let total = trace::count(records) as u64;
     if total < at {
         return Step::Open;
     }
-    let n = blocks::available(at, blocks::smaller(block[1], block[3]), total);
+    let n = blocks::available(
+        at,
+        blocks::smaller(block[word::LEFT_COUNT], block[word::RIGHT_COUNT]),
+        total,
+    );
     let last = Last {
-        left: block[6] == 1,
-        right: block[7] == 1,
-        time: block[8],
+        left: block[word::LAST_LEFT] == 1,
+        right: block[word::LAST_RIGHT] == 1,
+        time: block[word::LAST_TIME],
     };
     let w = walk(
         low,
         high,
         records,
-        block[5],
+        block[word::ANSWERED],
         at,
         n,
-        block[2],
-        block[4],
+        block[word::LEFT_BITS],
+        block[word::RIGHT_BITS],
         last,
     );
     if (w.count == 0) & (w.took == 0) {

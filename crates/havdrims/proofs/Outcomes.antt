@@ -35,14 +35,15 @@ byte-is true = refl
 byte-is false = refl
 
 module _ (s : List ℕ) (words reach : ℕ) (o : Measured) (e : measure-of o ≡ measured s) where
-  pub not-measured : (n : ℕ) → o ≡ Unmeasured n → MeasureCall s words reach n words reach
-  not-measured n is =
+  pub not-measured : (n : ℕ) → o ≡ Unmeasured n → (r : ℕ) → r ≡ measure-of o .number → MeasureCall s words reach r words reach
+  not-measured n is r number =
       let q : measure-of (Unmeasured n) ≡ measured s = ap measure-of (sym is) ∙ e in
       let z = stops-with s n q .not-zero in
+      let same : r ≡ n = number ∙ ap (λ (a : Measured). measure-of a .number) is in
       record {
-        number = ap (λ (a : Measure). a .number) q;
-        words = kept n words (measured s .words) z;
-        reach = kept n reach (measured s .reach) z;
+        number = same ∙ ap (λ (a : Measure). a .number) q;
+        words = kept r words (measured s .words) (λ f. z (sym same ∙ f));
+        reach = kept r reach (measured s .reach) (λ f. z (sym same ∙ f));
       }
 
   pub is-measured : (w far : ℕ) → o ≡ Words w far → MeasureCall s words reach 0 w far
@@ -58,17 +59,18 @@ pub opening : (s p : List ℕ) (o : Opened) (p′ : List ℕ) → Opens s p o p�
 opening s p o p′ h n is = record { outcome = o; opens = h; number = is }
 
 module _ (s log p sheet : List ℕ) (given more : ℕ) (o : Resumed) (p′ sheet′ : List ℕ) (h : Resumes s log p sheet o p′ sheet′) where
-  pub not-resumed : (n : ℕ) → o ≡ Refused n → ResumeCall s log p sheet given more n p′ sheet′ given more
-  not-resumed n is =
+  pub not-resumed : (n : ℕ) → o ≡ Refused n → (r : ℕ) → r ≡ resumed-number o → ResumeCall s log p sheet given more r p′ sheet′ given more
+  not-resumed n is r number =
       let q : Resumes s log p sheet (Refused n) p′ sheet′ = subst (λ (r : Resumed). Resumes s log p sheet r p′ sheet′) is h in
       let some : 0 < n = q .words .0 in
-      let z : n ≡ 0 → ⊥ = λ e. omega arith in
+      let same : r ≡ n = number ∙ ap resumed-number is in
+      let z : r ≡ 0 → ⊥ = λ e. omega arith in
       record {
         outcome = o;
         resumes = h;
-        number = sym (ap resumed-number is);
-        given = kept n given (resumed-count o) z;
-        more = kept n more (flag (resumed-more o)) z;
+        number = number;
+        given = kept r given (resumed-count o) z;
+        more = kept r more (flag (resumed-more o)) z;
       }
 
   pub is-resumed : (c : ℕ) (m : Bool) → o ≡ Given c m → ResumeCall s log p sheet given more 0 p′ sheet′ c (boolByte m)
@@ -92,15 +94,16 @@ number-by true n noes yeses e = ap (λ (a : Tally). a .number) e
 number-by false n noes yeses e = absurd (true≢false (ap (λ (a : Tally). a .refused) e))
 
 module _ (s : List ℕ) (noes yeses : ℕ) (o : Tallied) (e : tally-of o ≡ tallied s) where
-  pub not-tallied : (n : ℕ) → o ≡ Untallied n → TallyCall s noes yeses n noes yeses
-  not-tallied n is =
+  pub not-tallied : (n : ℕ) → o ≡ Untallied n → (r : ℕ) → r ≡ tally-of o .number → TallyCall s noes yeses r noes yeses
+  not-tallied n is r number =
       let q : tally-of (Untallied n) ≡ tallied s = ap tally-of (sym is) ∙ e in
       let f = number-by (any (length s) (above-one s)) n (count-of 0 s (length s)) (count-of 1 s (length s)) q in
-      let z : n ≡ 0 → ⊥ = λ g. omega arith in
+      let same : r ≡ n = number ∙ ap (λ (a : Tallied). tally-of a .number) is in
+      let z : r ≡ 0 → ⊥ = λ g. omega arith in
       record {
-        number = ap (λ (a : Tally). a .number) q;
-        no-count = kept n noes (tallied s .no-count) z;
-        yes-count = kept n yeses (tallied s .yes-count) z;
+        number = same ∙ ap (λ (a : Tally). a .number) q;
+        no-count = kept r noes (tallied s .no-count) z;
+        yes-count = kept r yeses (tallied s .yes-count) z;
       }
 
   pub is-tallied : (x y : ℕ) → o ≡ Counts x y → TallyCall s noes yeses 0 x y

@@ -11,17 +11,17 @@ use rule::Measured;
 pub extern "C" fn havdrims_measure(rule: &[u8], words: &mut u64, reach: &mut u64) -> u32
     ensures { λ r. ⌜ MeasureCall (now (rule .entry)) (now (words .entry)) (now (reach .entry)) r (now (words .exit)) (now (reach .exit)) ⌝ }
 {
-    match rule::measure(rule) {
-        Measured::Refused(n) => n,
-        Measured::Words {
-            words: w,
-            reach: most,
-        } => {
-            *words = w as u64;
-            *reach = most;
-            0
-        }
-    }
+    let measured = rule::measure(rule);
+    let Measured::Words {
+        words: need,
+        reach: most,
+    } = measured
+    else {
+        return measured.number();
+    };
+    *words = need as u64;
+    *reach = most;
+    0
 }
 
 // Writes a fresh checkpoint (point).
@@ -29,10 +29,11 @@ pub extern "C" fn havdrims_measure(rule: &[u8], words: &mut u64, reach: &mut u64
 pub extern "C" fn havdrims_open(rule: &[u8], point: &mut [u64]) -> u32
     ensures { λ r. ⌜ OpenCall (now (rule .entry)) (now (point .entry)) r (now (point .exit)) ⌝ }
 {
-    match monitor::open(rule, point) {
-        Opened::Refused(n) => n,
-        Opened::Done => 0,
-    }
+    let opened = monitor::open(rule, point);
+    let Opened::Done = opened else {
+        return opened.number();
+    };
+    0
 }
 
 // Document 01's carry on. `more` becomes 1 or 0.
@@ -47,14 +48,13 @@ pub extern "C" fn havdrims_resume(
 ) -> u32
     ensures { λ r. ⌜ ResumeCall (now (rule .entry)) (now (log .entry)) (now (point .entry)) (now (sheet .entry)) (now (given .entry)) (now (more .entry)) r (now (point .exit)) (now (sheet .exit)) (now (given .exit)) (now (more .exit)) ⌝ }
 {
-    match monitor::resume(rule, log, point, sheet) {
-        Resumed::Refused(n) => n,
-        Resumed::Given { count, more: left } => {
-            *given = count as u64;
-            *more = left as u64;
-            0
-        }
-    }
+    let resumed = monitor::resume(rule, log, point, sheet);
+    let Resumed::Given { count, more: left } = resumed else {
+        return resumed.number();
+    };
+    *given = count as u64;
+    *more = left as u64;
+    0
 }
 
 // Counts the verdicts of a sheet.
@@ -62,12 +62,11 @@ pub extern "C" fn havdrims_resume(
 pub extern "C" fn havdrims_tally(sheet: &[u8], no: &mut u64, yes: &mut u64) -> u32
     ensures { λ r. ⌜ TallyCall (now (sheet .entry)) (now («no» .entry)) (now («yes» .entry)) r (now («no» .exit)) (now («yes» .exit)) ⌝ }
 {
-    match monitor::tally(sheet) {
-        Tallied::Refused(n) => n,
-        Tallied::Counts { no: n, yes: y } => {
-            *no = n as u64;
-            *yes = y as u64;
-            0
-        }
-    }
+    let tallied = monitor::tally(sheet);
+    let Tallied::Counts { no: n, yes: y } = tallied else {
+        return tallied.number();
+    };
+    *no = n as u64;
+    *yes = y as u64;
+    0
 }

@@ -3,18 +3,19 @@ use Prim.Native.Nat.{ℕ, _+_, _*_, _-_, _≤_, _<_}
 use mathlib.Core.Bool.{Bool, false}
 use mathlib.Core.Logic.{⊎-elim}
 use mathlib.Core.Path.{_≡_, refl, sym, _∙_, ap, subst}
-use mathlib.Core.List.{List, _++_}
+use mathlib.Core.List.{List, [], _∷_, _++_}
 use native.Mathlib.Nat.{le-of-eq}
 use native.Mathlib.Omega.{arith}
 use lib.ListN.{length, getD, take, drop, length-drop, take-append-drop}
 use lib.Seq.{getD-take, getD-drop, length-take-le, take-take, take-all}
-use borrow.Author.Tests.{le-ltb, ltb-false, eq-eqb, ne-eqb}
+use lib.Dec.{ltb}
+use borrow.Author.Tests.{le-ltb, lt-ltb, ltb-false, eq-eqb, ne-eqb}
 use Rattle.mtl.specs.Log.{Log, NeverFalls, Continues}
 use Rattle.mtl.proofs.Bounded.{le-or-lt}
 use Rattle.rule.specs.Entries.{count, decoded}
 use Rattle.rule.specs.Refusal.{refusal}
 use Rattle.rule.specs.Measure.{measured}
-use Rattle.rule.proofs.Headers.{before-none}
+use Rattle.rule.proofs.Headers.{first-zero, before-none}
 use Rattle.trace.specs.Format.{record-count, time-at, records-of, malformed}
 use Rattle.trace.specs.Log.{log-of}
 use Rattle.trace.specs.Order.{disordered}
@@ -25,15 +26,17 @@ use Rattle.monitor.specs.Refusal.{open-refusal, resume-refusal}
 use Rattle.monitor.specs.Verdicts.{formula-of, verdicts, first-records, answered, all-verdicts}
 use Rattle.monitor.specs.Stands.{Stands}
 use Rattle.monitor.specs.Open.{Opens}
-use Rattle.monitor.specs.Resume.{Gives, Resumes}
-use Rattle.monitor.specs.Calls.{Untouched, Call, given-by, brought-by, laid, Brings, Calls, Each, AllWhenCaughtUp, OneRun, Demand3}
-use Rattle.monitor.specs.Calls.Calls.{opened, refused, accepted}
+use Rattle.monitor.specs.Resume.{resumed-number, Gives, Resumes}
+use Rattle.monitor.specs.Calls.{Untouched, Call, given-by, brought-by, laid, the-call, Brings, BringsAfter, Lends, point-after, OneCall, Calls, Each, AllWhenCaughtUp, OneRun, Keeps, Demand3}
+use Rattle.monitor.specs.Calls.OneCall.{refused, accepted}
+use Rattle.monitor.specs.Calls.Calls.{opened, and-then}
 use Rattle.monitor.specs.declared.Opened.{Opened}
 use Rattle.monitor.specs.declared.Opened.the-variants.{Done}
 use Rattle.monitor.specs.declared.Opened.the-variants.{Refused as OpenRefused}
 use Rattle.monitor.specs.declared.Resumed.{Resumed}
 use Rattle.monitor.specs.declared.Resumed.the-variants.{Given, Refused}
 use Rattle.monitor.proofs.OwnCheckpoint.{own-given, own-within, not-foreign, not-outside}
+use Rattle.monitor.proofs.Lending.{after-unchanged, after-whole, stands-alone, stands-lent}
 use Rattle.monitor.proofs.VerdictBytes.{length-verdicts, verdicts-more, take-verdicts, verdicts-stay}
 
 -- REFUSALS
@@ -53,6 +56,22 @@ open-accepts rule lent (OpenRefused n) p fine enough opens =
     let number = opens .number in
     let some = opens .words .0 in
     absurd (omega arith)
+
+-- and no other number of words than enough
+enough-words : (rule : List ℕ) (lent : ℕ) → open-refusal rule lent ≡ 0 → need rule ≤ lent
+enough-words rule lent none = ltb-false lent (need rule) (first-zero 8 (ltb lent (need rule)) 0 (before-none (refusal rule) _ none .1) .0)
+
+-- refusal 9 is met before what the words, the log and the sheet hold is looked at
+nine : (rule log p sheet : List ℕ) (r : Resumed) (p′ sheet′ : List ℕ) → refusal rule ≡ 0 → length p < need rule →
+    Resumes rule log p sheet r p′ sheet′ → r ≡ Refused 9
+nine rule log p sheet r p′ sheet′ fine short resumes = go r (resumes .number ∙ is-nine)
+  where
+    is-nine : resume-refusal rule log p ≡ 9
+    is-nine = rw (eq-eqb (refusal rule) 0 fine, lt-ltb (length p) (need rule) short)
+
+    go : (r : Resumed) → resumed-number r ≡ 9 → r ≡ Refused 9
+    go (Given c more) e = absurd (omega arith)
+    go (Refused n) e = ap Refused e
 
 -- THE UNTOUCHED LOG
 
@@ -193,15 +212,13 @@ module _ (rule log : List ℕ) (untouched : Untouched log) where
           verdicts-more (formula-of rule) new d c sheet′ (omega arith) bytes
 
   -- what holds after every list of calls
-  pub record Invariant (lent : List ℕ) (h : List Call) (p : List ℕ) : Type 0 where
+  pub record Invariant (h : List Call) (point : List ℕ) : Type 0 where
     pub fine : refusal rule ≡ 0
-    pub stands : Stands rule (first-records log (brought-by h)) (given-by h) p
-    pub within : brought-by h ≤ record-count records
+    pub size : length point ≡ need rule
+    pub stands : Stands rule (first-records log (brought-by h)) (given-by h) point
     pub bytes : laid h ≡ verdicts (formula-of rule) (first-records log (brought-by h)) (given-by h)
     pub all : AllWhenCaughtUp rule log h
     pub each : Each rule log h
-    pub beyond : drop (need rule) p ≡ drop (need rule) lent
-    pub length : length p ≡ length lent
 
   -- on an opened checkpoint
   module _ (lent p : List ℕ) (opens : Opens rule lent Done p) where
@@ -211,57 +228,84 @@ module _ (rule log : List ℕ) (untouched : Untouched log) where
     opened-stands : Stands rule (first-records log 0) 0 p
     opened-stands = opens .words .1 (first-records log 0) (first-size 0 (omega arith))
 
-  pub invariant : (lent : List ℕ) {h : List Call} {p : List ℕ} → Calls rule log lent h p → Invariant lent h p
-  unfolding given-by brought-by laid Each AllWhenCaughtUp verdicts
-  invariant lent (opened {p} opens) =
-      record {
-        fine = opened-fine lent p opens;
-        stands = opened-stands lent p opens;
-        within = omega arith;
-        bytes = refl;
-        all = refl;
-        each = tt;
-        beyond = opens .words .0;
-        length = opens .length;
-      }
-  invariant lent (refused calls rule′ log′ sheet number p′ sheet′ resumes) =
-      let before = invariant lent calls in
-      rw (resumes .words .1) before
-  invariant lent (accepted {h} {p} calls n log′ sheet c more p′ sheet′ no-fewer brings resumes) =
-      let before = invariant lent calls in
-      let old = brought-by h in
-      let d = given-by h in
-      let φ = formula-of rule in
-      let all = answered rule log n in
-      let step = gives d n log′ brings old p no-fewer (before .fine) (before .stands) sheet c more p′ sheet′ resumes in
-      let bytes : laid h ++ take c sheet′ ≡ verdicts φ (first-records log n) (d + c) =
-      ap (λ vs. vs ++ take c sheet′) (before .bytes) ∙
-      gives-bytes d n log′ brings old p no-fewer (before .fine) (before .stands) sheet c more p′ sheet′ resumes in
-      let within = step .stands .top .buffer .within in
-      let same-length = resumes .sheet-length in
-      record {
-        fine = before .fine;
-        stands = step .stands;
-        within = brings .within;
-        bytes = bytes;
-        all = (
-          λ e.
-              let lengths = ap length (sym bytes ∙ e) in
-              let given = length-verdicts φ (first-records log n) (d + c) in
-              let whole = length-verdicts φ (first-records log n) all in
-              step .more ∙ le-ltb (d + c) all (omega arith),
-          λ caught-up.
-              let none = ltb-false (d + c) all (sym (step .more) ∙ caught-up) in
-              let sum : d + c ≡ all = omega arith in
-              bytes ∙ ap (verdicts φ (first-records log n)) sum,
-        );
-        each = (
-          record { count = step .count; more = step .more; bytes = length-take-le c sheet′ (omega (arith, resumes .words .room)) },
-          before .each,
-        );
-        beyond = resumes .words .beyond ∙ before .beyond;
-        length = resumes .point-length ∙ before .length;
-      }
+    after-open : Invariant [] (take (measured rule .words) p)
+    unfolding given-by brought-by laid Each AllWhenCaughtUp verdicts
+    after-open =
+        rw (exactly-enough rule opened-fine .1)
+        (record {
+          fine = opened-fine;
+          size = length-take-le (need rule) p (opened-stands .enough);
+          stands = stands-alone rule (first-records log 0) 0 p opened-stands;
+          bytes = refl;
+          all = refl;
+          each = tt;
+        })
+
+  -- after an accepted call on the words p
+  module _ (h : List Call) (point p : List ℕ) (before : Invariant h point) (lends : Lends point p)
+      (n : ℕ) (log′ sheet : List ℕ) (c : ℕ) (more : Bool) (p′ sheet′ : List ℕ)
+      (brought : BringsAfter log h n log′) (resumes : Resumes rule log′ p sheet (Given c more) p′ sheet′) where
+    accepted-whole : length point ≤ length p
+    accepted-whole =
+        let size = before .size in
+        let enough = enough-words rule (length p) (before-none (open-refusal rule (length p)) _ (sym (resumes .number)) .0) in
+        omega arith
+
+    accepted-stands : Stands rule (first-records log (brought-by h)) (given-by h) p
+    accepted-stands =
+        stands-lent rule (first-records log (brought-by h)) (given-by h) point p (before .size) lends accepted-whole (before .stands)
+
+    after-accepted : Invariant (the-call n sheet c more sheet′ ∷ h) (point-after point p′)
+    unfolding given-by brought-by laid Each AllWhenCaughtUp
+    after-accepted =
+        let old = brought-by h in
+        let d = given-by h in
+        let φ = formula-of rule in
+        let all = answered rule log n in
+        let new = first-records log n in
+        let step = gives d n log′ (brought .brings) old p (brought .no-fewer) (before .fine) accepted-stands sheet c more p′ sheet′ resumes in
+        let bytes : laid h ++ take c sheet′ ≡ verdicts φ new (d + c) =
+        ap (λ vs. vs ++ take c sheet′) (before .bytes) ∙
+        gives-bytes d n log′ (brought .brings) old p (brought .no-fewer) (before .fine) accepted-stands sheet c more p′ sheet′ resumes in
+        let within = step .stands .top .buffer .within in
+        let same-length = resumes .sheet-length in
+        let whole = accepted-whole in
+        let kept = resumes .point-length in
+        let point-is : point-after point p′ ≡ take (need rule) p′ =
+        after-whole point p′ (omega arith) ∙ ap (λ k. take k p′) (before .size) in
+        rw point-is
+        (record {
+          fine = before .fine;
+          size = length-take-le (need rule) p′ (step .stands .enough);
+          stands = stands-alone rule new (d + c) p′ (step .stands);
+          bytes = bytes;
+          all = (
+            λ e.
+                let lengths = ap length (sym bytes ∙ e) in
+                let given = length-verdicts φ new (d + c) in
+                let whole = length-verdicts φ new all in
+                step .more ∙ le-ltb (d + c) all (omega arith),
+            λ caught-up.
+                let none = ltb-false (d + c) all (sym (step .more) ∙ caught-up) in
+                let sum : d + c ≡ all = omega arith in
+                bytes ∙ ap (verdicts φ new) sum,
+          );
+          each = (
+            record { count = step .count; more = step .more; bytes = length-take-le c sheet′ (omega (arith, resumes .words .room)) },
+            before .each,
+          );
+        })
+
+  after-call : {h h′ : List Call} {p′ : List ℕ} (point p : List ℕ) → Invariant h point → Lends point p → OneCall rule log h p h′ p′ →
+      Invariant h′ (point-after point p′)
+  after-call point p before lends (refused rule′ log′ sheet number p′ sheet′ resumes) =
+      rw (resumes .words .1, after-unchanged point p lends) before
+  after-call {h} point p before lends (accepted n log′ sheet c more p′ sheet′ brought resumes) =
+      after-accepted h point p before lends n log′ sheet c more p′ sheet′ brought resumes
+
+  pub invariant : {h : List Call} {point : List ℕ} → Calls rule log h point → Invariant h point
+  invariant (opened lent p opens) = after-open lent p opens
+  invariant (and-then {point = point} calls p p′ lends call) = after-call point p (invariant calls) lends call
 
   -- "One run is a carry on from a fresh point with a sheet of A bytes, and it writes just these."
   one-run-writes : (n : ℕ) (r : Resumed) (sheet′ : List ℕ) → OneRun rule log n r sheet′ →
@@ -289,37 +333,55 @@ module _ (rule log : List ℕ) (untouched : Untouched log) where
         sym (take-all c sheet′ (omega arith)) ∙ bytes ∙ ap (verdicts φ (first-records log n)) sum,
       )
 
+-- WORDS BEHIND THE POINT
+
+open-keeps : (rule words : List ℕ) (r : Opened) (fresh : List ℕ) → refusal rule ≡ 0 → Opens rule words r fresh → Keeps rule words fresh
+open-keeps rule words Done fresh fine opens = record { behind = rw (exactly-enough rule fine .1) (opens .words .0); number = opens .length }
+open-keeps rule words (OpenRefused n) fresh fine opens = record { behind = ap (drop (measured rule .words)) (opens .words .1); number = opens .length }
+
+call-keeps : (rule log : List ℕ) {h h′ : List Call} (p : List ℕ) {p′ : List ℕ} → refusal rule ≡ 0 → OneCall rule log h p h′ p′ → Keeps rule p p′
+call-keeps rule log p fine (refused rule′ log′ sheet number p′ sheet′ resumes) =
+    record { behind = ap (drop (measured rule .words)) (resumes .words .1); number = resumes .point-length }
+call-keeps rule log p fine (accepted n log′ sheet c more p′ sheet′ brought resumes) =
+    record { behind = rw (exactly-enough rule fine .1) (resumes .words .beyond); number = resumes .point-length }
+
 -- THE THEOREM
-pub demand-3 : (rule log lent : List ℕ) → Untouched log → (h : List Call) (p : List ℕ) → Calls rule log lent h p → Demand3 rule log lent h p
-demand-3 rule log lent untouched h p calls =
-    let i = invariant rule log untouched lent calls in
+pub demand-3 : (rule log : List ℕ) → Untouched log → (h : List Call) (point : List ℕ) → Calls rule log h point → Demand3 rule log h point
+demand-3 rule log untouched h point calls =
+    let i = invariant rule log untouched calls in
     let φ = formula-of rule in
     let L = first-records log (brought-by h) in
     let within = i .stands .top .buffer .within in
+    let size = i .size in
     record {
       first = rw (i .bytes, length-verdicts φ L (given-by h)) (sym (take-verdicts φ L (given-by h) (answered rule log (brought-by h)) (omega arith)));
       all = i .all;
       each = i .each;
-      not-refused = λ n log′ sheet no-fewer brings.
-          never-refused rule log untouched (given-by h) n log′ brings (brought-by h) p no-fewer (i .fine) (i .stands) sheet;
+      not-refused = λ p lends whole n log′ sheet brought.
+          never-refused rule log untouched (given-by h) n log′ (brought .brings) (brought-by h) p (brought .no-fewer) (i .fine)
+          (stands-lent rule L (given-by h) point p size lends whole (i .stands)) sheet;
+      too-few = λ p short log′ sheet r p′ sheet′. nine rule log′ p sheet r p′ sheet′ (i .fine) (omega arith);
+      size = size ∙ sym (exactly-enough rule (i .fine) .1);
       enough = λ words r fresh size opens.
           open-accepts rule words r fresh (i .fine) (le-of-eq (sym (size ∙ exactly-enough rule (i .fine) .1))) opens;
-      beyond = rw (exactly-enough rule (i .fine) .1) (i .beyond);
-      length = i .length;
+      open-keeps = λ words r fresh. open-keeps rule words r fresh (i .fine);
+      call-keeps = λ p p′ h′. call-keeps rule log p (i .fine);
       one-run = one-run-writes rule log untouched;
     }
 
 -- the bytes of every list are the first bytes of one run
-pub bytes-of-one-run : (rule log lent : List ℕ) → Untouched log → (h : List Call) (p : List ℕ) → Calls rule log lent h p →
+pub bytes-of-one-run : (rule log : List ℕ) → Untouched log → (h : List Call) (point : List ℕ) → Calls rule log h point →
     (r : Resumed) (sheet′ : List ℕ) → OneRun rule log (brought-by h) r sheet′ → laid h ≡ take (length (laid h)) sheet′
-bytes-of-one-run rule log lent untouched h p calls r sheet′ run =
-    let claim = demand-3 rule log lent untouched h p calls in
+bytes-of-one-run rule log untouched h point calls r sheet′ run =
+    let claim = demand-3 rule log untouched h point calls in
     rw (claim .one-run (brought-by h) r sheet′ run .1) (claim .first)
 
--- "a point that this library left never meets" refusal 11, nor 10 with its rule
-pub own-checkpoint : (rule log lent : List ℕ) → Untouched log → (h : List Call) (p : List ℕ) → Calls rule log lent h p →
+-- "a point that this library left never meets" refusal 11, nor 10 with its rule: in no words that hold it whole
+pub own-checkpoint : (rule log : List ℕ) → Untouched log → (h : List Call) (point : List ℕ) → Calls rule log h point →
+    (p : List ℕ) → Lends point p → length point ≤ length p →
     (foreign (decoded rule) (count rule) p ≡ false) × (outside (decoded rule) (count rule) p ≡ false)
-own-checkpoint rule log lent untouched h p calls =
-    let i = invariant rule log untouched lent calls in
+own-checkpoint rule log untouched h point calls p lends whole =
+    let i = invariant rule log untouched calls in
     let L = first-records log (brought-by h) in
-    (not-foreign rule L (given-by h) p (i .fine) (i .stands), not-outside rule L (given-by h) p (i .fine) (i .stands))
+    let stands = stands-lent rule L (given-by h) point p (i .size) lends whole (i .stands) in
+    (not-foreign rule L (given-by h) p (i .fine) stands, not-outside rule L (given-by h) p (i .fine) stands)

@@ -1,6 +1,6 @@
 -- The laws behind the proofs of the monitor's functions, and the theorems about lists of calls.
 -- Offsets, Copies, Sizes, Starts: the checks and a fresh checkpoint. Tallies: tally. Written, Holding, Giving, Proceeding, Resuming:
--- the verdicts of a call. VerdictBytes, OwnCheckpoint, SameRule, Demand3, Truth: lists of calls.
+-- the verdicts of a call. VerdictBytes, OwnCheckpoint, SameRule, Lending, Demand3, Truth: lists of calls.
 pub mod Offsets
 pub mod Copies
 pub mod Sizes
@@ -14,5 +14,6 @@ pub mod Resuming
 pub mod VerdictBytes
 pub mod OwnCheckpoint
 pub mod SameRule
+pub mod Lending
 pub mod Demand3
 pub mod Truth

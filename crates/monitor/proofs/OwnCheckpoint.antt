@@ -1,4 +1,4 @@
--- A checkpoint that the library left never meets refusal 10 or 11 with its rule. Assumes nothing.
+-- A checkpoint that stands for its rule and a log never meets refusal 10 or 11 with that rule. Assumes nothing.
 -- (Examples is named first so that the table of worked examples is checked before any theorem.)
 use Rattle.monitor.specs.Examples
 use Prim.Native.Nat.{ℕ, _+_, _-_, _≤_, _<_, _^_}

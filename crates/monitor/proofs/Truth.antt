@@ -21,12 +21,12 @@ verdict-iff : (b : Bool) → (verdict b ≡ 1) ↔ (b ≡ true)
 verdict-iff true = (λ e. refl, λ e. refl)
 verdict-iff false = (λ e. absurd (omega arith), λ e. cc)
 
-module _ (rule log lent : List ℕ) (untouched : Untouched log) (h : List Call) (p : List ℕ) (calls : Calls rule log lent h p) where
+module _ (rule log : List ℕ) (untouched : Untouched log) (h : List Call) (point : List ℕ) (calls : Calls rule log h point) where
   -- byte i is the verdict at position i, which is answered
   byte-at : (i : ℕ) → i < length (laid h) →
       (i < answered rule log (brought-by h)) × (getD (laid h) i 0 ≡ verdict (sat (formula-of rule) (first-records log (brought-by h)) i))
   byte-at i l =
-      let inv = invariant rule log untouched lent calls in
+      let inv = invariant rule log untouched calls in
       let φ = formula-of rule in
       let L = first-records log (brought-by h) in
       let within = inv .stands .top .buffer .within in
@@ -41,7 +41,7 @@ module _ (rule log lent : List ℕ) (untouched : Untouched log) (h : List Call) 
   demand-2 =
       let φ = formula-of rule in
       let K = first-records log (brought-by h) in
-      let a = accepted rule (invariant rule log untouched lent calls .fine) in
+      let a = accepted rule (invariant rule log untouched calls .fine) in
       record {
         reads = rw (a .reads);
         binary = λ i l. omega (arith, byte-at i l .1, number-lt (sat φ K i));

@@ -37,6 +37,10 @@ pub record Call : Type 0 where
   pub more : Bool
   pub bytes : List ℕ
 
+-- one with c verdicts, which left the sheet as sheet′
+abbrev pub the-call : (n : ℕ) (sheet : List ℕ) (c : ℕ) (more : Bool) (sheet′ : List ℕ) → Call
+the-call n sheet c more sheet′ = record { records = n; room = length sheet; count = c; more = more; bytes = take c sheet′ }
+
 -- of the accepted calls, the latest first: "d is the sum of c over the accepted calls before it"
 unfoldable pub given-by : List Call → ℕ
 given-by [] = 0
@@ -60,19 +64,36 @@ pub record Brings (log : List ℕ) (d n : ℕ) (log′ : List ℕ) : Type 0 wher
   pub header : take 8 log′ ≡ take 8 log
   pub same : (i : ℕ) → 8 + 8 * d ≤ i → i < 8 + 8 * n → getD log′ i 0 ≡ getD log i 0
 
--- a list of calls on the words `lent`: its accepted calls, the latest first, and the checkpoint as its last call left it
-pub data Calls (rule log lent : List ℕ) : List Call → List ℕ → Type 0 where
-  -- "The list starts from the point as open left it for the rule"
-  opened : {p : List ℕ} → Opens rule lent Done p → Calls rule log lent [] p
+-- after the accepted calls h, "no fewer than the accepted call before it brought"
+pub record BringsAfter (log : List ℕ) (h : List Call) (n : ℕ) (log′ : List ℕ) : Type 0 where
+  pub no-fewer : brought-by h ≤ n
+  pub brings : Brings log (given-by h) n log′
+
+-- "Each gets the point as the call before left it": the words p that a call lends are the point's as far as both go. Behind the
+-- point any words may stand; if they are fewer than the point's, they are the first of them.
+abbrev pub Lends : (point p : List ℕ) → Type 0
+Lends point p = take (length point) p ≡ take (length p) point
+
+-- the point after a call that left the words p: those of its words that were not lent are what they were
+abbrev pub point-after : (point p : List ℕ) → List ℕ
+point-after point p = take (length point) p ++ drop (length p) point
+
+-- one call on the lent words p, after the accepted calls h: the accepted calls up to it, and the words as it left them
+pub data OneCall (rule log : List ℕ) (h : List Call) (p : List ℕ) : List Call → List ℕ → Type 0 where
   -- "refused, whatever rule, log and sheet it brought"
-  refused : {h : List Call} {p : List ℕ} → Calls rule log lent h p →
-      (rule′ log′ sheet : List ℕ) (n : ℕ) (p′ sheet′ : List ℕ) →
-      Resumes rule′ log′ p sheet (Refused n) p′ sheet′ → Calls rule log lent h p′
-  -- "or it brings the rule, this header and the records .., no fewer than the accepted call before it brought"
-  accepted : {h : List Call} {p : List ℕ} → Calls rule log lent h p →
-      (n : ℕ) (log′ sheet : List ℕ) (c : ℕ) (more : Bool) (p′ sheet′ : List ℕ) →
-      brought-by h ≤ n → Brings log (given-by h) n log′ → Resumes rule log′ p sheet (Given c more) p′ sheet′ →
-      Calls rule log lent (record { records = n; room = length sheet; count = c; more = more; bytes = take c sheet′ } ∷ h) p′
+  refused : (rule′ log′ sheet : List ℕ) (n : ℕ) (p′ sheet′ : List ℕ) →
+      Resumes rule′ log′ p sheet (Refused n) p′ sheet′ → OneCall rule log h p h p′
+  -- "or it brings the rule, this header and the records"
+  accepted : (n : ℕ) (log′ sheet : List ℕ) (c : ℕ) (more : Bool) (p′ sheet′ : List ℕ) →
+      BringsAfter log h n log′ → Resumes rule log′ p sheet (Given c more) p′ sheet′ → OneCall rule log h p (the-call n sheet c more sheet′ ∷ h) p′
+
+-- a list of calls: its accepted calls, the latest first, and the point, as many words as weigh gave, as its last call left it
+pub data Calls (rule log : List ℕ) : List Call → List ℕ → Type 0 where
+  -- "The list starts from the point as open left it for the rule"
+  opened : (lent p : List ℕ) → Opens rule lent Done p → Calls rule log [] (take (measured rule .words) p)
+  -- "any number of them", each on words of any number
+  and-then : {h h′ : List Call} {point : List ℕ} → Calls rule log h point →
+      (p p′ : List ℕ) → Lends point p → OneCall rule log h p h′ p′ → Calls rule log h′ (point-after point p′)
 
 -- "Each accepted call's c and its 'more' or 'caught up' are as above, with this d and the A of the untouched records up to its last."
 pub record AsPromised (rule log : List ℕ) (d : ℕ) (c : Call) : Type 0 where
@@ -117,21 +138,32 @@ pub record Demand2 (rule log : List ℕ) (h : List Call) : Type 0 where
   pub on-stream : (σ : Stream) → Begins σ (first-records log (brought-by h)) → StreamNeverFalls σ →
       (i : ℕ) → i < length (laid h) → (getD (laid h) i 0 ≡ 1) ↔ HoldsOn σ (formula-of rule) i
 
+-- "any words behind them are kept": those behind the words that weigh gave, and how many there are
+pub record Keeps (rule words words′ : List ℕ) : Type 0 where
+  pub behind : drop (measured rule .words) words′ ≡ drop (measured rule .words) words
+  pub number : length words′ ≡ length words
+
 -- DEMAND 3, for every list
-pub record Demand3 (rule log lent : List ℕ) (h : List Call) (p : List ℕ) : Type 0 where
+pub record Demand3 (rule log : List ℕ) (h : List Call) (point : List ℕ) : Type 0 where
   -- 1. the bytes laid end to end are the first verdicts of the untouched log as far as the last accepted call brought it
   pub first : laid h ≡ take (length (laid h)) (all-verdicts rule log (brought-by h))
   -- 2. and all of them exactly when that call said caught up
   pub all : AllWhenCaughtUp rule log h
   -- 3. each accepted call's c and "more"
   pub each : Each rule log h
-  -- 4. "A call that brings rule and log in this way is not refused."
-  pub not-refused : (n : ℕ) (log′ sheet : List ℕ) → brought-by h ≤ n → Brings log (given-by h) n log′ →
+  -- 4. "A call that brings rule and log in this way is not refused.", the point being whole in the words that it lends
+  pub not-refused : (p : List ℕ) → Lends point p → length point ≤ length p →
+      (n : ℕ) (log′ sheet : List ℕ) → BringsAfter log h n log′ →
       (number : ℕ) (p′ sheet′ : List ℕ) → Resumes rule log′ p sheet (Refused number) p′ sheet′ → ⊥
-  -- 5. "A point of exactly the words that weigh gave is enough for every list, and any words behind them are kept."
+  -- with fewer words it meets 9, whatever they, the log and the sheet hold
+  pub too-few : (p : List ℕ) → length p < length point →
+      (log′ sheet : List ℕ) (r : Resumed) (p′ sheet′ : List ℕ) → Resumes rule log′ p sheet r p′ sheet′ → r ≡ Refused 9
+  -- 5. "A point of exactly the words that weigh gave is enough for every list": the point has that many, and open takes them;
+  pub size : length point ≡ measured rule .words
   pub enough : (words : List ℕ) (r : Opened) (fresh : List ℕ) → length words ≡ measured rule .words → Opens rule words r fresh → r ≡ Done
-  pub beyond : drop (measured rule .words) p ≡ drop (measured rule .words) lent
-  pub length : length p ≡ length lent
+  -- "and any words behind them are kept", by open and by each call of a list, accepted or refused
+  pub open-keeps : (words : List ℕ) (r : Opened) (fresh : List ℕ) → Opens rule words r fresh → Keeps rule words fresh
+  pub call-keeps : (p p′ : List ℕ) (h′ : List Call) → OneCall rule log h p h′ p′ → Keeps rule p p′
   -- 6. one run "writes just these", and so the bytes of 1 are its first bytes
   pub one-run : (n : ℕ) (r : Resumed) (sheet′ : List ℕ) → OneRun rule log n r sheet′ →
       (r ≡ Given (answered rule log n) false) × (sheet′ ≡ all-verdicts rule log n)

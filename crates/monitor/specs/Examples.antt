@@ -160,10 +160,14 @@ computes-verdicts r =
 unfoldable pub computes : Row → Bool
 computes r = computes-refusal r && cond (eqb (r .number) 0) (computes-verdicts r) true
 
--- the numbers of the rows that do not compute, the first of the list having number n
-unfoldable pub wrong : ℕ → List Row → List ℕ
-wrong n [] = []
-wrong n (r ∷ rs) = cond (computes r) (wrong (suc n) rs) (n ∷ wrong (suc n) rs)
+-- 0, or the number n of a row that does not compute
+unfoldable pub wrong : ℕ → Row → ℕ
+wrong n r = cond (computes r) 0 n
+
+-- none of the rows is wrong, the first of them having number n
+unfoldable pub Right : ℕ → List Row → Type 0
+Right n [] = Unit {0}
+Right n (r ∷ rs) = (wrong n r ≡ 0) × Right (suc n) rs
 
 -- "each byte 1 for yes or 0 for no"
 abbrev yes : ℕ
@@ -219,7 +223,7 @@ rows =
     ∷ refused (rule 2 0 []) 2
     ∷ []
 
--- every row computes; an edit of the definitions that breaks rows has their numbers in its error
-pub every-row : wrong 1 rows ≡ []
-unfolding wrong rows computes computes-refusal computes-verdicts same event-set first-entries offset push-kind read header-refusal entries-refusal has-next reach any all sat run progress verdicts
-every-row = refl
+-- every row computes; an edit of the definitions that breaks a row has its number in an error
+pub every-row : Right 1 rows
+unfolding Right wrong rows computes computes-refusal computes-verdicts same event-set first-entries offset push-kind read header-refusal entries-refusal has-next reach any all sat run progress verdicts
+every-row = (refl, (refl, (refl, (refl, (refl, (refl, (refl, (refl, (refl, (refl, (refl, (refl, (refl, (refl, (refl, tt)))))))))))))))

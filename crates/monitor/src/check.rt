@@ -10,6 +10,8 @@ ghost use Rattle.monitor.specs.Checkpoint.{copy-head, copy-ends, need, c
 ghost use Rattle.monitor.specs.Code.{sized-of, sized-number, checked-by, checked-number};
 ghost use Rattle.monitor.specs.Refusal.{point-refusal};
 ghost use Rattle.engine.specs.Block.{cells-of};
+use super::header;
+use engine::word;
 use rule::Entry;
 use rule::Measured;
 
@@ -95,7 +97,9 @@ fn copies_differ(entries: [Entry; 128], count: usize, point: &[u64]) -> bool
     let mut differ = false;
     while k < count {
         let e = entries[k];
-        differ = differ | !((point[at + 14] == head_of(e)) & (point[at + 15] == ends_of(e)));
+        differ = differ
+            | !((point[at + word::COPY_HEAD] == head_of(e))
+                & (point[at + word::COPY_ENDS] == ends_of(e)));
         at += rule::own_words(e) as usize;
         k += 1;
     }
@@ -107,7 +111,8 @@ fn is_foreign(entries: [Entry; 128], count: usize, point: &[u64]) -> bool
     requires { ⌜ (count ≤ 128) × (16 + offset entries count ≤ length (now point)) ⌝ }
     ensures { λ r. ⌜ r ≡ foreign entries count (now (point .entry)) ⌝ }
 {
-    (point[0] != FORMAT) | ((point[6] != count as u64) | copies_differ(entries, count, point))
+    (point[header::FORMAT] != FORMAT)
+        | ((point[header::ENTRIES] != count as u64) | copies_differ(entries, count, point))
 }
 
 // count positions from `at` on lie within so many.
@@ -138,14 +143,14 @@ fn block_fits(size: u64, cells: u64, point: &[u64], at: usize) -> bool
     ensures { λ r. ⌜ r ≡ block-in-range size cells (drop at (now (point .entry))) ⌝ }
 {
     (point[at] <= size)
-        & (point[at + 1] <= 64)
-        & (point[at + 3] <= 64)
-        & (point[at + 5] <= point[at])
-        & (point[at + 6] <= 1)
-        & (point[at + 7] <= 1)
-        & (point[at + 8] < 4294967296)
-        & (point[at + 9] <= cells)
-        & (point[at + 10] <= cells)
+        & (point[at + word::LEFT_COUNT] <= 64)
+        & (point[at + word::RIGHT_COUNT] <= 64)
+        & (point[at + word::ANSWERED] <= point[at])
+        & (point[at + word::LAST_LEFT] <= 1)
+        & (point[at + word::LAST_RIGHT] <= 1)
+        & (point[at + word::LAST_TIME] < 4294967296)
+        & (point[at + word::RING_START] <= cells)
+        & (point[at + word::RING_COUNT] <= cells)
 }
 
 // Some entry's block, of the first count, has a word outside its range.
@@ -153,7 +158,7 @@ fn blocks_outside(entries: [Entry; 128], count: usize, point: &[u64]) -> bool
     requires { ⌜ (count ≤ 128) × (16 + offset entries count ≤ length (now point)) ⌝ }
     ensures { λ r. ⌜ r ≡ any count (block-outside entries (now (point .entry))) ⌝ }
 {
-    let size = point[2];
+    let size = point[header::SEEN];
     let mut at: usize = 16;
     let mut k: usize = 0;
     let mut outside = false;
@@ -171,11 +176,11 @@ fn is_outside(entries: [Entry; 128], count: usize, point: &[u64]) -> bool
     requires { ⌜ (count ≤ 128) × (16 + offset entries count ≤ length (now point)) ⌝ }
     ensures { λ r. ⌜ r ≡ outside entries count (now (point .entry)) ⌝ }
 {
-    let seen = point[2];
+    let seen = point[header::SEEN];
     let fits = (seen <= 1000000)
-        & (point[4] <= 64)
-        & has_room(point[1], point[4], seen)
-        & (point[3] < 4294967296);
+        & (point[header::HELD_COUNT] <= 64)
+        & has_room(point[header::GIVEN], point[header::HELD_COUNT], seen)
+        & (point[header::LAST] < 4294967296);
     !fits | blocks_outside(entries, count, point)
 }
 
@@ -187,9 +192,9 @@ fn reason(rule: &[u8], log: &[u8], point: &[u64]) -> u32
     let entries = rule::entries(rule);
     let count = rule::entry_count(rule);
     let records = trace::records(log);
-    let given = point[1] as usize;
-    let seen = point[2] as usize;
-    let disordered = trace::is_disordered(records, given, seen, point[3]);
+    let given = point[header::GIVEN] as usize;
+    let seen = point[header::SEEN] as usize;
+    let disordered = trace::is_disordered(records, given, seen, point[header::LAST]);
     let fewer = trace::count(records) < seen;
     let after = refuse(
         12,

@@ -8,6 +8,8 @@ ghost use Rattle.rule.specs.Words.{offset};
 ghost use Rattle.monitor.specs.Checkpoint.{need};
 ghost use Rattle.monitor.specs.Code.{Fresh, copies};
 use super::check;
+use super::header;
+use engine::word;
 use rule::Entry;
 
 // Sets every word to 0.
@@ -30,8 +32,8 @@ fn write_copies(entries: [Entry; 128], count: usize, words: &mut [u64])
     let mut k: usize = 0;
     while k < count {
         let e = entries[k];
-        words[at + 14] = check::head_of(e);
-        words[at + 15] = check::ends_of(e);
+        words[at + word::COPY_HEAD] = check::head_of(e);
+        words[at + word::COPY_ENDS] = check::ends_of(e);
         at += rule::own_words(e) as usize;
         k += 1;
     }
@@ -45,7 +47,7 @@ pub fn write(rule: &[u8], words: &mut [u64])
     let entries = rule::entries(rule);
     let count = rule::entry_count(rule);
     clear(words);
-    words[0] = check::FORMAT;
-    words[6] = count as u64;
+    words[header::FORMAT] = check::FORMAT;
+    words[header::ENTRIES] = count as u64;
     write_copies(entries, count, words);
 }

@@ -8,6 +8,7 @@ ghost use Rattle.engine.specs.Table.{RowsOk, column};
 ghost use Rattle.monitor.specs.Checkpoint.{need, given};
 ghost use Rattle.monitor.specs.Code.{Holds, Gave, Proceeds};
 use super::Resumed;
+use super::header;
 use super::sheet;
 
 // Asks the last entry where nothing is held. False where it is open.
@@ -15,10 +16,18 @@ fn hold(table: &[u64; 1024], top: usize, records: &[u8], words: &mut [u64]) -> b
     requires { ⌜ (top < 128) × RowsOk (now table) top × (16 + column 7 (now table) top ≡ length (now words)) ⌝ }
     ensures { λ r. ⌜ Holds (now (table .entry)) (now (records .entry)) top (now (words .entry)) r (now (words .exit)) ⌝ }
 {
-    if words[4] != 0 {
+    if words[header::HELD_COUNT] != 0 {
         return true;
     }
-    engine::ask(table, records, top, 16, words.len(), 4, words)
+    engine::ask(
+        table,
+        records,
+        top,
+        16,
+        words.len(),
+        header::HELD_COUNT,
+        words,
+    )
 }
 
 // How many of the verdicts that are held go into a sheet with so much room left.
@@ -48,13 +57,13 @@ fn give(
         if !hold(table, top, records, words) {
             return done;
         }
-        let given = words[1];
-        let held = words[4];
+        let given = words[header::GIVEN];
+        let held = words[header::HELD_COUNT];
         let count = portion(held, sheet.len() - done);
-        let rest = sheet::write_bits(sheet, done, count, words[5]);
-        words[1] = given + count as u64;
-        words[4] = held - count as u64;
-        words[5] = rest;
+        let rest = sheet::write_bits(sheet, done, count, words[header::HELD_BITS]);
+        words[header::GIVEN] = given + count as u64;
+        words[header::HELD_COUNT] = held - count as u64;
+        words[header::HELD_BITS] = rest;
         done += count;
     }
     done
@@ -71,7 +80,11 @@ pub fn proceed(rule: &[u8], records: &[u8], words: &mut [u64], sheet: &mut [u8])
     let top = count - 1;
     let given = give(&table, top, records, words, sheet);
     let more = hold(&table, top, records, words);
-    words[3] = trace::last_time(records, words[2] as usize, words[3]);
-    words[2] = trace::count(records) as u64;
+    words[header::LAST] = trace::last_time(
+        records,
+        words[header::SEEN] as usize,
+        words[header::LAST],
+    );
+    words[header::SEEN] = trace::count(records) as u64;
     Resumed::Given { count: given, more }
 }

@@ -1,12 +1,13 @@
 // Checkpoints over a growing log: open one for a rule, resume from it with the records at hand, and tally the verdicts.
 ghost use mathlib.Core.Path.{_≡_};
-ghost use Rattle.monitor.specs.Open.{Opens};
-ghost use Rattle.monitor.specs.Resume.{Resumes};
+ghost use Rattle.monitor.specs.Open.{Opens, opened-number};
+ghost use Rattle.monitor.specs.Resume.{Resumes, resumed-number};
 ghost use Rattle.monitor.specs.Tally.{answer, tallied};
 
 mod check;
 mod fresh;
 mod give;
+mod header;
 mod sheet;
 
 use check::Checked;
@@ -18,16 +19,49 @@ pub enum Opened {
     Refused(u32),
 }
 
+impl Opened {
+    pub fn number(self) -> u32
+        ensures { λ r. ⌜ r ≡ opened-number self ⌝ }
+    {
+        match self {
+            Opened::Done => 0,
+            Opened::Refused(n) => n,
+        }
+    }
+}
+
 // What `resume` answers: how many verdicts it gave, and whether more are settled.
 pub enum Resumed {
     Given { count: usize, more: bool },
     Refused(u32),
 }
 
+impl Resumed {
+    pub fn number(self) -> u32
+        ensures { λ r. ⌜ r ≡ resumed-number self ⌝ }
+    {
+        match self {
+            Resumed::Given { count: _, more: _ } => 0,
+            Resumed::Refused(n) => n,
+        }
+    }
+}
+
 // What `tally` answers.
 pub enum Tallied {
     Counts { no: usize, yes: usize },
     Refused(u32),
+}
+
+impl Tallied {
+    pub fn number(self) -> u32
+        ensures { λ r. ⌜ r ≡ answer self .number ⌝ }
+    {
+        match self {
+            Tallied::Counts { no: _, yes: _ } => 0,
+            Tallied::Refused(n) => n,
+        }
+    }
 }
 
 // Writes a fresh checkpoint for the rule into the first words of those lent.

@@ -10,9 +10,10 @@ use native.Mathlib.Nat.{eq-or-lt-of-le}
 use native.Mathlib.Omega.{arith}
 use lib.Dec.{leb, ltb, eqb}
 use borrow.Author.Tests.{leb-true, leb-false, ltb-true, ltb-false, le-leb, lt-leb, lt-ltb, le-ltb, eqb-true, eq-eqb, not-true}
-use Rattle.mtl.specs.Satisfaction.{any, all, within, held-after, held-from, since-by, until-by, since-at, until-at}
+use Rattle.mtl.specs.Formula.{unbounded}
+use Rattle.mtl.specs.Satisfaction.{any, all, at-most, within, held-after, held-from, since-by, until-by, since-at, until-at}
 use Rattle.mtl.specs.Progress.{fails-from, over, run}
-use Rattle.mtl.specs.Reading.{Within}
+use Rattle.mtl.specs.Reading.{AtMost, Within}
 
 -- Bool
 
@@ -54,16 +55,58 @@ leb-iff a b = (leb-true a b, le-leb a b)
 pub le-or-lt : (a b : ℕ) → (a ≤ b) ⊎ (b < a)
 le-or-lt a b = ⊎-elim (λ e. inl (leb-true a b e)) (λ e. inr (leb-false a b e)) (true-or-false (leb a b))
 
-pub within-iff : (low high earlier later : ℕ) → (within low high earlier later ≡ true) ↔ Within low high earlier later
-within-iff low high earlier later =
-    let both = and-iff (leb low (later - earlier)) (leb (later - earlier) high) in (
-      λ e. (leb-true low (later - earlier) (both .0 e .0), leb-true (later - earlier) high (both .0 e .1)),
-      λ w. both .1 (le-leb low (later - earlier) (w .0), le-leb (later - earlier) high (w .1)),
+pub at-most-iff : (high gap : ℕ) → (at-most high gap ≡ true) ↔ AtMost high gap
+at-most-iff high gap =
+    let either = or-iff (leb gap high) (eqb high unbounded) in (
+      λ e. ⊎-elim (λ l. inl (leb-true gap high l)) (λ u. inr (eqb-true high unbounded u)) (either .0 e),
+      ⊎-elim (λ l. either .1 (inl (le-leb gap high l))) (λ u. either .1 (inr (eq-eqb high unbounded u))),
     )
 
--- "High 4,294,967,295 means no upper end": between 32-bit times it never binds
-pub within-no-upper-end : (low earlier later : ℕ) → later ≤ 4294967295 → within low 4294967295 earlier later ≡ leb low (later - earlier)
-within-no-upper-end low earlier later h = rw (le-leb (later - earlier) 4294967295 (omega arith)) (and-true (leb low (later - earlier)))
+-- "more than high": above it, where there is an upper end
+abbrev pub Above : (high gap : ℕ) → Type 0
+Above high gap = (high < gap) × (high ≡ unbounded → ⊥)
+
+pub above-iff : (high gap : ℕ) → (negate (at-most high gap) ≡ true) ↔ Above high gap
+above-iff high gap =
+    let test = not-iff (at-most high gap) in (
+      λ e.
+          let no : AtMost high gap → ⊥ = λ m. test .0 e (at-most-iff high gap .1 m) in
+          (⊎-elim (λ l. absurd (no (inl l))) (λ g. g) (le-or-lt gap high), λ u. no (inr u)),
+      λ a. test .1 (λ m. ⊎-elim (λ l. let g = a .0 in omega arith) (a .1) (at-most-iff high gap .0 m)),
+    )
+
+pub at-most-or-above : (high gap : ℕ) → AtMost high gap ⊎ Above high gap
+at-most-or-above high gap =
+    ⊎-elim
+    (λ e. inl (at-most-iff high gap .0 e))
+    (λ e. inr (above-iff high gap .0 (ap negate e)))
+    (true-or-false (at-most high gap))
+
+pub within-iff : (low high earlier later : ℕ) → (within low high earlier later ≡ true) ↔ Within low high earlier later
+within-iff low high earlier later =
+    let both = and-iff (leb low (later - earlier)) (at-most high (later - earlier)) in
+    let most = at-most-iff high (later - earlier) in (
+      λ e. (leb-true low (later - earlier) (both .0 e .0), most .0 (both .0 e .1)),
+      λ w. both .1 (le-leb low (later - earlier) (w .0), most .1 (w .1)),
+    )
+
+-- A gap to a 32-bit time never lies above 4,294,967,295, so that there high is a number like any other: code over
+-- 32-bit times needs no case for it.
+pub at-most-small : (high earlier later : ℕ) → later ≤ unbounded → AtMost high (later - earlier) → later - earlier ≤ high
+at-most-small high earlier later small (inl l) = l
+at-most-small high earlier later small (inr u) = omega arith
+
+pub above-small : (high earlier later : ℕ) → later ≤ unbounded → high < later - earlier → Above high (later - earlier)
+above-small high earlier later small h = (h, λ u. omega arith)
+
+pub within-small : (low high earlier later : ℕ) → later ≤ unbounded →
+    within low high earlier later ≡ (leb low (later - earlier) && leb (later - earlier) high)
+within-small low high earlier later small =
+    ap (λ (b : Bool). leb low (later - earlier) && b)
+    (same-test (at-most high (later - earlier)) (leb (later - earlier) high) (
+      λ e. le-leb (later - earlier) high (at-most-small high earlier later small (at-most-iff high (later - earlier) .0 e)),
+      λ e. at-most-iff high (later - earlier) .1 (inl (leb-true (later - earlier) high e)),
+    ))
 
 -- any and all
 
@@ -273,9 +316,9 @@ fails-from-iff left i m =
     )
 
 pub over-iff : (high : ℕ) (time : ℕ → ℕ) (i n : ℕ) →
-    (any n (over high time i) ≡ true) ↔ ((q : ℕ) × (i ≤ q) × (q < n) × (high < time q - time i))
+    (any n (over high time i) ≡ true) ↔ ((q : ℕ) × (i ≤ q) × (q < n) × Above high (time q - time i))
 over-iff high time i n =
-    let some = any-from-iff i n (λ q. ltb high (time q - time i)) in (
-      λ e. let (q, g, h, v) = some .0 e in (q, g, h, ltb-true high (time q - time i) v),
-      λ w. let (q, g, h, v) = w in some .1 (q, g, h, lt-ltb high (time q - time i) v),
+    let some = any-from-iff i n (λ q. negate (at-most high (time q - time i))) in (
+      λ e. let (q, g, h, v) = some .0 e in (q, g, h, above-iff high (time q - time i) .0 v),
+      λ w. let (q, g, h, v) = w in some .1 (q, g, h, above-iff high (time q - time i) .1 v),
     )

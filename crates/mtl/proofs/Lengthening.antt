@@ -63,10 +63,10 @@ module _ (low high : ℕ) (time time′ : ℕ → ℕ) (left right left′ right
 
   ended-longer : (i : ℕ) → i < m → Ended low high time left right size m i → Ended low high time′ left′ right′ size′ m′ i
   ended-longer i h (inl (k, a, b, f)) = inl (k, a, omega arith, sym (lefts k b) ∙ f)
-  ended-longer i h (inr (q, a, b, c, v)) =
+  ended-longer i h (inr (q, a, b, c, (late, ends))) =
       let e = times q c in
       let e′ = times i (omega arith) in
-      inr (q, a, omega arith, omega arith, omega arith)
+      inr (q, a, omega arith, omega arith, (omega arith, ends))
 
   settled-longer : (i : ℕ) → i < m → Settled low high time left right size m i → Settled low high time′ left′ right′ size′ m′ i
   settled-longer i h s =

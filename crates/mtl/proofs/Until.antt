@@ -18,6 +18,8 @@ use Rattle.mtl.proofs.Bounded.{
   and-iff,
   not-iff,
   le-or-lt,
+  Above,
+  at-most-or-above,
   UntilBy,
   until-at-iff,
   fails-from-iff,
@@ -57,7 +59,7 @@ module _ (low high : ℕ) (time : ℕ → ℕ) (left right : ℕ → Bool) (size
   abbrev pub Ended : ℕ → Type 0
   Ended i =
       ((k : ℕ) × (i ≤ k) × (k < m) × (left k ≡ false)) ⊎
-      ((q : ℕ) × (i ≤ q) × (q ≤ m) × (q < size) × (high < time q - time i))
+      ((q : ℕ) × (i ≤ q) × (q ≤ m) × (q < size) × Above high (time q - time i))
 
   -- "It is settled no if no such j exists and either .. or .."
   abbrev pub SettledNo : ℕ → Type 0
@@ -123,11 +125,11 @@ module _ (low high : ℕ) (time : ℕ → ℕ) (left right : ℕ → Bool) (size
 
       none-from-m : Ended i → (w : UntilHolds) → m ≤ w .0 → ⊥
       none-from-m (inl (k, a, b, f)) (j, g, p, v, r, l) from = true-and-false (lefts k b .1 (l k a (omega arith))) f
-      none-from-m (inr (q, a, b, c, late)) (j, g, p, v, r, l) from =
+      none-from-m (inr (q, a, b, c, (late, ends))) (j, g, p, v, r, l) from =
           let e = times q c in
           let e′ = times i (omega arith) in
           let f = falls q j (omega arith) p in
-          omega arith
+          ⊎-elim (λ near. omega arith) ends (v .1)
 
       met-below-m : UntilHolds → SettledYes i ⊎ SettledNo i → SettledYes i
       met-below-m w (inl y) = y
@@ -160,14 +162,16 @@ module _ (low high : ℕ) (time : ℕ → ℕ) (left right : ℕ → Bool) (size
       module _ (i j : ℕ) (g : i ≤ j) (h : j < m) where
         ended-before : Ended j → Ended i
         ended-before (inl (k, a, b, f)) = inl (k, omega arith, b, f)
-        ended-before (inr (q, a, b, c, v)) = let f = falls i j g (omega arith) in inr (q, omega arith, b, c, omega arith)
+        ended-before (inr (q, a, b, c, (late, ends))) = let f = falls i j g (omega arith) in inr (q, omega arith, b, c, (omega arith, ends))
 
         -- while i has not ended, what meets the condition for j meets it for i
         met-before : (Ended i → ⊥) → SettledYes j → SettledYes i
         met-before n (t, b, (a, w, r, l)) =
-            let near : high < time t - time i → ⊥ = λ v. n (inr (t, omega arith, omega arith, omega arith, v)) in
+            let late : Above high (time t - time i) → ⊥ = λ v. n (inr (t, omega arith, omega arith, omega arith, v)) in
+            let near = ⊎-elim (λ v. v) (λ v. absurd (late v)) (at-most-or-above high (time t - time i)) in
             let f = falls i j g (omega arith) in
-            (t, b, (omega arith, omega arith, r, λ k c d. held k c (omega arith)))
+            let far = w .0 in
+            (t, b, (omega arith, (omega arith, near), r, λ k c d. held k c (omega arith)))
           where
             held : (k : ℕ) → i ≤ k → k < m → left k ≡ true
             held k c d = ⊎-elim (λ v. v) (λ v. absurd (n (inl (k, c, d, v)))) (true-or-false (left k))

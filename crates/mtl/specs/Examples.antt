@@ -5,7 +5,7 @@ use mathlib.Core.List.{List, [], _∷_}
 use mathlib.Core.Path.{_≡_, refl}
 use lib.Dec.{eqb}
 use lib.ListN.{length, getD}
-use Rattle.mtl.specs.Formula.{Formula}
+use Rattle.mtl.specs.Formula.{Formula, unbounded}
 use Rattle.mtl.specs.Formula.Formula.{letter, not, or, previous, next, since, until}
 use Rattle.mtl.specs.Log.{Log}
 use Rattle.mtl.specs.Satisfaction.{any, all, sat}
@@ -62,10 +62,6 @@ c = letter 2
 abbrev d : Formula
 d = letter 3
 
--- high of a since without upper end
-abbrev no-end : ℕ
-no-end = 4_294_967_295
-
 -- the log of document 002's figure 5
 abbrev figure-5 : Records
 figure-5 = (0, 1) ∷ (0, 1) ∷ (2, 1) ∷ (4, 3) ∷ (5, 1) ∷ (10, 2) ∷ []
@@ -99,7 +95,7 @@ rows =
     -- 8: so too in since: left is tested at 1, though 1 has the time of the witness at 0
     ∷ record { formula = since 0 4 a b; records = (5, 2) ∷ (5, 0) ∷ []; answered = 2; verdicts = true ∷ false ∷ [] }
     -- 9: without upper end the oldest witness stays: at 1 the b at 0 lies far enough back, the b at 1 does not
-    ∷ record { formula = since 1 no-end a b; records = (0, 2) ∷ (4000, 3) ∷ (9000, 1) ∷ []; answered = 3; verdicts = false ∷ true ∷ true ∷ [] }
+    ∷ record { formula = since 1 unbounded a b; records = (0, 2) ∷ (4000, 3) ∷ (9000, 1) ∷ []; answered = 3; verdicts = false ∷ true ∷ true ∷ [] }
     -- 10: the inner until answers one position, so m is 1; the time of position 1 alone settles the outer until at 0
     ∷ record { formula = until 0 5 a (until 0 5 c d); records = (0, 5) ∷ (11, 4) ∷ []; answered = 1; verdicts = false ∷ [] }
     -- 11: m is 1 again, but only position 2 lies more than high after 0, and a record (10, d) would still make the answer yes
@@ -111,6 +107,9 @@ rows =
     ∷ record { formula = next 1 1 a; records = (5, 0) ∷ (6, 1) ∷ (8, 1) ∷ []; answered = 2; verdicts = true ∷ false ∷ [] }
     -- 15: previous answers every position, 0 with no
     ∷ record { formula = previous 0 0 a; records = (5, 1) ∷ (5, 0) ∷ (6, 1) ∷ []; answered = 3; verdicts = false ∷ true ∷ false ∷ [] }
+    -- 16 and 17: no upper end is no number: the gap lies above 4,294,967,295, and the since is yes and the until is open
+    ∷ record { formula = since 0 unbounded a b; records = (0, 2) ∷ (5_000_000_000, 1) ∷ []; answered = 2; verdicts = true ∷ true ∷ [] }
+    ∷ record { formula = until 0 unbounded a b; records = (0, 1) ∷ (5_000_000_000, 1) ∷ []; answered = 0; verdicts = [] }
     ∷ []
 
 -- every row computes; an edit of the definitions that breaks rows has their numbers in its error

@@ -1,7 +1,12 @@
 -- The formulas of document 002, section 2, with an interval as its two ends, low and high, in seconds.
--- A high of 4,294,967,295 is document 01's "no upper end": no gap between 32-bit times lies above it.
 use Prim.Native.Nat.{ℕ, _+_, max}
-use mathlib.Core.Bool.{Bool, true, false, _||_}
+use mathlib.Core.Bool.{Bool, true, false, _&&_, _||_}
+use mathlib.Core.Bool.{not as negate}
+use lib.Dec.{eqb}
+
+-- "High 4,294,967,295 means no upper end"
+abbrev pub unbounded : ℕ
+unbounded = 4294967295
 
 pub data Formula : Type 0 where
   letter : ℕ → Formula
@@ -19,6 +24,16 @@ has-next (previous low high φ) = has-next φ
 has-next (next low high φ) = true
 has-next (since low high φ ψ) = has-next φ || has-next ψ
 has-next (until low high φ ψ) = has-next φ || has-next ψ
+
+-- whether every until in the formula has an upper end, as refusal 6 asks of a rule
+unfoldable pub untils-end : Formula → Bool
+untils-end (letter k) = true
+untils-end (not φ) = untils-end φ
+untils-end (or φ ψ) = untils-end φ && untils-end ψ
+untils-end (previous low high φ) = untils-end φ
+untils-end (next low high φ) = untils-end φ
+untils-end (since low high φ ψ) = untils-end φ && untils-end ψ
+untils-end (until low high φ ψ) = negate (eqb high unbounded) && (untils-end φ && untils-end ψ)
 
 -- "Reach: letter 0; not and previous as the operand; or and since the larger; until high plus the larger."
 -- A formula with next has none; what stands here for next is used by nothing (see `has-next`).

@@ -2,11 +2,11 @@
 use Prim.Native.Nat.{ℕ, zero, suc, _-_, min}
 use mathlib.Core.Bool.{Bool, cond, _&&_, _||_}
 use mathlib.Core.Bool.{not as negate}
-use lib.Dec.{leb, ltb, eqb}
+use lib.Dec.{leb, eqb}
 use Rattle.mtl.specs.Formula.{Formula}
 use Rattle.mtl.specs.Formula.Formula.{letter, not, or, previous, next, since, until}
 use Rattle.mtl.specs.Log.{Log}
-use Rattle.mtl.specs.Satisfaction.{any, until-by, sat}
+use Rattle.mtl.specs.Satisfaction.{any, at-most, until-by, sat}
 
 -- left is answered no at k, with i ≤ k
 abbrev pub fails-from : (ℕ → Bool) → ℕ → ℕ → Bool
@@ -14,7 +14,7 @@ fails-from left i k = leb i k && negate (left k)
 
 -- position q, with i ≤ q, lies more than high after i
 abbrev pub over : (high : ℕ) (time : ℕ → ℕ) (i q : ℕ) → Bool
-over high time i q = leb i q && ltb high (time q - time i)
+over high time i q = leb i q && negate (at-most high (time q - time i))
 
 module _ (low high : ℕ) (time : ℕ → ℕ) (left right : ℕ → Bool) (size m : ℕ) where
   -- "Position i < m is settled yes if the until's condition is met by some j < m."

@@ -4,13 +4,17 @@ use Prim.Native.Nat.{ℕ, _+_, _-_, _≤_, _<_}
 use mathlib.Core.Bool.{Bool, true}
 use mathlib.Core.Path.{_≡_}
 use mathlib.Core.Logic.{_⊎_}
-use Rattle.mtl.specs.Formula.{Formula}
+use Rattle.mtl.specs.Formula.{Formula, unbounded}
 use Rattle.mtl.specs.Formula.Formula.{letter, not, or, previous, next, since, until}
 use Rattle.mtl.specs.Log.{Log, Stream}
 
--- document 002's "later - earlier ∈ [low, high]"
+-- a gap does not lie above high, which no gap does where there is no upper end
+abbrev pub AtMost : (high gap : ℕ) → Type 0
+AtMost high gap = (gap ≤ high) ⊎ (high ≡ unbounded)
+
+-- document 002's "later - earlier ∈ [low, high]"; with no upper end [low, ∞)
 abbrev pub Within : (low high earlier later : ℕ) → Type 0
-Within low high earlier later = (low ≤ later - earlier) × (later - earlier ≤ high)
+Within low high earlier later = (low ≤ later - earlier) × AtMost high (later - earlier)
 
 module _ (Position : ℕ → Type 0) (time : ℕ → ℕ) (letters : (i k : ℕ) → Bool) where
   unfoldable pub Holds : Formula → ℕ → Type 0

@@ -3,8 +3,8 @@
 use Prim.Native.Nat.{ℕ, zero, suc, _+_, _-_}
 use mathlib.Core.Bool.{Bool, true, false, _&&_, _||_}
 use mathlib.Core.Bool.{not as negate}
-use lib.Dec.{leb, ltb}
-use Rattle.mtl.specs.Formula.{Formula}
+use lib.Dec.{leb, ltb, eqb}
+use Rattle.mtl.specs.Formula.{Formula, unbounded}
 use Rattle.mtl.specs.Formula.Formula.{letter, not, or, previous, next, since, until}
 use Rattle.mtl.specs.Log.{Log}
 
@@ -18,9 +18,13 @@ unfoldable pub all : ℕ → (ℕ → Bool) → Bool
 all zero p = true
 all (suc n) p = all n p && p n
 
+-- gap ≤ high, or there is no upper end
+abbrev pub at-most : (high gap : ℕ) → Bool
+at-most high gap = leb gap high || eqb high unbounded
+
 -- "A gap is a later time minus an earlier one; 'within' means low ≤ gap ≤ high."
 abbrev pub within : (low high earlier later : ℕ) → Bool
-within low high earlier later = leb low (later - earlier) && leb (later - earlier) high
+within low high earlier later = leb low (later - earlier) && at-most high (later - earlier)
 
 -- left holds at k, if j < k
 abbrev pub held-after : (ℕ → Bool) → ℕ → ℕ → Bool

@@ -7,13 +7,13 @@ use mathlib.Core.Bool.{Bool, true, false, cond}
 use mathlib.Core.List.{List}
 use mathlib.Core.Option.{Option, none, some}
 use lib.ListN.{length}
-use Rattle.mtl.specs.Formula.{Formula, has-next}
+use Rattle.mtl.specs.Formula.{Formula, unbounded, has-next}
 use Rattle.mtl.specs.Formula.{reach as formula-reach}
 use Rattle.mtl.specs.Satisfaction.{any}
 use Rattle.rule.specs.declared.Entry.{Entry}
 use Rattle.rule.specs.declared.Reading.the-variants.{Reach, Faulty}
 use Rattle.rule.specs.declared.Totals.{Totals}
-use Rattle.rule.specs.Words.{words, limit, unbounded}
+use Rattle.rule.specs.Words.{words, limit}
 use Rattle.rule.specs.Postfix.{formula}
 use Rattle.rule.specs.Refusal.{misshapen-at, misplaced-at, lacking, over-limit, entries-refusal}
 use Rattle.rule.specs.Measure.{Answer, refused, reach-of}

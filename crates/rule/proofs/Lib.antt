@@ -11,5 +11,6 @@ pub mod Ranges
 pub mod Flat
 pub mod Decoded
 pub mod Acceptance
+pub mod Reach
 pub mod Outcome
 pub mod Cases

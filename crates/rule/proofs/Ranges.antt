@@ -9,7 +9,7 @@ use mathlib.Core.Logic.{_⊎_, ⊎-elim, inl, inr}
 use lib.Dec.{ltb, eqb}
 use Rattle.mtl.specs.Satisfaction.{any}
 use Rattle.rule.specs.declared.Entry.{Entry}
-use Rattle.rule.specs.Words.{unbounded}
+use Rattle.mtl.specs.Formula.{unbounded}
 use Rattle.rule.specs.Refusal.{misshapen, misplaced}
 use Rattle.rule.specs.Accepted.{InRange}
 use Rattle.rule.proofs.Headers.{or-left, or-right}

@@ -5,10 +5,10 @@ use mathlib.Core.Logic.{_⊎_}
 use mathlib.Core.List.{List}
 use mathlib.Core.Option.{some}
 use lib.ListN.{length}
-use Rattle.mtl.specs.Formula.{Formula}
+use Rattle.mtl.specs.Formula.{Formula, unbounded}
 use Rattle.rule.specs.declared.Entry.{Entry}
 use Rattle.rule.specs.Entries.{count, decoded, entries, entry}
-use Rattle.rule.specs.Words.{words, limit, unbounded}
+use Rattle.rule.specs.Words.{words, limit}
 use Rattle.rule.specs.Postfix.{formula, postfix}
 use Rattle.rule.specs.Operands.{operands, span, part, FormulaAt, Leaf, Unary, Binary}
 

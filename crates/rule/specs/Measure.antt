@@ -4,13 +4,13 @@ use mathlib.Core.Bool.{cond}
 use mathlib.Core.List.{List}
 use mathlib.Core.Option.{Option, none, some}
 use lib.Dec.{eqb}
-use Rattle.mtl.specs.Formula.{Formula, has-next}
+use Rattle.mtl.specs.Formula.{Formula, unbounded, has-next}
 use Rattle.mtl.specs.Formula.{reach as formula-reach}
 use Rattle.rule.specs.declared.Entry.{Entry}
 use Rattle.rule.specs.declared.Measured.{Measured}
 use Rattle.rule.specs.declared.Measured.the-variants.{Words, Refused}
 use Rattle.rule.specs.Entries.{count, decoded}
-use Rattle.rule.specs.Words.{unbounded, words}
+use Rattle.rule.specs.Words.{words}
 use Rattle.rule.specs.Postfix.{formula}
 use Rattle.rule.specs.Refusal.{refusal}
 

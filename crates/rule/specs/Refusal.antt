@@ -6,12 +6,12 @@ use mathlib.Core.List.{List}
 use mathlib.Core.Option.{Option, none, some}
 use lib.Dec.{ltb, eqb}
 use lib.ListN.{length}
-use Rattle.mtl.specs.Formula.{Formula}
+use Rattle.mtl.specs.Formula.{Formula, unbounded}
 use Rattle.mtl.specs.Satisfaction.{any}
 use Rattle.rule.specs.declared.Entry.{Entry}
 use Rattle.rule.specs.Bytes.{byte, word16}
 use Rattle.rule.specs.Entries.{count, decoded, entry}
-use Rattle.rule.specs.Words.{unbounded, words, limit}
+use Rattle.rule.specs.Words.{words, limit}
 use Rattle.rule.specs.Postfix.{formula}
 
 -- KRL (hexadecimal 4B 52 4C)

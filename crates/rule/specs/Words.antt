@@ -3,12 +3,9 @@ use Prim.Native.Nat.{ℕ, zero, suc, _+_, _*_}
 use mathlib.Core.Bool.{cond}
 use mathlib.Core.List.{List}
 use lib.Dec.{eqb}
+use Rattle.mtl.specs.Formula.{unbounded}
 use Rattle.rule.specs.declared.Entry.{Entry}
 use Rattle.rule.specs.Entries.{entry}
-
--- "High 4,294,967,295 means no upper end"
-abbrev pub unbounded : ℕ
-unbounded = 4294967295
 
 -- "for since with a finite high (high + 1), for since without upper end 1"
 abbrev pub ring-words : ℕ → ℕ

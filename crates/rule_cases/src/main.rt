@@ -87,18 +87,17 @@ impl Scan {
 }
 
 fn show(rule: &[u8]) {
-    match rule::measure(rule) {
-        Measured::Words { words, reach } => {
-            io::write_all(STDOUT_FILENO, b" words ");
-            io::print_decimal(STDOUT_FILENO, words as u64);
-            io::write_all(STDOUT_FILENO, b", reach ");
-            io::print_decimal(STDOUT_FILENO, reach);
-        }
-        Measured::Refused(number) => {
-            io::write_all(STDOUT_FILENO, b" refused ");
-            io::print_decimal(STDOUT_FILENO, number as u64);
-        }
-    }
+    let measured = rule::measure(rule);
+    let Measured::Words { words, reach } = measured else {
+        io::write_all(STDOUT_FILENO, b" refused ");
+        io::print_decimal(STDOUT_FILENO, measured.number() as u64);
+        io::write_all(STDOUT_FILENO, b"\n");
+        return;
+    };
+    io::write_all(STDOUT_FILENO, b" words ");
+    io::print_decimal(STDOUT_FILENO, words as u64);
+    io::write_all(STDOUT_FILENO, b", reach ");
+    io::print_decimal(STDOUT_FILENO, reach);
     io::write_all(STDOUT_FILENO, b"\n");
 }
 

@@ -27,12 +27,9 @@ time-at s i = word-at s (i * 8)
 abbrev pub events-at : List ℕ → ℕ → ℕ
 events-at s i = word-at s (i * 8 + 4)
 
-abbrev pub letter-at : List ℕ → ℕ → ℕ → Bool
-letter-at s i k = bit (events-at s i) k
-
--- the positions at which letter k stands
-abbrev pub has-letter : List ℕ → (k : ℕ) → ℕ → Bool
-has-letter s k i = letter-at s i k
+-- letter k stands at position i
+abbrev pub has-letter : List ℕ → (k i : ℕ) → Bool
+has-letter s k i = bit (events-at s i) k
 
 -- "Only the records behind the header are handed to the reading heads."
 abbrev pub records-of : List ℕ → List ℕ

@@ -2,7 +2,7 @@
 use Prim.Native.Nat.{ℕ}
 use mathlib.Core.List.{List}
 use Rattle.mtl.specs.Log.{Log}
-use Rattle.trace.specs.Format.{record-count, time-at, letter-at}
+use Rattle.trace.specs.Format.{record-count, time-at, has-letter}
 
 abbrev pub log-of : List ℕ → Log
-log-of s = record { size = record-count s; time = time-at s; letters = letter-at s }
+log-of s = record { size = record-count s; time = time-at s; letters = λ (i k : ℕ). has-letter s k i }

@@ -3,7 +3,7 @@ ghost use mathlib.Core.Path.{_≡_};
 ghost use Prim.Native.Nat.{_+_, _*_, _%_, _<_, _≤_, _^_};
 ghost use lib.ListN.{length};
 ghost use Rattle.bits.specs.Packed.{number, Packed};
-ghost use Rattle.trace.specs.Format.{word-at, record-count, time-at, letter-at, has-letter, records-of, wrong-mark, version-of, wrong-spare, malformed};
+ghost use Rattle.trace.specs.Format.{word-at, record-count, time-at, has-letter, records-of, wrong-mark, version-of, wrong-spare, malformed};
 ghost use Rattle.trace.specs.Order.{falls, starts-below, disordered, last-time};
 
 fn wide(x: u8) -> u64
@@ -81,7 +81,7 @@ pub fn time(records: &[u8], i: usize) -> u64
 // The letter's bit of record i, where it stands in its byte of the event set.
 fn letter_bit(records: &[u8], i: usize, letter: u64) -> u64
     requires { ⌜ (i < record-count (now records)) × (letter < 32) ⌝ }
-    ensures { λ r. ⌜ (r ≡ number (letter-at (now (records .entry)) i letter) * 2 ^ (letter % 8)) × (r < 256) ⌝ }
+    ensures { λ r. ⌜ (r ≡ number (has-letter (now (records .entry)) letter i) * 2 ^ (letter % 8)) × (r < 256) ⌝ }
 {
     let byte = records[i * 8 + (7 - (letter / 8) as usize)];
     wide(byte) & (1 << (letter % 8))

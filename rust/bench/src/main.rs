@@ -4,56 +4,12 @@
 //! `cargo run --release --offline -p bench`, or with `-- quick` for a shorter run. It prints tables in Markdown.
 
 mod multihead;
-mod rules;
 
+use bench::rules;
+use bench::time::{seconds, Spread};
 use evaluator::log::{self, Record};
 use evaluator::rule::{self, Entry, Rule};
-use std::ffi::{c_int, c_long};
 use std::hint::black_box;
-
-/// The middle of some measurements, and the least and the most.
-struct Spread {
-    low: f64,
-    middle: f64,
-    high: f64,
-}
-
-impl Spread {
-    fn of(mut all: Vec<f64>) -> Spread {
-        all.sort_by(f64::total_cmp);
-        Spread { low: all[0], middle: all[all.len() / 2], high: all[all.len() - 1] }
-    }
-
-    /// With its least and most behind it.
-    fn text(&self, digits: usize) -> String {
-        format!("{:.*} ({:.*} to {:.*})", digits, self.middle, digits, self.low, digits, self.high)
-    }
-}
-
-#[repr(C)]
-struct Timespec {
-    seconds: i64,
-    nanoseconds: c_long,
-}
-
-extern "C" {
-    fn clock_gettime(clock: c_int, time: *mut Timespec) -> c_int;
-}
-
-/// This thread's processor time: what else the machine does is not counted.
-fn now() -> f64 {
-    const THREAD_CPU_TIME: c_int = 3;
-    let mut time = Timespec { seconds: 0, nanoseconds: 0 };
-    // SAFETY: the time is this function's own.
-    assert_eq!(unsafe { clock_gettime(THREAD_CPU_TIME, &mut time) }, 0);
-    time.seconds as f64 + time.nanoseconds as f64 / 1e9
-}
-
-fn seconds(work: impl FnOnce()) -> f64 {
-    let begun = now();
-    work();
-    now() - begun
-}
 
 /// A rule and a log as the checker takes them.
 struct Job {

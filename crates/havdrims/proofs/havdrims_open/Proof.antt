@@ -9,11 +9,14 @@ use Rattle.havdrims.proofs.havdrims_open.Tie as tie
 open-requires : tie.Need-open-requires
 open-requires c κs = search needs
 
-enum-known-n : tie.Need-enum-known-n
-enum-known-n c = search needs
-
 enum-told : tie.Need-enum-told
 enum-told c = search needs
+
+enum-told-2 : tie.Need-enum-told-2
+enum-told-2 c = search needs
+
+number-requires : tie.Need-number-requires
+number-requires c κs = search needs
 
 same-length : tie.Need-same-length
 same-length c = search needs
@@ -22,8 +25,7 @@ returns : tie.Need-returns
 returns c =
     let a = c .before .before .before .before .before .before .before .before .before .args in
     let o = c .before .before .before .before .before .«open» in
-    let n = c .before .n .given in
-    opening (a .rule .now) (a .point .now) (o .result) (o .last .1 .0) (o .ensures) (n .0 .0) (sym (ap opened-number (n .1)))
+    opening (a .rule .now) (a .point .now) (o .result) (o .last .1 .0) (o .ensures) (c .number .result) (c .number .ensures)
 
 same-length-2 : tie.Need-same-length-2
 same-length-2 c = search needs
@@ -37,4 +39,12 @@ returns-2 c =
 pub havdrims-open-spec : {M : Type 1} → statement M
 havdrims-open-spec =
     tie.close
-    (tie.spec open-requires enum-known-n enum-told same-length returns same-length-2 returns-2)
+    (tie.spec
+    open-requires
+    enum-told
+    enum-told-2
+    number-requires
+    same-length
+    returns
+    same-length-2
+    returns-2)

@@ -7,14 +7,14 @@ use Rattle.havdrims.proofs.havdrims_resume.Tie as tie
 resume-requires : tie.Need-resume-requires
 resume-requires c κs = search needs
 
-enum-known-n : tie.Need-enum-known-n
-enum-known-n c = search needs
+enum-known-resumed : tie.Need-enum-known-resumed
+enum-known-resumed c = search needs
 
-enum-known-count : tie.Need-enum-known-count
-enum-known-count c = search needs
+enum-told : tie.Need-enum-told
+enum-told c = search needs
 
-cast-more : tie.Need-cast-more
-cast-more c = search needs
+number-requires : tie.Need-number-requires
+number-requires c κs = search needs
 
 same-length : tie.Need-same-length
 same-length c = search needs
@@ -26,7 +26,7 @@ returns : tie.Need-returns
 returns c =
     let a = c .before .before .before .before .before .before .before .before .before .before .before .before .before .before .args in
     let o = c .before .before .before .before .before .before .before .resume in
-    let n = c .before .n .given in
+    let n = c .before .enum-told .given in
     not-resumed
     (a .rule .now)
     (a .log .now)
@@ -40,6 +40,11 @@ returns c =
     (o .ensures)
     (n .0 .0)
     (n .1)
+    (c .number .result)
+    (c .number .ensures)
+
+cast-more : tie.Need-cast-more
+cast-more c = search needs
 
 same-length-3 : tie.Need-same-length-3
 same-length-3 c = search needs
@@ -51,7 +56,7 @@ returns-2 : tie.Need-returns-2
 returns-2 c =
     let a = c .before .before .before .before .before .before .before .before .before .before .before .before .before .before .args in
     let o = c .before .before .before .before .before .before .before .resume in
-    let n = c .before .count .given in
+    let n = c .before .resumed .given in
     is-resumed
     (a .rule .now)
     (a .log .now)
@@ -72,12 +77,13 @@ havdrims-resume-spec =
     tie.close
     (tie.spec
     resume-requires
-    enum-known-n
-    enum-known-count
-    cast-more
+    enum-known-resumed
+    enum-told
+    number-requires
     same-length
     same-length-2
     returns
+    cast-more
     same-length-3
     same-length-4
     returns-2)

@@ -104,7 +104,8 @@ fn foreign_points() {
     cases("foreign_points", 10_000, body, |_| true);
 }
 
-/// Refusals are exact for altered records too: only what an accepted call writes is free.
+/// Refusals are exact for altered records too, and a point left so meets neither 10 nor 11: only what an accepted call
+/// writes is free.
 #[test]
 fn altered_open_records() {
     let body = |r: &mut Random, counts: &mut Counts| {
@@ -132,9 +133,6 @@ fn altered_open_records() {
                 kiosk.model.last = records[records.len() - 1].time;
             }
             kiosk.model.seen = records.len();
-            if kiosk.model.given > kiosk.model.seen {
-                break;
-            }
         }
     };
     cases("altered_open_records", 40_000, body, |counts| counts.get("accepted") > 0);

@@ -2,7 +2,7 @@
 use native.Mathlib.Omega.{arith}
 use borrow.Author.Tests.{eq-eqb, ne-eqb}
 use borrow.Author.Needs.{needs}
-use Rattle.rule.specs.Words.{unbounded}
+use Rattle.mtl.specs.Formula.{unbounded}
 use Rattle.engine.proofs.ring.cells_for.Statement.{statement}
 use Rattle.engine.proofs.ring.cells_for.Tie as tie
 

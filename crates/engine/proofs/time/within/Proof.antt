@@ -1,5 +1,7 @@
 -- `engine::time::within` meets its contract. Assumes nothing.
+use native.Mathlib.Omega.{arith}
 use borrow.Author.Needs.{needs}
+use Rattle.mtl.proofs.Bounded.{within-small}
 use Rattle.engine.proofs.time.within.Statement.{statement}
 use Rattle.engine.proofs.time.within.Tie as tie
 
@@ -7,7 +9,9 @@ gap-requires : tie.Need-gap-requires
 gap-requires c κs = search needs
 
 returns : tie.Need-returns
-returns c = rw (c .gap .ensures)
+returns c =
+    let a = c .before .args in
+    rw (within-small (a .low) (a .high) (a .earlier) (a .later) (omega arith), c .gap .ensures)
 
 pub within-spec : {M : Type 1} → statement M
 within-spec = tie.close (tie.spec gap-requires returns)

@@ -22,7 +22,8 @@ returns-inside : tie.Need-returns-2
 returns-inside c =
     let k = c .before .before .before .before in
     let a = k .before .before .before .args in
-    c .settle .ensures ∙
+    let next : c .settle .result ≡ settle-spec (a .low) (a .high) (k .time .result) (a .last) (c .before .time2 .result) = c .settle .ensures in
+    next ∙
     ahead (a .low) (a .high) (a .records .now) (a .g) (a .at) (a .last) (k .time .result) (c .before .time2 .result) (omega arith) (k .time .ensures .0)
     (c .before .time2 .ensures .0 ∙ rw (lt-ltb (a .at) (record-count (a .records .now)) (omega arith)))
 

@@ -25,6 +25,7 @@ went c =
     let k = c .before .before .before .before .before .before .before in
     record {
       room = c .before .before .before .before .before .before .before .before .before .before .before .before .before .before .before .before .pre;
+      byte = λ i. c .before .before .before .before .before .before .before .before .before .before .before .before .before .before .before .shared-slice-known .given i .fits;
       some = available _ _ _ _ (rw (k .before .smaller .ensures, k .before .before .before .before .before .count .ensures) at (k .available .ensures));
       within = c .walk .ensures .0;
       waiting = c .walk .ensures .1 .0;

@@ -38,7 +38,7 @@ loop-again c =
         bound = w .bound;
       },
       rw (c .push .ensures .0)
-          (walks-known (a .low) (a .high) (a .records .now) (a .g) (a .at) (a .n) (a .left) (a .right) (a .from)
+          (walks-known (a .low) (a .high) (a .records .now) (λ i. q .before .before .before .shared-slice-known .given i .fits) (a .g) (a .at) (a .n) (a .left) (a .right) (a .from)
           (l .bits)
           (l .count)
           (l .took)
@@ -61,7 +61,7 @@ loop-again-2 c =
     let t = c .take .ensures in (
       record { few = w .few; small = w .small; most = omega arith; behind = omega arith; bound = λ h. t .1 },
       rw (t .0)
-          (walks-unknown (a .low) (a .high) (a .records .now) (a .g) (a .at) (a .n) (a .left) (a .right) (a .from)
+          (walks-unknown (a .low) (a .high) (a .records .now) (λ i. q .before .before .before .shared-slice-known .given i .fits) (a .g) (a .at) (a .n) (a .left) (a .right) (a .from)
           (l .bits)
           (l .count)
           (l .took)

@@ -1,5 +1,7 @@
 -- `check::reason` meets its contract: each test by its function's contract, and the first that holds by `refuse`'s.
+use mathlib.Core.Path.{_≡_}
 use borrow.Author.Needs.{needs}
+use Rattle.rule.specs.Refusal.{first}
 use Rattle.monitor.proofs.Sizes.{fits-in}
 use Rattle.monitor.proofs.check.reason.Statement.{statement}
 use Rattle.monitor.proofs.check.reason.Tie as tie
@@ -56,12 +58,13 @@ refuse-requires-5 c κs = search needs
 
 returns : tie.Need-returns
 returns c =
+    let unmet : c .before .before .before .before .before .before .refuse .result ≡ first 14 (c .before .before .before .before .before .before .before .before .before .is-disordered .result) 0 = c .before .before .before .before .before .before .refuse .ensures in
     simp (
       c .refuse5 .ensures,
       c .before .refuse4 .ensures,
       c .before .before .before .before .refuse3 .ensures,
       c .before .before .before .before .before .refuse2 .ensures,
-      c .before .before .before .before .before .before .refuse .ensures,
+      unmet,
       c .before .before .before .is-foreign .ensures,
       c .before .before .is-outside .ensures,
       c .before .before .before .before .before .before .before .is-malformed .ensures,

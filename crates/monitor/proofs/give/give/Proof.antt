@@ -1,11 +1,12 @@
 -- `monitor::give::give` meets its contract. The invariant: `done` verdicts are given, and the rest of the sheet is as it was.
 use borrow.Author.Needs.{needs}
-use Prim.Native.Nat.{_-_, _≤_}
+use Prim.Native.Nat.{_-_, _/_, _≤_, _^_}
 use mathlib.Core.Bool.{true}
-use mathlib.Core.Path.{refl}
+use mathlib.Core.Path.{_≡_, refl}
 use native.Mathlib.Omega.{arith}
 use lib.ListN.{length, length-set}
 use borrow.Author.Tests.{not-true, not-false}
+use Rattle.monitor.specs.Checkpoint.{held-bits}
 use Rattle.monitor.specs.Code.{Holds}
 use Rattle.monitor.proofs.Giving.{Going, going-none, portion-more, gave-open, gave-full}
 use Rattle.monitor.proofs.give.give.Statement.{statement}
@@ -79,8 +80,9 @@ loop-again c =
     let d = c .before .before .before .before .before .before .before .before in
     let l = d .before .before .before .before .before .before .loop in
     let n = c .before .before .before .before .before .portion in
-    let written = c .before .before .write-bits .ensures in
-    rw (written .0, written .1)
+    let written = c .before .before .write-bits in
+    let behind : written .result ≡ held-bits (d .before .before .before .hold .last .1 .1 .1 .0) / 2 ^ n .result = written .ensures .1 in
+    rw (written .ensures .0, behind)
     (portion-more
     (l .inv)
     (n .result)

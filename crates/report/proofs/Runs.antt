@@ -1,0 +1,186 @@
+-- What one call of `open` and one of `resume` on the fresh checkpoint come to: a refusal by rule and log alone, or all verdicts.
+-- Assumes nothing.
+use Prim.Native.Nat.{ℕ, _+_, _*_, _≤_}
+use mathlib.Core.Bool.{Bool, true, false, cond}
+use mathlib.Core.Path.{_≡_, refl, sym, _∙_, ap, subst}
+use mathlib.Core.List.{List, [], _++_}
+use native.Mathlib.Omega.{arith}
+use lib.Dec.{eqb, ltb}
+use lib.ListN.{length, take, length-drop}
+use lib.Seq.{take-all, length-take-le}
+use borrow.Author.Tests.{le-ltb, ltb-false, eq-eqb, ne-eqb, eqb-true}
+use Rattle.mtl.specs.Log.{Log, NeverFalls}
+use Rattle.mtl.specs.Progress.{progress}
+use Rattle.mtl.proofs.Until.{progress-le-size}
+use Rattle.rule.specs.Refusal.{first, refusal}
+use Rattle.rule.proofs.Headers.{first-zero, before-none, or-right}
+use Rattle.rule.proofs.Acceptance.{accepted}
+use Rattle.trace.specs.Format.{record-count, records-of, malformed}
+use Rattle.trace.specs.Log.{log-of}
+use Rattle.trace.specs.Order.{disordered}
+use Rattle.trace.proofs.Laws.{well-formed-records, ordered-iff}
+use Rattle.monitor.specs.Checkpoint.{need}
+use Rattle.monitor.specs.Refusal.{open-refusal, log-refusal, resume-refusal}
+use Rattle.monitor.specs.Verdicts.{formula-of, verdicts, first-records, all-verdicts}
+use Rattle.monitor.specs.Stands.{Stands}
+use Rattle.monitor.specs.Open.{Opens, opened-number}
+use Rattle.monitor.specs.Resume.{Gives, Resumes, resumed-number}
+use Rattle.monitor.specs.declared.Opened.{Opened}
+use Rattle.monitor.specs.declared.Opened.the-variants.{Done}
+use Rattle.monitor.specs.declared.Opened.the-variants.{Refused as NotOpened}
+use Rattle.monitor.specs.declared.Resumed.{Resumed}
+use Rattle.monitor.specs.declared.Resumed.the-variants.{Given}
+use Rattle.monitor.specs.declared.Resumed.the-variants.{Refused as NotResumed}
+use Rattle.monitor.proofs.OwnCheckpoint.{own-given, not-foreign, not-outside}
+use Rattle.monitor.proofs.VerdictBytes.{verdicts-more}
+use Rattle.report.specs.Report.{refused-text, first-line, lines, verdicts-text, run-refusal, too-long, report}
+
+-- a log with no record
+abbrev none-yet : Log
+none-yet = log-of []
+
+-- what an accepted run gives
+pub record Ran (rule log : List ℕ) (c : ℕ) (sheet′ : List ℕ) : Type 0 where
+  pub few-records : record-count (records-of log) ≤ 8191
+  pub few : c ≤ 8191
+  pub fits : c ≤ length sheet′
+  pub text : report rule log ≡ first-line c (record-count (records-of log)) ++ lines (take c sheet′) (length (take c sheet′))
+
+module _ (rule log : List ℕ) (short : too-long rule log ≡ false) where
+  -- a text of a refusal
+  refused-with : (r : ℕ) → run-refusal rule log ≡ r → (r ≡ 0 → ⊥) → report rule log ≡ refused-text r
+  refused-with r e some = rw (short, ne-eqb (run-refusal rule log) 0 (λ f. some (sym e ∙ f))) (ap refused-text e)
+
+  -- 8,192 words are enough for every rule that passes 8
+  opens-by : open-refusal rule 8192 ≡ refusal rule
+  opens-by = go (eqb (refusal rule) 0) refl
+    where
+      go : (b : Bool) → eqb (refusal rule) 0 ≡ b → cond b (first 9 (ltb 8192 (need rule)) 0) (refusal rule) ≡ refusal rule
+      go true p =
+          let fine = eqb-true (refusal rule) 0 p in
+          rw (le-ltb 8192 (need rule) (accepted rule fine .well-formed .within)) (sym fine)
+      go false p = refl
+
+  -- `open` refuses
+  pub not-opened : (lent : List ℕ) (o : Opened) (p : List ℕ) (n r : ℕ) → length lent ≡ 8192 → Opens rule lent o p → o ≡ NotOpened n →
+      r ≡ opened-number o → report rule log ≡ refused-text r
+  not-opened lent o p n r size opens is number =
+      let q : Opens rule lent (NotOpened n) p = subst (λ a. Opens rule lent a p) is opens in
+      let some = q .words .0 in
+      let same : r ≡ n = number ∙ ap opened-number is in
+      let by : refusal rule ≡ r = sym opens-by ∙ ap (open-refusal rule) (sym size) ∙ sym (opens .number) ∙ sym number in
+      let nonzero : refusal rule ≡ 0 → ⊥ = λ e. omega arith in
+      refused-with r (rw (ne-eqb (refusal rule) 0 nonzero) by) (λ e. omega arith)
+
+  -- the fresh checkpoint
+  module _ (lent : List ℕ) (o : Opened) (p : List ℕ) (size : length lent ≡ 8192) (opened : Opens rule lent o p) (done : o ≡ Done) where
+    opens : Opens rule lent Done p
+    opens = subst (λ a. Opens rule lent a p) done opened
+
+    fine : refusal rule ≡ 0
+    fine = sym opens-by ∙ ap (open-refusal rule) (sym size) ∙ sym (opens .number)
+
+    stands : Stands rule none-yet 0 p
+    stands = opens .words .1 none-yet refl
+
+    -- 9, 10, 11 and 13 are not met
+    resumes-by : resume-refusal rule log p ≡ run-refusal rule log
+    resumes-by =
+        rw (
+          eq-eqb (refusal rule) 0 fine,
+          le-ltb (length p) (need rule) (stands .enough),
+          not-foreign rule none-yet 0 p fine stands,
+          not-outside rule none-yet 0 p fine stands,
+          own-given rule none-yet 0 p fine stands,
+          stands .size,
+          stands .time,
+        )
+
+    module _ (sheet : List ℕ) (r : Resumed) (p′ sheet′ : List ℕ) (resumes : Resumes rule log p sheet r p′ sheet′) where
+      -- `resume` refuses
+      pub not-resumed : (n number : ℕ) → r ≡ NotResumed n → number ≡ resumed-number r → report rule log ≡ refused-text number
+      not-resumed n number is same =
+          let q : Resumes rule log p sheet (NotResumed n) p′ sheet′ = subst (λ a. Resumes rule log p sheet a p′ sheet′) is resumes in
+          let some = q .words .0 in
+          let e : number ≡ n = same ∙ ap resumed-number is in
+          refused-with number (sym resumes-by ∙ sym (resumes .number) ∙ sym same) (λ z. omega arith)
+
+      -- `resume` gives verdicts
+      module _ (c : ℕ) (more : Bool) (is : r ≡ Given c more) (room : length sheet ≡ 8191) where
+        gave : Resumes rule log p sheet (Given c more) p′ sheet′
+        gave = subst (λ a. Resumes rule log p sheet a p′ sheet′) is resumes
+
+        unrefused : run-refusal rule log ≡ 0
+        unrefused = sym resumes-by ∙ sym (gave .number)
+
+        -- 12 and 14 are not met
+        log-fine : log-refusal log 0 0 0 ≡ 0
+        log-fine = before-none (refusal rule) (log-refusal log 0 0 0) unrefused .1
+
+        well-formed : malformed log ≡ false
+        well-formed = first-zero 11 (malformed log) _ log-fine .0
+
+        ordered : disordered (records-of log) 0 0 0 ≡ false
+        ordered =
+            let fewer = ltb (record-count (records-of log)) 0 in
+            let after-13 = first 14 (disordered (records-of log) 0 0 0) 0 in
+            let after-12 = first 13 fewer after-13 in
+            first-zero 13 (disordered (records-of log) 0 0 0) 0
+            (first-zero 12 fewer after-13 (first-zero 11 (malformed log) after-12 log-fine .1) .1) .0
+
+        abbrev L : Log
+        L = log-of (records-of log)
+
+        never-falls : NeverFalls L
+        never-falls i j le h = ordered-iff (records-of log) 0 0 0 .0 ordered .0 i j (omega arith) le h
+
+        whole : first-records log (L .size) ≡ L
+        whole =
+            let bytes = well-formed-records log well-formed .1 .whole in
+            ap log-of (take-all (8 * L .size) (records-of log) (omega arith))
+
+        gives : Gives rule L 0 sheet c more p′ sheet′
+        gives =
+            gave .words .meaning none-yet L 0 stands
+            (record { longer = omega arith; same = λ i lo hi. absurd (omega arith) })
+            never-falls
+            (record { size = refl; same = λ i lo hi. record { time = refl; letters = λ k. refl } })
+
+        -- a log of 65,536 bytes has 8,191 records
+        few-records : L .size ≤ 8191
+        few-records =
+            let short-log = ltb-false 65536 (length log) (or-right (ltb 65536 (length rule)) (ltb 65536 (length log)) short) in
+            let behind = length-drop 8 log in
+            omega arith
+
+        -- and the sheet takes all verdicts
+        all-given : c ≡ progress (formula-of rule) L
+        all-given =
+            let count = gives .count in
+            let below = progress-le-size (formula-of rule) L in
+            let few = few-records in
+            omega arith
+
+        given-fits : c ≤ length sheet′
+        given-fits = omega (arith, gave .words .room, gave .sheet-length)
+
+        bytes : take c sheet′ ≡ verdicts (formula-of rule) L c
+        unfolding verdicts
+        bytes =
+            let sum : 0 + c ≡ c = omega arith in
+            verdicts-more (formula-of rule) L 0 c sheet′ given-fits (gives .bytes) ∙ ap (verdicts (formula-of rule) L) sum
+
+        all : all-verdicts rule log (L .size) ≡ take c sheet′
+        all =
+            ap (λ K. verdicts (formula-of rule) K (progress (formula-of rule) K)) whole ∙
+            ap (verdicts (formula-of rule) L) (sym all-given) ∙ sym bytes
+
+        text : report rule log ≡ first-line c (L .size) ++ lines (take c sheet′) (length (take c sheet′))
+        text =
+            let count : length (take c sheet′) ≡ c = length-take-le c sheet′ given-fits in
+            rw (short, eq-eqb (run-refusal rule log) 0 unrefused)
+            (ap (verdicts-text (L .size)) all ∙
+            ap (λ k. first-line k (L .size) ++ lines (take c sheet′) (length (take c sheet′))) count)
+
+        pub resumed : Ran rule log c sheet′
+        resumed = record { few-records = few-records; few = omega (arith, gave .words .room); fits = given-fits; text = text }

@@ -1,0 +1,48 @@
+-- Document 01's run, from its bytes to its text, and two small cases, by computation.
+use Prim.Native.Nat.{ℕ}
+use mathlib.Core.List.{List, [], _∷_, _++_}
+use mathlib.Core.Path.{_≡_, refl}
+use Rattle.mtl.specs.Satisfaction.{any, all, sat}
+use Rattle.mtl.specs.Progress.{run, progress}
+use Rattle.rule.specs.Entries.{first-entries}
+use Rattle.rule.specs.Words.{offset}
+use Rattle.rule.specs.Postfix.{push-kind, read}
+use Rattle.rule.specs.Refusal.{header-refusal, entries-refusal}
+use Rattle.monitor.specs.Verdicts.{verdicts}
+use Rattle.report.specs.Report.{ascii, decimal-in, decimal, lines, report}
+
+-- "Rule: letter 0, letter 1, until 0 to 2; 38 bytes"
+abbrev pub rule : List ℕ
+rule =
+    0x4B ∷ 0x52 ∷ 0x4C ∷ 0 ∷ 1 ∷ 3 ∷ 0 ∷ 0
+    ∷ 0 ∷ 0 ∷ 0 ∷ 0 ∷ 0 ∷ 0 ∷ 0 ∷ 0 ∷ 0 ∷ 0
+    ∷ 0 ∷ 1 ∷ 0 ∷ 0 ∷ 0 ∷ 0 ∷ 0 ∷ 0 ∷ 0 ∷ 0
+    ∷ 6 ∷ 0 ∷ 0 ∷ 0 ∷ 0 ∷ 0 ∷ 0 ∷ 0 ∷ 0 ∷ 2
+    ∷ []
+
+-- "Records (time, letters): (10, 0) (11, 0) (11, none) (12, 0) (13, 1) (20, 0)."
+abbrev pub log : List ℕ
+log =
+    0x4B ∷ 0x4C ∷ 0x47 ∷ 0 ∷ 1 ∷ 0 ∷ 0 ∷ 0
+    ∷ 0 ∷ 0 ∷ 0 ∷ 10 ∷ 0 ∷ 0 ∷ 0 ∷ 1
+    ∷ 0 ∷ 0 ∷ 0 ∷ 11 ∷ 0 ∷ 0 ∷ 0 ∷ 1
+    ∷ 0 ∷ 0 ∷ 0 ∷ 11 ∷ 0 ∷ 0 ∷ 0 ∷ 0
+    ∷ 0 ∷ 0 ∷ 0 ∷ 12 ∷ 0 ∷ 0 ∷ 0 ∷ 1
+    ∷ 0 ∷ 0 ∷ 0 ∷ 13 ∷ 0 ∷ 0 ∷ 0 ∷ 2
+    ∷ 0 ∷ 0 ∷ 0 ∷ 20 ∷ 0 ∷ 0 ∷ 0 ∷ 1
+    ∷ []
+
+-- "Output, all of it"
+pub full-run : report rule log ≡ ascii "verdicts 5 of 6\n0 no\n1 no\n2 no\n3 yes\n4 yes\n"
+unfolding ascii decimal-in lines first-entries offset push-kind read header-refusal entries-refusal any all sat run progress verdicts
+full-run = refl
+
+-- the same log with no rule
+pub no-rule : report [] log ≡ ascii "refused 1\n"
+unfolding ascii decimal-in header-refusal
+no-rule = refl
+
+-- numbers of several digits
+pub digits : decimal 8190 ++ decimal 0 ≡ ascii "81900"
+unfolding ascii decimal-in
+digits = refl

@@ -1,0 +1,73 @@
+-- The text that the program prints (document 01, "A full run"), from the bytes of a rule and of a log alone.
+use Prim.Native.Nat.{ℕ, zero, suc, _+_, _/_, _%_}
+use Prim.Native.Char.{code}
+use Prim.Native.String.{String}
+use Prim.Native.String.{[] as no-more, _∷_ as _then_}
+use mathlib.Core.Bool.{Bool, cond, _||_}
+use mathlib.Core.Path.{_≡_}
+use mathlib.Core.List.{List, [], _∷_, _++_}
+use lib.ListN.{length, getD, take, drop}
+use lib.Dec.{ltb, eqb}
+use Rattle.rule.specs.Refusal.{before, refusal}
+use Rattle.trace.specs.Format.{record-count, records-of}
+use Rattle.monitor.specs.Refusal.{log-refusal}
+use Rattle.monitor.specs.Verdicts.{all-verdicts}
+
+-- the bytes of a text; every character here is ASCII, one byte
+unfoldable pub ascii : String → List ℕ
+ascii no-more = []
+ascii (c then s) = code c ∷ ascii s
+
+-- a number in decimal, in at most so many places: the digits of its tenth, where it has one, and its last digit
+unfoldable pub decimal-in : (places n : ℕ) → List ℕ
+decimal-in zero n = []
+decimal-in (suc k) n = cond (ltb n 10) [] (decimal-in k (n / 10)) ++ ((48 + n % 10) ∷ [])
+
+-- n + 1 places are enough for n
+abbrev pub decimal : ℕ → List ℕ
+decimal n = decimal-in (suc n) n
+
+-- "A refusal prints `refused` and its number."
+abbrev pub refused-text : ℕ → List ℕ
+refused-text number = ascii "refused " ++ decimal number ++ ascii "\n"
+
+-- "The first line has verdicts given and records"
+abbrev pub first-line : (given records : ℕ) → List ℕ
+first-line given records = ascii "verdicts " ++ decimal given ++ ascii " of " ++ decimal records ++ ascii "\n"
+
+-- "each other line a position and its verdict": "each byte 1 for yes or 0 for no"
+abbrev pub line : (position verdict : ℕ) → List ℕ
+line position verdict = decimal position ++ cond (eqb verdict 1) (ascii " yes\n") (ascii " no\n")
+
+-- the lines of the first n verdicts; "counted from 0"
+unfoldable pub lines : (verdicts : List ℕ) → ℕ → List ℕ
+lines verdicts zero = []
+lines verdicts (suc n) = lines verdicts n ++ line n (getD verdicts n 0)
+
+abbrev pub verdicts-text : (records : ℕ) (verdicts : List ℕ) → List ℕ
+verdicts-text records verdicts = first-line (length verdicts) records ++ lines verdicts (length verdicts)
+
+-- "opens, carries on": the first refusal that applies. The checkpoint is fresh, with nothing given or seen, and has room for
+-- every rule that passes 8. So 9, 10, 11 and 13 are never met
+abbrev pub run-refusal : (rule log : List ℕ) → ℕ
+run-refusal rule log = before (refusal rule) (log-refusal log 0 0 0)
+
+-- "a file above 65,536 bytes prints `too long` before all else"
+abbrev pub too-long : (rule log : List ℕ) → Bool
+too-long rule log = ltb 65536 (length rule) || ltb 65536 (length log)
+
+-- the text of a rule and a log. A log of 65,536 bytes has 8,191 records, so that the sheet of 8,191 bytes takes all verdicts
+abbrev pub run-text : (rule log : List ℕ) → List ℕ
+run-text rule log =
+    cond (eqb (run-refusal rule log) 0)
+    (verdicts-text (record-count (records-of log)) (all-verdicts rule log (record-count (records-of log))))
+    (refused-text (run-refusal rule log))
+
+abbrev pub report : (rule log : List ℕ) → List ℕ
+report rule log = cond (too-long rule log) (ascii "too long\n") (run-text rule log)
+
+-- a call that writes bytes into a lent text from one place on, and gives the place behind them: "the bytes behind what a call
+-- writes are kept", and so are those before
+pub record Writes (text : List ℕ) (from : ℕ) (bytes : List ℕ) (to : ℕ) (text′ : List ℕ) : Type 0 where
+  pub ends : to ≡ from + length bytes
+  pub content : text′ ≡ take from text ++ bytes ++ drop to text

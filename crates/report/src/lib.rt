@@ -1,0 +1,109 @@
+// The text that the program prints for a rule and a log (document 01, "A full run"), written into a lent buffer.
+ghost use mathlib.Core.Path.{_≡_};
+ghost use Prim.Native.Nat.{_+_, _*_, _≤_, _<_};
+ghost use lib.ListN.{length};
+ghost use Rattle.report.specs.Report.{decimal, refused-text, first-line, line, lines, too-long, report as Report·report, Writes};
+use monitor::Opened;
+use monitor::Resumed;
+
+// "a file above 65,536 bytes prints `too long`"
+fn is_too_long(rule: &[u8], log: &[u8]) -> bool
+    ensures { λ r. ⌜ r ≡ too-long (now (rule .entry)) (now (log .entry)) ⌝ }
+{
+    (65536 < rule.len()) | (65536 < log.len())
+}
+
+// Writes bytes into the text from `at` on, and gives where they end.
+fn put(bytes: &[u8], text: &mut [u8], at: usize) -> usize
+    requires { ⌜ at + length (now bytes) ≤ length (now text) ⌝ }
+    ensures { λ r. ⌜ Writes (now (text .entry)) at (now (bytes .entry)) r (now (text .exit)) ⌝ }
+{
+    let mut i: usize = 0;
+    while i < bytes.len() {
+        text[at + i] = bytes[i];
+        i += 1;
+    }
+    at + bytes.len()
+}
+
+// A number in decimal.
+fn put_number(n: usize, text: &mut [u8], at: usize) -> usize
+    requires { ⌜ at + length (decimal n) ≤ length (now text) ⌝ }
+    ensures { λ r. ⌜ Writes (now (text .entry)) at (decimal n) r (now (text .exit)) ⌝ }
+{
+    let mut digits = [0u8; 20];
+    let count = io::decimal(n as u64, &mut digits);
+    put(&digits[..count], text, at)
+}
+
+// `refused` and the number.
+fn put_refused(number: u32, text: &mut [u8]) -> usize
+    requires { ⌜ 19 ≤ length (now text) ⌝ }
+    ensures { λ r. ⌜ Writes (now (text .entry)) 0 (refused-text number) r (now (text .exit)) ⌝ }
+{
+    let word = put(b"refused ", text, 0);
+    let at = put_number(number as usize, text, word);
+    put(b"\n", text, at)
+}
+
+// The first line: verdicts given and records, each of four digits at most.
+fn put_counts(given: usize, records: usize, text: &mut [u8]) -> usize
+    requires { ⌜ (given < 10000) × (records < 10000) × (22 ≤ length (now text)) ⌝ }
+    ensures { λ r. ⌜ Writes (now (text .entry)) 0 (first-line given records) r (now (text .exit)) ⌝ }
+{
+    let verdicts = put(b"verdicts ", text, 0);
+    let first = put_number(given, text, verdicts);
+    let of = put(b" of ", text, first);
+    let second = put_number(records, text, of);
+    put(b"\n", text, second)
+}
+
+// A position and its verdict.
+fn put_line(position: usize, verdict: u8, text: &mut [u8], at: usize) -> usize
+    requires { ⌜ (position < 10000) × (at + 9 ≤ length (now text)) ⌝ }
+    ensures { λ r. ⌜ Writes (now (text .entry)) at (line position verdict) r (now (text .exit)) ⌝ }
+{
+    let behind = put_number(position, text, at);
+    if verdict == 1 {
+        put(b" yes\n", text, behind)
+    } else {
+        put(b" no\n", text, behind)
+    }
+}
+
+// A line for each verdict.
+fn put_lines(verdicts: &[u8], text: &mut [u8], from: usize) -> usize
+    requires { ⌜ (length (now verdicts) < 10000) × (from + length (now verdicts) * 9 ≤ length (now text)) ⌝ }
+    ensures { λ r. ⌜ Writes (now (text .entry)) from (lines (now (verdicts .entry)) (length (now (verdicts .entry)))) r (now (text .exit)) ⌝ }
+{
+    let mut at = from;
+    let mut i: usize = 0;
+    while i < verdicts.len() {
+        let next = i + 1;
+        at = put_line(i, verdicts[i], text, at);
+        i = next;
+    }
+    at
+}
+
+// Opens a checkpoint, carries on once, and writes what comes of it; gives the text's length. There is room for every text: the
+// first line has at most 22 bytes, and each of 8,191 others at most 9.
+pub fn report(rule: &[u8], log: &[u8], text: &mut [u8; 73741]) -> usize
+    ensures { λ r. ⌜ Writes (now (text .entry)) 0 (Report·report (now (rule .entry)) (now (log .entry))) r (now (text .exit)) ⌝ }
+{
+    if is_too_long(rule, log) {
+        return put(b"too long\n", text, 0);
+    }
+    let mut point = [0u64; 8192];
+    let opened = monitor::open(rule, &mut point);
+    let Opened::Done = opened else {
+        return put_refused(opened.number(), text);
+    };
+    let mut sheet = [0u8; 8191];
+    let resumed = monitor::resume(rule, log, &mut point, &mut sheet);
+    let Resumed::Given { count, more: _ } = resumed else {
+        return put_refused(resumed.number(), text);
+    };
+    let at = put_counts(count, trace::count(trace::records(log)), text);
+    put_lines(&sheet[..count], text, at)
+}

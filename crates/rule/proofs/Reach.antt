@@ -1,0 +1,68 @@
+-- The reach that `measure` gives, as a promise about every log: the step from the logic's reach to the rule's.
+use Prim.Native.Nat.{ℕ, _+_, _-_, _<_, _≤_}
+use native.Mathlib.Omega.{arith}
+use mathlib.Core.Bool.{Bool, true, false, cond, _&&_}
+use mathlib.Core.Bool.{not as negate}
+use mathlib.Core.Logic.{⊎-elim}
+use mathlib.Core.List.{List}
+use mathlib.Core.Option.{some}
+use mathlib.Core.Path.{_≡_, refl, sym, ap, _∙_}
+use lib.Dec.{eqb}
+use borrow.Author.Tests.{eqb-true, ne-eqb}
+use Rattle.mtl.specs.Formula.{Formula, unbounded, has-next, untils-end, reach}
+use Rattle.mtl.specs.Formula.Formula.{letter, not, or, previous, next, since, until}
+use Rattle.mtl.specs.Log.{Log, NeverFalls}
+use Rattle.mtl.specs.Progress.{progress}
+use Rattle.mtl.proofs.Bounded.{and-iff, not-iff}
+use Rattle.mtl.proofs.Reach.{reach-answered}
+use Rattle.rule.specs.declared.Entry.{Entry}
+use Rattle.rule.specs.Entries.{count, decoded, entry}
+use Rattle.rule.specs.Operands.{span, left, FormulaAt}
+use Rattle.rule.specs.Accepted.{InRange, Accepted}
+use Rattle.rule.specs.Measure.{reach-of, measured}
+use Rattle.rule.specs.Refusal.{refusal}
+
+-- where every entry lies in its ranges, every until has an upper end
+untils : (t : List Entry) (n : ℕ) → ((k : ℕ) → k < n → InRange (entry t k)) → (φ : Formula) (k : ℕ) → k < n → FormulaAt t k φ → untils-end φ ≡ true
+unfolding FormulaAt untils-end
+untils t n ranges (letter l) k h a = refl
+untils t n ranges (not φ) k h a = untils t n ranges φ (k - 1) (omega arith) (a .2)
+untils t n ranges (or φ ψ) k h a =
+    and-iff (untils-end φ) (untils-end ψ) .1
+    (untils t n ranges φ (left t k) (omega arith) (a .2), untils t n ranges ψ (k - 1) (omega arith) (a .3))
+untils t n ranges (previous low high φ) k h a = untils t n ranges φ (k - 1) (omega arith) (a .2)
+untils t n ranges (next low high φ) k h a = untils t n ranges φ (k - 1) (omega arith) (a .2)
+untils t n ranges (since low high φ ψ) k h a =
+    and-iff (untils-end φ) (untils-end ψ) .1
+    (untils t n ranges φ (left t k) (omega arith) (a .2), untils t n ranges ψ (k - 1) (omega arith) (a .3))
+untils t n ranges (until low high φ ψ) k h a =
+    and-iff (negate (eqb high unbounded)) (untils-end φ && untils-end ψ) .1 (
+      ap negate (ne-eqb high unbounded ends),
+      and-iff (untils-end φ) (untils-end ψ) .1
+          (untils t n ranges φ (left t k) (omega arith) (a .2), untils t n ranges ψ (k - 1) (omega arith) (a .3)),
+    )
+  where
+    ends : high ≡ unbounded → ⊥
+    ends u =
+        let r = ranges k h .high in
+        let kind : entry t k .kind ≡ 6 = ap (λ (e : Entry). e .kind) (a .0) in
+        let same : entry t k .high ≡ high = ap (λ (e : Entry). e .high) (a .0) in
+        ⊎-elim (λ l. omega arith) (λ w. ⊎-elim (λ e. omega arith) (λ e. omega arith) (w .1)) r
+
+-- THEOREM, of every rule that is not refused. "For rules without next, position i is answered whenever the last record lies
+-- more than the reach after i. .. A rule with next has reach 4,294,967,295, meaning none."
+module _ (s : List ℕ) (a : Accepted s) (e : refusal s ≡ 0) where
+  reach-is : measured s .reach ≡ cond (has-next (a .the-formula)) unbounded (reach (a .the-formula))
+  reach-is = rw (e, a .reads)
+
+  pub no-reach : has-next (a .the-formula) ≡ true → measured s .reach ≡ unbounded
+  no-reach h = rw h at reach-is
+
+  pub answered-by-reach : has-next (a .the-formula) ≡ false → (L : Log) → NeverFalls L →
+      (i : ℕ) → i < L .size → L .time i + measured s .reach < L .time (L .size - 1) → i < progress (a .the-formula) L
+  answered-by-reach free L falls i h far =
+      let r : measured s .reach ≡ reach (a .the-formula) = rw free at reach-is in
+      let last = a .some-entries in
+      let ends =
+      untils (decoded s) (count s) (a .well-formed .in-range) (a .the-formula) (count s - 1) (omega arith) (a .at-last) in
+      reach-answered (a .the-formula) L free ends falls i h (omega arith)

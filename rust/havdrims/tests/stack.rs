@@ -1,0 +1,157 @@
+//! The stack of a call: every call on the deepest and the largest rules, in a thread that has no more than
+//! `MOST_STACK` bytes, its own start included. Below them lies a page that may not be touched.
+
+use evaluator::log;
+use evaluator::random::{self, LogShape, Random};
+use evaluator::rule::{self, Entry, NEXT, NO_END, PREVIOUS, SINCE, UNTIL};
+use evaluator::{cases, model, reading};
+use havdrims::{measure, open, resume, tally, Resumed, Tally, MOST_STACK};
+use std::ffi::{c_int, c_long, c_void};
+use std::io::Write;
+use std::{ptr, slice};
+
+extern "C" {
+    fn mmap(at: *mut c_void, length: usize, protection: c_int, flags: c_int, file: c_int, from: c_long) -> *mut c_void;
+    fn mprotect(at: *mut c_void, length: usize, protection: c_int) -> c_int;
+    fn munmap(at: *mut c_void, length: usize) -> c_int;
+    fn pthread_attr_init(attributes: *mut Attributes) -> c_int;
+    fn pthread_attr_setstack(attributes: *mut Attributes, lowest: *mut c_void, size: usize) -> c_int;
+    fn pthread_create(
+        thread: *mut usize,
+        attributes: *const Attributes,
+        start: extern "C" fn(*mut c_void) -> *mut c_void,
+        job: *mut c_void,
+    ) -> c_int;
+    fn pthread_join(thread: usize, value: *mut *mut c_void) -> c_int;
+}
+
+/// Room for a pthread_attr_t, which is smaller.
+type Attributes = [u64; 16];
+
+const PAGE: usize = 4096;
+const NONE: c_int = 0;
+const READ_WRITE: c_int = 3;
+const PRIVATE_ANONYMOUS: c_int = 0x22;
+/// What stands in a stack where nobody wrote.
+const PAINT: u8 = 0xA5;
+
+struct Job<'a> {
+    work: &'a mut dyn FnMut(),
+    /// Where the thread's own part of the stack ends and the call's begins.
+    begun: usize,
+}
+
+extern "C" fn start(job: *mut c_void) -> *mut c_void {
+    let here = 0u8;
+    // SAFETY: the thread that started this one waits for it and does not touch the job.
+    let job = unsafe { &mut *job.cast::<Job>() };
+    job.begun = ptr::from_ref(&here) as usize;
+    (job.work)();
+    ptr::null_mut()
+}
+
+/// Runs the work in a thread with a stack of `MOST_STACK` bytes: what it gives, and the bytes of stack that it took.
+fn on_small_stack<T>(work: impl FnOnce() -> T) -> (T, usize) {
+    let (mut work, mut given) = (Some(work), None);
+    let mut run = || given = work.take().map(|work| work());
+    let mut job = Job { work: &mut run, begun: 0 };
+    // SAFETY: the mapping is this function's own and outlives the thread, which alone uses it as long as it runs; the
+    // lowest page is taken out of use before.
+    let lowest = unsafe {
+        let map = mmap(ptr::null_mut(), PAGE + MOST_STACK, READ_WRITE, PRIVATE_ANONYMOUS, -1, 0);
+        assert!(map as isize != -1, "no memory for a stack");
+        assert_eq!(mprotect(map, PAGE, NONE), 0);
+        let stack = map.byte_add(PAGE);
+        stack.cast::<u8>().write_bytes(PAINT, MOST_STACK);
+        let (mut attributes, mut thread): (Attributes, usize) = ([0; 16], 0);
+        assert_eq!(pthread_attr_init(&mut attributes), 0);
+        assert_eq!(pthread_attr_setstack(&mut attributes, stack, MOST_STACK), 0);
+        assert_eq!(pthread_create(&mut thread, &attributes, start, ptr::from_mut(&mut job).cast()), 0);
+        assert_eq!(pthread_join(thread, ptr::null_mut()), 0);
+        let untouched = slice::from_raw_parts(stack.cast::<u8>(), MOST_STACK).iter().take_while(|&&b| b == PAINT);
+        let lowest = stack as usize + untouched.count();
+        assert_eq!(munmap(map, PAGE + MOST_STACK), 0);
+        lowest
+    };
+    let used = job.begun - lowest;
+    (given.expect("the thread ran the work"), used)
+}
+
+/// A letter under 127 words with one operand, these in turn.
+fn chain(words: &[Entry]) -> Vec<Entry> {
+    [Entry::letter(0)].into_iter().chain(words.iter().copied().cycle().take(127)).collect()
+}
+
+/// 64 letters and 63 binary words, these in turn, each the left operand of the next; then a not.
+fn to_the_left(words: &[Entry]) -> Vec<Entry> {
+    let mut all = vec![Entry::letter(0)];
+    for (k, &word) in words.iter().cycle().take(63).enumerate() {
+        all.extend([Entry::letter(k as u8 % 4), word]);
+    }
+    all.push(Entry::not());
+    all
+}
+
+/// The same, each the right operand of the next.
+fn to_the_right(words: &[Entry]) -> Vec<Entry> {
+    let mut all: Vec<Entry> = (0..64).map(|k| Entry::letter(k % 4)).collect();
+    all.extend(words.iter().cycle().take(63));
+    all.push(Entry::not());
+    all
+}
+
+/// The deepest rules, and those with the most entries and words.
+fn rules() -> Vec<Vec<Entry>> {
+    let previous = Entry::timed(PREVIOUS, 0, NO_END);
+    let next = Entry::timed(NEXT, 0, 3600);
+    let [since, endless, until] =
+        [(SINCE, 0, 40), (SINCE, 1, NO_END), (UNTIL, 0, 40)].map(|(k, l, h)| Entry::timed(k, l, h));
+    let longest_ring = vec![Entry::letter(0), Entry::letter(1), Entry::timed(SINCE, 0, 3600)];
+    let mut all = vec![cases::p10_entries(3600, 446), longest_ring];
+    for words in [&[Entry::not()][..], &[previous], &[next], &[Entry::not(), previous, next]] {
+        all.push(chain(words));
+    }
+    for words in [&[Entry::or()][..], &[since], &[endless], &[until], &[since, until, Entry::or()]] {
+        all.extend([to_the_left(words), to_the_right(words)]);
+    }
+    all
+}
+
+#[test]
+fn every_call_on_a_small_stack() {
+    let shape = LogShape { records: 400, letters: 4, hold: 3, step: 2, start: 7 };
+    let mut records = random::log(&mut Random::new(1), shape);
+    records.last_mut().unwrap().time += 9_000;
+    let file = log::encode(&records);
+    let mut most = [0; 4];
+    for entries in rules() {
+        let bytes = rule::encode(&entries);
+        let (needs, measuring) = on_small_stack(|| measure(&bytes));
+        let words = needs.unwrap().words;
+        assert_eq!(words as u64, model::measure(&bytes).unwrap().0);
+        let mut point = vec![0; words];
+        let (opened, opening) = on_small_stack(|| open(&bytes, &mut point));
+        opened.unwrap();
+        let verdicts: Vec<u8> =
+            reading::verdicts(&rule::parse(&bytes).unwrap(), &records).iter().map(|&b| b as u8).collect();
+        let mut sheet = vec![7; records.len()];
+        let (resumed, resuming) = on_small_stack(|| resume(&bytes, &file, &mut point, &mut sheet));
+        assert_eq!(resumed, Ok(Resumed { verdicts: verdicts.len(), more: false }));
+        assert_eq!(sheet[..verdicts.len()], verdicts);
+        let (counts, tallying) = on_small_stack(|| tally(&verdicts));
+        let yes = verdicts.iter().filter(|&&b| b == 1).count() as u64;
+        assert_eq!(counts, Ok(Tally { no: verdicts.len() as u64 - yes, yes }));
+        for (most, now) in most.iter_mut().zip([measuring, opening, resuming, tallying]) {
+            *most = now.max(*most);
+        }
+    }
+    let [measuring, opening, resuming, tallying] = most;
+    // Past the test harness, which would hold back what a passing test prints.
+    let _ = writeln!(
+        std::io::stderr(),
+        "most bytes of stack: measure {measuring}, open {opening}, resume {resuming}, tally {tallying}"
+    );
+    assert!(resuming > PAGE, "the stack was not measured");
+    let header = include_str!("../../../include/havdrims.h");
+    assert!(header.contains(&format!("#define HAVDRIMS_MOST_STACK {MOST_STACK}\n")), "the header says another number");
+}
