@@ -10,9 +10,8 @@ use mathlib.Core.List.{List, [], _∷_, _++_, append-assoc, append-nil}
 use mathlib.Core.Option.{Option, none, some}
 use lib.Dec.{eqb}
 use lib.ListN.{length, drop}
-use Rattle.mtl.specs.Formula.{Formula}
+use Rattle.mtl.specs.Formula.{Formula, unbounded}
 use Rattle.rule.specs.declared.Entry.{Entry}
-use Rattle.rule.specs.Words.{unbounded}
 use Rattle.rule.specs.Postfix.{postfix}
 use Rattle.text.specs.Tokens.{Token, tokens}
 use Rattle.text.specs.Grammar.{Level, End, Prefix, Infix, Tree, meaning, bound, prefix-meaning, infix-meaning}

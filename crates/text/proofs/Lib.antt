@@ -9,3 +9,6 @@ pub mod Levels
 pub mod Encoded
 pub mod Small
 pub mod Outcome
+pub mod Accepted
+pub mod Ascii
+pub mod Texts

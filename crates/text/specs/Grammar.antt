@@ -5,8 +5,7 @@ use Prim.Native.Nat.{ℕ}
 use mathlib.Core.Path.{_≡_}
 use mathlib.Core.List.{List, [], _∷_, _++_}
 use mathlib.Core.Option.{Option, none, some}
-use Rattle.mtl.specs.Formula.{Formula}
-use Rattle.rule.specs.Words.{unbounded}
+use Rattle.mtl.specs.Formula.{Formula, unbounded}
 use Rattle.text.specs.Tokens.{Token}
 
 -- the levels of precedence, the loosest first
