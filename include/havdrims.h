@@ -41,8 +41,8 @@ enum havdrims_refusal {
     HAVDRIMS_RULE_LENGTH = 4,     /* the count is above 128, a spare byte is not zero, or the length is not
                                      8 + 10 * count */
     HAVDRIMS_ENTRY_FIELD = 5,     /* some kind is above 6, some letter above 31, or some unused field not zero */
-    HAVDRIMS_INTERVAL = 6,        /* some low or finite high is above 3,600, some low is above its high, or next or
-                                     until has no upper end */
+    HAVDRIMS_INTERVAL = 6,        /* some low or finite high is above 3,600, some low is above its high, or until has
+                                     no upper end */
     HAVDRIMS_SHAPE = 7,           /* some entry lacks an operand, or the whole leaves other than one formula */
     HAVDRIMS_TOO_MANY_WORDS = 8,  /* the need is above 8,192 words */
     HAVDRIMS_SHORT_POINT = 9,     /* the lent point is shorter than the need */

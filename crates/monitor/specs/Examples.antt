@@ -221,9 +221,16 @@ rows =
     ∷ on-fresh (rule 1 3 (letter 0 ++ letter 1 ++ until 0 3600)) (log []) 7266 3600 0 []
     ∷ refused (rule 1 3 (letter 0 ++ letter 1 ++ until 0 3601)) 6
     ∷ refused (rule 2 0 []) 2
+    -- 16 to 18: request 6: next, 1 to no end, of letter 0, over gaps 0, 1, 3,601 and 4,294,967,295 to records with letter 0; an
+    -- until without upper end is refused
+    ∷ on-fresh (rule 1 2 (letter 0 ++ next 1 no-end))
+    (log (at 0 [] ++ at 0 (0 ∷ []) ++ at 1 (0 ∷ []) ++ at 3602 (0 ∷ [])))
+    48 no-end 3 (no ∷ yes ∷ yes ∷ [])
+    ∷ on-fresh (rule 1 2 (letter 0 ++ next 1 no-end)) (log (at 0 [] ++ at 4_294_967_295 (0 ∷ []))) 48 no-end 1 (yes ∷ [])
+    ∷ refused (rule 1 3 (letter 0 ++ letter 1 ++ until 0 no-end)) 6
     ∷ []
 
 -- every row computes; an edit of the definitions that breaks a row has its number in an error
 pub every-row : Right 1 rows
 unfolding Right wrong rows computes computes-refusal computes-verdicts same event-set first-entries offset push-kind read header-refusal entries-refusal has-next reach any all sat run progress verdicts
-every-row = (refl, (refl, (refl, (refl, (refl, (refl, (refl, (refl, (refl, (refl, (refl, (refl, (refl, (refl, (refl, tt)))))))))))))))
+every-row = (refl, (refl, (refl, (refl, (refl, (refl, (refl, (refl, (refl, (refl, (refl, (refl, (refl, (refl, (refl, (refl, (refl, (refl, tt))))))))))))))))))

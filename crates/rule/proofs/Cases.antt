@@ -1,12 +1,11 @@
 -- The measuring rows of document 01, worked out by the definitions.
-use Prim.Native.Nat.{ℕ, _/_, _%_}
+use Prim.Native.Nat.{ℕ}
 use mathlib.Core.Path.{_≡_, refl}
-use mathlib.Core.List.{List, [], _∷_, _++_}
+use mathlib.Core.List.{List}
 use lib.ListN.{length, set}
-use Rattle.mtl.specs.Formula.{Formula, reach, has-next}
-use Rattle.mtl.specs.Formula.Formula.{letter, until}
+use Rattle.mtl.specs.Formula.{Formula, unbounded, reach, has-next}
+use Rattle.mtl.specs.Formula.Formula.{letter, next, until}
 use Rattle.mtl.specs.Satisfaction.{any}
-use Rattle.rule.specs.declared.Entry.{Entry}
 use Rattle.rule.specs.Entries.{first-entries}
 use Rattle.rule.specs.Words.{offset}
 use Rattle.rule.specs.Postfix.{push-kind, read, postfix}
@@ -32,5 +31,7 @@ pub rows :
     × Weighs (rule-of (until 0 3600 (letter 0) (letter 1))) 0 7266 3600
     × Weighs (rule-of (until 0 3601 (letter 0) (letter 1))) 6 0 0
     × Weighs (set (set (rule-of P1) 4 2) 5 0) 2 0 0
+    × Weighs (rule-of (next 1 unbounded (letter 0))) 0 48 unbounded
+    × Weighs (rule-of (until 0 unbounded (letter 0) (letter 1))) 6 0 0
 unfolding encoded body postfix header-refusal entries-refusal first-entries any offset read push-kind reach has-next
-rows = (refl, refl, refl, refl, refl, refl, refl)
+rows = (refl, refl, refl, refl, refl, refl, refl, refl, refl)

@@ -43,7 +43,7 @@ module _ (e : Entry) (s : misshapen e ≡ false) (p : misplaced e ≡ false) whe
 
   place : (ltb 3600 (e .low) ≡ false) × (ltb (e .high) (e .low) ≡ false)
       × ((ltb 3600 (e .high) && not (eqb (e .high) unbounded)) ≡ false)
-      × ((eqb (e .high) unbounded && (eqb (e .kind) 4 || eqb (e .kind) 6)) ≡ false)
+      × ((eqb (e .high) unbounded && eqb (e .kind) 6) ≡ false)
   place = none-of-four (ltb 3600 (e .low)) (ltb (e .high) (e .low)) _ _ p
 
   letter-free : 0 < e .kind → e .letter ≡ 0
@@ -61,27 +61,15 @@ module _ (e : Entry) (s : misshapen e ≡ false) (p : misplaced e ≡ false) whe
   kind-is : e .kind ≤ 6
   kind-is = ltb-false 6 (e .kind) (shape .0)
 
-  -- no upper end: previous or since
-  previous-or-since : e .high ≡ unbounded → eqb (e .high) unbounded ≡ true → (e .kind ≡ 3) ⊎ (e .kind ≡ 5)
-  previous-or-since u b = go (eqb (e .kind) 3) refl
-    where
-      z : eqb (e .kind) 4 || eqb (e .kind) 6 ≡ false
-      z = and-right (eqb (e .high) unbounded) (eqb (e .kind) 4 || eqb (e .kind) 6) (place .3) b
-
-      go : (c : Bool) → eqb (e .kind) 3 ≡ c → (e .kind ≡ 3) ⊎ (e .kind ≡ 5)
-      go true q = inl (eqb-true (e .kind) 3 q)
-      go false q =
-          let three = eqb-false (e .kind) 3 q in
-          let four = eqb-false (e .kind) 4 (or-left (eqb (e .kind) 4) (eqb (e .kind) 6) z) in
-          let six = eqb-false (e .kind) 6 (or-right (eqb (e .kind) 4) (eqb (e .kind) 6) z) in
-          let low : e .kind < 3 → ⊥ = λ h. let y = interval-free h in omega (arith, y .1) in
-          inr (omega (arith, kind-is))
-
-  high-is : (e .high ≤ 3600) ⊎ ((e .high ≡ unbounded) × ((e .kind ≡ 3) ⊎ (e .kind ≡ 5)))
+  high-is : (e .high ≤ 3600) ⊎ ((e .high ≡ unbounded) × (3 ≤ e .kind) × (e .kind ≤ 5))
   high-is = go (eqb (e .high) unbounded) refl
     where
-      go : (c : Bool) → eqb (e .high) unbounded ≡ c → (e .high ≤ 3600) ⊎ ((e .high ≡ unbounded) × ((e .kind ≡ 3) ⊎ (e .kind ≡ 5)))
-      go true q = let u = eqb-true (e .high) unbounded q in inr (u, previous-or-since u q)
+      go : (c : Bool) → eqb (e .high) unbounded ≡ c → (e .high ≤ 3600) ⊎ ((e .high ≡ unbounded) × (3 ≤ e .kind) × (e .kind ≤ 5))
+      go true q =
+          let u = eqb-true (e .high) unbounded q in
+          let no-until = eqb-false (e .kind) 6 (and-right (eqb (e .high) unbounded) (eqb (e .kind) 6) (place .3) q) in
+          let timed : e .kind < 3 → ⊥ = λ h. let y = interval-free h in omega (arith, y .1) in
+          inr (u, omega arith, omega (arith, kind-is))
       go false q =
           let n : not (eqb (e .high) unbounded) ≡ true = ap not q in
           inl (ltb-false 3600 (e .high) (and-left (ltb 3600 (e .high)) (not (eqb (e .high) unbounded)) (place .2) n))

@@ -47,7 +47,7 @@ untils t n ranges (until low high φ ψ) k h a =
         let r = ranges k h .high in
         let kind : entry t k .kind ≡ 6 = ap (λ (e : Entry). e .kind) (a .0) in
         let same : entry t k .high ≡ high = ap (λ (e : Entry). e .high) (a .0) in
-        ⊎-elim (λ l. omega arith) (λ w. ⊎-elim (λ e. omega arith) (λ e. omega arith) (w .1)) r
+        ⊎-elim (λ l. omega arith) (λ w. let most = w .2 in omega arith) r
 
 -- THEOREM, of every rule that is not refused. "For rules without next, position i is answered whenever the last record lies
 -- more than the reach after i. .. A rule with next has reach 4,294,967,295, meaning none."

@@ -13,13 +13,13 @@ use Rattle.rule.specs.Postfix.{formula, postfix}
 use Rattle.rule.specs.Operands.{operands, span, part, FormulaAt, Leaf, Unary, Binary}
 
 -- "Low and a finite high are 0 to 3,600 seconds, low not above high. High 4,294,967,295 means no upper end and is allowed for
--- previous and since only." "An unused field is zero."
+-- previous and since only", and by request 6 for next. "An unused field is zero."
 pub record InRange (e : Entry) : Type 0 where
   pub kind : e .kind ≤ 6
   pub letter : e .letter ≤ 31
   pub low : e .low ≤ 3600
   pub order : e .low ≤ e .high
-  pub high : (e .high ≤ 3600) ⊎ ((e .high ≡ unbounded) × ((e .kind ≡ 3) ⊎ (e .kind ≡ 5)))
+  pub high : (e .high ≤ 3600) ⊎ ((e .high ≡ unbounded) × (3 ≤ e .kind) × (e .kind ≤ 5))
   pub no-letter : 0 < e .kind → e .letter ≡ 0
   pub no-interval : e .kind < 3 → (e .low ≡ 0) × (e .high ≡ 0)
 

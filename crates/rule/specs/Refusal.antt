@@ -41,13 +41,14 @@ misshapen e =
     || (ltb 0 (e .kind) && ltb 0 (e .letter))
     || (ltb (e .kind) 3 && (ltb 0 (e .low) || ltb 0 (e .high)))
 
--- 6. "Some low or finite high is above 3,600, some low is above its high, or next or until has no upper end." Where the kind
--- uses no interval, low and high are zero by then, which meets none of these.
+-- 6. "Some low or finite high is above 3,600, some low is above its high, or .. until has no upper end", request 6 having amended
+-- it: "High 4,294,967,295 is now allowed for next". Where the kind uses no interval, low and high are zero by then, which meets
+-- none of these.
 abbrev pub misplaced : Entry → Bool
 misplaced e =
     ltb 3600 (e .low) || ltb (e .high) (e .low)
     || (ltb 3600 (e .high) && not (eqb (e .high) unbounded))
-    || (eqb (e .high) unbounded && (eqb (e .kind) 4 || eqb (e .kind) 6))
+    || (eqb (e .high) unbounded && eqb (e .kind) 6)
 
 abbrev pub misshapen-at : List Entry → ℕ → Bool
 misshapen-at t k = misshapen (entry t k)

@@ -201,7 +201,7 @@ fn is_misplaced(e: Entry) -> bool
     (e.low > LONGEST)
         | (e.low > e.high)
         | ((e.high > LONGEST) & !unbounded)
-        | (unbounded & ((e.kind == 4) | (e.kind == 6)))
+        | (unbounded & (e.kind == 6))
 }
 
 // The words of one entry.

@@ -46,7 +46,7 @@ pub rows :
     × Row "e0 until[0,1] e1 or e2" 1288 0 (some (or (until 0 1 (letter 0) (letter 1)) (letter 2)))
     × Row "  e31 since [ 10 , inf ]((e9))" 1288 0 (some (since 10 4294967295 (letter 31) (letter 9)))
     × Row "e0 until[0,3600] e1 until[0,446] e2" 1288 0 (some (until 0 3600 (letter 0) (until 0 446 (letter 1) (letter 2))))
-    × Row "next[0,inf] e0" 1288 6 (some (next 0 4294967295 (letter 0)))
+    × Row "next[0,inf] e0" 1288 0 (some (next 0 4294967295 (letter 0)))
     × Row "e0or e1" 1288 16 none
     × Row "e00" 1288 16 none
     × Row "e32" 1288 16 none

@@ -1,4 +1,4 @@
-//! Document 01's worked cases that are one rule, one log and its verdicts.
+//! Worked cases that are one rule, one log and its verdicts: document 01's, and those of the requests.
 
 use crate::log::Record;
 use crate::rule::{Entry, NEXT, NO_END, PREVIOUS, SINCE, UNTIL};
@@ -41,14 +41,30 @@ pub fn p10_entries(outer: u32, inner: u32) -> Vec<Entry> {
     [letters.as_slice(), untils.as_slice()].concat()
 }
 
-/// P1 and P3 to P9, and a case for each of the paper's plausible faults that they leave out.
+fn case(name: &'static str, entries: &[Entry], log: &[(u32, &[u32])], verdicts: &[u8]) -> Case {
+    Case { name, entries: entries.to_vec(), records: records(log), verdicts: verdicts.to_vec() }
+}
+
+/// All of them.
 pub fn all() -> Vec<Case> {
-    let case = |name, entries: &[Entry], log: &[(u32, &[u32])], verdicts: &[u8]| Case {
-        name,
-        entries: entries.to_vec(),
-        records: records(log),
-        verdicts: verdicts.to_vec(),
-    };
+    [document_01(), endless_next()].into_iter().flatten().collect()
+}
+
+/// Request 6: next without upper end over gaps of 0, 1, 3,601 and 4,294,967,295, and with a low of 3,600.
+fn endless_next() -> Vec<Case> {
+    let next = |low| [Entry::letter(0), Entry::timed(NEXT, low, NO_END)];
+    let [soon, late] = [next(1), next(3_600)];
+    let latest = u32::MAX;
+    vec![
+        case("next, 1 to no end", &soon, &[(5, &[]), (5, &[0]), (6, &[0]), (3_607, &[0])], &[0, 1, 1]),
+        case("next, 1 to no end, over letters that end", &soon, &[(5, &[0]), (6, &[]), (3_607, &[])], &[0, 0]),
+        case("next, 1 to no end, over the longest gap", &soon, &[(0, &[]), (latest, &[0]), (latest, &[0])], &[1, 0]),
+        case("next, 3,600 to no end", &late, &[(1, &[0]), (3_600, &[0]), (7_200, &[0]), (latest, &[0])], &[0, 1, 1]),
+    ]
+}
+
+/// P1 and P3 to P9, and a case for each of the paper's plausible faults that they leave out.
+fn document_01() -> Vec<Case> {
     let p1 = p1_entries();
     let not_p1 = [p1.as_slice(), &[Entry::not()]].concat();
     let since = [Entry::letter(0), Entry::letter(1), Entry::timed(SINCE, 1, NO_END)];

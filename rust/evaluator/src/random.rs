@@ -83,7 +83,7 @@ fn interval(r: &mut Random, shape: RuleShape, kind: u8) -> Entry {
         return Entry::timed(kind, 0, 0);
     }
     let top = shape.high as usize;
-    let endless = (kind == PREVIOUS || kind == SINCE) && r.one_in(3);
+    let endless = kind != UNTIL && r.one_in(3);
     let low = if r.one_in(2) { 0 } else { r.from_to(0, top) };
     let high = if r.one_in(8) { low } else { r.from_to(low, top) };
     Entry::timed(kind, low as u32, if endless { NO_END } else { high as u32 })

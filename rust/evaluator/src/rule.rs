@@ -48,10 +48,10 @@ impl Entry {
         }
     }
 
-    /// "low ≤ gap ≤ high"; no upper end is above every gap of 32-bit times.
+    /// "low ≤ gap ≤ high"; without upper end "a gap is within it if it is at least low".
     pub fn within(&self, earlier: u32, later: u32) -> bool {
         let gap = later - earlier;
-        self.low <= gap && gap <= self.high
+        self.low <= gap && (gap <= self.high || self.high == NO_END)
     }
 
     fn has_interval(&self) -> bool {
@@ -132,11 +132,11 @@ fn field_fault(e: &Entry) -> bool {
     e.kind > 6 || e.letter > 31 || unused_letter || unused_interval
 }
 
-/// "Some low or finite high is above 3,600, some low is above its high, or next or until has no upper end."
+/// "Some low or finite high is above 3,600, some low is above its high, or until has no upper end", as request 6
+/// amends it.
 fn interval_fault(e: &Entry) -> bool {
     let endless = e.high == NO_END;
-    let needs_end = e.kind == NEXT || e.kind == UNTIL;
-    e.low > 3600 || (!endless && e.high > 3600) || e.low > e.high || (endless && needs_end)
+    e.low > 3600 || (!endless && e.high > 3600) || e.low > e.high || (endless && e.kind == UNTIL)
 }
 
 /// Each entry's operands in postfix order; none if one is lacking or the whole leaves other than one formula.

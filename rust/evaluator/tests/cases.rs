@@ -1,7 +1,7 @@
 //! Document 01's worked cases, evaluated.
 
 use evaluator::log::{self, Record};
-use evaluator::rule::{self, Rule};
+use evaluator::rule::{self, Entry, Rule, NEXT, NO_END, NO_REACH};
 use evaluator::{cases, linear, model, reading};
 
 fn as_bytes(verdicts: Vec<bool>) -> Vec<u8> {
@@ -52,8 +52,15 @@ fn intervals_at_the_limit_and_two_errors() {
     };
     assert!(model::measure(&with_high(3600)).is_ok());
     assert_eq!(model::measure(&with_high(3601)), Err(6));
+    assert_eq!(model::measure(&with_high(NO_END)), Err(6));
     let mut two_errors = with_high(2);
     two_errors[4] = 2;
     two_errors[5] = 0;
     assert_eq!(model::measure(&two_errors), Err(2));
+}
+
+#[test]
+fn next_without_upper_end_is_weighed() {
+    let bytes = rule::encode(&[Entry::letter(0), Entry::timed(NEXT, 1, NO_END)]);
+    assert_eq!(model::measure(&bytes), Ok((48, NO_REACH)));
 }

@@ -199,7 +199,7 @@ fn refused_rules() -> Vec<(Vec<u8>, u32)> {
         (rule_ending(Entry::timed(UNTIL, 0, 3601)), 6),
         (rule_ending(Entry::timed(UNTIL, 3, 2)), 6),
         (rule_ending(Entry::timed(UNTIL, 0, NO_END)), 6),
-        (rule_ending(Entry::timed(NEXT, 0, NO_END)), 6),
+        (rule_ending(Entry::timed(NEXT, 0, NO_END)), 7),
         (rule_ending(Entry::not()), 7),
         (rule::encode(&[Entry::not()]), 7),
         (letters(128), 7),

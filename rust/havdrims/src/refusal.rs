@@ -42,7 +42,7 @@ const SENTENCES: [(Refusal, &str); 15] = [
     (Refusal::EntryField, "Some kind is above 6, some letter above 31, or some unused field not zero."),
     (
         Refusal::Interval,
-        "Some low or finite high is above 3,600, some low is above its high, or next or until has no upper end.",
+        "Some low or finite high is above 3,600, some low is above its high, or until has no upper end.",
     ),
     (Refusal::Shape, "Some entry lacks an operand, or the whole leaves other than one formula."),
     (Refusal::TooManyWords, "The need is above 8,192 words."),

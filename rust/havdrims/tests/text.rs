@@ -74,6 +74,7 @@ fn formulas() {
     assert_eq!(shown(&[a, b, Entry::or(), c, until]), "(e0 or e1) until[0,2] e31");
     let both = [a, Entry::timed(NEXT, 1, 1), Entry::timed(PREVIOUS, 0, 3600)];
     assert_eq!(shown(&both), "prev[0,3600] next[1,1] e0");
+    assert_eq!(shown(&[a, Entry::timed(NEXT, 1, NO_END)]), "next[1,inf] e0");
     assert_eq!(formula(b"KRL"), Err(Refusal::RuleMark));
 }
 

@@ -1,5 +1,6 @@
 //! Document 01's worked cases, through the safe crate.
 
+use evaluator::rule::{Entry, NEXT, NO_END};
 use evaluator::{cases, log, rule};
 use havdrims::{measure, open, resume, tally, Needs, Refusal, Resumed, Tally};
 
@@ -56,6 +57,10 @@ fn p10_and_limits() {
     assert!(measure(&rule::encode(&entries)).is_ok());
     entries[2].high = 3601;
     assert_eq!(measure(&rule::encode(&entries)), Err(Refusal::Interval));
+    entries[2].high = NO_END;
+    assert_eq!(measure(&rule::encode(&entries)), Err(Refusal::Interval));
+    let next = [Entry::letter(0), Entry::timed(NEXT, 1, NO_END)];
+    assert_eq!(measure(&rule::encode(&next)), Ok(Needs { words: 48, reach: None }));
     let mut two_errors = rule::encode(&cases::p1_entries());
     (two_errors[4], two_errors[5]) = (2, 0);
     assert_eq!(measure(&two_errors), Err(Refusal::RuleVersion));

@@ -120,7 +120,8 @@ fn too_many_records() {
 
 /// Rules of 128 entries and rules of up to 8,192 words.
 fn large_rule(r: &mut Random) -> Vec<Entry> {
-    let unary = [Entry::not(), Entry::timed(PREVIOUS, 0, NO_END), Entry::timed(NEXT, 0, 3600)];
+    let endless = [PREVIOUS, NEXT].map(|kind| Entry::timed(kind, 0, NO_END));
+    let unary = [Entry::not(), endless[0], endless[1], Entry::timed(NEXT, 0, 3600)];
     match r.below(5) {
         // A chain: one letter under 127 words with one operand.
         0 => {
