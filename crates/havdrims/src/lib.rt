@@ -1,10 +1,11 @@
-// The C interface: the library's four calls under plain names. Each answers 0, or the refusal's number, and then every number
+// The C interface: the library's calls under plain names. Each answers 0, or the refusal's number, and then every number
 // behind a pointer is as it was. include/havdrims.h says what a C programmer needs to know.
-ghost use Rattle.havdrims.specs.Interface.{MeasureCall, OpenCall, ResumeCall, TallyCall};
+ghost use Rattle.havdrims.specs.Interface.{MeasureCall, OpenCall, ResumeCall, TallyCall, ParseCall};
 use monitor::Opened;
 use monitor::Resumed;
 use monitor::Tallied;
 use rule::Measured;
+use text::Parsed;
 
 // Document 01's weigh.
 #[no_mangle]
@@ -68,5 +69,18 @@ pub extern "C" fn havdrims_tally(sheet: &[u8], no: &mut u64, yes: &mut u64) -> u
     };
     *no = n as u64;
     *yes = y as u64;
+    0
+}
+
+// Writes the rule that a text says (paper 1).
+#[no_mangle]
+pub extern "C" fn havdrims_parse(text: &[u8], rule: &mut [u8], written: &mut u64) -> u32
+    ensures { λ r. ⌜ ParseCall (now (text .entry)) (now (rule .entry)) (now (written .entry)) r (now (rule .exit)) (now (written .exit)) ⌝ }
+{
+    let parsed = text::parse(text, rule);
+    let Parsed::Written(size) = parsed else {
+        return parsed.number();
+    };
+    *written = size as u64;
     0
 }

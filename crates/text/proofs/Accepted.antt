@@ -13,14 +13,14 @@ use Rattle.mtl.specs.Formula.{Formula}
 use Rattle.mtl.specs.Satisfaction.{any}
 use Rattle.rule.specs.Words.{words}
 use Rattle.rule.specs.Postfix.{postfix}
-use Rattle.rule.specs.Encoding.{rule-of}
+use Rattle.rule.specs.Encoding.{encoded, rule-of}
 use Rattle.rule.specs.Refusal.{misplaced-at, lacking, over-limit, first}
 use Rattle.rule.specs.Measure.{reach-of, measured}
 use Rattle.rule.proofs.Headers.{first-zero}
 use Rattle.text.specs.Tokens.{tokens, unreadable}
 use Rattle.text.specs.Grammar.{Level, Derives, Derived}
 use Rattle.text.specs.Parse.{Answer, entries-refusal, entries-of, refusal, bytes, parsed, left, Parses}
-use Rattle.text.specs.declared.Parsed.the-variants.{Written}
+use Rattle.text.specs.declared.Parsed.the-variants.{Written, Refused}
 use Rattle.text.proofs.Cases.{by}
 use Rattle.text.proofs.Encoded.{weighed}
 use Rattle.text.proofs.Small.{none-misshapen, some-entry}
@@ -66,3 +66,20 @@ accepted-by-measure text rule rule′ n p =
         → Weighed text rule′ n
     go none d z l is = let a = first-zero 15 (unreadable text) (first 17 true (entries-refusal [] (length rule))) z in let b = first-zero 16 true (entries-refusal [] (length rule)) (a .1) in absurd (let w : _≡_ {A = ℕ} 0 1 = cc in omega arith)
     go (some φ) d z l is = weigh text rule rule′ n φ d (first-zero 16 false (entries-refusal (postfix φ) (length rule)) (first-zero 15 (unreadable text) (first 17 false (entries-refusal (postfix φ) (length rule))) z .1) .1) l (is ∙ simp (eq-eqb (refusal text (some φ) (length rule)) 0 z))
+
+-- no refusal has the number 0: a text that is accepted has a rule's bytes
+some-bytes : (text : List ℕ) (o : Option Formula) (room : ℕ) → refusal text o room ≡ 0 → 0 ≡ length (bytes o) → ⊥
+unfolding encoded
+some-bytes text none room a l =
+    let b = first-zero 15 (unreadable text) (first 17 true (entries-refusal [] room)) a in
+    let c = first-zero 16 true (entries-refusal [] room) (b .1) in
+    let w : _≡_ {A = ℕ} 0 1 = cc in
+    omega arith
+some-bytes text (some φ) room a l = omega arith
+
+pub refused-not-zero : (text rule rule′ : List ℕ) (n : ℕ) → Parses text rule (Refused n) rule′ → n ≡ 0 → ⊥
+refused-not-zero text rule rule′ n p z =
+    let e : record { number = 0; written = 0 } ≡ parsed text (p .derives) (length rule) =
+    ap (λ (k : ℕ). record { number = k; written = 0 }) (sym z) ∙ p .answers in
+    let (a, l) = accepted text (p .derives) (length rule) 0 e in
+    some-bytes text (p .derives) (length rule) a l

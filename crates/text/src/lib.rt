@@ -1,9 +1,6 @@
 // Rules typed as text (paper 1): a text becomes a version 1 rule, or one refusal.
 ghost use mathlib.Core.Path.{_≡_};
-ghost use mathlib.Core.List.{_++_};
-ghost use Prim.Native.Nat.{_≤_};
-ghost use lib.ListN.{length, take, drop};
-ghost use Rattle.text.specs.Parse.{Parses};
+ghost use Rattle.text.specs.Parse.{answer, Parses};
 
 mod entries;
 mod level;
@@ -16,6 +13,17 @@ use rule::Measured;
 pub enum Parsed {
     Written(usize),
     Refused(u32),
+}
+
+impl Parsed {
+    pub fn number(self) -> u32
+        ensures { λ r. ⌜ r ≡ answer self .number ⌝ }
+    {
+        match self {
+            Parsed::Written(_) => 0,
+            Parsed::Refused(n) => n,
+        }
+    }
 }
 
 // the most bytes of a text

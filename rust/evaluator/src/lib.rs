@@ -3,7 +3,8 @@
 //! This crate is written from the paper alone and shares no code with the checker that it is compared with.
 //! [`reading`] is the plain reading and the settling rules word for word, slow and easy to believe.
 //! [`linear`] gives the same verdicts in time proportional to the log, for logs of a million records; a test
-//! compares the two. [`model`] is a point as the paper describes it: what each call must answer.
+//! compares the two. [`model`] is a point as the paper describes it: what each call must answer. [`typed`] reads rules
+//! that are typed as text.
 
 pub mod cases;
 pub mod linear;
@@ -12,3 +13,4 @@ pub mod model;
 pub mod random;
 pub mod reading;
 pub mod rule;
+pub mod typed;

@@ -1,4 +1,4 @@
-//! The four functions of the archive, as include/havdrims.h declares and explains them.
+//! The functions of the archive, as include/havdrims.h declares and explains them.
 
 extern "C" {
     /// Words needed and reach of a rule.
@@ -36,4 +36,16 @@ extern "C" {
     /// # Safety
     /// See [`havdrims_measure`].
     pub fn havdrims_tally(sheet: *const u8, sheet_len: usize, no: *mut u64, yes: *mut u64) -> u32;
+
+    /// The rule that a text says.
+    ///
+    /// # Safety
+    /// See [`havdrims_measure`].
+    pub fn havdrims_parse(
+        text: *const u8,
+        text_len: usize,
+        rule: *mut u8,
+        rule_len: usize,
+        written: *mut u64,
+    ) -> u32;
 }

@@ -31,10 +31,13 @@ pub enum Refusal {
     FewerRecords,
     TimeFalls,
     SheetByte,
+    UnknownWord,
+    NotDerived,
+    ShortRule,
 }
 
 /// Every refusal, by its number less one, with the paper's words.
-const SENTENCES: [(Refusal, &str); 15] = [
+const SENTENCES: [(Refusal, &str); 18] = [
     (Refusal::RuleMark, "The rule is shorter than 8 bytes or lacks its mark."),
     (Refusal::RuleVersion, "The rule's version is not 1."),
     (Refusal::EntryCount, "The entry count is 0."),
@@ -61,10 +64,13 @@ const SENTENCES: [(Refusal, &str); 15] = [
          time is below the last time seen.",
     ),
     (Refusal::SheetByte, "A sheet given to tally has a byte above 1."),
+    (Refusal::UnknownWord, "A word, sign or form of number is unknown or the text is too long."),
+    (Refusal::NotDerived, "The grammar does not derive the text."),
+    (Refusal::ShortRule, "The lent rule buffer is short."),
 ];
 
 impl Refusal {
-    /// The paper's number, 1 to 15.
+    /// The paper's number, 1 to 18.
     pub fn number(self) -> u32 {
         self as u32
     }
@@ -105,7 +111,7 @@ mod tests {
     #[test]
     fn numbers_and_sentences() {
         assert_eq!(Refusal::from_number(0), None);
-        assert_eq!(Refusal::from_number(16), None);
+        assert_eq!(Refusal::from_number(19), None);
         for (at, (refusal, sentence)) in SENTENCES.into_iter().enumerate() {
             let number = at as u32 + 1;
             assert_eq!(refusal.number(), number);

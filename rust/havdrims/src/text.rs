@@ -107,8 +107,7 @@ impl Part {
     }
 }
 
-/// A rule as a formula, or the refusal that it meets. The words not, prev, next bind tightest, then since and until,
-/// grouping to the right, then or, grouping to the left.
+/// A rule as a formula, or the refusal that it meets: the text that [`crate::parse`] reads, with the fewest brackets.
 ///
 /// ```
 /// let rule = *b"KRL\x00\x01\x03\x00\x00\

@@ -1,6 +1,6 @@
-//! Turns a log typed as text into a .klg file and back, and shows a rule file as a formula.
+//! Turns a log typed as text into a .klg file and back, and a rule typed as text into a .krl file and back.
 
-use havdrims::{measure, text};
+use havdrims::{measure, parse, text, MOST_RULE};
 use std::env;
 use std::fs;
 use std::io::{self, Write};
@@ -9,10 +9,11 @@ use std::process::ExitCode;
 const USAGE: &str = "\
 kiosk-text to-log TEXT LOG     write the log file that the text describes
 kiosk-text to-text LOG         print a log file as text
+kiosk-text rule FORMULA RULE   write the rule file that the formula says
 kiosk-text formula RULE        print a rule file as a formula, its words and its reach
 
 A text has a line for each record, the seconds and then the letters, as in `12 e0 e3` or `12 none`.
-What follows a # is passed over.";
+What follows a # is passed over. A formula is one argument, as in 'not e2 or e0 until[0,90] e1'.";
 
 fn read(path: &str) -> Result<Vec<u8>, String> {
     fs::read(path).map_err(|fault| format!("{path}: {fault}"))
@@ -27,6 +28,13 @@ fn to_log(text: &str, log: &str) -> Result<String, String> {
 
 fn to_text(log: &str) -> Result<String, String> {
     text::log_to_text(&read(log)?).map_err(|refusal| format!("{log}: {refusal}"))
+}
+
+fn rule(formula: &str, path: &str) -> Result<String, String> {
+    let mut bytes = [0; MOST_RULE];
+    let size = parse(formula.as_bytes(), &mut bytes).map_err(|refusal| format!("`{formula}`: {refusal}"))?;
+    fs::write(path, &bytes[..size]).map_err(|fault| format!("{path}: {fault}"))?;
+    Ok(format!("{path}: {} entries\n", (size - 8) / 10))
 }
 
 fn formula(path: &str) -> Result<String, String> {
@@ -44,7 +52,8 @@ fn main() -> ExitCode {
     let answer = match words.as_slice() {
         ["to-log", text, log] => to_log(text, log),
         ["to-text", log] => to_text(log),
-        ["formula", rule] => formula(rule),
+        ["rule", typed, path] => rule(typed, path),
+        ["formula", path] => formula(path),
         _ => Err(USAGE.to_string()),
     };
     match answer {
