@@ -1,9 +1,9 @@
 -- What `parse` writes, `measure` accepts, with the words and the reach of the formula that the grammar derives.
-use Prim.Native.Nat.{ℕ, suc, _+_, _*_, _≤_, _<_}
+use Prim.Native.Nat.{ℕ, _+_}
 use native.Mathlib.Omega.{arith}
-use borrow.Author.Tests.{ltb-false, eqb-true, eqb-false, eq-eqb, ne-eqb}
-use mathlib.Core.Path.{_≡_, refl, sym, ap, subst, _∙_}
-use mathlib.Core.Bool.{Bool, true, false, cond}
+use borrow.Author.Tests.{ltb-false, eqb-true, eqb-false, eq-eqb}
+use mathlib.Core.Path.{_≡_, refl, sym, ap, _∙_}
+use mathlib.Core.Bool.{true, false}
 use mathlib.Core.List.{List, [], _++_}
 use mathlib.Core.Option.{Option, none, some}
 use lib.Dec.{ltb, eqb}
@@ -14,12 +14,12 @@ use Rattle.mtl.specs.Satisfaction.{any}
 use Rattle.rule.specs.Words.{words}
 use Rattle.rule.specs.Postfix.{postfix}
 use Rattle.rule.specs.Encoding.{encoded, rule-of}
-use Rattle.rule.specs.Refusal.{misplaced-at, lacking, over-limit, first}
+use Rattle.rule.specs.Refusal.{misplaced-at, over-limit, first}
 use Rattle.rule.specs.Measure.{reach-of, measured}
 use Rattle.rule.proofs.Headers.{first-zero}
 use Rattle.text.specs.Tokens.{tokens, unreadable}
 use Rattle.text.specs.Grammar.{Level, Derives, Derived}
-use Rattle.text.specs.Parse.{Answer, entries-refusal, entries-of, refusal, bytes, parsed, left, Parses}
+use Rattle.text.specs.Parse.{Answer, entries-refusal, refusal, bytes, parsed, left, Parses}
 use Rattle.text.specs.declared.Parsed.the-variants.{Written, Refused}
 use Rattle.text.proofs.Cases.{by}
 use Rattle.text.proofs.Encoded.{weighed}

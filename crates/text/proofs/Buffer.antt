@@ -3,14 +3,14 @@ use Prim.Native.Nat.{ℕ, suc, _+_, _-_, _*_, _≤_, _<_, min}
 use native.Mathlib.Numerals.{add-one}
 use native.Mathlib.Omega.{arith}
 use borrow.Author.Tests.{lt-ltb, le-ltb}
-use mathlib.Core.Path.{_≡_, refl, sym, ap, subst, _∙_}
+use mathlib.Core.Path.{_≡_, refl, sym, ap, _∙_}
 use mathlib.Core.Logic.{⊎-elim}
 use mathlib.Core.List.{List, [], _∷_, _++_, append-assoc, append-nil}
 use mathlib.Core.Bool.{cond}
 use Rattle.mtl.proofs.Bounded.{le-or-lt}
 use lib.Dec.{ltb}
 use lib.ListN.{length, take, drop, getD, set, length-append}
-use lib.Seq.{sets, sets-eq, take-at, length-take-le, drop-cons, set-at, append-snoc, take-suc}
+use lib.Seq.{sets-eq, take-at, length-take-le, drop-cons, set-at, append-snoc, take-suc}
 use Rattle.rule.specs.declared.Entry.{Entry}
 use Rattle.rule.specs.Encoding.{entry-bytes, body}
 use Rattle.text.specs.Reader.{start, Holds, Puts}

@@ -1,26 +1,26 @@
 -- A rule that is encoded from a formula's entries decodes to them, and what `measure` answers for it.
-use Prim.Native.Nat.{ℕ, zero, suc, _+_, _-_, _*_, _/_, _%_, _≤_, _<_}
+use Prim.Native.Nat.{ℕ, zero, suc, _+_, _-_, _*_, _≤_, _<_}
 use native.Mathlib.Nat.{not-suc-le-zero, le-of-suc-le-suc}
 use native.Mathlib.Omega.{arith}
-use borrow.Author.Tests.{lt-ltb, le-ltb, eq-eqb, ne-eqb}
-use mathlib.Core.Path.{_≡_, refl, sym, ap, ap₂, subst, _∙_}
-use mathlib.Core.Bool.{Bool, true, false, cond}
+use borrow.Author.Tests.{le-ltb, eq-eqb, ne-eqb}
+use mathlib.Core.Path.{_≡_, refl, sym, ap, ap₂, _∙_}
+use mathlib.Core.Bool.{Bool, false, cond}
 use mathlib.Core.List.{List, [], _∷_, _++_}
-use mathlib.Core.Option.{Option, none, some}
-use lib.Dec.{ltb, eqb}
+use mathlib.Core.Option.{some}
+use lib.Dec.{eqb}
 use lib.ListN.{length, getD, take, length-append, List·getD-append}
 use lib.Seq.{getD-append-add, ext-getD, getD-take, length-take-le}
 use Rattle.mtl.specs.Formula.{Formula}
 use Rattle.mtl.specs.Satisfaction.{any}
-use Rattle.mtl.proofs.Bounded.{any-congr, any-false-iff}
+use Rattle.mtl.proofs.Bounded.{any-congr}
 use Rattle.rule.specs.declared.Entry.{Entry}
 use Rattle.rule.specs.Bytes.{byte}
-use Rattle.rule.specs.Entries.{count, entry-of, decoded, blank, entry}
-use Rattle.rule.specs.Words.{own, offset, words, limit}
-use Rattle.rule.specs.Postfix.{read, sole, stack-after, formula, postfix}
+use Rattle.rule.specs.Entries.{entry-of, decoded, blank, entry}
+use Rattle.rule.specs.Words.{own, offset, words}
+use Rattle.rule.specs.Postfix.{read, sole, formula, postfix}
 use Rattle.rule.specs.Encoding.{entry-bytes, body, encoded}
-use Rattle.rule.specs.Refusal.{misshapen, misshapen-at, misplaced, misplaced-at, lacking, over-limit, first, header-refusal, entries-refusal, refusal}
-use Rattle.rule.specs.Measure.{Answer, reach-of, refused, answer-by, measured}
+use Rattle.rule.specs.Refusal.{misshapen, misshapen-at, misplaced, misplaced-at, over-limit, first, header-refusal, entries-refusal, refusal}
+use Rattle.rule.specs.Measure.{reach-of, refused, answer-by, measured}
 use Rattle.rule.proofs.Decoded.{length-decoded, decoded-at}
 use Rattle.rule.proofs.Flat.{read-postfix}
 

@@ -1,23 +1,21 @@
 -- The reader of tokens finds just what the grammar derives: what it finds is a derivation of the tokens before the rest, and
 -- every derivation is found. So no tokens have two derivations.
-use Prim.Native.Nat.{ℕ, zero, suc, _+_, _-_, _*_, _≤_, _<_}
+use Prim.Native.Nat.{ℕ, zero, suc, _+_, _-_}
 use native.Mathlib.Omega.{arith}
-use borrow.Author.Tests.{eqb-true, eq-eqb, ne-eqb}
-use mathlib.Core.Path.{_≡_, refl, sym, ap, subst, _∙_}
+use borrow.Author.Tests.{eqb-true, ne-eqb}
+use mathlib.Core.Path.{_≡_, refl, sym, ap, _∙_}
 use mathlib.Core.Logic.{⊎-elim}
-use mathlib.Core.Bool.{Bool, true, false, cond, _&&_, _||_}
-use mathlib.Core.List.{List, [], _∷_, _++_, append-assoc, append-nil}
+use mathlib.Core.Bool.{true, false, cond, _||_}
+use mathlib.Core.List.{List, [], _∷_, _++_, append-assoc}
 use mathlib.Core.Option.{Option, none, some}
 use lib.Dec.{eqb}
-use lib.ListN.{length, length-append}
-use Rattle.mtl.specs.Formula.{Formula}
 use Rattle.mtl.proofs.Bounded.{and-iff, or-iff, true-and-false}
 use Rattle.text.specs.Tokens.{Token}
 use Rattle.text.proofs.Cases.{by, nothing, same}
-use Rattle.text.specs.Grammar.{Level, End, Prefix, Infix, Tree, end-token, interval, spell-prefix, spell-infix, spell, meaning, Derives, Derived}
+use Rattle.text.specs.Grammar.{Level, Prefix, Infix, Tree, end-token, interval, spell-prefix, spell-infix, spell}
 use Rattle.text.specs.Grammar.Level.{ors, timed, prefixed, atom}
-use Rattle.text.specs.Grammar.Tree.{letter, brackets, tight, one, untimed, two, sole, or}
-use Rattle.text.specs.Reader.{kind, letter-value, number-value, first, first-letter, first-number, tail, Timing, end-of, bounded, timing, prefix-of, infix-of, before-operand, between-operands, Phrase, then, joined, closed, atom-by, prefixed-by, timed-by, ors-by, phrase}
+use Rattle.text.specs.Grammar.Tree.{letter, brackets, tight, one, untimed, two, or}
+use Rattle.text.specs.Reader.{kind, letter-value, number-value, first, first-letter, first-number, tail, Timing, end-of, bounded, timing, prefix-of, infix-of, before-operand, between-operands, Phrase, then, joined, closed, phrase}
 
 -- a token from its number and its values
 abbrev decode : ℕ → ℕ → ℕ → Token

@@ -1,6 +1,6 @@
 -- The levels of the reader: each way out of a level finds what the reader of tokens finds, and puts the entries of its formula
 -- behind those that the buffer has.
-use Prim.Native.Nat.{ℕ, zero, suc, _+_, _-_, _*_, _≤_, _<_}
+use Prim.Native.Nat.{ℕ, zero, suc, _+_, _-_, _≤_, _<_}
 use native.Mathlib.Nat.{le-of-suc-le-suc, not-suc-le-zero}
 use native.Mathlib.Omega.{arith}
 use borrow.Author.Tests.{eqb-true, eq-eqb, ne-eqb}
@@ -9,12 +9,12 @@ use mathlib.Core.Bool.{Bool, true, false, cond, _&&_, _||_}
 use mathlib.Core.List.{List, [], _∷_, _++_, append-assoc, append-nil}
 use mathlib.Core.Option.{Option, none, some}
 use lib.Dec.{eqb}
-use lib.ListN.{length, drop}
+use lib.ListN.{drop}
 use Rattle.mtl.specs.Formula.{Formula, unbounded}
 use Rattle.rule.specs.declared.Entry.{Entry}
 use Rattle.rule.specs.Postfix.{postfix}
 use Rattle.text.specs.Tokens.{Token, tokens}
-use Rattle.text.specs.Grammar.{Level, End, Prefix, Infix, Tree, meaning, bound, prefix-meaning, infix-meaning}
+use Rattle.text.specs.Grammar.{End, Prefix, Infix, Tree, meaning, bound, prefix-meaning, infix-meaning}
 use Rattle.text.specs.Grammar.Level.{ors, timed, prefixed, atom}
 use Rattle.text.specs.Grammar.End.{at}
 use Rattle.text.specs.Reader.{first, first-letter, first-number, tail, Lexed, Timing, end-of, bounded, timing, Timed, prefix-of, infix-of, before-operand, between-operands, Phrase, then, joined, closed, phrase, size, Holds, Puts, or-entry, Joins, written, given, Reads, Answers}

@@ -1,8 +1,8 @@
 -- Each way out of `parse`: the refusals in their order, and the rule that is written.
-use Prim.Native.Nat.{ℕ, suc, _+_, _*_, _≤_, _<_, min}
+use Prim.Native.Nat.{ℕ, suc, _+_, _*_, _≤_, _<_}
 use native.Mathlib.Omega.{arith}
-use borrow.Author.Tests.{lt-ltb, le-ltb, eqb-true, eqb-false, eq-eqb, ne-eqb}
-use mathlib.Core.Path.{_≡_, refl, sym, ap, ap₂, subst, _∙_}
+use borrow.Author.Tests.{lt-ltb, le-ltb, eq-eqb, ne-eqb}
+use mathlib.Core.Path.{_≡_, refl, sym, ap, subst, _∙_}
 use mathlib.Core.Bool.{Bool, true, false, cond, _||_}
 use mathlib.Core.List.{List, [], _∷_, _++_}
 use mathlib.Core.Option.{Option, none, some}
@@ -12,19 +12,18 @@ use lib.Seq.{take-set-lt}
 use Rattle.mtl.specs.Formula.{Formula}
 use Rattle.mtl.specs.Satisfaction.{any}
 use Rattle.rule.specs.declared.Entry.{Entry}
-use Rattle.rule.specs.declared.Measured.{Measured}
 use Rattle.rule.specs.declared.Measured.the-variants.{Words, Refused as Stopped}
 use Rattle.rule.specs.Words.{words}
 use Rattle.rule.specs.Postfix.{postfix}
 use Rattle.rule.specs.Encoding.{body, encoded, rule-of}
-use Rattle.rule.specs.Refusal.{misplaced-at, lacking, over-limit, first}
+use Rattle.rule.specs.Refusal.{misplaced-at, over-limit, first}
 use Rattle.rule.specs.Measure.{Answer, reach-of, refused, measured}
 use Rattle.rule.specs.Measure.{answer as measure-answer}
 use Rattle.text.specs.Tokens.{Token, tokens, some-unknown, unreadable}
-use Rattle.text.specs.Grammar.{Level, Tree, meaning, Derives, Derived}
+use Rattle.text.specs.Grammar.{meaning, Derived}
 use Rattle.text.specs.Grammar.Level.{ors}
-use Rattle.text.specs.Parse.{entries-refusal, entries-of, refusal, bytes, parsed, left, Parses}
-use Rattle.text.specs.Reader.{Lexed, size, start, Phrase, phrase, Holds, Reads, Answers}
+use Rattle.text.specs.Parse.{entries-refusal, refusal, bytes, Parses}
+use Rattle.text.specs.Reader.{Lexed, size, phrase, Holds, Reads, Answers}
 use Rattle.text.specs.Reader.{first as first-kind}
 use Rattle.text.specs.declared.Parsed.the-variants.{Written, Refused}
 use Rattle.text.specs.declared.token.Lexeme.{Lexeme}

@@ -1,9 +1,9 @@
 -- The letters of a text are those of document 01, and so every entry that is written has its shape.
-use Prim.Native.Nat.{ℕ, zero, suc, _+_, _*_, _/_, _%_, _≤_, _<_}
+use Prim.Native.Nat.{ℕ, zero, suc, _+_, _*_, _/_, _%_, _<_}
 use native.Mathlib.Nat.{not-suc-le-zero, le-of-suc-le-suc}
 use native.Mathlib.Omega.{arith}
 use borrow.Author.Tests.{ltb-true, le-ltb}
-use mathlib.Core.Path.{_≡_, refl, sym, ap, subst, _∙_}
+use mathlib.Core.Path.{_≡_, refl, sym, subst}
 use mathlib.Core.Bool.{Bool, true, false, cond}
 use mathlib.Core.List.{List, [], _∷_, _++_}
 use lib.Dec.{ltb, eqb}
@@ -12,7 +12,6 @@ use Rattle.mtl.specs.Formula.{Formula}
 use Rattle.mtl.specs.Satisfaction.{any}
 use Rattle.mtl.proofs.Bounded.{any-false-iff}
 use Rattle.rule.specs.declared.Entry.{Entry}
-use Rattle.rule.specs.Entries.{entry}
 use Rattle.rule.specs.Postfix.{root, postfix}
 use Rattle.rule.specs.Refusal.{misshapen, misshapen-at}
 use Rattle.text.specs.Tokens.{Token, runs, lettered, numbered, numeral, word, sign, signed, tokens-from, tokens}

@@ -1,11 +1,9 @@
 -- A run's word, by the tests that the code makes.
-use Prim.Native.Nat.{ℕ, _+_, _*_, _/_, _%_, _≤_, _<_}
+use Prim.Native.Nat.{ℕ, _/_, _%_, _≤_, _<_}
 use native.Mathlib.Omega.{arith}
 use borrow.Author.Tests.{lt-ltb, le-ltb, eq-eqb, ne-eqb}
-use mathlib.Core.Path.{_≡_, refl, sym, ap, subst, _∙_}
-use mathlib.Core.Bool.{cond}
-use lib.Dec.{ltb, eqb}
-use Rattle.text.specs.Tokens.{Token, single, extended, longer, numeral, lettered, numbered, letter-or-number, word}
+use mathlib.Core.Path.{_≡_, sym, ap, subst, _∙_}
+use Rattle.text.specs.Tokens.{Token, single, longer, numeral, lettered, numbered, letter-or-number, word}
 use Rattle.text.specs.Reader.{kind, letter-value, number-value, Marks}
 use Rattle.text.specs.declared.token.Mark.{Mark}
 

@@ -1,7 +1,7 @@
 -- What `parse` promises. Paper 1: "16 when a word, sign or form of number is unknown or the text is too long; 17 when the grammar
 -- does not derive it; then 4 for more than 128 entries, then 6 and 8; last 18 when the lent rule buffer is short."
 use Prim.Native.Nat.{ℕ, _+_, _*_}
-use mathlib.Core.Bool.{Bool, cond}
+use mathlib.Core.Bool.{cond}
 use mathlib.Core.Path.{_≡_}
 use mathlib.Core.List.{List, [], _++_}
 use mathlib.Core.Option.{Option, none, some}

@@ -3,8 +3,7 @@ ghost use mathlib.Core.Path.{_≡_};
 ghost use mathlib.Core.Bool.{cond};
 ghost use Prim.Native.Nat.{_+_, _*_, _≤_, _<_};
 ghost use lib.Dec.{ltb};
-ghost use lib.ListN.{length, drop, getD};
-ghost use Rattle.text.specs.Tokens.{runs, single, extended, longer, numeral, lettered, numbered, letter-or-number, word, tokens, tokens-from, some-unknown};
+ghost use Rattle.text.specs.Tokens.{runs, single, extended, longer, numeral, lettered, numbered, letter-or-number, word, tokens, some-unknown};
 ghost use Rattle.text.specs.Tokens.{sign as sign-of};
 ghost use Rattle.text.specs.Reader.{kind, Marks, Skips, RunsTo, Lexed};
 

@@ -7,8 +7,6 @@ use Rattle.text.proofs.Buffer.{ten}
 use borrow.Author.Needs.{needs}
 use Rattle.text.proofs.entries.put.Statement.{statement}
 use Rattle.text.proofs.entries.put.Tie as tie
-use Rattle.text.proofs.entries.put.Reads as reads
-use Rattle.text.proofs.entries.put.Lts as lts
 
 -- src/entries.rt:29:9
 returns : tie.Need-returns

@@ -2,8 +2,6 @@ use borrow.Author.Needs.{needs}
 use borrow.Author.Tests.{eq-eqb, ne-eqb}
 use Rattle.text.proofs.level.end.Statement.{statement}
 use Rattle.text.proofs.level.end.Tie as tie
-use Rattle.text.proofs.level.end.Reads as reads
-use Rattle.text.proofs.level.end.Lts as lts
 
 -- src/level.rt:60:1
 returns : tie.Need-returns

@@ -1,12 +1,9 @@
-use mathlib.Core.Path.{_≡_, refl, subst, sym}
+use mathlib.Core.Path.{refl, subst, sym}
 use mathlib.Core.Bool.{Bool}
 use Rattle.text.specs.Reader.{Joins}
 use borrow.Author.Needs.{needs}
 use Rattle.text.proofs.level.join.Statement.{statement}
 use Rattle.text.proofs.level.join.Tie as tie
-use Rattle.text.proofs.level.join.Reads as reads
-use Rattle.text.proofs.level.join.Lts as lts
-use Rattle.text.proofs.entries.put.Reads as put-reads
 
 -- src/level.rt:158:9
 put-requires : tie.Need-put-requires

@@ -2,8 +2,6 @@
 use borrow.Author.Needs.{needs}
 use native.Mathlib.Omega.{arith}
 use borrow.Author.Tests.{eq-eqb, ne-eqb, lt-ltb, le-ltb}
-use mathlib.Core.Path.{ap, _∙_, sym}
-use Rattle.text.specs.Tokens.{single}
 use Rattle.text.proofs.token.extend.Statement.{statement}
 use Rattle.text.proofs.token.extend.Tie as tie
 

@@ -2,8 +2,6 @@ use borrow.Author.Tests.{lt-ltb, le-ltb}
 use borrow.Author.Needs.{needs}
 use Rattle.text.proofs.token.grow.Statement.{statement}
 use Rattle.text.proofs.token.grow.Tie as tie
-use Rattle.text.proofs.token.grow.Reads as reads
-use Rattle.text.proofs.token.grow.Lts as lts
 
 -- src/token.rt:212:9
 mul-result : tie.Need-mul-result

@@ -2,10 +2,6 @@ use borrow.Author.Tests.{lt-ltb, le-ltb}
 use borrow.Author.Needs.{needs}
 use Rattle.text.proofs.token.lengthen.Statement.{statement}
 use Rattle.text.proofs.token.lengthen.Tie as tie
-use Rattle.text.proofs.token.lengthen.Reads as reads
-use Rattle.text.proofs.token.lengthen.Lts as lts
-use Rattle.text.proofs.token.extend.Reads as extend-reads
-use Rattle.text.proofs.token.single_digit.Reads as single-digit-reads
 
 -- src/token.rt:85:9
 single-digit-requires : tie.Need-single-digit-requires

@@ -2,8 +2,6 @@ use Rattle.text.proofs.Words.{letter-within, letter-beyond}
 use borrow.Author.Needs.{needs}
 use Rattle.text.proofs.token.letter_mark.Statement.{statement}
 use Rattle.text.proofs.token.letter_mark.Tie as tie
-use Rattle.text.proofs.token.letter_mark.Reads as reads
-use Rattle.text.proofs.token.letter_mark.Lts as lts
 
 -- src/token.rt:103:21
 cast-t4 : tie.Need-cast-t4

@@ -2,11 +2,6 @@ use Rattle.text.proofs.Words.{short-letter, long-letter, plain-number}
 use borrow.Author.Needs.{needs}
 use Rattle.text.proofs.token.letter_or_number.Statement.{statement}
 use Rattle.text.proofs.token.letter_or_number.Tie as tie
-use Rattle.text.proofs.token.letter_or_number.Reads as reads
-use Rattle.text.proofs.token.letter_or_number.Lts as lts
-use Rattle.text.proofs.token.letter_mark.Reads as letter-mark-reads
-use Rattle.text.proofs.token.number.Reads as number-reads
-use Rattle.text.proofs.token.number_mark.Reads as number-mark-reads
 
 -- src/token.rt:137:21
 number-requires : tie.Need-number-requires

@@ -1,10 +1,6 @@
 use borrow.Author.Needs.{needs}
 use Rattle.text.proofs.token.number.Statement.{statement}
 use Rattle.text.proofs.token.number.Tie as tie
-use Rattle.text.proofs.token.number.Reads as reads
-use Rattle.text.proofs.token.number.Lts as lts
-use Rattle.text.proofs.token.lengthen.Reads as lengthen-reads
-use Rattle.text.proofs.token.single_digit.Reads as single-digit-reads
 
 -- src/token.rt:94:61
 single-digit-requires : tie.Need-single-digit-requires

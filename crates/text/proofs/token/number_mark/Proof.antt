@@ -2,8 +2,6 @@ use borrow.Author.Needs.{needs}
 use Rattle.text.proofs.Words.{number-within, number-beyond}
 use Rattle.text.proofs.token.number_mark.Statement.{statement}
 use Rattle.text.proofs.token.number_mark.Tie as tie
-use Rattle.text.proofs.token.number_mark.Reads as reads
-use Rattle.text.proofs.token.number_mark.Lts as lts
 
 -- src/token.rt:115:1
 returns : tie.Need-returns

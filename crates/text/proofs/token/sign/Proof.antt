@@ -3,8 +3,6 @@ use borrow.Author.Tests.{eq-eqb, ne-eqb}
 use Rattle.text.specs.Tokens.{sign}
 use Rattle.text.proofs.token.sign.Statement.{statement}
 use Rattle.text.proofs.token.sign.Tie as tie
-use Rattle.text.proofs.token.sign.Reads as reads
-use Rattle.text.proofs.token.sign.Lts as lts
 
 -- src/token.rt:178:1
 returns : tie.Need-returns

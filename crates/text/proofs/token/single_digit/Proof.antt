@@ -1,6 +1,5 @@
 -- `text::token::single_digit` meets its contract: the tests are those of `single`.
 use borrow.Author.Needs.{needs}
-use native.Mathlib.Omega.{arith}
 use borrow.Author.Tests.{lt-ltb, le-ltb}
 use Rattle.text.proofs.token.single_digit.Statement.{statement}
 use Rattle.text.proofs.token.single_digit.Tie as tie

@@ -1,9 +1,9 @@
 -- `text::token::skip` meets its contract: a space passed leaves the tokens.
 use borrow.Author.Needs.{needs}
 use native.Mathlib.Omega.{arith}
-use Prim.Native.Nat.{_≤_, _-_, _+_}
+use Prim.Native.Nat.{_≤_, _-_}
 use mathlib.Core.Path.{_≡_, refl, sym, _∙_}
-use lib.ListN.{length, drop, getD}
+use lib.ListN.{length, drop}
 use Rattle.text.specs.Tokens.{tokens}
 use Rattle.text.proofs.Lexing.{inside, space}
 use Rattle.text.proofs.token.skip.Statement.{statement}

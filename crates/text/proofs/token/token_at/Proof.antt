@@ -1,6 +1,5 @@
 -- `text::token::token_at` meets its contract: behind spaces stands a run, a sign or the end.
 use borrow.Author.Needs.{needs}
-use native.Mathlib.Omega.{arith}
 use mathlib.Core.Path.{refl, sym, ap, _∙_}
 use Rattle.text.specs.Tokens.{runs, sign}
 use Rattle.text.specs.Reader.{kind}

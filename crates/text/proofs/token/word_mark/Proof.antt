@@ -1,6 +1,5 @@
 -- `text::token::word_mark` meets its contract: the tests are those of `word`.
 use borrow.Author.Needs.{needs}
-use native.Mathlib.Omega.{arith}
 use mathlib.Core.Path.{refl}
 use Rattle.text.specs.Tokens.{Token, word}
 use Rattle.text.proofs.Words.{marks-as, bare-word, other-word}
