@@ -9,10 +9,10 @@ use lib.Dec.{eqb}
 use lib.ListN.{length, length-append}
 use Rattle.mtl.specs.Formula.{Formula}
 use Rattle.text.specs.Tokens.{Token}
-use Rattle.text.specs.Grammar.{Level, End, Prefix, Infix, Tree, spell-prefix, spell-infix, spell, meaning, Derives, Derived}
+use Rattle.text.specs.Grammar.{Level, End, Prefix, Infix, Tree, interval, spell-prefix, spell-infix, spell, meaning, Derives, Derived}
 use Rattle.text.specs.Grammar.Level.{ors, timed, prefixed, atom}
 use Rattle.text.specs.Grammar.Tree.{letter, brackets, tight, one, untimed, two, sole, or}
-use Rattle.text.specs.Reader.{first, tail, timing, before-operand, between-operands, Phrase, then, closed, phrase}
+use Rattle.text.specs.Reader.{first, tail, Timing, timing, prefix-of, infix-of, before-operand, between-operands, Phrase, then, closed, phrase}
 use Rattle.text.proofs.Cases.{nothing, same}
 use Rattle.text.proofs.Grammar.{sound}
 
@@ -96,6 +96,22 @@ unfolding spell
 atom-front (letter k) rest = refl
 atom-front (brackets t) rest = refl
 
+-- an interval that is written is read
+timing-back : (k low : ℕ) (high : End) (rest : List Token) → eqb k 1 ≡ false
+    → timing k (interval low high ++ rest) ≡ some (record { low = low; high = high; rest = rest })
+unfolding timing
+timing-back k low (End.at m) rest e = simp e
+timing-back k low End.inf rest e = simp e
+
+-- a word of this number with its interval, and then its operand
+abbrev ones : ℕ → ℕ → Timing → Option (Phrase prefixed)
+ones f k w =
+    then (phrase f prefixed none (w .rest)) (λ (p : Phrase prefixed). some (record { tree = one (prefix-of k w) (p .tree); rest = p .rest }))
+
+abbrev twos : ℕ → Tree prefixed → ℕ → Timing → Option (Phrase timed)
+twos f t k w =
+    then (phrase f timed none (w .rest)) (λ (p : Phrase timed). some (record { tree = two t (infix-of k w) (p .tree); rest = p .rest }))
+
 regroup : (t : Tree prefixed) (o : Infix) (u : Tree timed) (rest : List Token)
     → (spell t ++ (spell-infix o ++ spell u)) ++ rest ≡ spell t ++ (spell-infix o ++ (spell u ++ rest))
 regroup t o u rest =
@@ -121,43 +137,29 @@ complete (one Prefix.not t) zero rest h n = absurd (omega arith)
 complete (one Prefix.not t) (suc f) rest h n =
     ap (λ (o : Option (Phrase prefixed)). then o (λ (p : Phrase prefixed). some (record { tree = one Prefix.not (p .tree); rest = p .rest })))
     (complete t f rest (omega arith) refl)
-complete (one (Prefix.prev low (End.at m)) t) zero rest h n = absurd (omega arith)
-complete (one (Prefix.prev low (End.at m)) t) (suc f) rest h n =
-    ap (λ (o : Option (Phrase prefixed)). then o (λ (p : Phrase prefixed). some (record { tree = one (Prefix.prev low (End.at m)) (p .tree); rest = p .rest })))
+complete (one (Prefix.prev low high) t) zero rest h n = absurd (omega arith)
+complete (one (Prefix.prev low high) t) (suc f) rest h n =
+    ap (λ (o : Option Timing). then o (ones f 3)) (timing-back 3 low high (spell t ++ rest) refl)
+    ∙ ap (λ (o : Option (Phrase prefixed)). then o (λ (p : Phrase prefixed). some (record { tree = one (Prefix.prev low high) (p .tree); rest = p .rest })))
     (complete t f rest (omega arith) refl)
-complete (one (Prefix.prev low End.inf) t) zero rest h n = absurd (omega arith)
-complete (one (Prefix.prev low End.inf) t) (suc f) rest h n =
-    ap (λ (o : Option (Phrase prefixed)). then o (λ (p : Phrase prefixed). some (record { tree = one (Prefix.prev low End.inf) (p .tree); rest = p .rest })))
-    (complete t f rest (omega arith) refl)
-complete (one (Prefix.next low (End.at m)) t) zero rest h n = absurd (omega arith)
-complete (one (Prefix.next low (End.at m)) t) (suc f) rest h n =
-    ap (λ (o : Option (Phrase prefixed)). then o (λ (p : Phrase prefixed). some (record { tree = one (Prefix.next low (End.at m)) (p .tree); rest = p .rest })))
-    (complete t f rest (omega arith) refl)
-complete (one (Prefix.next low End.inf) t) zero rest h n = absurd (omega arith)
-complete (one (Prefix.next low End.inf) t) (suc f) rest h n =
-    ap (λ (o : Option (Phrase prefixed)). then o (λ (p : Phrase prefixed). some (record { tree = one (Prefix.next low End.inf) (p .tree); rest = p .rest })))
+complete (one (Prefix.next low high) t) zero rest h n = absurd (omega arith)
+complete (one (Prefix.next low high) t) (suc f) rest h n =
+    ap (λ (o : Option Timing). then o (ones f 4)) (timing-back 4 low high (spell t ++ rest) refl)
+    ∙ ap (λ (o : Option (Phrase prefixed)). then o (λ (p : Phrase prefixed). some (record { tree = one (Prefix.next low high) (p .tree); rest = p .rest })))
     (complete t f rest (omega arith) refl)
 complete (untimed t) zero rest h n = absurd (omega arith)
 complete (untimed t) (suc f) rest h n = rw (complete t f rest (omega arith) refl) (simp n)
-complete (two t (Infix.since low (End.at m)) u) zero rest h n = absurd (omega arith)
-complete (two t (Infix.since low (End.at m)) u) (suc f) rest h n =
-    rw (regroup t (Infix.since low (End.at m)) u rest, complete t f (spell-infix (Infix.since low (End.at m)) ++ (spell u ++ rest)) (omega arith) refl)
-    (ap (λ (o : Option (Phrase timed)). then o (λ (p : Phrase timed). some (record { tree = two t (Infix.since low (End.at m)) (p .tree); rest = p .rest })))
+complete (two t (Infix.since low high) u) zero rest h n = absurd (omega arith)
+complete (two t (Infix.since low high) u) (suc f) rest h n =
+    rw (regroup t (Infix.since low high) u rest, complete t f (spell-infix (Infix.since low high) ++ (spell u ++ rest)) (omega arith) refl)
+    (ap (λ (o : Option Timing). then o (twos f t 5)) (timing-back 5 low high (spell u ++ rest) refl)
+    ∙ ap (λ (o : Option (Phrase timed)). then o (λ (p : Phrase timed). some (record { tree = two t (Infix.since low high) (p .tree); rest = p .rest })))
     (complete u f rest (omega arith) n))
-complete (two t (Infix.since low End.inf) u) zero rest h n = absurd (omega arith)
-complete (two t (Infix.since low End.inf) u) (suc f) rest h n =
-    rw (regroup t (Infix.since low End.inf) u rest, complete t f (spell-infix (Infix.since low End.inf) ++ (spell u ++ rest)) (omega arith) refl)
-    (ap (λ (o : Option (Phrase timed)). then o (λ (p : Phrase timed). some (record { tree = two t (Infix.since low End.inf) (p .tree); rest = p .rest })))
-    (complete u f rest (omega arith) n))
-complete (two t (Infix.until low (End.at m)) u) zero rest h n = absurd (omega arith)
-complete (two t (Infix.until low (End.at m)) u) (suc f) rest h n =
-    rw (regroup t (Infix.until low (End.at m)) u rest, complete t f (spell-infix (Infix.until low (End.at m)) ++ (spell u ++ rest)) (omega arith) refl)
-    (ap (λ (o : Option (Phrase timed)). then o (λ (p : Phrase timed). some (record { tree = two t (Infix.until low (End.at m)) (p .tree); rest = p .rest })))
-    (complete u f rest (omega arith) n))
-complete (two t (Infix.until low End.inf) u) zero rest h n = absurd (omega arith)
-complete (two t (Infix.until low End.inf) u) (suc f) rest h n =
-    rw (regroup t (Infix.until low End.inf) u rest, complete t f (spell-infix (Infix.until low End.inf) ++ (spell u ++ rest)) (omega arith) refl)
-    (ap (λ (o : Option (Phrase timed)). then o (λ (p : Phrase timed). some (record { tree = two t (Infix.until low End.inf) (p .tree); rest = p .rest })))
+complete (two t (Infix.until low high) u) zero rest h n = absurd (omega arith)
+complete (two t (Infix.until low high) u) (suc f) rest h n =
+    rw (regroup t (Infix.until low high) u rest, complete t f (spell-infix (Infix.until low high) ++ (spell u ++ rest)) (omega arith) refl)
+    (ap (λ (o : Option Timing). then o (twos f t 6)) (timing-back 6 low high (spell u ++ rest) refl)
+    ∙ ap (λ (o : Option (Phrase timed)). then o (λ (p : Phrase timed). some (record { tree = two t (Infix.until low high) (p .tree); rest = p .rest })))
     (complete u f rest (omega arith) n))
 complete (sole t) zero rest h n = absurd (omega arith)
 complete (sole t) (suc f) rest h n =
