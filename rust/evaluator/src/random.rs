@@ -194,7 +194,10 @@ pub fn text(r: &mut Random, entries: &[Entry]) -> String {
             }
         };
         let part = match e.kind {
-            NOT => (format!("not{}", behind(r, &operand(r, &mut parts, PREFIX_BINDS))), PREFIX_BINDS),
+            NOT => {
+                let inner = operand(r, &mut parts, PREFIX_BINDS);
+                (format!("not{}", behind(r, &inner)), PREFIX_BINDS)
+            }
             PREVIOUS | NEXT => {
                 let inner = operand(r, &mut parts, PREFIX_BINDS);
                 (format!("{}{}{inner}", timed_word(r, e), spaces(r, 0)), PREFIX_BINDS)

@@ -1,7 +1,7 @@
 //! Rules typed as text: the archive against the reader that is written from the paper alone.
 
 use evaluator::random::{self, Random, RuleShape};
-use evaluator::rule;
+use evaluator::rule::{self, Entry};
 use evaluator::typed::{self, Token};
 use havdrims::text::formula;
 use havdrims::{ffi, parse, Refusal, MOST_RULE};
@@ -56,10 +56,14 @@ fn random_texts() {
     let mut r = Random::new(1);
     let mut counts: BTreeMap<u32, usize> = BTreeMap::new();
     for _ in 0..60_000 {
-        let most = r.pick(&[1, 3, 8, 30, 128, 140]);
+        let most = r.pick(&[1, 3, 8, 30, 128, 180]);
         let high = r.pick(&[2, 90, 700, 3600, 3605]);
         let size = r.from_to(1, most);
-        let entries = random::entries(&mut r, RuleShape { entries: most, letters: 32, high }, size);
+        let mut entries = random::entries(&mut r, RuleShape { entries: most, letters: 32, high }, size);
+        if size > 100 || r.one_in(20) {
+            // without intervals, so that a long one still fits into a text
+            entries = entries.iter().map(|e| [*e, Entry::not(), Entry::or()][e.operands()]).collect();
+        }
         let mut text = random::text(&mut r, &entries).into_bytes();
         match r.below(4) {
             0 => random::damage(&mut r, &mut text),
@@ -117,7 +121,7 @@ fn every_short_string() {
         }
     }
     eprintln!("{derived} of {all} strings are derived");
-    assert!(derived > 300);
+    assert!(derived > 100);
 }
 
 /// A rule shown as a formula, and the formula read back.
