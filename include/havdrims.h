@@ -10,7 +10,7 @@ extern "C" {
 #endif
 
 /*
- * For every call:
+ * For all calls:
  *
  * The result is 0 if the call was accepted, otherwise the number of its refusal, the first of the list below that
  * applies. A refused call changes nothing: every buffer keeps its bytes and words, and so do the numbers behind
@@ -24,11 +24,11 @@ extern "C" {
  * A length counts the elements of its buffer: bytes, or 64-bit words for a point. A buffer of length 0 is not
  * touched, and its pointer may be null. Words are aligned as uint64_t is.
  *
- * The last two pointers of measure, resume and tally and the last one of parse each point to a number of the caller's
- * and are never null.
+ * The last two pointers of measure, resume and tally, the last of parse and of worst_log, and the last four of simulate each point
+ * to a number of the caller's and are never null.
  *
- * What a call writes (point, sheet, parse's rule, the numbers behind its last pointers) shares no byte with anything
- * else that the call is given. What it only reads may overlap.
+ * What a call writes (point, sheet, a rule or log that it makes, the numbers behind its last pointers) shares no byte with
+ * anything else that the call is given. What it only reads may overlap.
  *
  * The formats of rule, log and sheet are those of docs/FORMATS.md. A point's words are the library's own, in the
  * byte order of the machine: save them and hand them back as they are.
@@ -39,13 +39,14 @@ extern "C" {
 enum havdrims_refusal {
     HAVDRIMS_RULE_MARK = 1,       /* the rule is shorter than 8 bytes or lacks its mark */
     HAVDRIMS_RULE_VERSION = 2,    /* the rule's version is not 1 */
-    HAVDRIMS_ENTRY_COUNT = 3,     /* the entry count is 0 */
+                                  /* 3 no longer occurs: a rule without entries says yes at every position */
     HAVDRIMS_RULE_LENGTH = 4,     /* the count is above 128, a spare byte is not zero, or the length is not
                                      8 + 10 * count */
     HAVDRIMS_ENTRY_FIELD = 5,     /* some kind is above 6, some letter above 31, or some unused field not zero */
     HAVDRIMS_INTERVAL = 6,        /* some low or finite high is above 3,600, some low is above its high, or until has
                                      no upper end */
-    HAVDRIMS_SHAPE = 7,           /* some entry lacks an operand, or the whole leaves other than one formula */
+    HAVDRIMS_SHAPE = 7,           /* some entry lacks an operand, or the whole leaves other than one formula and the
+                                     count is not 0 */
     HAVDRIMS_TOO_MANY_WORDS = 8,  /* the need is above 8,192 words */
     HAVDRIMS_SHORT_POINT = 9,     /* the lent point is shorter than the need */
     HAVDRIMS_FOREIGN_POINT = 10,  /* the point does not begin as a point of this library with a copy of this rule */
@@ -60,7 +61,11 @@ enum havdrims_refusal {
     HAVDRIMS_UNKNOWN_WORD = 16,   /* a word, sign or form of number of a text is unknown, or it has more than 1,024
                                      bytes */
     HAVDRIMS_NOT_DERIVED = 17,    /* the grammar does not derive the text */
-    HAVDRIMS_SHORT_RULE = 18      /* the lent rule buffer is short */
+    HAVDRIMS_SHORT_RULE = 18,     /* the lent rule buffer is short */
+    HAVDRIMS_LOG_ROOM = 19,       /* the number of records is above 1,000,000, or the lent log buffer is under
+                                     8 + 8 * records bytes */
+    HAVDRIMS_SETTINGS = 26        /* a setting, the seconds or the seed given to simulate is outside its range, or the
+                                     lent log buffer is short */
 };
 
 /* No position of the rule is sure to be answered after any time: the reach of a rule with next. */
@@ -82,7 +87,7 @@ enum havdrims_refusal {
 /*
  * Weighs a rule of rule_len bytes.
  *
- * *words becomes the number of words that a point of this rule needs, 32 to 8,192. *reach becomes the rule's reach
+ * *words becomes the number of words that a point of this rule needs, 16 to 8,192. *reach becomes the rule's reach
  * in seconds: a record has its verdict, at the latest, once the log has a record more than that much later; or
  * HAVDRIMS_NO_REACH.
  *
@@ -141,6 +146,45 @@ uint32_t havdrims_tally(const uint8_t *sheet, size_t sheet_len, uint64_t *no, ui
  * Refusals, in this order: 16, 17, then 4 (more than 128 entries), 6, 8, and 18.
  */
 uint32_t havdrims_parse(const uint8_t *text, size_t text_len, uint8_t *rule, size_t rule_len, uint64_t *written);
+
+/*
+ * Writes the log that keeps most seconds waiting: for the rule "letter 0 until letter 1, within low to high seconds",
+ * a log of exactly `records` records none of which is settled, and among whose times are as many distinct ones as the
+ * open records of any log of `records` records can have: the smaller of `records` and high + 1. Record i has letter 0
+ * alone, and as its time the smaller of i and high.
+ *
+ * log      takes the log, header included. Its bytes behind the log are kept.
+ *
+ * *written becomes the log's length, 8 + 8 * records bytes.
+ *
+ * Refusals: 6 for the interval, as of an until in a rule; then 19.
+ */
+uint32_t havdrims_worst_log(uint32_t low, uint32_t high, uint64_t records, uint8_t *log, size_t log_len,
+                            uint64_t *written);
+
+/*
+ * A kiosk to try settings on: simulates so many seconds of it, from time 0, with the head off and nobody there, and
+ * writes its log, a record for each second, into the first 8 + 8 * seconds bytes of `log`. The bytes behind are kept.
+ *
+ * seconds      0 to 3,600
+ * warm_up      how long the head takes to warm up, 1 to 600 seconds
+ * print_time   how long a print takes, 1 to 600 seconds
+ * switch_off   how long a warm head is idle before it goes off, 1 to 3,600 seconds
+ * mean_gap     1 to 3,600: a customer joins in a second whose draw is divisible by it
+ * seed         the generator's first state, not 0; the same seed gives the same customers
+ *
+ * In the log letter 0 stands in a second that ends with a warm head, letter 1 where a print begins, letter 2 where a
+ * customer joins, and letter 3 where a print ends.
+ *
+ * *written becomes the log's length in bytes, *finished the number of prints that ended, *printing 1 if a print goes
+ * on at the end and else 0, *waiting the number of customers whose print has not begun. The last three sum to the
+ * customers who joined.
+ *
+ * Refusal: 26.
+ */
+uint32_t havdrims_simulate(uint32_t seconds, uint32_t warm_up, uint32_t print_time, uint32_t switch_off,
+                           uint32_t mean_gap, uint32_t seed, uint8_t *log, size_t log_len,
+                           uint64_t *written, uint64_t *finished, uint64_t *printing, uint64_t *waiting);
 
 #ifdef __cplusplus
 }

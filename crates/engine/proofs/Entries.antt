@@ -18,7 +18,7 @@ use Rattle.rule.specs.Entries.{entry}
 use Rattle.rule.specs.Words.{ring-words, own-words, own, offset}
 use Rattle.rule.specs.Postfix.{root}
 use Rattle.rule.specs.Operands.{operands, span, left, part, FormulaAt, Unary, Binary}
-use Rattle.rule.specs.Accepted.{WellFormed}
+use Rattle.rule.specs.Accepted.{WellFormed, One}
 use Rattle.rule.proofs.Spans.{own-least, offset-mono}
 use Rattle.engine.specs.Block.{word, taken, left-count, right-count, kind-of, letter-of, low-of, high-of, Copied, FreshBlock, cells-of, InRange, Own, Core, Buffers, Ready}
 use Rattle.engine.specs.State.{words, Parts, Absent, State}
@@ -397,28 +397,33 @@ state-ranges t n ok W (until low high φ ψ) k h (e, b, f, f′) L g s =
     ranged-two t n ok W (until low high φ ψ) φ ψ k h e refl f f′ L g s (state-ranges t n ok W φ (left t k) (omega arith) f L)
     (state-ranges t n ok W ψ (k - 1) (omega arith) f′ L)
 
--- THEOREMS, of a whole rule: its formula is the one that ends at its last entry.
-module _ (t : List Entry) (n : ℕ) (ok : WellFormed t n) (some : 0 < n) (whole : span t (n - 1) ≡ n) (φ : Formula) (last : FormulaAt t (n - 1) φ)
-    (W : List ℕ) where
+-- THEOREMS, of a whole rule whose entries are one formula.
+module _ (t : List Entry) (n : ℕ) (ok : WellFormed t n) (φ : Formula) (one : One t n φ) (W : List ℕ) where
+  rule-last : n - 1 < n
+  rule-last = let some = one .some-entries in omega arith
+
+  rule-first : first t (n - 1) ≡ 0
+  rule-first = let some = one .some-entries in let whole = one .spans-all in omega arith
+
   rule-words : part-words t (n - 1) W ≡ take (words φ) W
   unfolding offset
   rule-words =
-      let z : first t (n - 1) ≡ 0 = omega arith in
-      ap₂ (λ w x. take w (drop (offset t x) W)) (words-at t n ok φ (n - 1) (omega arith) last) z
+      ap₂ (λ w x. take w (drop (offset t x) W)) (words-at t n ok φ (n - 1) rule-last (one .at-last)) rule-first
 
   -- the words behind the header are those of the formula
   pub rule-size : offset t n ≡ words φ
   rule-size =
-      let w = words-at t n ok φ (n - 1) (omega arith) last in
-      let r = ok .words-are in
+      let w = words-at t n ok φ (n - 1) rule-last (one .at-last) in
+      let r = one .words-are in
       omega arith
 
   pub fresh-rule : offset t n ≤ length W →
       ((j : ℕ) → j < n → FreshBlock (entry t j .kind) (entry t j .letter) (entry t j .low) (entry t j .high) (drop (offset t j) W)) →
       (L : Log) → State φ L 0 (take (words φ) W)
   fresh-rule room fresh L =
-      rw rule-words at (fresh-state t n ok W room φ (n - 1) (omega arith) last L (λ j l l′. fresh j (omega arith)))
+      let last = rule-last in
+      rw rule-words at (fresh-state t n ok W room φ (n - 1) last (one .at-last) L (λ j l l′. fresh j (omega arith)))
 
   pub rule-ranges : (L : Log) (g : ℕ) → State φ L g (take (words φ) W) → (j : ℕ) → j < n → Ranged t W (L .size) j
   rule-ranges L g s j h =
-      state-ranges t n ok W φ (n - 1) (omega arith) last L g (rw rule-words s) j (omega arith) (omega arith)
+      state-ranges t n ok W φ (n - 1) rule-last (one .at-last) L g (rw rule-words s) j (omega (arith, rule-first)) (omega arith)

@@ -30,10 +30,16 @@ use Rattle.text.specs.declared.Parsed.the-variants.{Refused as Unparsed}
 use Rattle.text.specs.Parse.{Parses}
 use Rattle.text.specs.Parse.{answer as parse-of}
 use Rattle.text.proofs.Accepted.{refused-not-zero}
-use Rattle.havdrims.specs.Interface.{or-kept, flag, MeasureCall, OpenCall, ResumeCall, TallyCall, ParseCall}
+use Rattle.worst.specs.declared.Made.{Made}
+use Rattle.worst.specs.declared.Made.the-variants.{Length}
+use Rattle.worst.specs.declared.Made.the-variants.{Refused as Unmade}
+use Rattle.worst.specs.Call.{answered, Writes}
+use Rattle.worst.specs.Call.{Answer as Making, answer as made-of}
+use Rattle.worst.proofs.Outcome.{not-zero}
+use Rattle.havdrims.specs.Interface.{or-kept, flag, MeasureCall, OpenCall, ResumeCall, TallyCall, ParseCall, WorstLogCall}
 
 -- a number that is not 0 keeps what stood behind the pointer
-kept : (n old new : ℕ) → (n ≡ 0 → ⊥) → old ≡ or-kept n old new
+pub kept : (n old new : ℕ) → (n ≡ 0 → ⊥) → old ≡ or-kept n old new
 kept n old new h = rw (ne-eqb n 0 h)
 
 byte-is : (b : Bool) → boolByte b ≡ flag b
@@ -136,3 +142,19 @@ module _ (text rule : List ℕ) (old : ℕ) (o : Parsed) (rule′ : List ℕ) (h
         number = sym (ap (λ (p : Parsed). parse-of p .number) is);
         written = sym (ap (λ (p : Parsed). parse-of p .written) is);
       }
+
+module _ (low high n : ℕ) (log : List ℕ) (written : ℕ) (o : Made) (log′ : List ℕ) (h : Writes low high n log o log′) where
+  pub not-made : (k : ℕ) → o ≡ Unmade k → (r : ℕ) → r ≡ made-of o .number → WorstLogCall low high n log written r log′ written
+  not-made k is r number =
+      let q : Writes low high n log (Unmade k) log′ = subst (λ (m : Made). Writes low high n log m log′) is h in
+      let same : r ≡ k = number ∙ ap (λ (m : Made). made-of m .number) is in
+      record {
+        number = same ∙ ap (λ (a : Making). a .number) (q .answer);
+        written = kept r written (answered low high n (length log) .length) (λ f. not-zero low high n log k log′ q (sym same ∙ f));
+        bytes = h .bytes;
+      }
+
+  pub is-made : (l : ℕ) → o ≡ Length l → WorstLogCall low high n log written 0 log′ l
+  is-made l is =
+      let q : made-of (Length l) ≡ answered low high n (length log) = ap made-of (sym is) ∙ h .answer in
+      record { number = ap (λ (a : Making). a .number) q; written = ap (λ (a : Making). a .length) q; bytes = h .bytes }

@@ -5,6 +5,7 @@ use mathlib.Core.Bool.{Bool, cond}
 use mathlib.Core.Path.{_≡_}
 use mathlib.Core.List.{List}
 use lib.Dec.{eqb}
+use lib.ListN.{length}
 use Rattle.bits.specs.Packed.{number}
 use Rattle.rule.specs.Measure.{measured}
 use Rattle.monitor.specs.Open.{Opens, opened-number}
@@ -14,6 +15,9 @@ use Rattle.monitor.specs.declared.Opened.{Opened}
 use Rattle.monitor.specs.declared.Resumed.{Resumed}
 use Rattle.text.specs.declared.Parsed.{Parsed}
 use Rattle.text.specs.Parse.{answer, Parses}
+use Rattle.worst.specs.Call.{answered, buffer-after}
+use Rattle.simulation.specs.Simulate.{simulated, log-after}
+use Rattle.simulation.specs.declared.Settings.{Settings}
 
 -- the new value where the call was accepted, else the old one
 abbrev pub or-kept : (number old new : ℕ) → ℕ
@@ -50,3 +54,19 @@ pub record ParseCall (text rule : List ℕ) (n r : ℕ) (rule′ : List ℕ) (n�
   pub parses : Parses text rule outcome rule′
   pub number : r ≡ answer outcome .number
   pub written : n′ ≡ or-kept r n (answer outcome .written)
+
+pub record WorstLogCall (low high n : ℕ) (log : List ℕ) (w r : ℕ) (log′ : List ℕ) (w′ : ℕ) : Type 0 where
+  pub number : r ≡ answered low high n (length log) .number
+  pub written : w′ ≡ or-kept r w (answered low high n (length log) .length)
+  pub bytes : log′ ≡ buffer-after low high n log
+
+abbrev pub settings : (warm-up print-time switch-off mean-gap : ℕ) → Settings
+settings w p o g = record { warmup = w; print = p; switchoff = o; gap = g }
+
+pub record SimulateCall (s : Settings) (seconds seed : ℕ) (log : List ℕ) (w f p q r : ℕ) (log′ : List ℕ) (w′ f′ p′ q′ : ℕ) : Type 0 where
+  pub number : r ≡ simulated s seconds seed (length log) .number
+  pub bytes : log′ ≡ log-after s seconds seed log
+  pub written : w′ ≡ or-kept r w (simulated s seconds seed (length log) .written)
+  pub finished : f′ ≡ or-kept r f (simulated s seconds seed (length log) .finished)
+  pub printing : p′ ≡ or-kept r p (simulated s seconds seed (length log) .printing)
+  pub waiting : q′ ≡ or-kept r q (simulated s seconds seed (length log) .waiting)

@@ -1,11 +1,14 @@
 // The C interface: the library's calls under plain names. Each answers 0, or the refusal's number, and then every number
 // behind a pointer is as it was. include/havdrims.h says what a C programmer needs to know.
-ghost use Rattle.havdrims.specs.Interface.{MeasureCall, OpenCall, ResumeCall, TallyCall, ParseCall};
+ghost use Rattle.havdrims.specs.Interface.{MeasureCall, OpenCall, ResumeCall, TallyCall, ParseCall, WorstLogCall, settings, SimulateCall};
 use monitor::Opened;
 use monitor::Resumed;
 use monitor::Tallied;
 use rule::Measured;
+use simulation::Settings;
+use simulation::Simulated;
 use text::Parsed;
+use worst::Made;
 
 // Document 01's weigh.
 #[no_mangle]
@@ -82,5 +85,64 @@ pub extern "C" fn havdrims_parse(text: &[u8], rule: &mut [u8], written: &mut u64
         return parsed.number();
     };
     *written = size as u64;
+    0
+}
+
+// Writes the log that keeps most seconds waiting.
+#[no_mangle]
+pub extern "C" fn havdrims_worst_log(
+    low: u32,
+    high: u32,
+    records: u64,
+    log: &mut [u8],
+    written: &mut u64,
+) -> u32
+    ensures { λ r. ⌜ WorstLogCall low high records (now (log .entry)) (now (written .entry)) r (now (log .exit)) (now (written .exit)) ⌝ }
+{
+    let made = worst::worst_log(low, high, records, log);
+    let Made::Length(length) = made else {
+        return made.number();
+    };
+    *written = length as u64;
+    0
+}
+
+// Document 02's kiosk to try settings on: writes its log.
+#[no_mangle]
+pub extern "C" fn havdrims_simulate(
+    seconds: u32,
+    warm_up: u32,
+    print_time: u32,
+    switch_off: u32,
+    mean_gap: u32,
+    seed: u32,
+    log: &mut [u8],
+    written: &mut u64,
+    finished: &mut u64,
+    printing: &mut u64,
+    waiting: &mut u64,
+) -> u32
+    ensures { λ r. ⌜ SimulateCall (settings «warm_up» «print_time» «switch_off» «mean_gap») seconds seed (now (log .entry)) (now (written .entry)) (now (finished .entry)) (now (printing .entry)) (now (waiting .entry)) r (now (log .exit)) (now (written .exit)) (now (finished .exit)) (now (printing .exit)) (now (waiting .exit)) ⌝ }
+{
+    let settings = Settings {
+        warmup: warm_up,
+        print: print_time,
+        switchoff: switch_off,
+        gap: mean_gap,
+    };
+    let simulated = simulation::simulate(settings, seconds, seed, log);
+    let Simulated::Done {
+        written: bytes,
+        finished: done,
+        printing: busy,
+        waiting: queue,
+    } = simulated
+    else {
+        return simulated.number();
+    };
+    *written = bytes as u64;
+    *finished = done;
+    *printing = busy;
+    *waiting = queue;
     0
 }

@@ -23,7 +23,7 @@ use Rattle.trace.proofs.Laws.{well-formed-iff, well-formed-records, ordered-iff
 use Rattle.engine.specs.Step.{Agrees}
 use Rattle.monitor.specs.Checkpoint.{given, seen, last, need, foreign, outside}
 use Rattle.monitor.specs.Refusal.{open-refusal, resume-refusal}
-use Rattle.monitor.specs.Verdicts.{formula-of, verdicts, first-records, answered, all-verdicts}
+use Rattle.monitor.specs.Verdicts.{formulas-of, verdicts, first-records, answered, all-verdicts}
 use Rattle.monitor.specs.Stands.{Stands}
 use Rattle.monitor.specs.Open.{Opens}
 use Rattle.monitor.specs.Resume.{resumed-number, Gives, Resumes}
@@ -202,21 +202,21 @@ module _ (rule log : List ℕ) (untouched : Untouched log) where
 
       -- the bytes of an accepted call, behind those of the verdicts before it
       gives-bytes : (sheet : List ℕ) (c : ℕ) (b : Bool) (p′ sheet′ : List ℕ) → Resumes rule log′ p sheet (Given c b) p′ sheet′ →
-          verdicts (formula-of rule) old d ++ take c sheet′ ≡ verdicts (formula-of rule) new (d + c)
+          verdicts (formulas-of rule) old d ++ take c sheet′ ≡ verdicts (formulas-of rule) new (d + c)
       gives-bytes sheet c b p′ sheet′ resumes =
-          let within = stands .top .buffer .within in
+          let within = stands .top .held .within in
           let room = resumes .words .room in
           let kept = resumes .sheet-length in
           let bytes = gives sheet c b p′ sheet′ resumes .bytes in
-          ap (λ vs. vs ++ take c sheet′) (verdicts-stay (formula-of rule) old new (first-longer m n more) (first-falls n) d (omega arith)) ∙
-          verdicts-more (formula-of rule) new d c sheet′ (omega arith) bytes
+          ap (λ vs. vs ++ take c sheet′) (verdicts-stay (formulas-of rule) old new (first-longer m n more) (first-falls n) d (omega arith)) ∙
+          verdicts-more (formulas-of rule) new d c sheet′ (omega arith) bytes
 
   -- what holds after every list of calls
   pub record Invariant (h : List Call) (point : List ℕ) : Type 0 where
     pub fine : refusal rule ≡ 0
     pub size : length point ≡ need rule
     pub stands : Stands rule (first-records log (brought-by h)) (given-by h) point
-    pub bytes : laid h ≡ verdicts (formula-of rule) (first-records log (brought-by h)) (given-by h)
+    pub bytes : laid h ≡ verdicts (formulas-of rule) (first-records log (brought-by h)) (given-by h)
     pub all : AllWhenCaughtUp rule log h
     pub each : Each rule log h
 
@@ -260,14 +260,14 @@ module _ (rule log : List ℕ) (untouched : Untouched log) where
     after-accepted =
         let old = brought-by h in
         let d = given-by h in
-        let φ = formula-of rule in
+        let fs = formulas-of rule in
         let all = answered rule log n in
         let new = first-records log n in
         let step = gives d n log′ (brought .brings) old p (brought .no-fewer) (before .fine) accepted-stands sheet c more p′ sheet′ resumes in
-        let bytes : laid h ++ take c sheet′ ≡ verdicts φ new (d + c) =
+        let bytes : laid h ++ take c sheet′ ≡ verdicts fs new (d + c) =
         ap (λ vs. vs ++ take c sheet′) (before .bytes) ∙
         gives-bytes d n log′ (brought .brings) old p (brought .no-fewer) (before .fine) accepted-stands sheet c more p′ sheet′ resumes in
-        let within = step .stands .top .buffer .within in
+        let within = step .stands .top .held .within in
         let same-length = resumes .sheet-length in
         let whole = accepted-whole in
         let kept = resumes .point-length in
@@ -282,13 +282,13 @@ module _ (rule log : List ℕ) (untouched : Untouched log) where
           all = (
             λ e.
                 let lengths = ap length (sym bytes ∙ e) in
-                let given = length-verdicts φ new (d + c) in
-                let whole = length-verdicts φ new all in
+                let given = length-verdicts fs new (d + c) in
+                let whole = length-verdicts fs new all in
                 step .more ∙ le-ltb (d + c) all (omega arith),
             λ caught-up.
                 let none = ltb-false (d + c) all (sym (step .more) ∙ caught-up) in
                 let sum : d + c ≡ all = omega arith in
-                bytes ∙ ap (verdicts φ new) sum,
+                bytes ∙ ap (verdicts fs new) sum,
           );
           each = (
             record { count = step .count; more = step .more; bytes = length-take-le c sheet′ (omega (arith, resumes .words .room)) },
@@ -318,7 +318,7 @@ module _ (rule log : List ℕ) (untouched : Untouched log) where
   one-run-writes n (Given c more) sheet′ run =
       let fine = opened-fine (run .lent) (run .fresh) (run .opens) in
       let stands = opened-stands (run .lent) (run .fresh) (run .opens) in
-      let φ = formula-of rule in
+      let fs = formulas-of rule in
       let all = answered rule log n in
       let step = gives 0 n (run .brought) (run .brings) 0 (run .fresh) (omega arith) fine stands (run .sheet) c more (run .left) sheet′ (run .resumes) in
       let bytes =
@@ -330,7 +330,7 @@ module _ (rule log : List ℕ) (untouched : Untouched log) where
       let sum : 0 + c ≡ all = omega arith in
       let caught-up : more ≡ false = step .more ∙ le-ltb (0 + c) all (omega arith) in (
         rw (whole, caught-up),
-        sym (take-all c sheet′ (omega arith)) ∙ bytes ∙ ap (verdicts φ (first-records log n)) sum,
+        sym (take-all c sheet′ (omega arith)) ∙ bytes ∙ ap (verdicts fs (first-records log n)) sum,
       )
 
 -- WORDS BEHIND THE POINT
@@ -349,12 +349,12 @@ call-keeps rule log p fine (accepted n log′ sheet c more p′ sheet′ brought
 pub demand-3 : (rule log : List ℕ) → Untouched log → (h : List Call) (point : List ℕ) → Calls rule log h point → Demand3 rule log h point
 demand-3 rule log untouched h point calls =
     let i = invariant rule log untouched calls in
-    let φ = formula-of rule in
+    let fs = formulas-of rule in
     let L = first-records log (brought-by h) in
-    let within = i .stands .top .buffer .within in
+    let within = i .stands .top .held .within in
     let size = i .size in
     record {
-      first = rw (i .bytes, length-verdicts φ L (given-by h)) (sym (take-verdicts φ L (given-by h) (answered rule log (brought-by h)) (omega arith)));
+      first = rw (i .bytes, length-verdicts fs L (given-by h)) (sym (take-verdicts fs L (given-by h) (answered rule log (brought-by h)) (omega arith)));
       all = i .all;
       each = i .each;
       not-refused = λ p lends whole n log′ sheet brought.

@@ -13,12 +13,11 @@ use Rattle.mtl.specs.Log.{Log, NeverFalls}
 use Rattle.mtl.proofs.Bounded.{le-or-lt}
 use Rattle.engine.specs.Block.{word}
 use Rattle.engine.specs.Step.{Agrees}
-use Rattle.engine.specs.Table.{Has}
-use Rattle.engine.proofs.Words.{Store, put, stores, after, word-stores, later}
+use Rattle.engine.proofs.Words.{Store, put, stores, after, word-stores}
 use Rattle.monitor.specs.Checkpoint.{given, held-count, held-bits}
-use Rattle.monitor.specs.Verdicts.{verdict}
 use Rattle.monitor.specs.Stands.{Top}
-use Rattle.monitor.specs.Code.{Holds, Giving, Gave}
+use Rattle.monitor.specs.Code.{Tops, Holds, Giving, Gave}
+use Rattle.monitor.proofs.Held.{held-rest}
 use Rattle.monitor.proofs.Written.{written, length-written, drop-written, written-before, written-at}
 
 -- records that are a log's own from d on are its own from later on
@@ -33,8 +32,8 @@ pub record Going (t s : List ℕ) (k : ℕ) (ws sheet : List ℕ) (done : ℕ) (
   pub words-length : length ws′ ≡ length ws
   pub count : given ws′ ≡ given ws + done
   pub header : (i : ℕ) → i < 16 → (i ≡ 1 → ⊥) → (i ≡ 4 → ⊥) → (i ≡ 5 → ⊥) → word ws′ i ≡ word ws i
-  pub meaning : (φ : Formula) (L : Log) (d : ℕ) → Has φ t k → NeverFalls L → Agrees s L d → Top φ L d ws →
-      Giving φ L d done ws′ sheet′
+  pub meaning : (fs : List Formula) (L : Log) (d : ℕ) → Tops fs t k → NeverFalls L → Agrees s L d → Top fs L d ws →
+      Giving fs L d done ws′ sheet′
 
 pub going-none : (t s : List ℕ) (k : ℕ) (ws sheet : List ℕ) → Going t s k ws sheet 0 ws sheet
 going-none t s k ws sheet =
@@ -45,7 +44,7 @@ going-none t s k ws sheet =
       words-length = refl;
       count = omega arith;
       header = λ i low ne ne′ ne″. refl;
-      meaning = λ φ L d has never agrees top.
+      meaning = λ fs L d tops never agrees top.
           let still : d + 0 ≡ d = omega arith in
           record { top = rw still top; bytes = λ i below. absurd (omega arith) };
     }
@@ -74,12 +73,12 @@ module _ (n : ℕ) (ws : List ℕ) (room : 16 ≤ length ws) where
       drop-set-lt 16 ws 1 (given ws + n) (omega arith)
 
   -- the words then stand for the later position
-  top-spent : (φ : Formula) (L : Log) (d : ℕ) → n ≤ held-count ws → Top φ L d ws → Top φ L (d + n) (spent n ws)
-  top-spent φ L d some top =
+  top-spent : (fs : List Formula) (L : Log) (d : ℕ) → n ≤ held-count ws → Top fs L d ws → Top fs L (d + n) (spent n ws)
+  top-spent fs L d some top =
       let place : d + held-count ws ≡ d + n + (held-count ws - n) = omega arith in
       record {
         at = word-spent 1 ∙ ap (λ (m : ℕ). m + n) (top .at);
-        buffer = later n some refl (word-spent 4) (word-spent 5) (top .buffer);
+        held = rw (word-spent 4, word-spent 5) (held-rest fs L d (held-count ws) (held-bits ws) n some (top .held));
         state = rw (word-spent 4, drop-spent) (rw place at (top .state));
       }
 
@@ -110,26 +109,26 @@ module _ {t s : List ℕ} {k : ℕ} {ws sheet : List ℕ} {done : ℕ} {ws₁ sh
             );
         header = λ i low ne ne′ ne″.
             header-spent n ws₂ wide i ne ne′ ne″ ∙ held .header i low ne′ ne″ ∙ going .header i low ne ne′ ne″;
-        meaning = λ φ L d has never agrees top.
-            let so-far = going .meaning φ L d has never agrees top in
+        meaning = λ fs L d tops never agrees top.
+            let so-far = going .meaning fs L d tops never agrees top in
             let next =
-            held .meaning φ L (d + done) has never (agrees-later s L d (d + done) (omega arith) agrees) (so-far .top) in
+            held .meaning fs L (d + done) tops never (agrees-later s L d (d + done) (omega arith) agrees) (so-far .top) in
             let place : d + done + n ≡ d + (done + n) = omega arith in
             record {
-              top = rw place at (top-spent n ws₂ wide φ L (d + done) some next);
+              top = rw place at (top-spent n ws₂ wide fs L (d + done) some next);
               bytes = λ i below.
                   ⊎-elim
                   (λ late.
                   let place : done + (i - done) ≡ i = omega arith in
                   let there : d + done + (i - done) ≡ d + i = omega arith in
                   rw place at (written-at done n bits sheet₁ inside (i - done) (omega arith)) ∙
-                  ap verdict (sym (rw there at (next .buffer .packed .same (i - done) (omega arith)))))
+                  sym (rw there at (next .held .same (i - done) (omega arith))))
                   (λ early. written-before done n bits sheet₁ inside i early ∙ so-far .bytes i early)
                   (le-or-lt done i);
             };
       }
 
-  -- the formula is open
+  -- nothing more is settled
   pub gave-open : Holds t s k ws₁ false ws₂ → Gave t s k ws sheet done ws₂ sheet₁
   gave-open held =
       record {
@@ -139,10 +138,10 @@ module _ {t s : List ℕ} {k : ℕ} {ws sheet : List ℕ} {done : ℕ} {ws₁ sh
         words-length = held .words-length ∙ going .words-length;
         count = held .header 1 (omega arith) (λ e. omega arith) (λ e. omega arith) ∙ going .count;
         header = λ i low ne ne′ ne″. held .header i low ne′ ne″ ∙ going .header i low ne ne′ ne″;
-        meaning = λ φ L d has never agrees top.
-            let so-far = going .meaning φ L d has never agrees top in
+        meaning = λ fs L d tops never agrees top.
+            let so-far = going .meaning fs L d tops never agrees top in
             let (next, is-open) =
-            held .meaning φ L (d + done) has never (agrees-later s L d (d + done) (omega arith) agrees) (so-far .top) in
+            held .meaning fs L (d + done) tops never (agrees-later s L d (d + done) (omega arith) agrees) (so-far .top) in
             (record { top = next; bytes = so-far .bytes }, λ below. is-open);
       }
 
@@ -157,5 +156,5 @@ gave-full going full =
       words-length = going .words-length;
       count = going .count;
       header = going .header;
-      meaning = λ φ L d has never agrees top. (going .meaning φ L d has never agrees top, λ below. absurd (omega arith));
+      meaning = λ fs L d tops never agrees top. (going .meaning fs L d tops never agrees top, λ below. absurd (omega arith));
     }

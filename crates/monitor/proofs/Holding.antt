@@ -1,28 +1,40 @@
--- The header as the last entry's buffered operand: what asking that entry does to it.
-use Prim.Native.Nat.{ℕ, _+_, _-_, _≤_, _<_}
+-- The header as the last entry's buffered operand: what asking that entry does to it, and what a rule without one holds there.
+use Prim.Native.Nat.{ℕ, _+_, _-_, _≤_, _<_, _^_, min}
 use mathlib.Core.Bool.{Bool, true, false}
-use mathlib.Core.Path.{_≡_, refl, _∙_}
-use mathlib.Core.List.{List, _++_}
+use mathlib.Core.Logic.{⊎-elim}
+use mathlib.Core.Path.{_≡_, refl, sym, _∙_}
+use mathlib.Core.List.{List, [], _∷_, _++_}
 use native.Mathlib.Omega.{arith}
+use borrow.Author.Tests.{lt-ltb, le-ltb, ltb-true, ltb-false, ne-eqb}
+use lib.Dec.{ltb}
 use lib.ListN.{length, take, drop, set, length-append, length-drop, length-set, List·getD-append}
 use lib.Seq.{length-take-le, drop-set-lt, getD-take, getD-set-same, getD-set-other}
+use Rattle.mtl.specs.Formula.{Formula}
+use Rattle.mtl.specs.Log.{Log}
+use Rattle.mtl.proofs.Bounded.{le-or-lt}
+use Rattle.mtl.proofs.Joint.{joint-one, joint-none}
+use Rattle.trace.specs.Format.{record-count}
 use Rattle.engine.specs.Block.{word}
 use Rattle.engine.specs.State.{State}
+use Rattle.engine.specs.Step.{Agrees}
+use Rattle.engine.specs.Table.{Has}
 use Rattle.engine.specs.Ask.{part, back, stored, Asks}
 use Rattle.engine.proofs.Parts.{part-end, drop-back-last}
-use Rattle.engine.proofs.Words.{empty-buffer}
-use Rattle.monitor.specs.Checkpoint.{held-count, held-bits}
-use Rattle.monitor.specs.Code.{Holds}
+use Rattle.engine.proofs.Words.{put, after, word-stores}
+use Rattle.monitor.specs.Checkpoint.{given, held-count, held-bits}
+use Rattle.monitor.specs.Stands.{Top}
+use Rattle.monitor.specs.Code.{Tops, all-yes, Holding, Holds}
+use Rattle.monitor.proofs.Held.{held-none, held-one, held-yes}
 
 -- nothing to do where something is held
-pub already-held : (t s : List ℕ) (k : ℕ) (ws : List ℕ) → 0 < held-count ws → Holds t s k ws true ws
-already-held t s k ws held =
+pub already-held : (t s : List ℕ) (n : ℕ) (ws : List ℕ) → 0 < held-count ws → Holds t s n ws true ws
+already-held t s n ws held =
     record {
       words-length = refl;
       header = λ i low ne ne′. refl;
       some = λ e. held;
       none = λ e. let z : _≡_ {A = ℕ} 0 1 = cc in absurd (omega arith);
-      meaning = λ φ L d has never agrees top. top;
+      meaning = λ fs L d tops never agrees top. top;
     }
 
 -- the words ws with those behind the header replaced by ys
@@ -70,44 +82,111 @@ module _ (ws ys : List ℕ) (room : 16 ≤ length ws) (kept : length ys ≡ leng
         drop-set-lt 16 asked 4 count (omega arith) ∙
         drop-asked
 
+-- some entries are one formula
+one-top : (P : List Formula → Type 0) (t : List ℕ) (n : ℕ) → 0 < n → (fs : List Formula) → Tops fs t n →
+    ((φ : Formula) → Has φ t (n - 1) → P (φ ∷ [])) → P fs
+one-top P t n some [] none f = absurd (omega arith)
+one-top P t n some (φ ∷ []) (there, has) f = f φ has
+one-top P t n some (φ ∷ (ψ ∷ fs)) several f = absurd several
+
 -- what asking the last entry does to the header
-pub asked-holds : (t s : List ℕ) (k : ℕ) (ws : List ℕ) (r : Bool) (ws′ : List ℕ) → 16 ≤ length ws → held-count ws ≡ 0 →
-    Asks t s k 16 (length ws) 4 ws r ws′ → Holds t s k ws r ws′
-asked-holds t s k ws true ws′ room empty (ys, kept, (bits, count, some, is, means)) =
+pub asked-holds : (t s : List ℕ) (n : ℕ) (ws : List ℕ) (r : Bool) (ws′ : List ℕ) → 16 ≤ length ws → 0 < n → held-count ws ≡ 0 →
+    Asks t s (n - 1) 16 (length ws) 4 ws r ws′ → Holds t s n ws r ws′
+asked-holds t s n ws true ws′ room entries empty (ys, kept, (bits, count, some, is, means)) =
     rw is
     (record {
       words-length = length-filled ws ys room kept bits count;
       header = header-filled ws ys room kept bits count;
       some = λ e. omega (arith, count-filled ws ys room kept bits count);
       none = λ e. let z : _≡_ {A = ℕ} 0 1 = cc in absurd (omega arith);
-      meaning = λ φ L d has never agrees top.
+      meaning = λ fs L d tops never agrees.
+          one-top (λ gs. Top gs L d ws → Top gs L d (filled ws ys room kept bits count)) t n entries fs tops
+          (λ φ has top.
           let place : d + held-count ws ≡ d = omega arith in
           let at : State φ L d (part 16 (length ws) ws) = rw (part-end 16 (length ws) ws refl) (rw place at (top .state)) in
           let (gives, next) = means φ L d has never agrees at in
           record {
             at = header-filled ws ys room kept bits count 1 (omega arith) (λ e. omega arith) (λ e. omega arith) ∙ top .at;
-            buffer = rw (count-filled ws ys room kept bits count, bits-filled ws ys room kept bits count) (gives .buffer);
+            held = rw (count-filled ws ys room kept bits count, bits-filled ws ys room kept bits count) (held-one φ L d count bits (gives .buffer));
             state = rw (count-filled ws ys room kept bits count, drop-filled ws ys room kept bits count) next;
-          };
+          });
     })
-asked-holds t s k ws false ws′ room empty (ys, kept, (is, means)) =
+asked-holds t s n ws false ws′ room entries empty (ys, kept, (is, means)) =
     rw is
     (record {
       words-length = length-asked ws ys room kept;
       header = λ i low ne ne′. header-asked ws ys room kept i low;
       some = λ e. let z : _≡_ {A = ℕ} 0 1 = cc in absurd (omega arith);
       none = λ e. header-asked ws ys room kept 4 (omega arith) ∙ empty;
-      meaning = λ φ L d has never agrees top.
+      meaning = λ fs L d tops never agrees.
+          one-top (λ gs. Top gs L d ws → Holding gs L d false (asked ws ys room kept)) t n entries fs tops
+          (λ φ has top.
           let place : d + held-count ws ≡ d = omega arith in
           let at : State φ L d (part 16 (length ws) ws) = rw (part-end 16 (length ws) ws refl) (rw place at (top .state)) in
           let (is-open, next) = means φ L d has never agrees at in
           let none : held-count (back 16 (length ws) ys ws) ≡ 0 = header-asked ws ys room kept 4 (omega arith) ∙ empty in
+          let all = joint-one φ L ∙ is-open in
           let still : d + 0 ≡ d = omega arith in (
             record {
               at = header-asked ws ys room kept 1 (omega arith) ∙ top .at;
-              buffer = rw none (empty-buffer φ L d 0 (held-bits (back 16 (length ws) ys ws)) (omega arith) refl);
+              held = held-none (φ ∷ []) L d (held-count (back 16 (length ws) ys ws)) (held-bits (back 16 (length ws) ys ws)) (omega arith) none;
               state = rw (none, still, drop-asked ws ys room kept) next;
             },
-            is-open,
-          );
+            all,
+          ));
     })
+
+-- no entry is no formula
+no-top : (P : List Formula → Type 0) (t : List ℕ) (n : ℕ) → n ≡ 0 → (fs : List Formula) → Tops fs t n → P [] → P fs
+no-top P t n e [] none f = f
+no-top P t n e (φ ∷ []) (some, has) f = absurd (omega arith)
+no-top P t n e (φ ∷ (ψ ∷ fs)) several f = absurd several
+
+-- a yes for each record without a verdict
+module _ (s ws : List ℕ) (room : 16 ≤ length ws) where
+  abbrev count-of : ℕ
+  count-of = min (record-count s - given ws) 64
+
+  word-yes : (i : ℕ) → word (all-yes s ws) i ≡ after (put 4 count-of ∷ put 5 (2 ^ 64 - 1) ∷ []) (word ws) i
+  word-yes = word-stores (put 4 count-of ∷ put 5 (2 ^ 64 - 1) ∷ []) ws (omega arith) room
+
+  top-yes : (L : Log) (d : ℕ) → Agrees s L d → Top [] L d ws → Top [] L d (all-yes s ws)
+  top-yes L d agrees top =
+      let within = top .held .within in
+      let all = joint-none L in
+      record {
+        at = word-yes 1 ∙ top .at;
+        held = rw (word-yes 4, word-yes 5, agrees .size, top .at) (held-yes L d (omega arith));
+        state = tt;
+      }
+
+-- a record is left exactly if some are counted
+pub some-left : (given size : ℕ) → ltb 0 (min (size - given) 64) ≡ ltb given size
+some-left given size =
+    ⊎-elim
+    (λ (l : size ≤ given). rw (le-ltb given size l, le-ltb 0 (min (size - given) 64) (omega arith)))
+    (λ (l : given < size). rw (lt-ltb given size l, lt-ltb 0 (min (size - given) 64) (omega arith)))
+    (le-or-lt size given)
+
+-- what a rule with no entry holds
+pub yes-holds : (t s : List ℕ) (n : ℕ) (ws : List ℕ) (r : Bool) → 16 ≤ length ws → n ≡ 0 → r ≡ ltb (given ws) (record-count s) →
+    Holds t s n ws r (all-yes s ws)
+yes-holds t s n ws r room none is =
+    record {
+      words-length = simp length-set;
+      header = λ i low ne ne′. word-yes s ws room i ∙ rw (ne-eqb i 4 ne, ne-eqb i 5 ne′) refl;
+      some = λ e. omega (arith, word-yes s ws room 4, ltb-true (given ws) (record-count s) (sym is ∙ e));
+      none = λ e. omega (arith, word-yes s ws room 4, ltb-false (given ws) (record-count s) (sym is ∙ e));
+      meaning = λ fs L d tops never agrees.
+          no-top (λ gs. Top gs L d ws → Holding gs L d r (all-yes s ws)) t n none fs tops (holding r is L d agrees);
+    }
+  where
+    holding : (r : Bool) → r ≡ ltb (given ws) (record-count s) → (L : Log) (d : ℕ) → Agrees s L d → Top [] L d ws → Holding [] L d r (all-yes s ws)
+    holding true is L d agrees top = top-yes s ws room L d agrees top
+    holding false is L d agrees top =
+        let over = ltb-false (given ws) (record-count s) (sym is) in
+        let size = agrees .size in
+        let at = top .at in
+        let within = top .held .within in
+        let all = joint-none L in
+        (top-yes s ws room L d agrees top, omega arith)

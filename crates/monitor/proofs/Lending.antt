@@ -8,7 +8,7 @@ use lib.Seq.{getD-take, length-take-le, take-all}
 use Rattle.mtl.specs.Log.{Log}
 use Rattle.engine.specs.Block.{word}
 use Rattle.monitor.specs.Checkpoint.{need}
-use Rattle.monitor.specs.Verdicts.{formula-of}
+use Rattle.monitor.specs.Verdicts.{formulas-of}
 use Rattle.monitor.specs.Stands.{Top, Stands}
 use Rattle.monitor.specs.Calls.{Lends, point-after}
 
@@ -37,7 +37,7 @@ module _ (rule : List ℕ) (K : Log) (d : ℕ) where
         few = stands .few;
         time = same 3 (omega arith) ∙ stands .time;
         fits = omega (arith, same 3 (omega arith), stands .fits);
-        top = subst (Top (formula-of rule) K d) e (stands .top);
+        top = subst (Top (formulas-of rule) K d) e (stands .top);
       }
     where
       same : (i : ℕ) → i < 16 → word q i ≡ word p i

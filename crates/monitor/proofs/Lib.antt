@@ -3,6 +3,8 @@
 -- the verdicts of a call. VerdictBytes, OwnCheckpoint, SameRule, Lending, Demand3, Truth: lists of calls.
 pub mod Offsets
 pub mod Copies
+pub mod Meaning
+pub mod Held
 pub mod Sizes
 pub mod Starts
 pub mod Tallies

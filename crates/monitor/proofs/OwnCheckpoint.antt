@@ -3,26 +3,29 @@
 use Rattle.monitor.specs.Examples
 use Prim.Native.Nat.{ℕ, _+_, _-_, _≤_, _<_, _^_}
 use mathlib.Core.Bool.{false}
-use mathlib.Core.Path.{_≡_, sym, _∙_, ap, subst}
-use mathlib.Core.List.{List}
+use mathlib.Core.Path.{_≡_, sym, _∙_, ap}
+use mathlib.Core.List.{List, [], _∷_}
 use native.Mathlib.Omega.{arith}
 use lib.ListN.{take, drop, length-drop}
 use lib.Seq.{getD-take, getD-drop, length-take-le, take-all}
 use borrow.Author.Tests.{le-leb, lt-ltb, eq-eqb}
+use Rattle.mtl.specs.Formula.{Formula}
 use Rattle.mtl.specs.Log.{Log}
 use Rattle.mtl.proofs.Bounded.{any-false-iff}
-use Rattle.mtl.proofs.Until.{progress-le-size}
+use Rattle.mtl.proofs.Joint.{joint-le-size}
 use Rattle.rule.specs.Entries.{count, decoded, entry}
 use Rattle.rule.specs.Words.{offset}
 use Rattle.rule.specs.Refusal.{refusal}
+use Rattle.rule.specs.Accepted.{Whole}
 use Rattle.rule.proofs.Acceptance.{accepted}
 use Rattle.engine.specs.Block.{word, cells-of}
-use Rattle.engine.specs.State.{words, State}
+use Rattle.engine.specs.State.{words}
 use Rattle.engine.proofs.Entries.{Ranged, rule-size, rule-ranges}
 use Rattle.monitor.specs.Checkpoint.{format, given, seen, last, held-count, need, block-at, copy-differs, foreign, block-outside, outside}
-use Rattle.monitor.specs.Verdicts.{formula-or, formula-of}
-use Rattle.monitor.specs.Stands.{Stands}
+use Rattle.monitor.specs.Verdicts.{formulas-of}
+use Rattle.monitor.specs.Stands.{States, Stands}
 use Rattle.monitor.proofs.Offsets.{block-fits}
+use Rattle.monitor.proofs.Meaning.{rule-whole}
 
 module _ (rule : List ℕ) (K : Log) (d : ℕ) (p : List ℕ) (fine : refusal rule ≡ 0) (stands : Stands rule K d p) where
   -- the rule's own words, and those behind the header
@@ -41,20 +44,23 @@ module _ (rule : List ℕ) (K : Log) (d : ℕ) (p : List ℕ) (fine : refusal ru
 
   -- no more of them than records seen
   pub own-within : d ≤ K .size
-  own-within = let within = stands .top .buffer .within in let below = progress-le-size (formula-of rule) K in omega arith
+  own-within = let within = stands .top .held .within in let below = joint-le-size (formulas-of rule) K in omega arith
 
-  ranged : (j : ℕ) → j < count rule → Ranged (decoded rule) behind (K .size) j
-  ranged j h =
+  ranged-by : (fs : List Formula) → Whole (decoded rule) (count rule) fs → States fs K (d + held-count own-part) behind →
+      (j : ℕ) → j < count rule → Ranged (decoded rule) behind (K .size) j
+  ranged-by [] none s j h = absurd (omega arith)
+  ranged-by (φ ∷ []) one s j h =
       let a = accepted rule fine in
-      let φ = a .the-formula in
-      let e : formula-of rule ≡ φ = ap formula-or (a .reads) in
       let enough = stands .enough in
-      let size = rule-size (decoded rule) (count rule) (a .well-formed) (a .some-entries) (a .spans-all) φ (a .at-last) behind in
+      let size = rule-size (decoded rule) (count rule) (a .well-formed) φ one behind in
       let short = length-take-le (need rule) p enough in
       let length-behind = length-drop 16 own-part in
-      let s = subst (λ ψ. State ψ K (d + held-count own-part) behind) e (stands .top .state) in
-      rule-ranges (decoded rule) (count rule) (a .well-formed) (a .some-entries) (a .spans-all) φ (a .at-last) behind K (d + held-count own-part)
+      rule-ranges (decoded rule) (count rule) (a .well-formed) φ one behind K (d + held-count own-part)
       (rw (take-all (words φ) behind (omega arith)) s) j h
+  ranged-by (φ ∷ (ψ ∷ fs)) several s j h = absurd several
+
+  ranged : (j : ℕ) → j < count rule → Ranged (decoded rule) behind (K .size) j
+  ranged = ranged-by (formulas-of rule) (rule-whole rule fine) (stands .top .state)
 
   block-word : (j i : ℕ) → j < count rule → i < 16 → word (drop (offset (decoded rule) j) behind) i ≡ word p (block-at (decoded rule) j + i)
   block-word j i h l =
@@ -107,10 +113,10 @@ module _ (rule : List ℕ) (K : Log) (d : ℕ) (p : List ℕ) (fine : refusal ru
   not-outside =
       let few = stands .few in
       let size = stands .size in
-      let within = stands .top .buffer .within in
-      let below = progress-le-size (formula-of rule) K in
+      let within = stands .top .held .within in
+      let below = joint-le-size (formulas-of rule) K in
       let at = stands .top .at in
-      let held = stands .top .buffer .packed .few in
+      let held = stands .top .held .few in
       rw (
         le-leb (seen p) 1000000 (omega arith),
         le-leb (held-count p) 64 (omega (arith, own-word 4 (omega arith))),

@@ -2,7 +2,7 @@
 use Prim.Native.Nat.{ℕ, _+_, _-_, _≤_, _<_, min}
 use mathlib.Core.Bool.{Bool, true, false}
 use mathlib.Core.Path.{_≡_, refl, sym, _∙_}
-use mathlib.Core.List.{List}
+use mathlib.Core.List.{List, [], _∷_}
 use mathlib.Core.Logic.{⊎-elim}
 use native.Mathlib.Omega.{arith}
 use borrow.Author.Tests.{lt-ltb, le-ltb}
@@ -11,48 +11,62 @@ use lib.ListN.{length, getD, drop, set, length-set}
 use lib.Seq.{drop-set-lt, getD-set-same, getD-set-other}
 use Rattle.mtl.specs.Formula.{Formula}
 use Rattle.mtl.specs.Log.{Log}
-use Rattle.mtl.specs.Progress.{progress}
+use Rattle.mtl.specs.Progress.{joint-progress}
 use Rattle.mtl.proofs.Bounded.{le-or-lt}
 use Rattle.rule.specs.declared.Entry.{Entry}
 use Rattle.rule.specs.Entries.{count, decoded}
 use Rattle.rule.specs.Refusal.{refusal}
+use Rattle.rule.specs.Words.{offset, words}
+use Rattle.rule.specs.Accepted.{WellFormed, Whole}
 use Rattle.rule.proofs.Acceptance.{accepted}
 use Rattle.trace.specs.Format.{record-count}
 use Rattle.trace.specs.Order.{last-time}
 use Rattle.trace.proofs.Laws.{last-time-bound}
 use Rattle.engine.specs.Block.{word}
-use Rattle.engine.specs.Table.{RowsOk, column, Has}
 use Rattle.engine.specs.Layout.{Laid}
 use Rattle.engine.proofs.Rows.{rows-ok, has-at, column-is-part}
 use Rattle.monitor.specs.Checkpoint.{need}
-use Rattle.monitor.specs.Verdicts.{formula-of}
+use Rattle.monitor.specs.Verdicts.{formulas-of}
 use Rattle.monitor.specs.Stands.{Top}
-use Rattle.monitor.specs.Code.{Holding, Holds, Gave, Proceeded}
+use Rattle.monitor.specs.Code.{Fits, Tops, Holding, Holds, Gave, Proceeded}
+use Rattle.monitor.proofs.Meaning.{rule-whole}
 use Rattle.monitor.proofs.Giving.{agrees-later}
 
--- the table of an accepted rule: its last entry is the rule's formula
-pub record Tabled (rule table : List ℕ) (top : ℕ) : Type 0 where
-  pub few : top < 128
-  pub rows : RowsOk table top
-  pub size : 16 + column 7 table top ≡ need rule
-  pub has : Has (formula-of rule) table top
+-- the table of an accepted rule
+pub record Tabled (rule table : List ℕ) (n : ℕ) : Type 0 where
+  pub fits : Fits table n (need rule)
+  pub tops : Tops (formulas-of rule) table n
+
+module _ (t : List Entry) (n : ℕ) (ok : WellFormed t n) (table : List ℕ) (laid : Laid t n table) (few : n ≤ 128) where
+  -- its entries are its formulas
+  tops-of : (fs : List Formula) → Whole t n fs → Tops fs table n
+  tops-of [] none = none
+  tops-of (φ ∷ []) one =
+      let some = one .some-entries in
+      (some, has-at t n ok table laid φ (n - 1) (omega arith) (one .at-last))
+  tops-of (φ ∷ (ψ ∷ fs)) several = several
+
+  fits-of : (fs : List Formula) → Whole t n fs → Fits table n (words t n)
+  fits-of [] none = record { few = few; header = omega arith; rows = λ some. absurd (omega arith); words = λ some. absurd (omega arith) }
+  fits-of (φ ∷ []) one =
+      record {
+        few = few;
+        header = omega arith;
+        rows = rows-ok t n ok table laid;
+        words = λ some. rw (column-is-part t n ok table laid (n - 1) (omega arith)) (sym (one .words-are));
+      }
+  fits-of (φ ∷ (ψ ∷ fs)) several = absurd several
 
 pub tabled : (rule : List ℕ) (t : List Entry) (n : ℕ) (table : List ℕ) → refusal rule ≡ 0 → t ≡ decoded rule → n ≡ count rule →
-    Laid t n table → Tabled rule table (n - 1)
+    Laid t n table → Tabled rule table n
 tabled rule t n table ok same counted laid =
     let a = accepted rule ok in
     let laid′ : Laid (decoded rule) (count rule) table = rw (same, counted) at laid in
-    let last : count rule - 1 < count rule = omega (arith, a .some-entries) in
+    let whole = rule-whole rule ok in
     rw counted
     (record {
-      few = omega (arith, a .few-entries, a .some-entries);
-      rows = rows-ok (decoded rule) (count rule) (a .well-formed) table laid′ (a .some-entries);
-      size =
-          rw (column-is-part (decoded rule) (count rule) (a .well-formed) table laid′ (count rule - 1) last)
-          (sym (a .well-formed .words-are));
-      has =
-          rw (a .reads)
-          (has-at (decoded rule) (count rule) (a .well-formed) table laid′ (a .the-formula) (count rule - 1) last (a .at-last));
+      fits = fits-of (decoded rule) (count rule) (a .well-formed) table laid′ (a .few-entries) (formulas-of rule) whole;
+      tops = tops-of (decoded rule) (count rule) (a .well-formed) table laid′ (a .few-entries) (formulas-of rule) whole;
     })
 
 -- the header once the last time and the number of records are noted
@@ -76,30 +90,30 @@ module _ (time size : ℕ) (ws : List ℕ) (room : 16 ≤ length ws) where
   drop-noted : drop 16 (noted time size ws) ≡ drop 16 ws
   drop-noted = drop-set-lt 16 (set ws 3 time) 2 size (omega arith) ∙ drop-set-lt 16 ws 3 time (omega arith)
 
-  top-noted : (φ : Formula) (L : Log) (d : ℕ) → Top φ L d ws → Top φ L d (noted time size ws)
-  top-noted φ L d top =
+  top-noted : (fs : List Formula) (L : Log) (d : ℕ) → Top fs L d ws → Top fs L d (noted time size ws)
+  top-noted fs L d top =
       let held = noted-other 4 (λ e. omega arith) (λ e. omega arith) in
       let bits = noted-other 5 (λ e. omega arith) (λ e. omega arith) in
       record {
         at = noted-other 1 (λ e. omega arith) (λ e. omega arith) ∙ top .at;
-        buffer = rw (held, bits) (top .buffer);
+        held = rw (held, bits) (top .held);
         state = rw (held, drop-noted) (top .state);
       }
 
 -- c and "more", from what was given and what is held then
-record Counted (φ : Formula) (L : Log) (d c room : ℕ) (held : Bool) (ws′ : List ℕ) : Type 0 where
-  top : Top φ L (d + c) ws′
-  count : c ≡ min (progress φ L - d) room
-  more : held ≡ ltb (d + c) (progress φ L)
+record Counted (fs : List Formula) (L : Log) (d c room : ℕ) (held : Bool) (ws′ : List ℕ) : Type 0 where
+  top : Top fs L (d + c) ws′
+  count : c ≡ min (joint-progress fs L - d) room
+  more : held ≡ ltb (d + c) (joint-progress fs L)
 
-counted : (φ : Formula) (L : Log) (d c room : ℕ) (more : Bool) (ws′ : List ℕ) → c ≤ room →
-    (c < room → progress φ L ≡ d + c) → (more ≡ true → 0 < word ws′ 4) → Holding φ L (d + c) more ws′ → Counted φ L d c room more ws′
-counted φ L d c room true ws′ fits short some top =
-    let ahead : d + c < progress φ L = omega (arith, top .buffer .within, some refl) in
+counted : (fs : List Formula) (L : Log) (d c room : ℕ) (more : Bool) (ws′ : List ℕ) → c ≤ room →
+    (c < room → joint-progress fs L ≡ d + c) → (more ≡ true → 0 < word ws′ 4) → Holding fs L (d + c) more ws′ → Counted fs L d c room more ws′
+counted fs L d c room true ws′ fits short some top =
+    let ahead : d + c < joint-progress fs L = omega (arith, top .held .within, some refl) in
     let full : room ≤ c = ⊎-elim (λ le. le) (λ lt. omega (arith, short lt)) (le-or-lt room c) in
-    record { top = top; count = omega arith; more = sym (lt-ltb (d + c) (progress φ L) ahead) }
-counted φ L d c room false ws′ fits short some (top, is-open) =
-    record { top = top; count = omega arith; more = sym (le-ltb (d + c) (progress φ L) (omega arith)) }
+    record { top = top; count = omega arith; more = sym (lt-ltb (d + c) (joint-progress fs L) ahead) }
+counted fs L d c room false ws′ fits short some (top, is-open) =
+    record { top = top; count = omega arith; more = sym (le-ltb (d + c) (joint-progress fs L) (omega arith)) }
 
 pub proceeded : (rule table s : List ℕ) (k : ℕ) (ws sheet : List ℕ) (c : ℕ) (ws₁ sheet₁ : List ℕ) (more : Bool) (ws₂ : List ℕ)
     (time size : ℕ) → Tabled rule table k → 16 ≤ length ws → ((i : ℕ) → getD s i 0 < 256) →
@@ -131,12 +145,12 @@ proceeded rule table s k ws sheet c ws₁ sheet₁ more ws₂ time size tab room
           noted-other time size ws₂ wide 6 (λ e. omega arith) (λ e. omega arith) ∙
           kept 6 (omega arith) (λ e. omega arith) (λ e. omega arith) (λ e. omega arith);
       meaning = λ L d never agrees top.
-          let φ = formula-of rule in
-          let (giving, short) = gave .meaning φ L d (tab .has) never agrees top in
+          let fs = formulas-of rule in
+          let (giving, short) = gave .meaning fs L d (tab .tops) never agrees top in
           let later = agrees-later s L d (d + c) (omega arith) agrees in
-          let after = held .meaning φ L (d + c) (tab .has) never later (giving .top) in
-          let n = counted φ L d c (length sheet) more ws₂ (gave .room) short (held .some) after in (
-            record { top = top-noted time size ws₂ wide φ L (d + c) (n .top); bytes = giving .bytes },
+          let after = held .meaning fs L (d + c) (tab .tops) never later (giving .top) in
+          let n = counted fs L d c (length sheet) more ws₂ (gave .room) short (held .some) after in (
+            record { top = top-noted time size ws₂ wide fs L (d + c) (n .top); bytes = giving .bytes },
             n .count,
             n .more,
           );

@@ -15,7 +15,7 @@ use Rattle.mtl.specs.Formula.{Formula}
 use Rattle.mtl.specs.Log.{Log, NeverFalls, Continues}
 use Rattle.mtl.specs.Satisfaction.{any}
 use Rattle.mtl.proofs.Bounded.{and-iff, leb-iff, le-or-lt}
-use Rattle.mtl.proofs.Until.{progress-le-size}
+use Rattle.mtl.proofs.Joint.{joint-le-size}
 use Rattle.rule.specs.Entries.{count, decoded}
 use Rattle.rule.specs.Refusal.{before, refusal}
 use Rattle.rule.proofs.Headers.{first-zero, or-left}
@@ -25,11 +25,10 @@ use Rattle.trace.proofs.Laws.{well-formed-records}
 use Rattle.engine.specs.Block.{word}
 use Rattle.engine.specs.Step.{Agrees}
 use Rattle.engine.specs.Ask.{part}
-use Rattle.engine.proofs.Longer.{buffer-longer, state-longer}
 use Rattle.engine.proofs.Parts.{put-back}
 use Rattle.monitor.specs.Checkpoint.{given, seen, last, held-count, held-bits, need, room, foreign, block-outside, outside, header-in-range}
 use Rattle.monitor.specs.Refusal.{open-refusal, point-refusal, resume-refusal}
-use Rattle.monitor.specs.Verdicts.{formula-of}
+use Rattle.monitor.specs.Verdicts.{formulas-of}
 use Rattle.monitor.specs.Stands.{Top, last-of, Stands}
 use Rattle.monitor.specs.Resume.{Resumes}
 use Rattle.monitor.specs.Code.{sized-of, sized-number, checked-by, checked-number, Proceeded, Proceeds}
@@ -40,6 +39,7 @@ use Rattle.monitor.specs.declared.check.Checked.the-variants.{Passed, Fa
 use Rattle.monitor.specs.declared.Resumed.{Resumed}
 use Rattle.monitor.specs.declared.Resumed.the-variants.{Given, Refused}
 use Rattle.monitor.proofs.Sizes.{sized-refusal, enough, stops}
+use Rattle.monitor.proofs.Held.{held-longer, states-longer}
 
 -- refusals 1 to 9
 pub resume-stopped : (rule log p sheet : List ℕ) (r : Sized) (m n : ℕ) → r ≡ sized-of rule (length p) → r ≡ Stopped m →
@@ -122,12 +122,12 @@ passes rule log p none =
     }
 
 -- the header and the state survive a longer log
-top-longer : (φ : Formula) (K L : Log) (d : ℕ) (ws : List ℕ) → Continues K L → NeverFalls L → Top φ K d ws → Top φ L d ws
-top-longer φ K L d ws longer never top =
+top-longer : (fs : List Formula) (K L : Log) (d : ℕ) (ws : List ℕ) → Continues K L → NeverFalls L → Top fs K d ws → Top fs L d ws
+top-longer fs K L d ws longer never top =
     record {
       at = top .at;
-      buffer = buffer-longer K L longer never φ d (held-count ws) (held-bits ws) (top .buffer);
-      state = state-longer φ K L longer never (d + held-count ws) (drop 16 ws) (top .state);
+      held = held-longer fs K L longer never d (held-count ws) (held-bits ws) (top .held);
+      state = states-longer fs K L longer never (d + held-count ws) (drop 16 ws) (top .state);
     }
 
 cond-same : (b : Bool) (x y : ℕ) → (b ≡ false → x ≡ y) → cond b 0 x ≡ cond b 0 y
@@ -176,10 +176,10 @@ module _ (rule log p sheet : List ℕ) (ok : refusal rule ≡ 0) (room : need ru
   length-now = simp (length-append, size, length-drop) (omega arith)
 
   stands-now : (K L : Log) (d : ℕ) → Stands rule K d p → Continues K L → NeverFalls L → Agrees (records-of log) L d →
-      Top (formula-of rule) L (d + c) ws′ → Stands rule L (d + c) (ws′ ++ drop (need rule) p)
+      Top (formulas-of rule) L (d + c) ws′ → Stands rule L (d + c) (ws′ ++ drop (need rule) p)
   stands-now K L d stands longer never agrees top =
       let reached : d ≤ K .size =
-      omega (arith, stands .top .buffer .within, progress-le-size (formula-of rule) K) in
+      omega (arith, stands .top .held .within, joint-le-size (formulas-of rule) K) in
       let before : last-time (records-of log) (seen (take (need rule) p)) (last (take (need rule) p)) ≡ last-of L =
       rw (was 2 (omega arith), was 3 (omega arith), stands .size, stands .time)
       (time-seen (records-of log) K L d longer agrees reached) in
@@ -212,7 +212,7 @@ module _ (rule log p sheet : List ℕ) (ok : refusal rule ≡ 0) (room : need ru
                   done .time ∙
                   rw (was 2 (omega arith), was 3 (omega arith));
               meaning = λ K L d stands longer never agrees.
-                  let top = top-longer (formula-of rule) K L d (take (need rule) p) longer never (stands .top) in
+                  let top = top-longer (formulas-of rule) K L d (take (need rule) p) longer never (stands .top) in
                   let (giving, count, further) = done .meaning L d never agrees top in
                   record {
                     count = count;

@@ -16,7 +16,7 @@ use Rattle.rule.specs.declared.Entry.{Entry}
 use Rattle.rule.specs.Bytes.{byte, word16, word32}
 use Rattle.rule.specs.Entries.{count, decoded, entry, entry-of}
 use Rattle.rule.specs.Words.{offset, own}
-use Rattle.rule.specs.Refusal.{marked, unmarked, other-version, empty, malformed, header-refusal, entries-refusal, refusal}
+use Rattle.rule.specs.Refusal.{marked, unmarked, other-version, malformed, header-refusal, entries-refusal, refusal}
 use Rattle.rule.specs.Accepted.{InRange}
 use Rattle.rule.proofs.Headers.{first-zero, before-none, or-left, or-right}
 use Rattle.rule.proofs.Decoded.{decoded-at}
@@ -52,8 +52,7 @@ unfolding header-refusal
 header-of s e =
     let a = first-zero 0 (unmarked s) _ e in
     let b = first-zero 1 (other-version s) _ (a .1) in
-    let c = first-zero 2 (empty s) _ (b .1) in
-    let d = first-zero 3 (malformed s) 0 (c .1) in
+    let d = first-zero 3 (malformed s) 0 (b .1) in
     let marks = and-iff (eqb (byte s 0) 0x4B && eqb (byte s 1) 0x52) (eqb (byte s 2) 0x4C) .0
     (not-false (marked s) (or-right (ltb (length s) 8) (negate (marked s)) (a .0))) in
     let two = and-iff (eqb (byte s 0) 0x4B) (eqb (byte s 1) 0x52) .0 (marks .0) in

@@ -2,14 +2,14 @@
 use Prim.Native.Nat.{ℕ, _+_, _≤_, _<_, zero-le}
 use native.Mathlib.Omega.{arith}
 use mathlib.Core.Path.{_≡_, sym, ap, subst, _∙_}
-use mathlib.Core.List.{List, _++_}
+use mathlib.Core.List.{List, [], _∷_, _++_}
 use lib.ListN.{length, take, drop, length-drop}
 use lib.Seq.{getD-drop, getD-take, take-all, take-at, drop-at, length-front, length-take-le}
 use borrow.Author.Tests.{eq-eqb}
 use Rattle.mtl.specs.Formula.{Formula}
 use Rattle.mtl.specs.Log.{Log}
 use Rattle.rule.specs.declared.Entry.{Entry}
-use Rattle.rule.specs.Accepted.{Accepted}
+use Rattle.rule.specs.Accepted.{Whole, Accepted}
 use Rattle.rule.specs.Entries.{count, decoded, entry}
 use Rattle.rule.specs.Refusal.{refusal}
 use Rattle.rule.specs.Words.{offset}
@@ -17,15 +17,16 @@ use Rattle.rule.proofs.Acceptance.{accepted}
 use Rattle.engine.specs.Block.{word, FreshBlock}
 use Rattle.engine.specs.State.{words, State}
 use Rattle.engine.proofs.Entries.{fresh-rule, rule-size}
-use Rattle.engine.proofs.Words.{empty-buffer}
 use Rattle.monitor.specs.Checkpoint.{held-count, held-bits, need, block-at}
 use Rattle.monitor.specs.Code.{Fresh, sized-of, sized-number}
 use Rattle.monitor.specs.Open.{Opens}
-use Rattle.monitor.specs.Stands.{Top, Stands}
-use Rattle.monitor.specs.Verdicts.{formula-or, formula-of}
+use Rattle.monitor.specs.Stands.{States, Top, Stands}
+use Rattle.monitor.specs.Verdicts.{formulas-of}
 use Rattle.monitor.specs.declared.Opened.the-variants.{Done}
 use Rattle.monitor.specs.declared.check.Sized.the-variants.{Words}
 use Rattle.monitor.proofs.Sizes.{enough, sized-refusal}
+use Rattle.monitor.proofs.Meaning.{rule-whole}
+use Rattle.monitor.proofs.Held.{held-none}
 
 -- a word of the block of entry j
 in-block : (t : List Entry) (ws : List ℕ) (j i : ℕ) → word (drop (offset t j) (drop 16 ws)) i ≡ word ws (block-at t j + i)
@@ -42,36 +43,23 @@ module _ (rule ws : List ℕ) (a : Accepted rule) (size : length ws ≡ need rul
         copy = record { head = in-block t ws j 14 ∙ f .heads j h; ends = in-block t ws j 15 ∙ f .ends j h };
       }
 
-  fresh-formula : State (a .the-formula) L 0 (drop 16 ws)
-  fresh-formula =
+  fresh-states : (fs : List Formula) → Whole (decoded rule) (count rule) fs → States fs L 0 (drop 16 ws)
+  fresh-states [] none = tt
+  fresh-states (φ ∷ []) one =
       let t = decoded rule in
-      let φ = a .the-formula in
       let l = length-drop 16 ws in
-      let z = rule-size t (count rule) (a .well-formed) (a .some-entries) (a .spans-all) φ (a .at-last) (drop 16 ws) in
-      let s =
-      fresh-rule
-      t
-      (count rule)
-      (a .well-formed)
-      (a .some-entries)
-      (a .spans-all)
-      φ
-      (a .at-last)
-      (drop 16 ws)
-      (omega arith)
-      fresh-block
-      L
-      in
+      let z = rule-size t (count rule) (a .well-formed) φ one (drop 16 ws) in
+      let s = fresh-rule t (count rule) (a .well-formed) φ one (drop 16 ws) (omega arith) fresh-block L in
       subst (State φ L 0) (take-all (words φ) (drop 16 ws) (omega arith)) s
+  fresh-states (φ ∷ (ψ ∷ fs)) several = several
 
-  fresh-top : Top (formula-of rule) L 0 ws
-  fresh-top =
+  fresh-top : (fs : List Formula) → Whole (decoded rule) (count rule) fs → Top fs L 0 ws
+  fresh-top fs whole =
       let held = f .header 4 (omega arith) (omega arith) in
       record {
         at = f .header 1 (omega arith) (omega arith);
-        buffer = empty-buffer (formula-of rule) L 0 (held-count ws) (held-bits ws) zero-le held;
-        state =
-            rw held (subst (λ (φ : Formula). State φ L 0 (drop 16 ws)) (sym (ap formula-or (a .reads))) fresh-formula);
+        held = held-none fs L 0 (held-count ws) (held-bits ws) zero-le held;
+        state = rw held (fresh-states fs whole);
       }
 
 pub fresh-stands : (rule p : List ℕ) → refusal rule ≡ 0 → need rule ≤ length p →
@@ -90,7 +78,7 @@ fresh-stands rule p ok room f L none =
       few = omega arith;
       time = rw (eq-eqb (L .size) 0 none) three;
       fits = omega arith;
-      top = fresh-top rule (take (need rule) p) (accepted rule ok) (length-take-le (need rule) p room) f L;
+      top = fresh-top rule (take (need rule) p) (accepted rule ok) (length-take-le (need rule) p room) f L (formulas-of rule) (rule-whole rule ok);
     }
 
 -- `open`, once a fresh checkpoint stands in the first k words

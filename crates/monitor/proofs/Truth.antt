@@ -1,51 +1,84 @@
--- The theorem of demand 2 for lists of calls, stated in specs/Calls.antt: each byte written is the formula's truth value. Assumes nothing.
-use Prim.Native.Nat.{ℕ, _<_}
+-- The theorem of demand 2 for lists of calls, stated in specs/Calls.antt: each byte written says whether the rule's formula holds.
+-- Assumes nothing.
+use Prim.Native.Nat.{ℕ, _+_, _*_, _/_, _%_, _≤_, _<_}
 use mathlib.Core.Bool.{Bool, true, false}
 use mathlib.Core.Logic.{_↔_, Iff·trans}
-use mathlib.Core.Path.{_≡_, refl, _∙_, ap}
-use mathlib.Core.List.{List}
+use mathlib.Core.Path.{_≡_, refl, sym, _∙_, ap, subst}
+use mathlib.Core.List.{List, [], _∷_}
 use native.Mathlib.Omega.{arith}
 use lib.ListN.{length, getD}
+use Rattle.mtl.specs.Formula.{Formula}
+use Rattle.mtl.specs.Log.{Log}
+use Rattle.mtl.specs.Progress.{progress, joint-progress}
 use Rattle.mtl.specs.Satisfaction.{sat}
 use Rattle.mtl.proofs.Printed.{sat-iff}
 use Rattle.mtl.proofs.Streams.{stream-iff}
 use Rattle.mtl.proofs.Lengthening.{answers-stay}
+use Rattle.bits.specs.Packed.{number}
 use Rattle.bits.proofs.Laws.{number-lt}
+use Rattle.rule.specs.Entries.{count, decoded}
+use Rattle.rule.specs.Accepted.{Whole}
 use Rattle.rule.proofs.Acceptance.{accepted}
-use Rattle.monitor.specs.Verdicts.{formula-of, verdict, first-records, answered}
-use Rattle.monitor.specs.Calls.{Untouched, Call, given-by, brought-by, laid, Calls, Demand2}
+use Rattle.monitor.specs.Verdicts.{formulas-of, byte-of, verdict, first-records, answered}
+use Rattle.monitor.specs.Calls.{Untouched, Call, given-by, brought-by, laid, Calls, Says, Demand2}
+use Rattle.monitor.proofs.Meaning.{rule-whole}
 use Rattle.monitor.proofs.VerdictBytes.{length-verdicts, verdict-at}
 use Rattle.monitor.proofs.Demand3.{invariant}
 
-verdict-iff : (b : Bool) → (verdict b ≡ 1) ↔ (b ≡ true)
-verdict-iff true = (λ e. refl, λ e. refl)
-verdict-iff false = (λ e. absurd (omega arith), λ e. cc)
+number-iff : (b : Bool) → (number b ≡ 1) ↔ (b ≡ true)
+number-iff true = (λ e. refl, λ e. refl)
+number-iff false = (λ e. absurd (omega arith), λ e. cc)
+
+-- at a settled position the byte says of each formula what the formula itself says there
+says : (Holds : Formula → Type 0) (fs : List Formula) (K : Log) (i : ℕ) → i < joint-progress fs K →
+    ((φ : Formula) → i < progress φ K → (sat φ K i ≡ true) ↔ Holds φ) → Says Holds fs (verdict fs K i)
+unfolding joint-progress byte-of
+says Holds [] K i h each = refl
+says Holds (φ ∷ []) K i h each = Iff·trans (number-iff (sat φ K i)) (each φ (omega arith))
+says Holds (φ ∷ (ψ ∷ fs)) K i h each =
+    let low = number-lt (sat φ K i) in
+    let rest = verdict (ψ ∷ fs) K i in
+    let first : (number (sat φ K i) + 2 * rest) % 2 ≡ number (sat φ K i) = omega arith in
+    let others : rest ≡ (number (sat φ K i) + 2 * rest) / 2 = omega arith in (
+      rw first (Iff·trans (number-iff (sat φ K i)) (each φ (omega arith))),
+      subst (Says Holds (ψ ∷ fs)) others (says Holds (ψ ∷ fs) K i (omega arith) each),
+    )
+
+-- at most one formula, so the byte is 1 or 0
+at-most-1 : (fs : List Formula) (rule : List ℕ) (K : Log) (i : ℕ) → Whole (decoded rule) (count rule) fs → verdict fs K i ≤ 1
+unfolding byte-of
+at-most-1 [] rule K i whole = omega arith
+at-most-1 (φ ∷ []) rule K i whole = omega (arith, number-lt (sat φ K i))
+at-most-1 (φ ∷ (ψ ∷ fs)) rule K i whole = absurd whole
 
 module _ (rule log : List ℕ) (untouched : Untouched log) (h : List Call) (point : List ℕ) (calls : Calls rule log h point) where
-  -- byte i is the verdict at position i, which is answered
+  -- byte i is the verdict at position i, which is settled
   byte-at : (i : ℕ) → i < length (laid h) →
-      (i < answered rule log (brought-by h)) × (getD (laid h) i 0 ≡ verdict (sat (formula-of rule) (first-records log (brought-by h)) i))
+      (i < answered rule log (brought-by h)) × (getD (laid h) i 0 ≡ verdict (formulas-of rule) (first-records log (brought-by h)) i)
   byte-at i l =
       let inv = invariant rule log untouched calls in
-      let φ = formula-of rule in
+      let fs = formulas-of rule in
       let L = first-records log (brought-by h) in
-      let within = inv .stands .top .buffer .within in
-      let size = ap length (inv .bytes) ∙ length-verdicts φ L (given-by h) in
-      (omega arith, ap (λ s. getD s i 0) (inv .bytes) ∙ verdict-at φ L (given-by h) i (omega arith))
+      let within = inv .stands .top .held .within in
+      let size = ap length (inv .bytes) ∙ length-verdicts fs L (given-by h) in
+      (omega arith, ap (λ s. getD s i 0) (inv .bytes) ∙ verdict-at fs L (given-by h) i (omega arith))
 
-  byte-iff : (i : ℕ) → i < length (laid h) → (getD (laid h) i 0 ≡ 1) ↔ (sat (formula-of rule) (first-records log (brought-by h)) i ≡ true)
-  byte-iff i l = rw (byte-at i l .1) (verdict-iff (sat (formula-of rule) (first-records log (brought-by h)) i))
+  byte-says : (Holds : Formula → Type 0) (i : ℕ) (l : i < length (laid h)) →
+      ((φ : Formula) → i < progress φ (first-records log (brought-by h)) → (sat φ (first-records log (brought-by h)) i ≡ true) ↔ Holds φ) →
+      Says Holds (formulas-of rule) (getD (laid h) i 0)
+  byte-says Holds i l each =
+      let (answered-there, is) = byte-at i l in
+      subst (Says Holds (formulas-of rule)) (sym is) (says Holds (formulas-of rule) (first-records log (brought-by h)) i answered-there each)
 
   -- THE THEOREM
   pub demand-2 : Demand2 rule log h
   demand-2 =
-      let φ = formula-of rule in
       let K = first-records log (brought-by h) in
-      let a = accepted rule (invariant rule log untouched calls .fine) in
+      let fine = invariant rule log untouched calls .fine in
       record {
-        reads = rw (a .reads);
-        binary = λ i l. omega (arith, byte-at i l .1, number-lt (sat φ K i));
+        reads = rw (accepted rule fine .reads);
+        binary = λ i l. omega (arith, byte-at i l .1, at-most-1 (formulas-of rule) rule K i (rule-whole rule fine));
         on-log = λ L longer falls i l.
-            Iff·trans (byte-iff i l) (rw (answers-stay φ K L longer falls i (byte-at i l .0)) (sat-iff φ L i));
-        on-stream = λ σ begins falls i l. Iff·trans (byte-iff i l) (stream-iff φ σ K falls begins i (byte-at i l .0));
+            byte-says _ i l (λ φ there. rw (answers-stay φ K L longer falls i there) (sat-iff φ L i));
+        on-stream = λ σ begins falls i l. byte-says _ i l (λ φ there. stream-iff φ σ K falls begins i there);
       }

@@ -9,23 +9,22 @@ use lib.ListN.{length, getD, take, length-append, List·getD-append}
 use lib.Seq.{take-suc, getD-take, getD-at, ext-getD, length-take-le}
 use Rattle.mtl.specs.Formula.{Formula}
 use Rattle.mtl.specs.Log.{Log, NeverFalls, Continues}
-use Rattle.mtl.specs.Satisfaction.{sat}
-use Rattle.mtl.specs.Progress.{progress}
+use Rattle.mtl.specs.Progress.{joint-progress}
 use Rattle.mtl.proofs.Bounded.{le-or-lt}
-use Rattle.mtl.proofs.Lengthening.{answers-stay}
 use Rattle.monitor.specs.Verdicts.{verdict, verdicts}
+use Rattle.monitor.proofs.Meaning.{verdict-stays}
 
-module _ (φ : Formula) (L : Log) where
-  pub length-verdicts : (n : ℕ) → length (verdicts φ L n) ≡ n
+module _ (fs : List Formula) (L : Log) where
+  pub length-verdicts : (n : ℕ) → length (verdicts fs L n) ≡ n
   unfolding verdicts
   length-verdicts zero = refl
   length-verdicts (suc n) =
       let e = length-verdicts n in
-      let sum = length-append (verdicts φ L n) (verdict (sat φ L n) ∷ []) in
+      let sum = length-append (verdicts fs L n) (verdict fs L n ∷ []) in
       omega arith
 
   -- byte i of the verdicts is that of position i
-  pub verdict-at : (n i : ℕ) → i < n → getD (verdicts φ L n) i 0 ≡ verdict (sat φ L i)
+  pub verdict-at : (n i : ℕ) → i < n → getD (verdicts fs L n) i 0 ≡ verdict fs L i
   unfolding verdicts
   verdict-at zero i h = absurd (not-suc-le-zero h)
   verdict-at (suc n) i h =
@@ -33,35 +32,35 @@ module _ (φ : Formula) (L : Log) where
       ⊎-elim
       (λ (l : n ≤ i).
       let same : i ≡ n = omega arith in
-      rw same (getD-at (verdicts φ L n) (verdict (sat φ L n)) [] 0 n e))
-      (λ (l : i < n). List·getD-append (verdicts φ L n) (verdict (sat φ L n) ∷ []) 0 i (omega arith) ∙ verdict-at n i l)
+      rw same (getD-at (verdicts fs L n) (verdict fs L n) [] 0 n e))
+      (λ (l : i < n). List·getD-append (verdicts fs L n) (verdict fs L n ∷ []) 0 i (omega arith) ∙ verdict-at n i l)
       (le-or-lt n i)
 
   -- a list with these verdicts from position d on
   abbrev pub VerdictsFrom : ℕ → ℕ → List ℕ → Type 0
-  VerdictsFrom d c s = (i : ℕ) → i < c → getD s i 0 ≡ verdict (sat φ L (d + i))
+  VerdictsFrom d c s = (i : ℕ) → i < c → getD s i 0 ≡ verdict fs L (d + i)
 
   -- c bytes more
-  pub verdicts-more : (d c : ℕ) (s : List ℕ) → c ≤ length s → VerdictsFrom d c s → verdicts φ L d ++ take c s ≡ verdicts φ L (d + c)
+  pub verdicts-more : (d c : ℕ) (s : List ℕ) → c ≤ length s → VerdictsFrom d c s → verdicts fs L d ++ take c s ≡ verdicts fs L (d + c)
   unfolding verdicts
-  verdicts-more d zero s room bytes = let sum : d ≡ d + 0 = omega arith in append-nil (verdicts φ L d) ∙ ap (verdicts φ L) sum
+  verdicts-more d zero s room bytes = let sum : d ≡ d + 0 = omega arith in append-nil (verdicts fs L d) ∙ ap (verdicts fs L) sum
   verdicts-more d (suc c) s room bytes =
       let before = verdicts-more d c s (omega arith) (λ i h. bytes i (omega arith)) in
       let next = bytes c (omega arith) in
       let sum : suc (d + c) ≡ d + suc c = omega arith in
-      ap (λ b. verdicts φ L d ++ b) (take-suc s c 0 room) ∙ sym (append-assoc (verdicts φ L d) (take c s) (getD s c 0 ∷ [])) ∙
-      ap₂ (λ vs v. vs ++ (v ∷ [])) before next ∙ ap (verdicts φ L) sum
+      ap (λ b. verdicts fs L d ++ b) (take-suc s c 0 room) ∙ sym (append-assoc (verdicts fs L d) (take c s) (getD s c 0 ∷ [])) ∙
+      ap₂ (λ vs v. vs ++ (v ∷ [])) before next ∙ ap (verdicts fs L) sum
 
   -- the first of them
-  pub take-verdicts : (d m : ℕ) → d ≤ m → take d (verdicts φ L m) ≡ verdicts φ L d
+  pub take-verdicts : (d m : ℕ) → d ≤ m → take d (verdicts fs L m) ≡ verdicts fs L d
   take-verdicts d m h =
-      let few = length-take-le d (verdicts φ L m) (rw (length-verdicts m) h) in
-      ext-getD 0 (take d (verdicts φ L m)) (verdicts φ L d) (few ∙ sym (length-verdicts d))
-      (λ i l. getD-take d (verdicts φ L m) i 0 (omega arith) ∙ verdict-at m i (omega arith) ∙ sym (verdict-at d i (omega arith)))
+      let few = length-take-le d (verdicts fs L m) (rw (length-verdicts m) h) in
+      ext-getD 0 (take d (verdicts fs L m)) (verdicts fs L d) (few ∙ sym (length-verdicts d))
+      (λ i l. getD-take d (verdicts fs L m) i 0 (omega arith) ∙ verdict-at m i (omega arith) ∙ sym (verdict-at d i (omega arith)))
 
 -- verdicts that are settled stay on a longer log
-pub verdicts-stay : (φ : Formula) (K L : Log) → Continues K L → NeverFalls L → (d : ℕ) → d ≤ progress φ K → verdicts φ K d ≡ verdicts φ L d
+pub verdicts-stay : (fs : List Formula) (K L : Log) → Continues K L → NeverFalls L → (d : ℕ) → d ≤ joint-progress fs K → verdicts fs K d ≡ verdicts fs L d
 unfolding verdicts
-verdicts-stay φ K L longer falls zero h = refl
-verdicts-stay φ K L longer falls (suc d) h =
-    ap₂ (λ vs v. vs ++ (verdict v ∷ [])) (verdicts-stay φ K L longer falls d (omega arith)) (answers-stay φ K L longer falls d (omega arith))
+verdicts-stay fs K L longer falls zero h = refl
+verdicts-stay fs K L longer falls (suc d) h =
+    ap₂ (λ vs v. vs ++ (v ∷ [])) (verdicts-stay fs K L longer falls d (omega arith)) (verdict-stays fs K L longer falls d (omega arith))

@@ -9,25 +9,25 @@ use native.Mathlib.Omega.{arith}
 use lib.ListN.{length, getD, take, drop, set, length-append, length-drop, take-append-drop, List·getD-append}
 use lib.Seq.{length-take-le, drop-cons, set-at, drop-at, getD-take, getD-at, getD-append-add}
 use Rattle.mtl.proofs.Bounded.{le-or-lt}
-use Rattle.bits.specs.Packed.{bit}
-use Rattle.monitor.specs.Verdicts.{verdict, bytes-of}
+use Rattle.bits.specs.Packed.{bit, number}
+use Rattle.monitor.specs.Verdicts.{bytes-of}
 
 length-bytes : (n bits : ℕ) → length (bytes-of n bits) ≡ n
 unfolding bytes-of
 length-bytes zero bits = refl
 length-bytes (suc n) bits =
     let e = length-bytes n bits in
-    let sum = length-append (bytes-of n bits) (verdict (bit bits n) ∷ []) in
+    let sum = length-append (bytes-of n bits) (number (bit bits n) ∷ []) in
     omega arith
 
-byte-at : (n bits i : ℕ) → i < n → getD (bytes-of n bits) i 0 ≡ verdict (bit bits i)
+byte-at : (n bits i : ℕ) → i < n → getD (bytes-of n bits) i 0 ≡ number (bit bits i)
 unfolding bytes-of
 byte-at zero bits i h = absurd (not-suc-le-zero h)
 byte-at (suc n) bits i h =
     let e = length-bytes n bits in
     ⊎-elim
-    (λ (l : n ≤ i). let same : i ≡ n = omega arith in rw same (getD-at (bytes-of n bits) (verdict (bit bits n)) [] 0 n e))
-    (λ (l : i < n). List·getD-append (bytes-of n bits) (verdict (bit bits n) ∷ []) 0 i (omega arith) ∙ byte-at n bits i l)
+    (λ (l : n ≤ i). let same : i ≡ n = omega arith in rw same (getD-at (bytes-of n bits) (number (bit bits n)) [] 0 n e))
+    (λ (l : i < n). List·getD-append (bytes-of n bits) (number (bit bits n) ∷ []) 0 i (omega arith) ∙ byte-at n bits i l)
     (le-or-lt n i)
 
 -- the sheet with n verdicts from `from` on
@@ -58,7 +58,7 @@ module _ (from n bits : ℕ) (sheet : List ℕ) (inside : from + n ≤ length sh
       List·getD-append (take from sheet) (bytes-of n bits ++ drop (from + n) sheet) 0 i (omega (arith, front)) ∙
       getD-take from sheet i 0 below
 
-  pub written-at : (i : ℕ) → i < n → getD (written from n bits sheet) (from + i) 0 ≡ verdict (bit bits i)
+  pub written-at : (i : ℕ) → i < n → getD (written from n bits sheet) (from + i) 0 ≡ number (bit bits i)
   written-at i below =
       let place : from + i ≡ length (take from sheet) + i = omega (arith, front) in
       ap (λ (k : ℕ). getD (written from n bits sheet) k 0) place ∙
@@ -67,10 +67,10 @@ module _ (from n bits : ℕ) (sheet : List ℕ) (inside : from + n ≤ length sh
       byte-at n bits i below
 
   pub written-more : from + n < length sheet →
-      set (written from n bits sheet) (from + n) (verdict (bit bits n)) ≡ written from (n + 1) bits sheet
+      set (written from n bits sheet) (from + n) (number (bit bits n)) ≡ written from (n + 1) bits sheet
   unfolding bytes-of
   written-more more =
-      let v = verdict (bit bits n) in
+      let v = number (bit bits n) in
       let bytes = bytes-of n bits in
       let next : from + (n + 1) ≡ suc (from + n) = omega arith in
       let longer : bytes ++ (v ∷ drop (suc (from + n)) sheet) ≡ bytes-of (n + 1) bits ++ drop (from + (n + 1)) sheet =

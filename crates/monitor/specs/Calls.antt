@@ -1,6 +1,6 @@
 -- Demands 2 and 3 as claims about a whole list of calls. Its steps are the records that the calls' `ensures` name, and nothing
 -- here names the inside of a checkpoint. proofs/Truth.antt proves demand 2's claim, proofs/Demand3.antt demand 3's.
-use Prim.Native.Nat.{ℕ, _+_, _*_, _-_, _≤_, _<_, min}
+use Prim.Native.Nat.{ℕ, _+_, _*_, _-_, _/_, _%_, _≤_, _<_, min}
 use mathlib.Core.Bool.{Bool, false}
 use mathlib.Core.Path.{_≡_}
 use mathlib.Core.Logic.{_↔_}
@@ -8,14 +8,15 @@ use mathlib.Core.List.{List, [], _∷_, _++_}
 use mathlib.Core.Option.{some}
 use lib.ListN.{length, getD, take, drop}
 use lib.Dec.{ltb}
+use Rattle.mtl.specs.Formula.{Formula}
 use Rattle.mtl.specs.Log.{Log, Stream, NeverFalls, StreamNeverFalls, Continues, Begins}
 use Rattle.mtl.specs.Reading.{HoldsIn, HoldsOn}
 use Rattle.trace.specs.Format.{record-count, records-of, malformed}
 use Rattle.trace.specs.Log.{log-of}
 use Rattle.rule.specs.Entries.{count, decoded}
-use Rattle.rule.specs.Postfix.{formula}
+use Rattle.rule.specs.Postfix.{formulas}
 use Rattle.rule.specs.Measure.{measured}
-use Rattle.monitor.specs.Verdicts.{formula-of, first-records, answered, all-verdicts}
+use Rattle.monitor.specs.Verdicts.{formulas-of, first-records, answered, all-verdicts}
 use Rattle.monitor.specs.Open.{Opens}
 use Rattle.monitor.specs.Resume.{Resumes}
 use Rattle.monitor.specs.declared.Opened.{Opened}
@@ -123,20 +124,27 @@ pub record OneRun (rule log : List ℕ) (n : ℕ) (r : Resumed) (sheet′ : List
   pub left : List ℕ
   pub resumes : Resumes rule brought fresh sheet r left sheet′
 
+-- What a verdict byte says, where Holds says which formulas hold. Of an empty rule, "every position is yes". Of several formulas,
+-- which no rule has yet, bit k would be that of formula k.
+abbrev pub Says : (Formula → Type 0) → List Formula → ℕ → Type 0
+Says Holds [] byte = byte ≡ 1
+Says Holds (φ ∷ []) byte = (byte ≡ 1) ↔ Holds φ
+Says Holds (φ ∷ (ψ ∷ fs)) byte = ((byte % 2 ≡ 1) ↔ Holds φ) × Says Holds (ψ ∷ fs) (byte / 2)
+
 -- DEMAND 2, for every list. "Verdicts are those of metric temporal logic as documents 000 and 002 define it, on the log and on
 -- every accepted lengthening of it"
 pub record Demand2 (rule log : List ℕ) (h : List Call) : Type 0 where
-  -- the rule's entries are this one formula
-  pub reads : formula (decoded rule) (count rule) ≡ some (formula-of rule)
+  -- the rule's entries are these formulas: one, or none where it has no entry
+  pub reads : formulas (decoded rule) (count rule) ≡ some (formulas-of rule)
   -- "each byte 1 for yes or 0 for no"
   pub binary : (i : ℕ) → i < length (laid h) → getD (laid h) i 0 ≤ 1
-  -- byte i is yes exactly if the formula holds at position i of the records brought, however they are lengthened: by any number
-  -- of records, none among them,
+  -- byte i is yes exactly if the formula, where there is one, holds at position i of the records brought, however they are
+  -- lengthened: by any number of records, none among them,
   pub on-log : (L : Log) → Continues (first-records log (brought-by h)) L → NeverFalls L →
-      (i : ℕ) → i < length (laid h) → (getD (laid h) i 0 ≡ 1) ↔ HoldsIn L (formula-of rule) i
+      (i : ℕ) → i < length (laid h) → Says (λ φ. HoldsIn L φ i) (formulas-of rule) (getD (laid h) i 0)
   -- or to an infinite stream
   pub on-stream : (σ : Stream) → Begins σ (first-records log (brought-by h)) → StreamNeverFalls σ →
-      (i : ℕ) → i < length (laid h) → (getD (laid h) i 0 ≡ 1) ↔ HoldsOn σ (formula-of rule) i
+      (i : ℕ) → i < length (laid h) → Says (λ φ. HoldsOn σ φ i) (formulas-of rule) (getD (laid h) i 0)
 
 -- "any words behind them are kept": those behind the words that weigh gave, and how many there are
 pub record Keeps (rule words words′ : List ℕ) : Type 0 where

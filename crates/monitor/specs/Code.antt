@@ -2,23 +2,22 @@
 use Prim.Native.Nat.{ℕ, zero, suc, _+_, _-_, _≤_, _<_, _^_, min}
 use mathlib.Core.Bool.{Bool, true, false, cond}
 use mathlib.Core.Path.{_≡_}
-use mathlib.Core.List.{List}
+use mathlib.Core.List.{List, [], _∷_}
 use lib.ListN.{length, getD, drop, set}
 use lib.Dec.{eqb, ltb}
 use Rattle.mtl.specs.Formula.{Formula}
 use Rattle.mtl.specs.Log.{Log, NeverFalls}
-use Rattle.mtl.specs.Satisfaction.{sat}
-use Rattle.mtl.specs.Progress.{progress}
+use Rattle.mtl.specs.Progress.{joint-progress}
 use Rattle.rule.specs.declared.Entry.{Entry}
 use Rattle.rule.specs.Entries.{entry}
 use Rattle.rule.specs.Refusal.{refusal}
 use Rattle.engine.specs.Block.{word}
 use Rattle.engine.specs.Step.{Agrees}
-use Rattle.engine.specs.Table.{Has}
+use Rattle.engine.specs.Table.{RowsOk, column, Has}
 use Rattle.trace.specs.Format.{record-count}
 use Rattle.trace.specs.Order.{last-time}
 use Rattle.monitor.specs.Checkpoint.{format, given, seen, last, held-count, need, block-at, copy-head, copy-ends}
-use Rattle.monitor.specs.Verdicts.{formula-of, verdict}
+use Rattle.monitor.specs.Verdicts.{formulas-of, verdict}
 use Rattle.monitor.specs.Stands.{Top}
 use Rattle.monitor.specs.declared.check.Sized.{Sized}
 use Rattle.monitor.specs.declared.check.Sized.the-variants.{Words, Stopped}
@@ -53,17 +52,35 @@ pub record Fresh (t : List Entry) (n : ℕ) (ws : List ℕ) : Type 0 where
   pub heads : (k : ℕ) → k < n → word ws (block-at t k + 14) ≡ copy-head (entry t k)
   pub ends : (k : ℕ) → k < n → word ws (block-at t k + 15) ≡ copy-ends (entry t k)
 
--- `hold` fills the header's buffer where it is empty: false where the formula is open
-abbrev pub Holding : Formula → Log → ℕ → Bool → List ℕ → Type 0
-Holding φ L d true ws′ = Top φ L d ws′
-Holding φ L d false ws′ = Top φ L d ws′ × (progress φ L ≡ d)
+-- the table of a rule's n entries, the last of which, where there is one, has all words behind the header
+pub record Fits (t : List ℕ) (n size : ℕ) : Type 0 where
+  pub few : n ≤ 128
+  pub header : 16 ≤ size
+  pub rows : 0 < n → RowsOk t (n - 1)
+  pub words : 0 < n → 16 + column 7 t (n - 1) ≡ size
 
-pub record Holds (t s : List ℕ) (k : ℕ) (ws : List ℕ) (r : Bool) (ws′ : List ℕ) : Type 0 where
+-- the rule's formulas in its table of n entries
+abbrev pub Tops : List Formula → List ℕ → ℕ → Type 0
+Tops [] t n = n ≡ 0
+Tops (φ ∷ []) t n = (0 < n) × Has φ t (n - 1)
+Tops (φ ∷ (ψ ∷ fs)) t n = ⊥
+
+-- of an empty rule: a yes for each record without a verdict, as far as one word goes
+abbrev pub all-yes : List ℕ → List ℕ → List ℕ
+all-yes s ws = set (set ws 4 (min (record-count s - given ws) 64)) 5 (2 ^ 64 - 1)
+
+-- `hold` fills the header's buffer where it is empty: false where nothing more is settled
+abbrev pub Holding : List Formula → Log → ℕ → Bool → List ℕ → Type 0
+Holding fs L d true ws′ = Top fs L d ws′
+Holding fs L d false ws′ = Top fs L d ws′ × (joint-progress fs L ≡ d)
+
+pub record Holds (t s : List ℕ) (n : ℕ) (ws : List ℕ) (r : Bool) (ws′ : List ℕ) : Type 0 where
   pub words-length : length ws′ ≡ length ws
   pub header : (i : ℕ) → i < 16 → (i ≡ 4 → ⊥) → (i ≡ 5 → ⊥) → word ws′ i ≡ word ws i
   pub some : r ≡ true → 0 < held-count ws′
   pub none : r ≡ false → held-count ws′ ≡ 0
-  pub meaning : (φ : Formula) (L : Log) (d : ℕ) → Has φ t k → NeverFalls L → Agrees s L d → Top φ L d ws → Holding φ L d r ws′
+  pub meaning : (fs : List Formula) (L : Log) (d : ℕ) → Tops fs t n → NeverFalls L → Agrees s L d → Top fs L d ws →
+      Holding fs L d r ws′
 
 -- the copies of the first n entries, written into their blocks
 unfoldable pub copies : List Entry → ℕ → List ℕ → List ℕ
@@ -72,20 +89,20 @@ copies t (suc n) ws =
     set (set (copies t n ws) (block-at t n + 14) (copy-head (entry t n))) (block-at t n + 15) (copy-ends (entry t n))
 
 -- c verdicts from d on: the bytes, and what the words stand for then
-pub record Giving (φ : Formula) (L : Log) (d c : ℕ) (ws′ sheet′ : List ℕ) : Type 0 where
-  pub top : Top φ L (d + c) ws′
-  pub bytes : (i : ℕ) → i < c → getD sheet′ i 0 ≡ verdict (sat φ L (d + i))
+pub record Giving (fs : List Formula) (L : Log) (d c : ℕ) (ws′ sheet′ : List ℕ) : Type 0 where
+  pub top : Top fs L (d + c) ws′
+  pub bytes : (i : ℕ) → i < c → getD sheet′ i 0 ≡ verdict fs L (d + i)
 
 -- `give` writes c verdicts: as many as the sheet holds, or as there are
-pub record Gave (t s : List ℕ) (k : ℕ) (ws sheet : List ℕ) (c : ℕ) (ws′ sheet′ : List ℕ) : Type 0 where
+pub record Gave (t s : List ℕ) (n : ℕ) (ws sheet : List ℕ) (c : ℕ) (ws′ sheet′ : List ℕ) : Type 0 where
   pub room : c ≤ length sheet
   pub rest : drop c sheet′ ≡ drop c sheet
   pub sheet-length : length sheet′ ≡ length sheet
   pub words-length : length ws′ ≡ length ws
   pub count : given ws′ ≡ given ws + c
   pub header : (i : ℕ) → i < 16 → (i ≡ 1 → ⊥) → (i ≡ 4 → ⊥) → (i ≡ 5 → ⊥) → word ws′ i ≡ word ws i
-  pub meaning : (φ : Formula) (L : Log) (d : ℕ) → Has φ t k → NeverFalls L → Agrees s L d → Top φ L d ws →
-      Giving φ L d c ws′ sheet′ × (c < length sheet → progress φ L ≡ d + c)
+  pub meaning : (fs : List Formula) (L : Log) (d : ℕ) → Tops fs t n → NeverFalls L → Agrees s L d → Top fs L d ws →
+      Giving fs L d c ws′ sheet′ × (c < length sheet → joint-progress fs L ≡ d + c)
 
 -- an accepted call on exactly the words that the rule needs
 pub record Proceeded (rule s ws sheet : List ℕ) (c : ℕ) (more : Bool) (ws′ sheet′ : List ℕ) : Type 0 where
@@ -99,9 +116,9 @@ pub record Proceeded (rule s ws sheet : List ℕ) (c : ℕ) (more : Bool) (ws′
   pub time : last ws′ ≡ last-time s (seen ws) (last ws)
   pub fits : last ws < 2 ^ 32 → last ws′ < 2 ^ 32
   pub entries : word ws′ 6 ≡ word ws 6
-  pub meaning : (L : Log) (d : ℕ) → NeverFalls L → Agrees s L d → Top (formula-of rule) L d ws →
-      Giving (formula-of rule) L d c ws′ sheet′ × (c ≡ min (progress (formula-of rule) L - d) (length sheet)) ×
-      (more ≡ ltb (d + c) (progress (formula-of rule) L))
+  pub meaning : (L : Log) (d : ℕ) → NeverFalls L → Agrees s L d → Top (formulas-of rule) L d ws →
+      Giving (formulas-of rule) L d c ws′ sheet′ × (c ≡ min (joint-progress (formulas-of rule) L - d) (length sheet)) ×
+      (more ≡ ltb (d + c) (joint-progress (formulas-of rule) L))
 
 abbrev pub Proceeds : (rule s ws sheet : List ℕ) → Resumed → (ws′ sheet′ : List ℕ) → Type 0
 Proceeds rule s ws sheet (Given c more) ws′ sheet′ = Proceeded rule s ws sheet c more ws′ sheet′

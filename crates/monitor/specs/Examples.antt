@@ -1,22 +1,23 @@
--- Document 01's "Worked by hand": one table, from the bytes of rules and logs to numbers, verdicts and refusals, proved by computation.
+-- Document 01's "Worked by hand", and an empty rule's cases: one table, from the bytes of rules and logs to numbers, verdicts and refusals, proved by computation.
 use Prim.Native.Nat.{ℕ, suc, _+_, _/_, _%_, _^_}
 use mathlib.Core.Bool.{Bool, true, false, cond, _&&_}
+use mathlib.Core.Bool.{not as negate}
 use mathlib.Core.List.{List, [], _∷_, _++_}
 use mathlib.Core.Path.{_≡_, refl}
-use lib.Dec.{eqb}
-use lib.ListN.{length, drop, replicate}
+use lib.Dec.{eqb, ltb}
+use lib.ListN.{length, take, drop, replicate}
 use Rattle.mtl.specs.Formula.{has-next, reach}
 use Rattle.mtl.specs.Satisfaction.{any, all, sat}
-use Rattle.mtl.specs.Progress.{run, progress}
+use Rattle.mtl.specs.Progress.{run, progress, joint-progress}
 use Rattle.rule.specs.Entries.{first-entries}
 use Rattle.rule.specs.Words.{offset}
 use Rattle.rule.specs.Postfix.{push-kind, read}
 use Rattle.rule.specs.Refusal.{before, refusal, header-refusal, entries-refusal}
-use Rattle.rule.specs.Measure.{measured}
+use Rattle.rule.specs.Measure.{farthest, measured}
 use Rattle.trace.specs.Format.{record-count, records-of}
 use Rattle.trace.specs.Order.{last-time}
 use Rattle.monitor.specs.Refusal.{log-refusal}
-use Rattle.monitor.specs.Verdicts.{verdicts, answered, all-verdicts}
+use Rattle.monitor.specs.Verdicts.{byte-of, verdicts, answered, all-verdicts}
 
 -- BYTES
 
@@ -70,8 +71,8 @@ log records = 0x4B ∷ 0x4C ∷ 0x47 ∷ 0 ∷ 1 ∷ 0 ∷ 0 ∷ 0 ∷ records
 -- THE TABLE
 
 -- a call: the rule, the untouched log, the log as it is brought, and the verdicts given, the records seen and the last time seen
--- before it; then the refusal's number or 0, the words and the reach of the rule, A, and the verdicts written on a sheet with
--- room for all
+-- before it, and the sheet's length; then the refusal's number or 0, the words and the reach of the rule, A, the verdicts written,
+-- and whether there are more
 pub record Row : Type 0 where
   pub rule : List ℕ
   pub untouched : List ℕ
@@ -79,13 +80,15 @@ pub record Row : Type 0 where
   pub given : ℕ
   pub seen : ℕ
   pub last : ℕ
+  pub room : ℕ
   pub number : ℕ
   pub words : ℕ
   pub reach : ℕ
   pub answered : ℕ
   pub verdicts : List ℕ
+  pub more : Bool
 
--- the first call on a fresh checkpoint, accepted
+-- the first call on a fresh checkpoint, accepted, with room for all verdicts
 abbrev on-fresh : (rule log : List ℕ) (words reach answered : ℕ) (verdicts : List ℕ) → Row
 on-fresh rule log words reach answered verdicts =
     record {
@@ -95,14 +98,36 @@ on-fresh rule log words reach answered verdicts =
       given = 0;
       seen = 0;
       last = 0;
+      room = 8191;
       number = 0;
       words = words;
       reach = reach;
       answered = answered;
       verdicts = verdicts;
+      more = false;
     }
 
--- the next call with the same rule, accepted: "The point then has d + c verdicts given, N records seen, and the last record's time"
+-- the same call with a sheet that is too short
+abbrev on-short : Row → (room : ℕ) (verdicts : List ℕ) → Row
+on-short r room verdicts =
+    record {
+      rule = r .rule;
+      untouched = r .untouched;
+      brought = r .brought;
+      given = r .given;
+      seen = r .seen;
+      last = r .last;
+      room = room;
+      number = 0;
+      words = r .words;
+      reach = r .reach;
+      answered = r .answered;
+      verdicts = verdicts;
+      more = true;
+    }
+
+-- the next call with the same rule, accepted, with room for all verdicts: "The point then has d + c verdicts given, N records seen,
+-- and the last record's time"
 abbrev after : Row → (untouched brought : List ℕ) (answered : ℕ) (verdicts : List ℕ) → Row
 after r untouched brought answered verdicts =
     record {
@@ -112,11 +137,13 @@ after r untouched brought answered verdicts =
       given = r .given + length (r .verdicts);
       seen = record-count (records-of (r .brought));
       last = last-time (records-of (r .brought)) (r .seen) (r .last);
+      room = 8191;
       number = 0;
       words = r .words;
       reach = r .reach;
       answered = answered;
       verdicts = verdicts;
+      more = false;
     }
 
 -- a rule that is refused with this number
@@ -129,11 +156,13 @@ refused rule number =
       given = 0;
       seen = 0;
       last = 0;
+      room = 8191;
       number = number;
       words = 0;
       reach = 0;
       answered = 0;
       verdicts = [];
+      more = false;
     }
 
 -- two lists of bytes are the same
@@ -149,13 +178,17 @@ computes-refusal r =
     eqb (before (refusal (r .rule)) (log-refusal (r .brought) (r .given) (r .seen) (r .last))) (r .number)
     && (eqb (measured (r .rule) .words) (r .words) && eqb (measured (r .rule) .reach) (r .reach))
 
--- the answered number and the verdicts from `given` on, "judged on the untouched log"; none are left, so the call says caught up
+-- two answers are the same
+abbrev agree : Bool → Bool → Bool
+agree x y = cond x y (negate y)
+
+-- the answered number, the verdicts from `given` on as far as the sheet goes, "judged on the untouched log", and "'more' if A > d + c"
 unfoldable pub computes-verdicts : Row → Bool
 computes-verdicts r =
     let n = record-count (records-of (r .brought)) in
     eqb (answered (r .rule) (r .untouched) n) (r .answered)
-    && (same (drop (r .given) (all-verdicts (r .rule) (r .untouched) n)) (r .verdicts)
-    && eqb (r .given + length (r .verdicts)) (r .answered))
+    && (same (take (r .room) (drop (r .given) (all-verdicts (r .rule) (r .untouched) n))) (r .verdicts)
+    && agree (ltb (r .given + length (r .verdicts)) (r .answered)) (r .more))
 
 unfoldable pub computes : Row → Bool
 computes r = computes-refusal r && cond (eqb (r .number) 0) (computes-verdicts r) true
@@ -191,6 +224,13 @@ call-1 = on-fresh rule-1 (log records-1) 70 2 5 (no ∷ no ∷ no ∷ yes ∷ ye
 abbrev rule-10 : ℕ → List ℕ
 rule-10 high = rule 1 5 (letter 0 ++ letter 1 ++ until 0 3600 ++ letter 2 ++ until 0 high)
 
+-- an empty rule over three records
+abbrev records-20 : List ℕ
+records-20 = at 5 (0 ∷ []) ++ at 5 [] ++ at 7 []
+
+abbrev call-20 : Row
+call-20 = on-short (on-fresh (rule 1 0 []) (log records-20) 16 0 3 []) 2 (yes ∷ yes ∷ [])
+
 unfoldable pub rows : List Row
 rows =
     -- 1: P1 The run above.
@@ -217,10 +257,10 @@ rows =
     -- 11 and 12: P10 Two untils over three letters, highs 3,600 and 446: 8,192 words; with 447: refusal 8.
     ∷ on-fresh (rule-10 446) (log []) 8192 4046 0 []
     ∷ refused (rule-10 447) 8
-    -- 13 to 15: High 3,600 passes, 3,601 is refusal 6; two errors, version 2 and count 0, give 2.
+    -- 13 to 15: High 3,600 passes, 3,601 is refusal 6; two errors, version 2 and a wrong length, give 2.
     ∷ on-fresh (rule 1 3 (letter 0 ++ letter 1 ++ until 0 3600)) (log []) 7266 3600 0 []
     ∷ refused (rule 1 3 (letter 0 ++ letter 1 ++ until 0 3601)) 6
-    ∷ refused (rule 2 0 []) 2
+    ∷ refused (rule 2 1 []) 2
     -- 16 to 18: request 6: next, 1 to no end, of letter 0, over gaps 0, 1, 3,601 and 4,294,967,295 to records with letter 0; an
     -- until without upper end is refused
     ∷ on-fresh (rule 1 2 (letter 0 ++ next 1 no-end))
@@ -228,9 +268,16 @@ rows =
     48 no-end 3 (no ∷ yes ∷ yes ∷ [])
     ∷ on-fresh (rule 1 2 (letter 0 ++ next 1 no-end)) (log (at 0 [] ++ at 4_294_967_295 (0 ∷ []))) 48 no-end 1 (yes ∷ [])
     ∷ refused (rule 1 3 (letter 0 ++ letter 1 ++ until 0 no-end)) 6
+    -- 19: request 3: an empty rule over no record: 16 words, reach 0
+    ∷ on-fresh (rule 1 0 []) (log []) 16 0 0 []
+    -- 20 and 21: over three records with a sheet of two bytes, yes, yes, more; then, with those two overwritten, yes, caught up
+    ∷ call-20
+    ∷ after call-20 (log records-20) (log (replicate 16 255 ++ at 7 [])) 3 (yes ∷ [])
+    -- 22: a count of 0 with a length of 18 is refusal 4
+    ∷ refused (rule 1 0 (letter 0)) 4
     ∷ []
 
 -- every row computes; an edit of the definitions that breaks a row has its number in an error
 pub every-row : Right 1 rows
-unfolding Right wrong rows computes computes-refusal computes-verdicts same event-set first-entries offset push-kind read header-refusal entries-refusal has-next reach any all sat run progress verdicts
-every-row = (refl, (refl, (refl, (refl, (refl, (refl, (refl, (refl, (refl, (refl, (refl, (refl, (refl, (refl, (refl, (refl, (refl, (refl, tt))))))))))))))))))
+unfolding Right wrong rows computes computes-refusal computes-verdicts same event-set first-entries offset push-kind read header-refusal entries-refusal has-next reach any all sat run progress farthest joint-progress byte-of verdicts
+every-row = (refl, (refl, (refl, (refl, (refl, (refl, (refl, (refl, (refl, (refl, (refl, (refl, (refl, (refl, (refl, (refl, (refl, (refl, (refl, (refl, (refl, (refl, tt))))))))))))))))))))))

@@ -6,14 +6,13 @@ use mathlib.Core.List.{List}
 use lib.ListN.{length, getD, drop}
 use lib.Dec.{ltb}
 use Rattle.mtl.specs.Log.{Log, NeverFalls, Continues}
-use Rattle.mtl.specs.Satisfaction.{sat}
-use Rattle.mtl.specs.Progress.{progress}
+use Rattle.mtl.specs.Progress.{joint-progress}
 use Rattle.trace.specs.Format.{record-count, records-of}
 use Rattle.trace.specs.Order.{last-time}
 use Rattle.engine.specs.Step.{Agrees}
 use Rattle.monitor.specs.Checkpoint.{given, seen, last, need}
 use Rattle.monitor.specs.Refusal.{resume-refusal}
-use Rattle.monitor.specs.Verdicts.{formula-of, verdict}
+use Rattle.monitor.specs.Verdicts.{formulas-of, verdict}
 use Rattle.monitor.specs.Stands.{Stands}
 use Rattle.monitor.specs.declared.Resumed.{Resumed}
 use Rattle.monitor.specs.declared.Resumed.the-variants.{Given, Refused}
@@ -33,9 +32,9 @@ resumed-more (Refused n) = false
 
 -- "Carry on writes c verdicts, c the smaller of A - d and the sheet's length .. It gives c and 'more' if A > d + c"
 pub record Gives (rule : List ℕ) (L : Log) (d : ℕ) (sheet : List ℕ) (c : ℕ) (m : Bool) (p′ sheet′ : List ℕ) : Type 0 where
-  pub count : c ≡ min (progress (formula-of rule) L - d) (length sheet)
-  pub bytes : (i : ℕ) → i < c → getD sheet′ i 0 ≡ verdict (sat (formula-of rule) L (d + i))
-  pub more : m ≡ ltb (d + c) (progress (formula-of rule) L)
+  pub count : c ≡ min (joint-progress (formulas-of rule) L - d) (length sheet)
+  pub bytes : (i : ℕ) → i < c → getD sheet′ i 0 ≡ verdict (formulas-of rule) L (d + i)
+  pub more : m ≡ ltb (d + c) (joint-progress (formulas-of rule) L)
   pub stands : Stands rule L (d + c) p′
 
 -- an accepted call: what holds on any words, and `meaning`, where the checkpoint stands for the rule and a log as it was last

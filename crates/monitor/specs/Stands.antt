@@ -3,22 +3,36 @@
 use Prim.Native.Nat.{ℕ, _+_, _-_, _≤_, _<_, _^_}
 use mathlib.Core.Bool.{cond}
 use mathlib.Core.Path.{_≡_}
-use mathlib.Core.List.{List}
+use mathlib.Core.List.{List, [], _∷_}
 use lib.ListN.{length, take, drop}
 use lib.Dec.{eqb}
 use Rattle.mtl.specs.Formula.{Formula}
 use Rattle.mtl.specs.Log.{Log}
+use Rattle.mtl.specs.Progress.{joint-progress}
+use Rattle.bits.specs.Packed.{bit, number}
 use Rattle.rule.specs.Entries.{count}
-use Rattle.engine.specs.Block.{word, Buffer}
+use Rattle.engine.specs.Block.{word}
 use Rattle.engine.specs.State.{State}
 use Rattle.monitor.specs.Checkpoint.{format, given, seen, last, held-count, held-bits, need}
-use Rattle.monitor.specs.Verdicts.{formula-of}
+use Rattle.monitor.specs.Verdicts.{formulas-of, verdict}
 
--- the last entry as a buffered operand: what it answered and did not give yet, and the state of the whole formula behind that
-pub record Top (φ : Formula) (L : Log) (d : ℕ) (ws : List ℕ) : Type 0 where
+-- what was answered and not given yet: a word with the verdicts at the count positions from d on, all of them settled
+pub record Held (fs : List Formula) (L : Log) (d count bits : ℕ) : Type 0 where
+  pub few : count ≤ 64
+  pub within : d + count ≤ joint-progress fs L
+  pub same : (i : ℕ) → i < count → verdict fs L (d + i) ≡ number (bit bits i)
+
+-- the state of the rule's formula at position g; an empty rule has none, and its words have nothing to remember. No rule has two.
+abbrev pub States : List Formula → Log → ℕ → List ℕ → Type 0
+States [] L g ws = Unit {0}
+States (φ ∷ []) L g ws = State φ L g ws
+States (φ ∷ (ψ ∷ fs)) L g ws = ⊥
+
+-- the last entry as a buffered operand: what is held, and the state of the whole formula behind that
+pub record Top (fs : List Formula) (L : Log) (d : ℕ) (ws : List ℕ) : Type 0 where
   pub at : given ws ≡ d
-  pub buffer : Buffer φ L d (held-count ws) (held-bits ws)
-  pub state : State φ L (d + held-count ws) (drop 16 ws)
+  pub held : Held fs L d (held-count ws) (held-bits ws)
+  pub state : States fs L (d + held-count ws) (drop 16 ws)
 
 -- "the last record's time (.. 0 while there is none)"
 abbrev pub last-of : Log → ℕ
@@ -33,4 +47,4 @@ pub record Stands (rule : List ℕ) (L : Log) (d : ℕ) (p : List ℕ) : Type 0 
   pub few : L .size ≤ 1000000
   pub time : last p ≡ last-of L
   pub fits : last p < 2 ^ 32
-  pub top : Top (formula-of rule) L d (take (need rule) p)
+  pub top : Top (formulas-of rule) L d (take (need rule) p)

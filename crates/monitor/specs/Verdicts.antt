@@ -1,41 +1,48 @@
--- The verdicts of a log: "A bytes, A by the settling rules; byte i says whether the plain reading holds at position i on that log."
-use Prim.Native.Nat.{ℕ, zero, suc, _*_}
+-- The meaning of a rule: its formulas, the number of positions that they have answered together (`joint-progress` of the logic),
+-- and their verdict at a position. The promises, both demands and the examples speak of a rule through these.
+use Prim.Native.Nat.{ℕ, zero, suc, _+_, _*_}
 use mathlib.Core.Bool.{Bool}
 use mathlib.Core.List.{List, [], _∷_, _++_}
 use mathlib.Core.Option.{Option, none, some}
 use lib.ListN.{take}
 use Rattle.mtl.specs.Formula.{Formula}
-use Rattle.mtl.specs.Formula.Formula.{letter}
 use Rattle.mtl.specs.Log.{Log}
 use Rattle.mtl.specs.Satisfaction.{sat}
-use Rattle.mtl.specs.Progress.{progress}
+use Rattle.mtl.specs.Progress.{joint-progress}
 use Rattle.bits.specs.Packed.{bit, number}
 use Rattle.rule.specs.Entries.{count, decoded}
-use Rattle.rule.specs.Postfix.{formula}
+use Rattle.rule.specs.Postfix.{formulas}
 use Rattle.trace.specs.Format.{records-of}
 use Rattle.trace.specs.Log.{log-of}
 
--- the formula of an accepted rule; what stands here for a rule that has none is used by nothing
-abbrev pub formula-or : Option Formula → Formula
-formula-or none = letter 0
-formula-or (some φ) = φ
+-- the formulas of an accepted rule: one, or none where it has no entry; what stands here for a refused rule is used by nothing
+abbrev pub formulas-or : Option (List Formula) → List Formula
+formulas-or none = []
+formulas-or (some fs) = fs
 
-abbrev pub formula-of : List ℕ → Formula
-formula-of rule = formula-or (formula (decoded rule) (count rule))
+abbrev pub formulas-of : List ℕ → List Formula
+formulas-of rule = formulas-or (formulas (decoded rule) (count rule))
 
--- "each byte 1 for yes or 0 for no"
-abbrev pub verdict : Bool → ℕ
-verdict holds = number holds
+-- The verdict byte, from whether each formula holds: "each byte 1 for yes or 0 for no". Of an empty rule, "every position is yes".
+-- Of several formulas, which no rule has yet, bit k would be that of formula k.
+unfoldable pub byte-of : (Formula → Bool) → List Formula → ℕ
+byte-of holds [] = 1
+byte-of holds (φ ∷ []) = number (holds φ)
+byte-of holds (φ ∷ (ψ ∷ fs)) = number (holds φ) + 2 * byte-of holds (ψ ∷ fs)
+
+-- "byte i says whether the plain reading holds at position i"
+abbrev pub verdict : List Formula → Log → ℕ → ℕ
+verdict fs L i = byte-of (λ φ. sat φ L i) fs
+
+-- the first n verdicts on a log
+unfoldable pub verdicts : List Formula → Log → ℕ → List ℕ
+verdicts fs L zero = []
+verdicts fs L (suc n) = verdicts fs L n ++ (verdict fs L n ∷ [])
 
 -- the first n bits of a word of answers as verdicts
 unfoldable pub bytes-of : (n bits : ℕ) → List ℕ
 bytes-of zero bits = []
-bytes-of (suc n) bits = bytes-of n bits ++ (verdict (bit bits n) ∷ [])
-
--- the first n verdicts of a formula on a log
-unfoldable pub verdicts : Formula → Log → ℕ → List ℕ
-verdicts φ L zero = []
-verdicts φ L (suc n) = verdicts φ L n ++ (verdict (sat φ L n) ∷ [])
+bytes-of (suc n) bits = bytes-of n bits ++ (number (bit bits n) ∷ [])
 
 -- the log that the first n records of a log's bytes are
 abbrev pub first-records : List ℕ → ℕ → Log
@@ -43,8 +50,8 @@ first-records log n = log-of (take (8 * n) (records-of log))
 
 -- the answered number A of a rule on the first n records
 abbrev pub answered : (rule log : List ℕ) → ℕ → ℕ
-answered rule log n = progress (formula-of rule) (first-records log n)
+answered rule log n = joint-progress (formulas-of rule) (first-records log n)
 
--- all verdicts of a rule on the first n records
+-- "The verdicts of an untouched log are A bytes": all verdicts of a rule on the first n records
 abbrev pub all-verdicts : (rule log : List ℕ) → ℕ → List ℕ
-all-verdicts rule log n = verdicts (formula-of rule) (first-records log n) (answered rule log n)
+all-verdicts rule log n = verdicts (formulas-of rule) (first-records log n) (answered rule log n)

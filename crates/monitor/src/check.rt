@@ -1,4 +1,4 @@
-// Refusals 1 to 14: each check over all entries before the next begins. Nothing is written.
+// Refusals 1 to 14 (3 no longer occurs): each check over all entries before the next begins. Nothing is written.
 ghost use mathlib.Core.Path.{_≡_};
 ghost use Prim.Native.Nat.{_+_, _≤_, _<_};
 ghost use lib.ListN.{length, drop};

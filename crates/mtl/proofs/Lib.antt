@@ -4,4 +4,5 @@ pub mod Printed
 pub mod Until
 pub mod Streams
 pub mod Lengthening
+pub mod Joint
 pub mod Reach

@@ -2,6 +2,7 @@
 use Prim.Native.Nat.{ℕ, zero, suc, _-_, min}
 use mathlib.Core.Bool.{Bool, cond, _&&_, _||_}
 use mathlib.Core.Bool.{not as negate}
+use mathlib.Core.List.{List, [], _∷_}
 use lib.Dec.{leb, eqb}
 use Rattle.mtl.specs.Formula.{Formula}
 use Rattle.mtl.specs.Formula.Formula.{letter, not, or, previous, next, since, until}
@@ -48,3 +49,9 @@ progress (previous low high φ) L = progress φ L
 progress (next low high φ) L = progress φ L - 1
 progress (since low high φ ψ) L = min (progress φ L) (progress ψ L)
 progress (until low high φ ψ) L = until-progress low high (L .time) (sat φ L) (sat ψ L) (L .size) (min (progress φ L) (progress ψ L))
+
+-- "The rule's answered number A is that of its last entry." A rule with no entry has no formula, and "A equals N". Of several
+-- formulas, which no rule has yet, it is as many positions as each of them has answered.
+unfoldable pub joint-progress : List Formula → Log → ℕ
+joint-progress [] L = L .size
+joint-progress (φ ∷ fs) L = min (progress φ L) (joint-progress fs L)

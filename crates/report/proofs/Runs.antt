@@ -10,8 +10,8 @@ use lib.ListN.{length, take, length-drop}
 use lib.Seq.{take-all, length-take-le}
 use borrow.Author.Tests.{le-ltb, ltb-false, eq-eqb, ne-eqb, eqb-true}
 use Rattle.mtl.specs.Log.{Log, NeverFalls}
-use Rattle.mtl.specs.Progress.{progress}
-use Rattle.mtl.proofs.Until.{progress-le-size}
+use Rattle.mtl.specs.Progress.{joint-progress}
+use Rattle.mtl.proofs.Joint.{joint-le-size}
 use Rattle.rule.specs.Refusal.{first, refusal}
 use Rattle.rule.proofs.Headers.{first-zero, before-none, or-right}
 use Rattle.rule.proofs.Acceptance.{accepted}
@@ -21,7 +21,7 @@ use Rattle.trace.specs.Order.{disordered}
 use Rattle.trace.proofs.Laws.{well-formed-records, ordered-iff}
 use Rattle.monitor.specs.Checkpoint.{need}
 use Rattle.monitor.specs.Refusal.{open-refusal, log-refusal, resume-refusal}
-use Rattle.monitor.specs.Verdicts.{formula-of, verdicts, first-records, all-verdicts}
+use Rattle.monitor.specs.Verdicts.{formulas-of, verdicts, first-records, all-verdicts}
 use Rattle.monitor.specs.Stands.{Stands}
 use Rattle.monitor.specs.Open.{Opens, opened-number}
 use Rattle.monitor.specs.Resume.{Gives, Resumes, resumed-number}
@@ -154,26 +154,26 @@ module _ (rule log : List ℕ) (short : too-long rule log ≡ false) where
             omega arith
 
         -- and the sheet takes all verdicts
-        all-given : c ≡ progress (formula-of rule) L
+        all-given : c ≡ joint-progress (formulas-of rule) L
         all-given =
             let count = gives .count in
-            let below = progress-le-size (formula-of rule) L in
+            let below = joint-le-size (formulas-of rule) L in
             let few = few-records in
             omega arith
 
         given-fits : c ≤ length sheet′
         given-fits = omega (arith, gave .words .room, gave .sheet-length)
 
-        bytes : take c sheet′ ≡ verdicts (formula-of rule) L c
+        bytes : take c sheet′ ≡ verdicts (formulas-of rule) L c
         unfolding verdicts
         bytes =
             let sum : 0 + c ≡ c = omega arith in
-            verdicts-more (formula-of rule) L 0 c sheet′ given-fits (gives .bytes) ∙ ap (verdicts (formula-of rule) L) sum
+            verdicts-more (formulas-of rule) L 0 c sheet′ given-fits (gives .bytes) ∙ ap (verdicts (formulas-of rule) L) sum
 
         all : all-verdicts rule log (L .size) ≡ take c sheet′
         all =
-            ap (λ K. verdicts (formula-of rule) K (progress (formula-of rule) K)) whole ∙
-            ap (verdicts (formula-of rule) L) (sym all-given) ∙ sym bytes
+            ap (λ K. verdicts (formulas-of rule) K (joint-progress (formulas-of rule) K)) whole ∙
+            ap (verdicts (formulas-of rule) L) (sym all-given) ∙ sym bytes
 
         text : report rule log ≡ first-line c (L .size) ++ lines (take c sheet′) (length (take c sheet′))
         text =

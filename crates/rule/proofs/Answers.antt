@@ -1,10 +1,10 @@
 -- What the checks of the entries, taken in their order, say of the answer: one law for each way out of `measure_entries`.
-use Prim.Native.Nat.{ℕ, _+_, _≤_, _<_}
+use Prim.Native.Nat.{ℕ, _+_, _≤_, _<_, max}
 use native.Mathlib.Omega.{arith}
 use borrow.Author.Tests.{lt-ltb, le-ltb}
 use mathlib.Core.Path.{_≡_, refl, sym, ap, ap₂, _∙_}
-use mathlib.Core.Bool.{Bool, true, false, cond}
-use mathlib.Core.List.{List}
+use mathlib.Core.Bool.{Bool, true, false, cond, _||_, or-false}
+use mathlib.Core.List.{List, [], _∷_}
 use mathlib.Core.Option.{Option, none, some}
 use lib.ListN.{length}
 use Rattle.mtl.specs.Formula.{Formula, unbounded, has-next}
@@ -14,27 +14,37 @@ use Rattle.rule.specs.declared.Entry.{Entry}
 use Rattle.rule.specs.declared.Reading.the-variants.{Reach, Faulty}
 use Rattle.rule.specs.declared.Totals.{Totals}
 use Rattle.rule.specs.Words.{words, limit}
-use Rattle.rule.specs.Postfix.{formula}
+use Rattle.rule.specs.Postfix.{at-most-one, stack-after, formulas}
 use Rattle.rule.specs.Refusal.{misshapen-at, misplaced-at, lacking, over-limit, entries-refusal}
-use Rattle.rule.specs.Measure.{Answer, refused, reach-of}
-use Rattle.rule.specs.Code.{totals, next-at, measured-entries, reading}
+use Rattle.rule.specs.Measure.{Answer, refused, far, some-next, farthest, reach-of}
+use Rattle.rule.specs.Code.{totals, next-at, measured-entries, largest, reading}
 use Rattle.rule.proofs.Nexts.{next-is}
 
-none-of : (o : Option Formula) → reading o ≡ Faulty → lacking o ≡ true
+none-of : (o : Option (List Formula)) → reading o ≡ Faulty → lacking o ≡ true
 none-of none p = refl
-none-of (some φ) p = cc
+none-of (some fs) p = cc
 
-some-of : (o : Option Formula) (far : ℕ) → reading o ≡ Reach far → lacking o ≡ false
-some-of none far p = cc
-some-of (some φ) far p = refl
+some-of : (o : Option (List Formula)) (most : ℕ) → reading o ≡ Reach most → lacking o ≡ false
+some-of none most p = cc
+some-of (some fs) most p = refl
 
--- the reach, once the formula's own is known
-far-of : (o : Option Formula) (far : ℕ) (next : Bool) → ((φ : Formula) → o ≡ some φ → has-next φ ≡ next) → reading o ≡ Reach far
-    → reach-of o ≡ cond next unbounded far
-far-of none far next h e = cc
-far-of (some φ) far next h e =
-    let r : formula-reach φ ≡ far = cc in
-    ap₂ (λ (b : Bool) (m : ℕ). cond b unbounded m) (h φ refl) r
+-- at most one formula: its reach is none where it has next
+far-or-none : (φ : Formula) (b : Bool) → has-next φ || false ≡ b → max (far φ) 0 ≡ cond b unbounded (max (formula-reach φ) 0)
+far-or-none φ true e = rw (sym (or-false (has-next φ)) ∙ e) (omega arith)
+far-or-none φ false e = rw (sym (or-false (has-next φ)) ∙ e)
+
+-- the reach, once the largest of the formulas' own is known
+far-of : (o : Option (List Formula)) (most : ℕ) (next : Bool) → ((fs : List Formula) → at-most-one o ≡ some fs → some-next fs ≡ next) →
+    reading (at-most-one o) ≡ Reach most → reach-of (at-most-one o) ≡ cond next unbounded most
+unfolding farthest largest
+far-of none most next h e = cc
+far-of (some []) most next h e =
+    let r : 0 ≡ most = cc in
+    ap₂ (λ (b : Bool) (m : ℕ). cond b unbounded m) (h [] refl) r
+far-of (some (φ ∷ [])) most next h e =
+    let r : max (formula-reach φ) 0 ≡ most = cc in
+    far-or-none φ next (h (φ ∷ []) refl) ∙ ap (cond next unbounded) r
+far-of (some (φ ∷ (ψ ∷ fs))) most next h e = cc
 
 module _ (t : List Entry) (n : ℕ) (sums : Totals) (s : sums ≡ totals t n) where
   shape-is : (b : Bool) → sums .misshapen ≡ b → any n (misshapen-at t) ≡ b
@@ -54,24 +64,24 @@ module _ (t : List Entry) (n : ℕ) (sums : Totals) (s : sums ≡ totals t n) wh
   unfolding entries-refusal
   stop6 a b = simp (shape-is false a, place-is true b)
 
-  pub stop7 : sums .misshapen ≡ false → sums .misplaced ≡ false → reading (formula t n) ≡ Faulty → refused 7 ≡ measured-entries t n
+  pub stop7 : sums .misshapen ≡ false → sums .misplaced ≡ false → reading (formulas t n) ≡ Faulty → refused 7 ≡ measured-entries t n
   unfolding entries-refusal
-  stop7 a b e = simp (shape-is false a, place-is false b, none-of (formula t n) e)
+  stop7 a b e = simp (shape-is false a, place-is false b, none-of (formulas t n) e)
 
-  pub stop8 : (far : ℕ) → sums .misshapen ≡ false → sums .misplaced ≡ false → reading (formula t n) ≡ Reach far
+  pub stop8 : (far : ℕ) → sums .misshapen ≡ false → sums .misplaced ≡ false → reading (formulas t n) ≡ Reach far
       → limit < 16 + sums .words → refused 8 ≡ measured-entries t n
   unfolding entries-refusal
   stop8 far a b e l =
       let o : over-limit t n ≡ true = lt-ltb limit (words t n) (omega (arith, words-are)) in
-      simp (shape-is false a, place-is false b, some-of (formula t n) far e, o)
+      simp (shape-is false a, place-is false b, some-of (formulas t n) far e, o)
 
   pub passes : (far : ℕ) (next : Bool) → n ≤ length t → sums .misshapen ≡ false → sums .misplaced ≡ false
-      → reading (formula t n) ≡ Reach far → 16 + sums .words ≤ limit → sums .next ≡ next
+      → reading (formulas t n) ≡ Reach far → 16 + sums .words ≤ limit → sums .next ≡ next
       → record { number = 0; words = 16 + sums .words; reach = cond next unbounded far } ≡ measured-entries t n
   unfolding entries-refusal
   passes far next h a b e l f =
       let o : over-limit t n ≡ false = le-ltb limit (words t n) (omega (arith, words-are)) in
       let g : any n (next-at t) ≡ next = sym (ap (λ (x : Totals). x .next) s) ∙ f in
-      simp (shape-is false a, place-is false b, some-of (formula t n) far e, o)
+      simp (shape-is false a, place-is false b, some-of (formulas t n) far e, o)
       (ap₂ {C = Answer} (λ (w m : ℕ). record { number = 0; words = w; reach = m }) words-are
-      (sym (far-of (formula t n) far next (λ φ p. next-is t n φ h p ∙ g) e)))
+      (sym (far-of (stack-after t n) far next (λ fs p. next-is t n fs h p ∙ g) e)))

@@ -1,7 +1,7 @@
--- The measuring rows of document 01, worked out by the definitions.
+-- The measuring rows of document 01, and those of an empty rule, worked out by the definitions.
 use Prim.Native.Nat.{ℕ}
 use mathlib.Core.Path.{_≡_, refl}
-use mathlib.Core.List.{List}
+use mathlib.Core.List.{List, [], _∷_, _++_}
 use lib.ListN.{length, set}
 use Rattle.mtl.specs.Formula.{Formula, unbounded, reach, has-next}
 use Rattle.mtl.specs.Formula.Formula.{letter, next, until}
@@ -11,7 +11,11 @@ use Rattle.rule.specs.Words.{offset}
 use Rattle.rule.specs.Postfix.{push-kind, read, postfix}
 use Rattle.rule.specs.Encoding.{body, encoded, rule-of}
 use Rattle.rule.specs.Refusal.{header-refusal, entries-refusal}
-use Rattle.rule.specs.Measure.{measured}
+use Rattle.rule.specs.Measure.{farthest, measured}
+
+-- the rule with nothing in it
+abbrev no-entry : List ℕ
+no-entry = 0x4B ∷ 0x52 ∷ 0x4C ∷ 0 ∷ 1 ∷ 0 ∷ 0 ∷ 0 ∷ []
 
 -- the answer of weighing
 abbrev pub Weighs : List ℕ → ℕ → ℕ → ℕ → Type 0
@@ -30,8 +34,10 @@ pub rows :
     × Weighs (rule-of (P10 447)) 8 0 0
     × Weighs (rule-of (until 0 3600 (letter 0) (letter 1))) 0 7266 3600
     × Weighs (rule-of (until 0 3601 (letter 0) (letter 1))) 6 0 0
-    × Weighs (set (set (rule-of P1) 4 2) 5 0) 2 0 0
+    × Weighs (set (rule-of P1 ++ (0 ∷ [])) 4 2) 2 0 0
     × Weighs (rule-of (next 1 unbounded (letter 0))) 0 48 unbounded
     × Weighs (rule-of (until 0 unbounded (letter 0) (letter 1))) 6 0 0
-unfolding encoded body postfix header-refusal entries-refusal first-entries any offset read push-kind reach has-next
-rows = (refl, refl, refl, refl, refl, refl, refl, refl, refl)
+    × Weighs no-entry 0 16 0
+    × Weighs (no-entry ++ body (postfix (letter 0))) 4 0 0
+unfolding encoded body postfix header-refusal entries-refusal first-entries any offset read push-kind reach has-next farthest
+rows = (refl, refl, refl, refl, refl, refl, refl, refl, refl, refl, refl)

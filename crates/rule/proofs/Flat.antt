@@ -1,4 +1,4 @@
--- A rule's entries, read back, are its formula in postfix order, and no other formula's.
+-- A rule's entries, read back, are its formulas in postfix order, and no other formulas'.
 use Prim.Native.Nat.{ℕ, suc, _-_, _≤_, _<_}
 use native.Mathlib.Omega.{arith}
 use mathlib.Core.Path.{_≡_, refl, sym, ap, _∙_}
@@ -10,11 +10,11 @@ use Rattle.mtl.specs.Formula.{Formula}
 use Rattle.mtl.specs.Formula.Formula.{letter, not, or, previous, next, since, until}
 use Rattle.rule.specs.declared.Entry.{Entry}
 use Rattle.rule.specs.Entries.{entry, blank}
-use Rattle.rule.specs.Postfix.{push-kind, push, read, root, postfix}
+use Rattle.rule.specs.Postfix.{push-kind, push, read, root, postfix, postfixes}
 use Rattle.rule.specs.Operands.{operands, span, left, FormulaAt}
 use Rattle.rule.proofs.Stacks.{read-append}
 use Rattle.rule.proofs.Spans.{span-leaf, span-unary, span-binary}
-use Rattle.rule.proofs.Subformulas.{takes, span-fits}
+use Rattle.rule.proofs.Subformulas.{takes, span-fits, Stacked}
 
 -- the entries of two operands, then those of their operator
 read-two : (φ ψ χ : Formula) (fs : List Formula) → read (postfix φ) (some fs) ≡ some (φ ∷ fs)
@@ -99,3 +99,17 @@ module _ (t : List Entry) where
   ends (until low high φ ψ) k l h =
       two φ ψ (until low high φ ψ) k l (h .0) (takes t k _ (h .0)) (h .1) (span-fits t φ (left t k) (h .2))
       (ends φ (left t k) (omega arith) (h .2)) (ends ψ (k - 1) (omega arith) (h .3))
+
+-- the entries of a stack's formulas put them on the stack
+pub read-postfixes : (fs : List Formula) → read (postfixes fs) (some []) ≡ some fs
+unfolding read postfixes
+read-postfixes [] = refl
+read-postfixes (φ ∷ fs) = read-append (postfixes fs) (postfix φ) (some []) ∙ ap (read (postfix φ)) (read-postfixes fs) ∙ read-postfix φ fs
+
+-- the first k entries are those of the formulas on the stack
+pub flat : (t : List Entry) (fs : List Formula) (k : ℕ) → k ≤ length t → Stacked t k fs → postfixes fs ≡ take k t
+unfolding postfixes
+flat t [] k h e = ap (λ (m : ℕ). take m t) (sym e)
+flat t (φ ∷ fs) k h (j, p, a, r) =
+    ap (λ (l : List Entry). l ++ postfix φ) (flat t fs (suc j - span t j) (omega arith) r) ∙ sym (ends t φ j (omega arith) a) ∙
+    ap (λ (m : ℕ). take m t) (sym p)

@@ -1,4 +1,6 @@
 -- What the header's answer says of the whole answer, and what an accepted header says of the bytes.
+-- (Cases is named first so that the worked rows are checked before any theorem.)
+use Rattle.rule.proofs.Cases
 use Prim.Native.Nat.{ℕ, suc, _+_, _*_, _≤_, _<_}
 use native.Mathlib.Omega.{arith}
 use borrow.Author.Tests.{eqb-true, eqb-false, ltb-false, not-false}
@@ -10,7 +12,7 @@ use lib.ListN.{length}
 use Rattle.rule.specs.declared.Header.the-variants.{Count, Stopped}
 use Rattle.rule.specs.Bytes.{byte}
 use Rattle.rule.specs.Entries.{count, decoded}
-use Rattle.rule.specs.Refusal.{first, before, unmarked, other-version, empty, malformed, header-refusal}
+use Rattle.rule.specs.Refusal.{first, before, unmarked, other-version, malformed, header-refusal}
 use Rattle.rule.specs.Measure.{refused, measured}
 use Rattle.rule.specs.Code.{measured-entries, header}
 
@@ -46,7 +48,6 @@ stopped s m e = go (eqb (header-refusal s) 0) refl
 
 -- an accepted header
 pub record Headed (s : List ℕ) : Type 0 where
-  pub counts : 0 < count s
   pub few : count s ≤ 128
   pub size : length s ≡ 8 + count s * 10
 
@@ -55,11 +56,9 @@ unfolding header-refusal
 headed s e =
     let a = first-zero 0 (unmarked s) _ e in
     let b = first-zero 1 (other-version s) _ (a .1) in
-    let c = first-zero 2 (empty s) _ (b .1) in
-    let d = first-zero 3 (malformed s) 0 (c .1) in
+    let d = first-zero 3 (malformed s) 0 (b .1) in
     let f = or-left (ltb 128 (count s) || not (eqb (byte s 6) 0) || not (eqb (byte s 7) 0)) (not (eqb (length s) (8 + count s * 10))) (d .0) in
     record {
-      counts = let n : count s ≡ 0 → ⊥ = eqb-false (count s) 0 (c .0) in omega arith;
       few = ltb-false 128 (count s) (or-left (ltb 128 (count s)) (not (eqb (byte s 6) 0)) (or-left _ (not (eqb (byte s 7) 0)) f));
       size =
           eqb-true (length s) (8 + count s * 10)

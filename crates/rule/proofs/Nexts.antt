@@ -1,4 +1,4 @@
--- The rule's formula has next exactly where some entry is one.
+-- Some formula of a rule has next exactly where some entry is one.
 use Prim.Native.Nat.{ℕ, zero, suc, _≤_}
 use native.Mathlib.Omega.{arith}
 use mathlib.Core.Path.{_≡_, refl, sym, ap, _∙_}
@@ -12,23 +12,19 @@ use Rattle.mtl.specs.Formula.Formula.{not, or, previous, next, since, until}
 use Rattle.mtl.specs.Satisfaction.{any}
 use Rattle.rule.specs.declared.Entry.{Entry}
 use Rattle.rule.specs.Entries.{entry}
-use Rattle.rule.specs.Postfix.{unary, binary, push-kind, stack-after, sole, formula}
+use Rattle.rule.specs.Postfix.{unary, binary, push-kind, stack-after, at-most-one, formulas}
+use Rattle.rule.specs.Measure.{some-next}
 use Rattle.rule.specs.Code.{next-at}
-use Rattle.rule.proofs.Stacks.{Each, along}
-
--- some formula of the stack has next
-abbrev nexts : List Formula → Bool
-nexts [] = false
-nexts (φ ∷ fs) = has-next φ || nexts fs
+use Rattle.rule.proofs.Stacks.{Each, along, left-over}
 
 -- the stack fs with one entry more, which is a next or is none
 abbrev Grown : Bool → List Formula → List Formula → Type 0
-Grown b fs gs = nexts gs ≡ nexts fs || b
+Grown b fs gs = some-next gs ≡ some-next fs || b
 
 one-operand : (f : Formula → Formula) (b : Bool) (fs : List Formula) → ((φ : Formula) → has-next (f φ) ≡ has-next φ || b)
     → Each (Grown b fs) (unary f fs)
 one-operand f b [] h = tt
-one-operand f b (φ ∷ fs) h = ap (λ (x : Bool). x || nexts fs) (h φ) ∙ regroup (has-next φ) b (nexts fs)
+one-operand f b (φ ∷ fs) h = ap (λ (x : Bool). x || some-next fs) (h φ) ∙ regroup (has-next φ) b (some-next fs)
   where
     regroup : (x y z : Bool) → (x || y) || z ≡ (x || z) || y
     regroup true y z = refl
@@ -42,7 +38,7 @@ two-operands : (g : Formula → Formula → Formula) (fs : List Formula)
 two-operands g [] h = tt
 two-operands g (ψ ∷ []) h = tt
 two-operands g (ψ ∷ (φ ∷ fs)) h =
-    ap (λ (x : Bool). x || nexts fs) (h φ ψ) ∙ regroup (has-next φ) (has-next ψ) (nexts fs) ∙ sym (or-false _)
+    ap (λ (x : Bool). x || some-next fs) (h φ ψ) ∙ regroup (has-next φ) (has-next ψ) (some-next fs) ∙ sym (or-false _)
   where
     regroup : (x y z : Bool) → (x || y) || z ≡ y || (x || z)
     regroup true true z = refl
@@ -52,7 +48,7 @@ two-operands g (ψ ∷ (φ ∷ fs)) h =
 
 pushed : (kind : ℕ) (e : Entry) (fs : List Formula) → Each (Grown (eqb kind 4) fs) (push-kind kind e fs)
 unfolding push-kind has-next
-pushed zero e fs = sym (or-false (nexts fs))
+pushed zero e fs = sym (or-false (some-next fs))
 pushed (suc zero) e fs = one-operand not false fs (λ φ. sym (or-false _))
 pushed (suc (suc zero)) e fs = two-operands or fs (λ φ ψ. refl)
 pushed (suc (suc (suc zero))) e fs = one-operand (previous (e .low) (e .high)) false fs (λ φ. sym (or-false _))
@@ -61,27 +57,18 @@ pushed (suc (suc (suc (suc (suc zero))))) e fs = two-operands (since (e .low) (e
 pushed (suc (suc (suc (suc (suc (suc zero)))))) e fs = two-operands (until (e .low) (e .high)) fs (λ φ ψ. refl)
 pushed (suc (suc (suc (suc (suc (suc (suc above))))))) e fs = tt
 
-weaken : (t : List Entry) (k : ℕ) (fs : List Formula) (o : Option (List Formula)) → nexts fs ≡ any k (next-at t)
-    → Each (Grown (next-at t k) fs) o → Each (λ (gs : List Formula). nexts gs ≡ any (suc k) (next-at t)) o
+weaken : (t : List Entry) (k : ℕ) (fs : List Formula) (o : Option (List Formula)) → some-next fs ≡ any k (next-at t)
+    → Each (Grown (next-at t k) fs) o → Each (λ (gs : List Formula). some-next gs ≡ any (suc k) (next-at t)) o
 unfolding any
 weaken t k fs none i h = tt
 weaken t k fs (some gs) i h = h ∙ ap (λ (b : Bool). b || next-at t k) i
 
-nexts-are : (t : List Entry) (n : ℕ) (fs : List Formula) → n ≤ length t → stack-after t n ≡ some fs → nexts fs ≡ any n (next-at t)
+nexts-are : (t : List Entry) (n : ℕ) (fs : List Formula) → n ≤ length t → stack-after t n ≡ some fs → some-next fs ≡ any n (next-at t)
 unfolding any
 nexts-are t n fs h e =
-    along (λ (k : ℕ) (gs : List Formula). nexts gs ≡ any k (next-at t)) t n h refl
+    along (λ (k : ℕ) (gs : List Formula). some-next gs ≡ any k (next-at t)) t n h refl
     (λ k gs l q. weaken t k gs (push-kind (entry t k .kind) (entry t k) gs) q (pushed (entry t k .kind) (entry t k) gs)) n (omega arith) fs e
 
--- of a formula that is left alone on the stack
-alone : (o : Option (List Formula)) (φ : Formula) (b : Bool) → ((fs : List Formula) → o ≡ some fs → nexts fs ≡ b) → sole o ≡ some φ
-    → has-next φ ≡ b
-alone none φ b h e = cc
-alone (some []) φ b h e = cc
-alone (some (ψ ∷ [])) φ b h e =
-    let p : ψ ≡ φ = cc in
-    ap has-next (sym p) ∙ sym (or-false (has-next ψ)) ∙ h (ψ ∷ []) refl
-alone (some (ψ ∷ (χ ∷ fs))) φ b h e = cc
-
-pub next-is : (t : List Entry) (n : ℕ) (φ : Formula) → n ≤ length t → formula t n ≡ some φ → has-next φ ≡ any n (next-at t)
-next-is t n φ h e = alone (stack-after t n) φ (any n (next-at t)) (λ fs p. nexts-are t n fs h p) e
+-- of the formulas that are left
+pub next-is : (t : List Entry) (n : ℕ) (fs : List Formula) → n ≤ length t → formulas t n ≡ some fs → some-next fs ≡ any n (next-at t)
+next-is t n fs h e = nexts-are t n fs h (left-over (stack-after t n) fs e)

@@ -9,7 +9,7 @@ use lib.Dec.{eqb}
 use Rattle.rule.specs.declared.Measured.the-variants.{Words, Refused}
 use Rattle.rule.specs.Entries.{count, decoded}
 use Rattle.rule.specs.Words.{words}
-use Rattle.rule.specs.Postfix.{formula}
+use Rattle.rule.specs.Postfix.{formulas}
 use Rattle.rule.specs.Refusal.{refusal}
 use Rattle.rule.specs.Measure.{Answer, answer, refused, reach-of, measured}
 
@@ -17,7 +17,7 @@ use Rattle.rule.specs.Measure.{Answer, answer, refused, reach-of, measur
 pub record Passes (s : List ℕ) (w far : ℕ) : Type 0 where
   pub accepted : refusal s ≡ 0
   pub words-are : w ≡ words (decoded s) (count s)
-  pub reach-is : far ≡ reach-of (formula (decoded s) (count s))
+  pub reach-is : far ≡ reach-of (formulas (decoded s) (count s))
 
 -- the rule is refused with this number
 pub record Stops (s : List ℕ) (n : ℕ) : Type 0 where
@@ -26,7 +26,7 @@ pub record Stops (s : List ℕ) (n : ℕ) : Type 0 where
 
 module _ (s : List ℕ) where
   good : Answer
-  good = record { number = 0; words = words (decoded s) (count s); reach = reach-of (formula (decoded s) (count s)) }
+  good = record { number = 0; words = words (decoded s) (count s); reach = reach-of (formulas (decoded s) (count s)) }
 
   of-words : (w far : ℕ) → answer (Words w far) ≡ good → refusal s ≡ 0 → Passes s w far
   unfolding good

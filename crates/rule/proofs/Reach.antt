@@ -1,25 +1,25 @@
 -- The reach that `measure` gives, as a promise about every log: the step from the logic's reach to the rule's.
-use Prim.Native.Nat.{ℕ, _+_, _-_, _<_, _≤_}
+use Prim.Native.Nat.{ℕ, _+_, _-_, _<_, _≤_, max}
 use native.Mathlib.Omega.{arith}
-use mathlib.Core.Bool.{Bool, true, false, cond, _&&_}
+use mathlib.Core.Bool.{true, false, _&&_, or-false}
 use mathlib.Core.Bool.{not as negate}
 use mathlib.Core.Logic.{⊎-elim}
-use mathlib.Core.List.{List}
-use mathlib.Core.Option.{some}
+use mathlib.Core.List.{List, [], _∷_}
 use mathlib.Core.Path.{_≡_, refl, sym, ap, _∙_}
 use lib.Dec.{eqb}
 use borrow.Author.Tests.{eqb-true, ne-eqb}
 use Rattle.mtl.specs.Formula.{Formula, unbounded, has-next, untils-end, reach}
 use Rattle.mtl.specs.Formula.Formula.{letter, not, or, previous, next, since, until}
 use Rattle.mtl.specs.Log.{Log, NeverFalls}
-use Rattle.mtl.specs.Progress.{progress}
+use Rattle.mtl.specs.Progress.{joint-progress}
 use Rattle.mtl.proofs.Bounded.{and-iff, not-iff}
+use Rattle.mtl.proofs.Joint.{joint-none, joint-one}
 use Rattle.mtl.proofs.Reach.{reach-answered}
 use Rattle.rule.specs.declared.Entry.{Entry}
 use Rattle.rule.specs.Entries.{count, decoded, entry}
 use Rattle.rule.specs.Operands.{span, left, FormulaAt}
-use Rattle.rule.specs.Accepted.{InRange, Accepted}
-use Rattle.rule.specs.Measure.{reach-of, measured}
+use Rattle.rule.specs.Accepted.{InRange, WellFormed, Whole, Accepted}
+use Rattle.rule.specs.Measure.{some-next, farthest, measured}
 use Rattle.rule.specs.Refusal.{refusal}
 
 -- where every entry lies in its ranges, every until has an upper end
@@ -49,20 +49,37 @@ untils t n ranges (until low high φ ψ) k h a =
         let same : entry t k .high ≡ high = ap (λ (e : Entry). e .high) (a .0) in
         ⊎-elim (λ l. omega arith) (λ w. let most = w .2 in omega arith) r
 
+-- of each list of formulas that a rule's entries may be
+module _ (t : List Entry) (n : ℕ) (ok : WellFormed t n) where
+  farthest-none : (fs : List Formula) → Whole t n fs → some-next fs ≡ true → farthest fs ≡ unbounded
+  unfolding farthest
+  farthest-none [] none h = cc
+  farthest-none (φ ∷ []) one h = rw (sym (or-false (has-next φ)) ∙ h) (omega arith)
+  farthest-none (φ ∷ (ψ ∷ fs)) several h = absurd several
+
+  farthest-answered : (fs : List Formula) → Whole t n fs → some-next fs ≡ false → (L : Log) → NeverFalls L →
+      (i : ℕ) → i < L .size → L .time i + farthest fs < L .time (L .size - 1) → i < joint-progress fs L
+  unfolding farthest
+  farthest-answered [] none free L falls i h far = omega (arith, joint-none L)
+  farthest-answered (φ ∷ []) one free L falls i h far =
+      let own : has-next φ ≡ false = sym (or-false (has-next φ)) ∙ free in
+      let r : max (reach φ) 0 ≡ farthest (φ ∷ []) = rw own in
+      let last = one .some-entries in
+      let ends = untils t n (ok .in-range) φ (n - 1) (omega arith) (one .at-last) in
+      let answered = reach-answered φ L own ends falls i h (omega arith) in
+      omega (arith, joint-one φ L)
+  farthest-answered (φ ∷ (ψ ∷ fs)) several free L falls i h far = absurd several
+
 -- THEOREM, of every rule that is not refused. "For rules without next, position i is answered whenever the last record lies
 -- more than the reach after i. .. A rule with next has reach 4,294,967,295, meaning none."
 module _ (s : List ℕ) (a : Accepted s) (e : refusal s ≡ 0) where
-  reach-is : measured s .reach ≡ cond (has-next (a .the-formula)) unbounded (reach (a .the-formula))
+  reach-is : measured s .reach ≡ farthest (a .the-formulas)
   reach-is = rw (e, a .reads)
 
-  pub no-reach : has-next (a .the-formula) ≡ true → measured s .reach ≡ unbounded
-  no-reach h = rw h at reach-is
+  pub no-reach : some-next (a .the-formulas) ≡ true → measured s .reach ≡ unbounded
+  no-reach h = reach-is ∙ farthest-none (decoded s) (count s) (a .well-formed) (a .the-formulas) (a .whole) h
 
-  pub answered-by-reach : has-next (a .the-formula) ≡ false → (L : Log) → NeverFalls L →
-      (i : ℕ) → i < L .size → L .time i + measured s .reach < L .time (L .size - 1) → i < progress (a .the-formula) L
+  pub answered-by-reach : some-next (a .the-formulas) ≡ false → (L : Log) → NeverFalls L →
+      (i : ℕ) → i < L .size → L .time i + measured s .reach < L .time (L .size - 1) → i < joint-progress (a .the-formulas) L
   answered-by-reach free L falls i h far =
-      let r : measured s .reach ≡ reach (a .the-formula) = rw free at reach-is in
-      let last = a .some-entries in
-      let ends =
-      untils (decoded s) (count s) (a .well-formed .in-range) (a .the-formula) (count s - 1) (omega arith) (a .at-last) in
-      reach-answered (a .the-formula) L free ends falls i h (omega arith)
+      farthest-answered (decoded s) (count s) (a .well-formed) (a .the-formulas) (a .whole) free L falls i h (omega (arith, reach-is))

@@ -13,9 +13,9 @@ use Rattle.mtl.specs.Formula.Formula.{letter, not, or, previous, next, since, u
 use Rattle.rule.specs.declared.Entry.{Entry}
 use Rattle.rule.specs.declared.Reading.the-variants.{Reach, Faulty}
 use Rattle.rule.specs.Entries.{entry}
-use Rattle.rule.specs.Postfix.{unary, binary, push-kind, push, read, stack-after, sole, formula}
+use Rattle.rule.specs.Postfix.{unary, binary, push-kind, push, read, stack-after, at-most-one, formulas}
 use Rattle.rule.specs.Operands.{operands}
-use Rattle.rule.specs.Code.{joined-reach, reading}
+use Rattle.rule.specs.Code.{joined-reach, largest, reading}
 use Rattle.rule.proofs.Stacks.{stack-more, stays-none}
 
 -- what an array holds from position d down to position 1
@@ -116,6 +116,7 @@ short (suc (suc (suc (suc (suc (suc (suc above))))))) e fs h = refl
 pub record Running (t : List Entry) (a : List ℕ) (d k : ℕ) : Type 0 where
   pub deep : d ≤ k
   pub long : length a ≡ 129
+  pub bottom : getD a 0 0 ≡ 0
   pub bound : (i : ℕ) → getD a i 0 ≤ k * 4294967295
   pub formulas : List Formula
   pub stack-is : stack-after t k ≡ some formulas
@@ -147,6 +148,7 @@ one-more t a d k v r h b l e m =
     record {
       deep = omega (arith, r .deep);
       long = length-set a at v ∙ r .long;
+      bottom = getD-set-other a at 0 v 0 (λ z. omega arith) ∙ r .bottom;
       bound =
           λ n. bound-set a at v n ((k + 1) * 4294967295) (λ n. omega (arith, r .bound n)) (omega (arith, r .bound at, r .bound d));
       formulas = q .φ ∷ drop taken (r .formulas);
@@ -166,33 +168,39 @@ zeros (suc n) (suc i) = zeros n i
 -- before the first entry
 pub none-read : (t : List Entry) → Running t (replicate 129 0) 0 0
 unfolding read
-none-read t = record { deep = zero-le; long = refl; bound = λ i. omega (arith, zeros 129 i); formulas = []; stack-is = refl; reaches = refl }
+none-read t = record { deep = zero-le; long = refl; bottom = refl; bound = λ i. omega (arith, zeros 129 i); formulas = []; stack-is = refl; reaches = refl }
 
 -- an operand is lacking at entry k: there is no formula of the n entries
 pub lacks-operand : (t : List Entry) (a : List ℕ) (d k n : ℕ) → Running t a d k → k < length t → k < n → d < operands (entry t k .kind)
-    → reading (formula t n) ≡ Faulty
+    → reading (formulas t n) ≡ Faulty
 lacks-operand t a d k n r h m l =
     let e₀ = entry t k in
     let s : push-kind (e₀ .kind) e₀ (r .formulas) ≡ none =
     short (e₀ .kind) e₀ (r .formulas) (omega (arith, depth-is t a d k r)) in
     let o : stack-after t (suc k) ≡ none = stack-more t k h ∙ ap (push e₀) (r .stack-is) ∙ s in
-    ap (λ (o : Option (List Formula)). reading (sole o)) (stays-none t (suc k) n m o)
+    ap (λ (o : Option (List Formula)). reading (at-most-one o)) (stays-none t (suc k) n m o)
 
-sole-of : (fs : List Formula) (a : List ℕ) → map reach fs ≡ held a 1 → reading (sole (some fs)) ≡ Reach (getD a 1 0)
-sole-of [] a e = absurd (nil≢cons e)
-sole-of (φ ∷ []) a e = ap Reach (head-eq-of-cons-eq e)
-sole-of (φ ∷ (ψ ∷ fs)) a e = absurd (cons≢nil (tail-eq-of-cons-eq e))
+few-of : (fs : List Formula) (a : List ℕ) (d : ℕ) → getD a 0 0 ≡ 0 → map reach fs ≡ held a d → d < 2 →
+    reading (at-most-one (some fs)) ≡ Reach (getD a d 0)
+unfolding largest
+few-of [] a zero b e h = ap Reach (sym b)
+few-of [] a (suc d) b e h = absurd (nil≢cons e)
+few-of (φ ∷ fs) a zero b e h = absurd (cons≢nil e)
+few-of (φ ∷ []) a (suc zero) b e h = let r = head-eq-of-cons-eq e in ap Reach (omega arith)
+few-of (φ ∷ (ψ ∷ fs)) a (suc zero) b e h = absurd (cons≢nil (tail-eq-of-cons-eq e))
+few-of (φ ∷ fs) a (suc (suc d)) b e h = absurd (omega arith)
 
-not-sole : (fs : List Formula) → (length fs ≡ 1 → ⊥) → reading (sole (some fs)) ≡ Faulty
-not-sole [] h = refl
-not-sole (φ ∷ []) h = absurd (h refl)
-not-sole (φ ∷ (ψ ∷ fs)) h = refl
+not-few : (fs : List Formula) → (length fs < 2 → ⊥) → reading (at-most-one (some fs)) ≡ Faulty
+not-few [] h = absurd (h (omega arith))
+not-few (φ ∷ []) h = absurd (h (omega arith))
+not-few (φ ∷ (ψ ∷ fs)) h = refl
 
 -- the end of the loop
-pub one-formula : (t : List Entry) (a : List ℕ) (n : ℕ) → Running t a 1 n → reading (formula t n) ≡ Reach (getD a 1 0)
-one-formula t a n r = ap (λ (o : Option (List Formula)). reading (sole o)) (r .stack-is) ∙ sole-of (r .formulas) a (r .reaches)
+pub one-formula : (t : List Entry) (a : List ℕ) (d n : ℕ) → Running t a d n → d < 2 → reading (formulas t n) ≡ Reach (getD a d 0)
+one-formula t a d n r h =
+    ap (λ (o : Option (List Formula)). reading (at-most-one o)) (r .stack-is) ∙ few-of (r .formulas) a d (r .bottom) (r .reaches) h
 
-pub other-than-one : (t : List Entry) (a : List ℕ) (d n : ℕ) → Running t a d n → (d ≡ 1 → ⊥) → reading (formula t n) ≡ Faulty
-other-than-one t a d n r h =
-    ap (λ (o : Option (List Formula)). reading (sole o)) (r .stack-is)
-    ∙ not-sole (r .formulas) (λ e. h (sym (depth-is t a d n r) ∙ e))
+pub more-than-one : (t : List Entry) (a : List ℕ) (d n : ℕ) → Running t a d n → (d < 2 → ⊥) → reading (formulas t n) ≡ Faulty
+more-than-one t a d n r h =
+    ap (λ (o : Option (List Formula)). reading (at-most-one o)) (r .stack-is)
+    ∙ not-few (r .formulas) (λ e. h (omega (arith, depth-is t a d n r)))

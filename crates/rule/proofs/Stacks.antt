@@ -10,7 +10,7 @@ use lib.Seq.{take-suc, take-add}
 use Rattle.mtl.specs.Formula.{Formula}
 use Rattle.rule.specs.declared.Entry.{Entry}
 use Rattle.rule.specs.Entries.{entry, blank}
-use Rattle.rule.specs.Postfix.{push-kind, push, read, stack-after}
+use Rattle.rule.specs.Postfix.{push-kind, push, read, stack-after, at-most-one}
 
 pub read-append : (xs ys : List Entry) (stack : Option (List Formula)) → read (xs ++ ys) stack ≡ read ys (read xs stack)
 unfolding read
@@ -45,6 +45,13 @@ Each P (some stack) = P stack
 
 no-stack : {stack : List Formula} {A : Type 0} → none ≡ some stack → A
 no-stack e = let z : _≡_ {A = ℕ} 0 1 = cc in absurd (omega arith)
+
+-- the formulas that are left are the stack
+pub left-over : (o : Option (List Formula)) (fs : List Formula) → at-most-one o ≡ some fs → o ≡ some fs
+left-over none fs e = e
+left-over (some []) fs e = e
+left-over (some (φ ∷ [])) fs e = e
+left-over (some (φ ∷ (ψ ∷ rest))) fs e = no-stack e
 
 same-stack : {xs ys : List Formula} → some xs ≡ some ys → xs ≡ ys
 same-stack e = cc

@@ -1,7 +1,7 @@
 -- What the crate's own functions answer, between the bytes and the answer of `measure`.
 use Prim.Native.Nat.{ℕ, _+_, max}
 use mathlib.Core.Bool.{Bool, cond, _&&_, _||_, not}
-use mathlib.Core.List.{List}
+use mathlib.Core.List.{List, [], _∷_}
 use mathlib.Core.Option.{Option, none, some}
 use lib.Dec.{eqb}
 use lib.ListN.{getD}
@@ -53,7 +53,12 @@ header-number (Stopped n) = n
 abbrev pub header : List ℕ → Header
 header s = cond (eqb (header-refusal s) 0) (Count (count s)) (Stopped (header-refusal s))
 
--- what reading the entries answers: the reach of the formula, if there is one
-abbrev pub reading : Option Formula → Reading
+-- the largest reach of the formulas, whether they have next or not
+unfoldable pub largest : List Formula → ℕ
+largest [] = 0
+largest (φ ∷ fs) = max (formula-reach φ) (largest fs)
+
+-- what reading the entries answers: that reach, where refusal 7 does not apply
+abbrev pub reading : Option (List Formula) → Reading
 reading none = Faulty
-reading (some φ) = Reach (formula-reach φ)
+reading (some fs) = Reach (largest fs)

@@ -1,7 +1,7 @@
 -- What the call `measure` (document 01's weigh) answers.
-use Prim.Native.Nat.{ℕ}
-use mathlib.Core.Bool.{cond}
-use mathlib.Core.List.{List}
+use Prim.Native.Nat.{ℕ, max}
+use mathlib.Core.Bool.{Bool, false, cond, _||_}
+use mathlib.Core.List.{List, [], _∷_}
 use mathlib.Core.Option.{Option, none, some}
 use lib.Dec.{eqb}
 use Rattle.mtl.specs.Formula.{Formula, unbounded, has-next}
@@ -11,7 +11,7 @@ use Rattle.rule.specs.declared.Measured.{Measured}
 use Rattle.rule.specs.declared.Measured.the-variants.{Words, Refused}
 use Rattle.rule.specs.Entries.{count, decoded}
 use Rattle.rule.specs.Words.{words}
-use Rattle.rule.specs.Postfix.{formula}
+use Rattle.rule.specs.Postfix.{formulas}
 use Rattle.rule.specs.Refusal.{refusal}
 
 -- "Weigh reads a rule and gives the words that a saved point needs, and the rule's reach", or a refusal's number
@@ -26,9 +26,22 @@ answer (Words w r) = record { number = 0; words = w; reach = r }
 answer (Refused n) = record { number = n; words = 0; reach = 0 }
 
 -- "A rule with next has reach 4,294,967,295, meaning none."
-abbrev pub reach-of : Option Formula → ℕ
+abbrev pub far : Formula → ℕ
+far φ = cond (has-next φ) unbounded (formula-reach φ)
+
+-- some formula has next
+abbrev pub some-next : List Formula → Bool
+some-next [] = false
+some-next (φ ∷ fs) = has-next φ || some-next fs
+
+-- the largest over the formulas, and 0 where there is none
+unfoldable pub farthest : List Formula → ℕ
+farthest [] = 0
+farthest (φ ∷ fs) = max (far φ) (farthest fs)
+
+abbrev pub reach-of : Option (List Formula) → ℕ
 reach-of none = 0
-reach-of (some φ) = cond (has-next φ) unbounded (formula-reach φ)
+reach-of (some fs) = farthest fs
 
 -- "Every refusal returns its number only"
 abbrev pub refused : ℕ → Answer
@@ -36,7 +49,7 @@ refused n = record { number = n; words = 0; reach = 0 }
 
 -- the answer by the refusal of a rule with n entries, which are decoded in t
 abbrev pub answer-by : ℕ → List Entry → ℕ → Answer
-answer-by number t n = cond (eqb number 0) (record { number = 0; words = words t n; reach = reach-of (formula t n) }) (refused number)
+answer-by number t n = cond (eqb number 0) (record { number = 0; words = words t n; reach = reach-of (formulas t n) }) (refused number)
 
 abbrev pub measured : List ℕ → Answer
 measured s = answer-by (refusal s) (decoded s) (count s)

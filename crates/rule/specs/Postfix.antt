@@ -1,4 +1,4 @@
--- The formula of a rule: its entries, "in postfix order", read with a stack of formulas, the top first.
+-- The formulas of a rule: its entries, "in postfix order", read with a stack of formulas, the top first.
 use Prim.Native.Nat.{ℕ, zero, suc}
 use mathlib.Core.List.{List, [], _∷_, _++_}
 use mathlib.Core.Option.{Option, none, some}
@@ -42,15 +42,17 @@ read (e ∷ rest) stack = read rest (push e stack)
 abbrev pub stack-after : List Entry → ℕ → Option (List Formula)
 stack-after t n = read (take n t) (some [])
 
--- the one formula that is left; none where "some entry lacks an operand, or the whole leaves other than one formula"
-abbrev pub sole : Option (List Formula) → Option Formula
-sole none = none
-sole (some []) = none
-sole (some (φ ∷ [])) = some φ
-sole (some (φ ∷ (ψ ∷ rest))) = none
+-- The formulas that are left: none where "some entry lacks an operand, or the whole leaves other than one formula". A rule with
+-- no entry leaves no formula, and "a count of 0 now means that every position is yes": its list is empty.
+abbrev pub at-most-one : Option (List Formula) → Option (List Formula)
+at-most-one none = none
+at-most-one (some []) = some []
+at-most-one (some (φ ∷ [])) = some (φ ∷ [])
+at-most-one (some (φ ∷ (ψ ∷ rest))) = none
 
-abbrev pub formula : List Entry → ℕ → Option Formula
-formula t n = sole (stack-after t n)
+-- the formulas of the first n entries
+abbrev pub formulas : List Entry → ℕ → Option (List Formula)
+formulas t n = at-most-one (stack-after t n)
 
 -- the entry of a formula's outermost operator: "an unused field is zero"
 abbrev pub root : Formula → Entry
@@ -71,3 +73,8 @@ postfix (previous low high φ) = postfix φ ++ (root (previous low high φ) ∷ 
 postfix (next low high φ) = postfix φ ++ (root (next low high φ) ∷ [])
 postfix (since low high φ ψ) = postfix φ ++ postfix ψ ++ (root (since low high φ ψ) ∷ [])
 postfix (until low high φ ψ) = postfix φ ++ postfix ψ ++ (root (until low high φ ψ) ∷ [])
+
+-- the entries of a list of formulas, the last first
+unfoldable pub postfixes : List Formula → List Entry
+postfixes [] = []
+postfixes (φ ∷ fs) = postfixes fs ++ postfix φ

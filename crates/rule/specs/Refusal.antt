@@ -12,7 +12,7 @@ use Rattle.rule.specs.declared.Entry.{Entry}
 use Rattle.rule.specs.Bytes.{byte, word16}
 use Rattle.rule.specs.Entries.{count, decoded, entry}
 use Rattle.rule.specs.Words.{words, limit}
-use Rattle.rule.specs.Postfix.{formula}
+use Rattle.rule.specs.Postfix.{formulas}
 
 -- KRL (hexadecimal 4B 52 4C)
 abbrev pub marked : List ℕ → Bool
@@ -25,10 +25,6 @@ unmarked s = ltb (length s) 8 || not (marked s)
 -- 2. "The rule's version is not 1."
 abbrev pub other-version : List ℕ → Bool
 other-version s = not (eqb (word16 s 3) 1)
-
--- 3. "The entry count is 0."
-abbrev pub empty : List ℕ → Bool
-empty s = eqb (count s) 0
 
 -- 4. "The count is above 128, a spare byte is not zero, or the length is not 8 + 10 × count."
 abbrev pub malformed : List ℕ → Bool
@@ -56,10 +52,10 @@ misshapen-at t k = misshapen (entry t k)
 abbrev pub misplaced-at : List Entry → ℕ → Bool
 misplaced-at t k = misplaced (entry t k)
 
--- 7. "Some entry lacks an operand, or the whole leaves other than one formula."
-abbrev pub lacking : Option Formula → Bool
+-- 7. "Some entry lacks an operand, or the whole leaves other than one formula.", and "7 lets count 0 pass"
+abbrev pub lacking : Option (List Formula) → Bool
 lacking none = true
-lacking (some φ) = false
+lacking (some fs) = false
 
 -- 8. "The need is above 8,192 words."
 abbrev pub over-limit : List Entry → ℕ → Bool
@@ -69,15 +65,15 @@ over-limit t n = ltb limit (words t n)
 abbrev pub first : ℕ → Bool → ℕ → ℕ
 first n bad other = cond bad n other
 
--- the refusals of the header; 0 where none of them applies
+-- the refusals of the header; 0 where none of them applies. "Refusal 3 no longer occurs"
 unfoldable pub header-refusal : List ℕ → ℕ
-header-refusal s = first 1 (unmarked s) (first 2 (other-version s) (first 3 (empty s) (first 4 (malformed s) 0)))
+header-refusal s = first 1 (unmarked s) (first 2 (other-version s) (first 4 (malformed s) 0))
 
 -- the refusals of n decoded entries
 unfoldable pub entries-refusal : List Entry → ℕ → ℕ
 entries-refusal t n =
     first 5 (any n (misshapen-at t))
-    (first 6 (any n (misplaced-at t)) (first 7 (lacking (formula t n)) (first 8 (over-limit t n) 0)))
+    (first 6 (any n (misplaced-at t)) (first 7 (lacking (formulas t n)) (first 8 (over-limit t n) 0)))
 
 -- of two numbers, the first that is not 0
 abbrev pub before : ℕ → ℕ → ℕ

@@ -5,7 +5,7 @@ ghost use Prim.Native.Nat.{_+_, _≤_, _<_, max};
 ghost use Rattle.rule.specs.Bytes.{byte, word32};
 ghost use Rattle.rule.specs.Entries.{count, entry-of, decoded};
 ghost use Rattle.rule.specs.Words.{own};
-ghost use Rattle.rule.specs.Postfix.{formula};
+ghost use Rattle.rule.specs.Postfix.{formulas};
 ghost use Rattle.rule.specs.Refusal.{first, misshapen, misplaced, header-refusal};
 ghost use Rattle.rule.specs.Measure.{answer, measured};
 ghost use Rattle.rule.specs.Code.{lacks, joined-reach, totals, with-entry, header, header-number, reading, measured-entries};
@@ -42,7 +42,7 @@ enum Header {
     Stopped(u32),
 }
 
-// What reading the entries in postfix order answers: the reach of the formula, if there is one.
+// What reading the entries in postfix order answers: the reach of the formula, 0 where there is no entry.
 enum Reading {
     Reach(u64),
     Faulty,
@@ -154,7 +154,7 @@ impl Header {
     }
 }
 
-// Refusals 1 to 4, the last test first: each wraps the ones after it.
+// Refusals 1, 2 and 4, the last test first: each wraps the ones after it. Refusal 3 no longer occurs.
 fn header_reason(rule: &[u8]) -> u32
     ensures { λ r. ⌜ r ≡ header-refusal (now (rule .entry)) ⌝ }
 {
@@ -165,11 +165,7 @@ fn header_reason(rule: &[u8]) -> u32
         | (byte_at(rule, 6) != 0)
         | (byte_at(rule, 7) != 0)
         | (rule.len() != 8 + n * 10);
-    refuse(
-        1,
-        unmarked,
-        refuse(2, version, refuse(3, n == 0, refuse(4, malformed, 0))),
-    )
+    refuse(1, unmarked, refuse(2, version, refuse(4, malformed, 0)))
 }
 
 fn check_header(rule: &[u8]) -> Header
@@ -194,7 +190,7 @@ fn is_misshapen(e: Entry) -> bool
 }
 
 // Refusal 6, of one entry.
-fn is_misplaced(e: Entry) -> bool
+pub fn is_misplaced(e: Entry) -> bool
     ensures { λ r. ⌜ r ≡ misplaced e ⌝ }
 {
     let unbounded = e.high == UNBOUNDED;
@@ -284,10 +280,10 @@ fn joined(e: Entry, left: u64, right: u64) -> u64
     }
 }
 
-// The entries are read with a stack, which holds the reach of each formula: position 1 is its bottom.
+// The entries are read with a stack, which holds the reach of each formula: position 1 is its bottom, and 0 stands below it.
 fn read(table: [Entry; 128], count: usize) -> Reading
     requires { ⌜ count ≤ 128 ⌝ }
-    ensures { λ r. ⌜ r ≡ reading (formula table count) ⌝ }
+    ensures { λ r. ⌜ r ≡ reading (formulas table count) ⌝ }
 {
     let mut stack = [0u64; 129];
     let mut depth: usize = 0;
@@ -303,8 +299,8 @@ fn read(table: [Entry; 128], count: usize) -> Reading
         depth = at;
         k += 1;
     }
-    if depth == 1 {
-        Reading::Reach(stack[1])
+    if depth < 2 {
+        Reading::Reach(stack[depth])
     } else {
         Reading::Faulty
     }

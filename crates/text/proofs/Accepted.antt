@@ -15,7 +15,7 @@ use Rattle.rule.specs.Words.{words}
 use Rattle.rule.specs.Postfix.{postfix}
 use Rattle.rule.specs.Encoding.{encoded, rule-of}
 use Rattle.rule.specs.Refusal.{misplaced-at, over-limit, first}
-use Rattle.rule.specs.Measure.{reach-of, measured}
+use Rattle.rule.specs.Measure.{far, measured}
 use Rattle.rule.proofs.Headers.{first-zero}
 use Rattle.text.specs.Tokens.{tokens, unreadable}
 use Rattle.text.specs.Grammar.{Level, Derives, Derived}
@@ -23,14 +23,14 @@ use Rattle.text.specs.Parse.{Answer, entries-refusal, refusal, bytes, pa
 use Rattle.text.specs.declared.Parsed.the-variants.{Written, Refused}
 use Rattle.text.proofs.Cases.{by}
 use Rattle.text.proofs.Encoded.{weighed}
-use Rattle.text.proofs.Small.{none-misshapen, some-entry}
+use Rattle.text.proofs.Small.{none-misshapen}
 
 -- a rule written: its formula, its bytes, and what `measure` answers for it
 pub record Weighed (text rule′ : List ℕ) (n : ℕ) : Type 0 where
   pub formula : Formula
   pub derived : Derives Level.ors (tokens text) formula
   pub written : take n rule′ ≡ rule-of formula
-  pub weighs : measured (take n rule′) ≡ record { number = 0; words = words (postfix formula) (length (postfix formula)); reach = reach-of (some formula) }
+  pub weighs : measured (take n rule′) ≡ record { number = 0; words = words (postfix formula) (length (postfix formula)); reach = far formula }
 
 -- a rule is written where no refusal applies
 accepted : (text : List ℕ) (o : Option Formula) (room n : ℕ) → record { number = 0; written = n } ≡ parsed text o room
@@ -54,8 +54,8 @@ weigh text rule rule′ n φ d z l is =
     let c = first-zero 7 (over-limit es (length es)) _ (b .1) in
     let w : take n rule′ ≡ rule-of φ =
     ap (λ (k : ℕ). take k rule′) l ∙ ap (take (length (rule-of φ))) is ∙ take-append-seam (rule-of φ) (drop (length (rule-of φ)) rule) in
-    let m : measured (rule-of φ) ≡ record { number = 0; words = words es (length es); reach = reach-of (some φ) } =
-    weighed es (ltb-false 128 (length es) (a .0)) φ refl (some-entry φ) (none-misshapen text φ d) ∙ simp (b .0, c .0) in
+    let m : measured (rule-of φ) ≡ record { number = 0; words = words es (length es); reach = far φ } =
+    weighed es (ltb-false 128 (length es) (a .0)) φ refl (none-misshapen text φ d) ∙ simp (b .0, c .0) in
     record { formula = φ; derived = d; written = w; weighs = ap measured w ∙ m }
 
 pub accepted-by-measure : (text rule rule′ : List ℕ) (n : ℕ) → Parses text rule (Written n) rule′ → Weighed text rule′ n

@@ -2,7 +2,7 @@
 use Prim.Native.Nat.{ℕ, zero, suc, _+_, _-_, _*_, _≤_, _<_}
 use native.Mathlib.Nat.{not-suc-le-zero, le-of-suc-le-suc}
 use native.Mathlib.Omega.{arith}
-use borrow.Author.Tests.{le-ltb, eq-eqb, ne-eqb}
+use borrow.Author.Tests.{le-ltb, eq-eqb}
 use mathlib.Core.Path.{_≡_, refl, sym, ap, ap₂, _∙_}
 use mathlib.Core.Bool.{Bool, false, cond}
 use mathlib.Core.List.{List, [], _∷_, _++_}
@@ -17,10 +17,10 @@ use Rattle.rule.specs.declared.Entry.{Entry}
 use Rattle.rule.specs.Bytes.{byte}
 use Rattle.rule.specs.Entries.{entry-of, decoded, blank, entry}
 use Rattle.rule.specs.Words.{own, offset, words}
-use Rattle.rule.specs.Postfix.{read, sole, formula, postfix}
+use Rattle.rule.specs.Postfix.{read, at-most-one, formulas, postfix}
 use Rattle.rule.specs.Encoding.{entry-bytes, body, encoded}
 use Rattle.rule.specs.Refusal.{misshapen, misshapen-at, misplaced, misplaced-at, over-limit, first, header-refusal, entries-refusal, refusal}
-use Rattle.rule.specs.Measure.{reach-of, refused, answer-by, measured}
+use Rattle.rule.specs.Measure.{far, farthest, reach-of, refused, answer-by, measured}
 use Rattle.rule.proofs.Decoded.{length-decoded, decoded-at}
 use Rattle.rule.proofs.Flat.{read-postfix}
 
@@ -91,15 +91,19 @@ module _ (es : List Entry) where
     any-back : (q : Entry → Bool) → any (length es) (λ k. q (entry (decoded (encoded es)) k)) ≡ any (length es) (λ k. q (entry es k))
     any-back q = any-congr (length es) _ _ (λ k h. ap q (decoded-entry k h))
 
-    module _ (φ : Formula) (is : postfix φ ≡ es) (some-there : 0 < length es) (shaped : any (length es) (misshapen-at es) ≡ false) where
-      formula-back : formula (decoded (encoded es)) (length es) ≡ some φ
+    module _ (φ : Formula) (is : postfix φ ≡ es) (shaped : any (length es) (misshapen-at es) ≡ false) where
+      formula-back : formulas (decoded (encoded es)) (length es) ≡ some (φ ∷ [])
       formula-back =
-          ap (λ (l : List Entry). sole (read l (some []))) (decoded-back ∙ sym is) ∙ ap sole (read-postfix φ [])
+          ap (λ (l : List Entry). at-most-one (read l (some []))) (decoded-back ∙ sym is) ∙ ap at-most-one (read-postfix φ [])
+
+      far-is : farthest (φ ∷ []) ≡ far φ
+      unfolding farthest
+      far-is = omega arith
 
       header-back : header-refusal (encoded es) ≡ 0
       unfolding header-refusal encoded
       header-back =
-          simp (le-ltb (length (encoded es)) 8 (omega arith), ne-eqb (length es) 0 (λ z. omega arith), le-ltb 128 (length es) few, eq-eqb (length (encoded es)) (8 + length es * 10) (omega (arith, length-body es)))
+          simp (le-ltb (length (encoded es)) 8 (omega arith), le-ltb 128 (length es) few, eq-eqb (length (encoded es)) (8 + length es * 10) (omega (arith, length-body es)))
 
       -- the first of 6 and 8 that applies
       abbrev pub number : ℕ
@@ -112,9 +116,9 @@ module _ (es : List Entry) where
           (simp (any-back misshapen ∙ shaped, any-back misplaced, formula-back, offset-back (length es) (omega arith)))
 
       -- "Weigh reads a rule and gives the words that a saved point needs, and the rule's reach"
-      pub weighed : measured (encoded es) ≡ cond (eqb number 0) (record { number = 0; words = words es (length es); reach = reach-of (some φ) }) (refused number)
+      pub weighed : measured (encoded es) ≡ cond (eqb number 0) (record { number = 0; words = words es (length es); reach = far φ }) (refused number)
       unfolding encoded
       weighed =
           ap (λ (m : ℕ). answer-by m (decoded (encoded es)) (length es)) refusal-back
           ∙ ap₂ (λ (w r : ℕ). cond (eqb number 0) (record { number = 0; words = w; reach = r }) (refused number))
-          (ap (λ (w : ℕ). 16 + w) (offset-back (length es) (omega arith))) (ap reach-of formula-back)
+          (ap (λ (w : ℕ). 16 + w) (offset-back (length es) (omega arith))) (ap reach-of formula-back ∙ far-is)

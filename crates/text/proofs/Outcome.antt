@@ -17,7 +17,7 @@ use Rattle.rule.specs.Words.{words}
 use Rattle.rule.specs.Postfix.{postfix}
 use Rattle.rule.specs.Encoding.{body, encoded, rule-of}
 use Rattle.rule.specs.Refusal.{misplaced-at, over-limit, first}
-use Rattle.rule.specs.Measure.{Answer, reach-of, refused, measured}
+use Rattle.rule.specs.Measure.{Answer, far, refused, measured}
 use Rattle.rule.specs.Measure.{answer as measure-answer}
 use Rattle.text.specs.Tokens.{Token, tokens, some-unknown, unreadable}
 use Rattle.text.specs.Grammar.{meaning, Derived}
@@ -32,7 +32,7 @@ use Rattle.text.proofs.Cases.{by}
 use Rattle.text.proofs.Lexing.{not-the-end}
 use Rattle.text.proofs.Complete.{at-end, found, decides}
 use Rattle.text.proofs.Encoded.{length-body, weighed}
-use Rattle.text.proofs.Small.{none-misshapen, some-entry}
+use Rattle.text.proofs.Small.{none-misshapen}
 
 chosen : {A : Type 0} (m n : ℕ) (x y : A) → m ≡ suc n → cond (eqb m 0) x y ≡ y
 chosen m n x y e = simp (ne-eqb m 0 (λ z. omega arith))
@@ -135,10 +135,10 @@ module _ (text rule : List ℕ) (short : length text ≤ 1024) (known : some-unk
 
         weighs : measured (rule-of φ)
             ≡ cond (eqb number 0)
-            (record { number = 0; words = words es (length es); reach = reach-of (some φ) })
+            (record { number = 0; words = words es (length es); reach = far φ })
             (refused number)
         weighs =
-            weighed es (omega (arith, count-is)) φ refl (some-entry φ)
+            weighed es (omega (arith, count-is)) φ refl
             (none-misshapen text φ derives-it)
 
         abbrev misplaces : Bool
@@ -167,8 +167,8 @@ module _ (text rule : List ℕ) (short : length text ≤ 1024) (known : some-unk
             subst (λ (j : ℕ). Parses text rule (Refused j) rule) (sym (q ∙ g)) (refuses text rule (some φ) 7 derives-it (pending ∙ simp (a, b))))
             (λ b.
             let f : number ≡ 0 = simp (a, b) in
-            let c : cond (eqb number 0) (record { number = 0; words = words es (length es); reach = reach-of (some φ) }) (refused number)
-            ≡ record { number = 0; words = words es (length es); reach = reach-of (some φ) } =
+            let c : cond (eqb number 0) (record { number = 0; words = words es (length es); reach = far φ }) (refused number)
+            ≡ record { number = 0; words = words es (length es); reach = far φ } =
             simp (eq-eqb number 0 f) in
             let g : 0 ≡ words es (length es) = ap (λ (x : Answer). x .words) (e ∙ weighs ∙ c) in
             absurd (omega arith)))

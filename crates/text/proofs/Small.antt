@@ -7,7 +7,7 @@ use mathlib.Core.Path.{_≡_, refl, sym, subst}
 use mathlib.Core.Bool.{Bool, true, false, cond}
 use mathlib.Core.List.{List, [], _∷_, _++_}
 use lib.Dec.{ltb, eqb}
-use lib.ListN.{length, length-append}
+use lib.ListN.{length}
 use Rattle.mtl.specs.Formula.{Formula}
 use Rattle.mtl.specs.Satisfaction.{any}
 use Rattle.mtl.proofs.Bounded.{any-false-iff}
@@ -133,17 +133,3 @@ none-misshapen text φ d =
     (each-at (postfix φ)
     (subst (λ (ψ : Formula). Each Shaped (postfix ψ)) (d .means)
     (shaped (d .tree) (subst (Each Small) (sym (d .spells)) (tokens-small 0 text)))))
-
--- the last entry of a formula is its own
-last-there : (xs : List Entry) (e : Entry) → 0 < length (xs ++ (e ∷ []))
-last-there xs e = omega (arith, length-append xs (e ∷ []))
-
-pub some-entry : (φ : Formula) → 0 < length (postfix φ)
-unfolding postfix
-some-entry (Formula.letter k) = omega arith
-some-entry (Formula.not φ) = last-there (postfix φ) _
-some-entry (Formula.or φ ψ) = last-there (postfix φ ++ postfix ψ) _
-some-entry (Formula.previous low high φ) = last-there (postfix φ) _
-some-entry (Formula.next low high φ) = last-there (postfix φ) _
-some-entry (Formula.since low high φ ψ) = last-there (postfix φ ++ postfix ψ) _
-some-entry (Formula.until low high φ ψ) = last-there (postfix φ ++ postfix ψ) _

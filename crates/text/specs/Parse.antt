@@ -1,7 +1,7 @@
 -- What `parse` promises. Paper 1: "16 when a word, sign or form of number is unknown or the text is too long; 17 when the grammar
 -- does not derive it; then 4 for more than 128 entries, then 6 and 8; last 18 when the lent rule buffer is short."
 use Prim.Native.Nat.{ℕ, _+_, _*_}
-use mathlib.Core.Bool.{cond}
+use mathlib.Core.Bool.{Bool, true, false, cond}
 use mathlib.Core.Path.{_≡_}
 use mathlib.Core.List.{List, [], _++_}
 use mathlib.Core.Option.{Option, none, some}
@@ -12,7 +12,7 @@ use Rattle.mtl.specs.Satisfaction.{any}
 use Rattle.rule.specs.declared.Entry.{Entry}
 use Rattle.rule.specs.Postfix.{postfix}
 use Rattle.rule.specs.Encoding.{rule-of}
-use Rattle.rule.specs.Refusal.{misplaced-at, lacking, over-limit, first}
+use Rattle.rule.specs.Refusal.{misplaced-at, over-limit, first}
 use Rattle.text.specs.Tokens.{tokens, unreadable}
 use Rattle.text.specs.Grammar.{Derived}
 use Rattle.text.specs.declared.Parsed.{Parsed}
@@ -28,6 +28,11 @@ abbrev pub answer : Parsed → Answer
 answer (Written n) = record { number = 0; written = n }
 answer (Refused n) = record { number = n; written = 0 }
 
+-- 17: the grammar derives nothing
+abbrev pub underived : Option Formula → Bool
+underived none = true
+underived (some φ) = false
+
 -- 4, 6, 8 and 18, of the entries of a formula and a lent buffer of `room` bytes
 unfoldable pub entries-refusal : List Entry → ℕ → ℕ
 entries-refusal es room =
@@ -42,7 +47,7 @@ entries-of (some φ) = postfix φ
 
 -- the number with which reading the text stops, by what the grammar derives from it; 0 where it is accepted
 abbrev pub refusal : List ℕ → Option Formula → ℕ → ℕ
-refusal text o room = first 16 (unreadable text) (first 17 (lacking o) (entries-refusal (entries-of o) room))
+refusal text o room = first 16 (unreadable text) (first 17 (underived o) (entries-refusal (entries-of o) room))
 
 -- the rule's bytes
 abbrev pub bytes : Option Formula → List ℕ

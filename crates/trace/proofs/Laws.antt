@@ -20,7 +20,7 @@ use Rattle.trace.specs.Order.{falls, falls-at, starts-below, disordered,
 
 -- the header, and check 12
 
-neither : (a b : Bool) → (a || b ≡ false) ↔ ((a ≡ false) × (b ≡ false))
+pub neither : (a b : Bool) → (a || b ≡ false) ↔ ((a ≡ false) × (b ≡ false))
 neither true b = (λ e. absurd (true≢false e), λ p. p .0)
 neither false b = (λ e. (refl, e), λ p. p .1)
 

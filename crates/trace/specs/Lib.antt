@@ -1,4 +1,5 @@
--- The log format. Read Format (the bytes), Log (what they mean to the logic), then Order (check 14).
+-- The log format. Read Format (the bytes), Log (what they mean to the logic), Order (check 14), then Making (logs made here).
 pub mod Format
 pub mod Log
 pub mod Order
+pub mod Making

@@ -5,6 +5,7 @@ ghost use lib.ListN.{length};
 ghost use Rattle.bits.specs.Packed.{number, Packed};
 ghost use Rattle.trace.specs.Format.{word-at, record-count, time-at, has-letter, records-of, wrong-mark, version-of, wrong-spare, malformed};
 ghost use Rattle.trace.specs.Order.{falls, starts-below, disordered, last-time};
+ghost use Rattle.trace.specs.Making.{header, word-bytes, record-bytes, put};
 
 fn wide(x: u8) -> u64
     ensures { λ r. ⌜ (r ≡ x) × (r < 256) ⌝ }
@@ -172,4 +173,40 @@ pub fn last_time(records: &[u8], seen: usize, last: u64) -> u64
     } else {
         last
     }
+}
+
+// Writes the header of a version 1 log.
+pub fn write_header(log: &mut [u8])
+    requires { ⌜ 8 ≤ length (now log) ⌝ }
+    ensures { λ _. ⌜ now (log .exit) ≡ put (now (log .entry)) 0 header ⌝ }
+{
+    let mark = b"KLG";
+    log[0] = mark[0];
+    log[1] = mark[1];
+    log[2] = mark[2];
+    log[3] = 0;
+    log[4] = 1;
+    log[5] = 0;
+    log[6] = 0;
+    log[7] = 0;
+}
+
+// Writes a number into the four bytes from `at` on, big-endian.
+fn write_word(log: &mut [u8], at: usize, word: u32)
+    requires { ⌜ at + 4 ≤ length (now log) ⌝ }
+    ensures { λ _. ⌜ now (log .exit) ≡ put (now (log .entry)) at (word-bytes word) ⌝ }
+{
+    log[at] = (word / 16777216 % 256) as u8;
+    log[at + 1] = (word / 65536 % 256) as u8;
+    log[at + 2] = (word / 256 % 256) as u8;
+    log[at + 3] = (word % 256) as u8;
+}
+
+// Writes a record into the eight bytes from `at` on.
+pub fn write_record(log: &mut [u8], at: usize, time: u32, events: u32)
+    requires { ⌜ at + 8 ≤ length (now log) ⌝ }
+    ensures { λ _. ⌜ now (log .exit) ≡ put (now (log .entry)) at (record-bytes time events) ⌝ }
+{
+    write_word(log, at, time);
+    write_word(log, at + 4, events);
 }

@@ -21,7 +21,7 @@ pub trait Monitor {
 
 type Boxed = Box<dyn Monitor>;
 
-/// The monitor of a rule.
+/// The monitor of a rule that has entries: document 002 knows no empty rule.
 pub fn monitor(rule: &Rule) -> Boxed {
     let mut stack: Vec<Boxed> = Vec::new();
     for e in &rule.entries {
@@ -351,6 +351,9 @@ mod tests {
             let mut r = Random::new(seed);
             let (rule_shape, log_shape) = random::shapes(&mut r, 12, 40);
             let rule = rule::parse(&rule::encode(&random::valid_entries(&mut r, rule_shape))).unwrap();
+            if rule.entries.is_empty() {
+                continue;
+            }
             let records = random::log(&mut r, log_shape);
             let file = log::encode(&records);
             let mut monitor = monitor(&rule);

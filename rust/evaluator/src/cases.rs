@@ -47,7 +47,15 @@ fn case(name: &'static str, entries: &[Entry], log: &[(u32, &[u32])], verdicts: 
 
 /// All of them.
 pub fn all() -> Vec<Case> {
-    [document_01(), endless_next()].into_iter().flatten().collect()
+    [document_01(), endless_next(), empty_rule()].into_iter().flatten().collect()
+}
+
+/// Request 3: a rule with nothing in it.
+fn empty_rule() -> Vec<Case> {
+    vec![
+        case("an empty rule over no record", &[], &[], &[]),
+        case("an empty rule", &[], &[(5, &[]), (5, &[0]), (9, &[])], &[1, 1, 1]),
+    ]
 }
 
 /// Request 6: next without upper end over gaps of 0, 1, 3,601 and 4,294,967,295, and with a low of 3,600.

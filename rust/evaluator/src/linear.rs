@@ -13,14 +13,14 @@ struct Reading {
     answered: usize,
 }
 
-/// The verdicts of a log: A of them, each the plain reading at its position.
+/// The verdicts of a log: A of them, each the plain reading at its position; yes at all N for an empty rule.
 pub fn verdicts(rule: &Rule, log: &[Record]) -> Vec<bool> {
     let mut stack: Vec<Reading> = Vec::new();
     for e in &rule.entries {
         let ops = stack.split_off(stack.len() - e.operands());
         stack.push(evaluate(e, ops, log));
     }
-    let mut last = stack.pop().expect("a rule has an entry");
+    let Some(mut last) = stack.pop() else { return vec![true; log.len()] };
     last.holds.truncate(last.answered);
     last.holds
 }

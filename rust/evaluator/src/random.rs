@@ -59,6 +59,9 @@ pub struct RuleShape {
 
 /// The entries of a rule with exactly `size` entries; its need may be above the limit.
 pub fn entries(r: &mut Random, shape: RuleShape, size: usize) -> Vec<Entry> {
+    if size == 0 {
+        return Vec::new();
+    }
     if size == 1 {
         return vec![Entry::letter(r.below(shape.letters) as u8)];
     }
@@ -89,10 +92,19 @@ fn interval(r: &mut Random, shape: RuleShape, kind: u8) -> Entry {
     Entry::timed(kind, low as u32, if endless { NO_END } else { high as u32 })
 }
 
+/// A random size of up to so many entries; one rule in twenty is empty.
+pub fn size(r: &mut Random, most: usize) -> usize {
+    if r.one_in(20) {
+        0
+    } else {
+        r.from_to(1, most)
+    }
+}
+
 /// A rule of random size whose need is within the limit.
 pub fn valid_entries(r: &mut Random, shape: RuleShape) -> Vec<Entry> {
     loop {
-        let size = r.from_to(1, shape.entries);
+        let size = size(r, shape.entries);
         let drawn = entries(r, shape, size);
         if crate::rule::parse(&crate::rule::encode(&drawn)).is_ok() {
             return drawn;

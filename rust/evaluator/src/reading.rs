@@ -13,7 +13,8 @@ struct Reading {
     answered: usize,
 }
 
-/// The verdicts of a log: A of them, each the plain reading at its position.
+/// The verdicts of a log: A of them, each the plain reading at its position. "A count of 0 now means that every
+/// position is yes: 16 words, reach 0, A equals N."
 pub fn verdicts(rule: &Rule, log: &[Record]) -> Vec<bool> {
     let mut all: Vec<Reading> = Vec::new();
     for (e, ops) in rule.entries.iter().zip(&rule.operands) {
@@ -22,8 +23,10 @@ pub fn verdicts(rule: &Rule, log: &[Record]) -> Vec<bool> {
         let answered = answered(e, &ops, log);
         all.push(Reading { holds, answered });
     }
-    let last = all.pop().expect("a rule has an entry");
-    last.holds[..last.answered].to_vec()
+    match all.pop() {
+        Some(last) => last.holds[..last.answered].to_vec(),
+        None => vec![true; log.len()],
+    }
 }
 
 /// The plain reading of an entry at position i, given its operands' readings.

@@ -59,7 +59,7 @@ impl Entry {
     }
 }
 
-/// A rule without fault: its entries and, for each, the numbers of its operands' entries.
+/// A rule without fault: its entries, none in an empty rule, and, for each, the numbers of its operands' entries.
 #[derive(Clone, Debug, PartialEq, Eq)]
 pub struct Rule {
     pub entries: Vec<Entry>,
@@ -84,7 +84,7 @@ fn be32(bytes: &[u8], at: usize) -> u32 {
     u32::from_be_bytes(bytes[at..at + 4].try_into().unwrap())
 }
 
-/// The rule that the bytes hold, or the first of refusals 1 to 8 that applies.
+/// The rule that the bytes hold, or the first of refusals 1 to 8 that applies. From request 3 on, 3 no longer occurs.
 pub fn parse(bytes: &[u8]) -> Result<Rule, u32> {
     if bytes.len() < 8 || &bytes[..3] != b"KRL" {
         return Err(1);
@@ -93,9 +93,6 @@ pub fn parse(bytes: &[u8]) -> Result<Rule, u32> {
         return Err(2);
     }
     let count = bytes[5] as usize;
-    if count == 0 {
-        return Err(3);
-    }
     if count > 128 || bytes[6] != 0 || bytes[7] != 0 || bytes.len() != 8 + 10 * count {
         return Err(4);
     }
@@ -139,7 +136,8 @@ fn interval_fault(e: &Entry) -> bool {
     e.low > 3600 || (!endless && e.high > 3600) || e.low > e.high || (endless && e.kind == UNTIL)
 }
 
-/// Each entry's operands in postfix order; none if one is lacking or the whole leaves other than one formula.
+/// Each entry's operands in postfix order; none if one is lacking or the whole leaves other than one formula. A count
+/// of 0 passes, by request 3.
 fn operands(entries: &[Entry]) -> Option<Vec<Vec<usize>>> {
     let mut stack = Vec::new();
     let mut all = Vec::new();
@@ -148,7 +146,7 @@ fn operands(entries: &[Entry]) -> Option<Vec<Vec<usize>>> {
         all.push(stack.split_off(rest));
         stack.push(k);
     }
-    (stack.len() == 1).then_some(all)
+    (stack.len() == 1 || entries.is_empty()).then_some(all)
 }
 
 /// "Words needed: 16, and 16 for each entry, and for since with a finite high (high + 1), for since without
@@ -174,5 +172,6 @@ fn reach(entries: &[Entry], operands: &[Vec<usize>]) -> u64 {
         let larger = ops.iter().map(|&o| reaches[o]).max().unwrap_or(0);
         reaches.push(if e.kind == UNTIL { e.high as u64 + larger } else { larger });
     }
-    *reaches.last().unwrap()
+    // "A count of 0 now means that every position is yes: 16 words, reach 0, A equals N."
+    reaches.last().copied().unwrap_or(0)
 }

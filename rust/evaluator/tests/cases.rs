@@ -55,7 +55,7 @@ fn intervals_at_the_limit_and_two_errors() {
     assert_eq!(model::measure(&with_high(NO_END)), Err(6));
     let mut two_errors = with_high(2);
     two_errors[4] = 2;
-    two_errors[5] = 0;
+    two_errors.pop();
     assert_eq!(model::measure(&two_errors), Err(2));
 }
 
@@ -63,4 +63,22 @@ fn intervals_at_the_limit_and_two_errors() {
 fn next_without_upper_end_is_weighed() {
     let bytes = rule::encode(&[Entry::letter(0), Entry::timed(NEXT, 1, NO_END)]);
     assert_eq!(model::measure(&bytes), Ok((48, NO_REACH)));
+}
+
+#[test]
+fn an_empty_rule_says_yes() {
+    let empty = rule::encode(&[]);
+    assert_eq!(empty, *b"KRL\x00\x01\x00\x00\x00");
+    assert_eq!(model::measure(&empty), Ok((16, 0)));
+    assert_eq!(model::measure(&[empty.as_slice(), &[0; 10]].concat()), Err(4));
+    let three = [5, 5, 9].map(|time| Record { time, letters: 0 });
+    let mut point = model::open(&empty, 16).unwrap();
+    let mut call = |sheet| {
+        let evaluate = |rule: &Rule, n: usize| reading::verdicts(rule, &three[..n]);
+        let given = point.resume(&empty, &log::encode(&three), 16, sheet, evaluate).unwrap();
+        (given.verdicts, given.more)
+    };
+    assert_eq!(call(2), (vec![1, 1], true));
+    assert_eq!(call(2), (vec![1], false));
+    assert_eq!(call(0), (vec![], false));
 }

@@ -6,10 +6,11 @@
 //! words that the caller lends and keeps. A record that has its verdict is never read again, so the kiosk may
 //! overwrite it.
 //!
-//! The calls are [`measure`] (weigh), [`open`], [`resume`] (carry on) and [`tally`], and [`parse`] for a rule that is
-//! typed as text. Each yields its result or one [`Refusal`], and a refused call changes nothing. The checker is proved;
-//! this crate only hands slices on to it. Nothing here allocates, and a thread with [`MOST_STACK`] bytes of stack can
-//! make every call but `parse`, which takes [`PARSE_STACK`].
+//! The calls: [`measure`] (weigh), [`open`], [`resume`] (carry on) and [`tally`]; [`parse`], which writes a rule that is
+//! typed as text; and [`worst_log`] and [`simulate`], which write logs to try a kiosk or its settings with. Each yields
+//! its result or one [`Refusal`], and a refused call changes nothing. The checker is proved; this crate only hands
+//! slices on to it. Nothing here allocates, and a thread with [`MOST_STACK`] bytes of stack can make every call but
+//! `parse`, which takes [`PARSE_STACK`].
 //!
 //! # Example
 //!
@@ -64,7 +65,7 @@ pub const MOST_RULE: usize = 1_288;
 /// What a rule needs.
 #[derive(Clone, Copy, Debug, PartialEq, Eq)]
 pub struct Needs {
-    /// The 64-bit words that a checkpoint of the rule takes: 32 to 8,192.
+    /// The 64-bit words that a checkpoint of the rule takes: 16 to 8,192, and 16 for a rule without entries alone.
     pub words: usize,
     /// A position is answered once the last record lies more than so many seconds after it; none for a rule with
     /// next.
@@ -159,8 +160,86 @@ pub fn parse(text: &[u8], rule: &mut [u8]) -> Result<usize, Refusal> {
     let mut written = 0;
     // SAFETY: the pointers and lengths are those of two slices, the second of them borrowed for this call alone, and of
     // a number.
-    let number =
-        unsafe { ffi::havdrims_parse(text.as_ptr(), text.len(), rule.as_mut_ptr(), rule.len(), &mut written) };
+    let number = unsafe { ffi::havdrims_parse(text.as_ptr(), text.len(), rule.as_mut_ptr(), rule.len(), &mut written) };
     refusal::checked(number)?;
     Ok(written as usize)
+}
+
+/// Writes a log of exactly `records` records that keeps most seconds waiting, for the rule "letter 0 until letter 1,
+/// within `low` to `high` seconds": none of them is settled, and they have as many distinct times as the open records
+/// of such a log can have, the smaller of `records` and `high` + 1. Gives the log's length, 8 + 8 × `records` bytes;
+/// the bytes behind are kept. Refusals: 6 for the interval, and 19.
+pub fn worst_log(low: u32, high: u32, records: u64, log: &mut [u8]) -> Result<usize, Refusal> {
+    let mut written = 0;
+    // SAFETY: the pointers and the length are those of a slice and of a number, which do not overlap.
+    let number = unsafe { ffi::havdrims_worst_log(low, high, records, log.as_mut_ptr(), log.len(), &mut written) };
+    refusal::checked(number)?;
+    Ok(written as usize)
+}
+
+/// The settings of a simulated kiosk, in seconds.
+#[derive(Clone, Copy, Debug, PartialEq, Eq)]
+pub struct Settings {
+    /// How long the head takes to warm up: 1 to 600.
+    pub warm_up: u32,
+    /// How long a print takes: 1 to 600.
+    pub print_time: u32,
+    /// How long a warm head is idle before it goes off: 1 to 3,600.
+    pub switch_off: u32,
+    /// A customer joins in a second whose draw is divisible by this: 1 to 3,600.
+    pub mean_gap: u32,
+}
+
+/// What a [`simulate`] gave: the log's length, and how many customers are where at the end.
+#[derive(Clone, Copy, Debug, PartialEq, Eq)]
+pub struct Simulated {
+    /// The bytes of the log, from the buffer's first on.
+    pub written: usize,
+    /// The prints that ended.
+    pub finished: u64,
+    /// 1 if a print goes on, else 0.
+    pub printing: u64,
+    /// The customers whose print has not begun.
+    pub waiting: u64,
+}
+
+/// Simulates up to 3,600 seconds of a kiosk, from time 0, with the head off and nobody there, and writes its log, a
+/// record for each second: 8 + 8 × seconds bytes. The rest of the buffer keeps its bytes. The seed is not 0.
+///
+/// Letter 0 stands in a second that ends with a warm head, letter 1 where a print begins, letter 2 where a customer
+/// joins, letter 3 where a print ends. Refusal: 26.
+///
+/// ```
+/// use havdrims::{simulate, Refusal, Settings};
+///
+/// let settings = Settings { warm_up: 1, print_time: 2, switch_off: 1, mean_gap: 3 };
+/// let mut log = [0; 24];
+/// let first = simulate(&settings, 2, 6, &mut log)?;
+/// assert_eq!((first.written, first.finished, first.printing, first.waiting), (24, 0, 1, 0));
+/// assert_eq!(log[8..16], [0, 0, 0, 0, 0, 0, 0, 4]); // second 0: a customer joins, and the head begins to warm up
+/// assert_eq!(log[16..24], [0, 0, 0, 1, 0, 0, 0, 3]); // second 1: the head is warm, and a print begins
+/// assert_eq!(simulate(&settings, 3, 6, &mut log), Err(Refusal::Settings)); // no room for three records
+/// # Ok::<(), Refusal>(())
+/// ```
+pub fn simulate(settings: &Settings, seconds: u32, seed: u32, log: &mut [u8]) -> Result<Simulated, Refusal> {
+    let (mut written, mut finished, mut printing, mut waiting) = (0, 0, 0, 0);
+    // SAFETY: the pointers and lengths are those of a slice and of four numbers, none of which overlap.
+    let number = unsafe {
+        ffi::havdrims_simulate(
+            seconds,
+            settings.warm_up,
+            settings.print_time,
+            settings.switch_off,
+            settings.mean_gap,
+            seed,
+            log.as_mut_ptr(),
+            log.len(),
+            &mut written,
+            &mut finished,
+            &mut printing,
+            &mut waiting,
+        )
+    };
+    refusal::checked(number)?;
+    Ok(Simulated { written: written as usize, finished, printing, waiting })
 }

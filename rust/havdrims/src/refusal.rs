@@ -17,9 +17,8 @@ use std::fmt;
 #[non_exhaustive]
 pub enum Refusal {
     RuleMark = 1,
-    RuleVersion,
-    EntryCount,
-    RuleLength,
+    RuleVersion = 2,
+    RuleLength = 4,
     EntryField,
     Interval,
     Shape,
@@ -34,20 +33,25 @@ pub enum Refusal {
     UnknownWord,
     NotDerived,
     ShortRule,
+    LogRoom,
+    Settings = 26,
 }
 
-/// Every refusal, by its number less one, with the paper's words.
-const SENTENCES: [(Refusal, &str); 18] = [
+/// Every refusal, in the order of their numbers, with the paper's words. Number 3 no longer occurs: it was that of a
+/// rule without entries.
+const SENTENCES: [(Refusal, &str); 19] = [
     (Refusal::RuleMark, "The rule is shorter than 8 bytes or lacks its mark."),
     (Refusal::RuleVersion, "The rule's version is not 1."),
-    (Refusal::EntryCount, "The entry count is 0."),
     (Refusal::RuleLength, "The count is above 128, a spare byte is not zero, or the length is not 8 + 10 × count."),
     (Refusal::EntryField, "Some kind is above 6, some letter above 31, or some unused field not zero."),
     (
         Refusal::Interval,
         "Some low or finite high is above 3,600, some low is above its high, or until has no upper end.",
     ),
-    (Refusal::Shape, "Some entry lacks an operand, or the whole leaves other than one formula."),
+    (
+        Refusal::Shape,
+        "Some entry lacks an operand, or the whole leaves other than one formula and the entry count is not 0.",
+    ),
     (Refusal::TooManyWords, "The need is above 8,192 words."),
     (Refusal::ShortPoint, "The lent point is shorter than the need."),
     (Refusal::ForeignPoint, "The point does not begin as a point of this library with a copy of this rule."),
@@ -67,23 +71,25 @@ const SENTENCES: [(Refusal, &str); 18] = [
     (Refusal::UnknownWord, "A word, sign or form of number is unknown or the text is too long."),
     (Refusal::NotDerived, "The grammar does not derive the text."),
     (Refusal::ShortRule, "The lent rule buffer is short."),
+    (Refusal::LogRoom, "The number of records is above 1,000,000 or the lent buffer is under 8 + 8 × n bytes."),
+    (Refusal::Settings, "A setting, the seconds or the seed is outside its range or the lent log buffer is short."),
 ];
 
 impl Refusal {
-    /// The paper's number, 1 to 18.
+    /// The paper's number: 1 to 19 but for 3, or 26.
     pub fn number(self) -> u32 {
         self as u32
     }
 
     /// The refusal with this number, if there is one.
     pub fn from_number(number: u32) -> Option<Refusal> {
-        let at = number.checked_sub(1)? as usize;
-        SENTENCES.get(at).map(|&(refusal, _)| refusal)
+        SENTENCES.iter().map(|&(refusal, _)| refusal).find(|refusal| refusal.number() == number)
     }
 
     /// The paper's sentence.
     pub fn sentence(self) -> &'static str {
-        SENTENCES[self as usize - 1].1
+        let own = SENTENCES.iter().find(|&&(refusal, _)| refusal == self);
+        own.expect("every refusal has its sentence").1
     }
 }
 
@@ -110,10 +116,10 @@ mod tests {
 
     #[test]
     fn numbers_and_sentences() {
-        assert_eq!(Refusal::from_number(0), None);
-        assert_eq!(Refusal::from_number(19), None);
-        for (at, (refusal, sentence)) in SENTENCES.into_iter().enumerate() {
-            let number = at as u32 + 1;
+        let numbers: Vec<u32> = (0..40).filter(|&number| Refusal::from_number(number).is_some()).collect();
+        assert_eq!(numbers, [1, 2, 4, 5, 6, 7, 8, 9, 10, 11, 12, 13, 14, 15, 16, 17, 18, 19, 26]);
+        assert_eq!(numbers.len(), SENTENCES.len());
+        for (number, (refusal, sentence)) in numbers.into_iter().zip(SENTENCES) {
             assert_eq!(refusal.number(), number);
             assert_eq!(Refusal::from_number(number), Some(refusal));
             assert_eq!(refusal.to_string(), format!("refused {number}: {sentence}"));

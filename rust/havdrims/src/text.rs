@@ -19,6 +19,9 @@ const LOG_HEADER: [u8; 8] = *b"KLG\x00\x01\x00\x00\x00";
 const MOST_RECORDS: usize = 1_000_000;
 const NO_END: u32 = u32::MAX;
 
+/// What [`formula`] shows of a rule without entries.
+pub const EMPTY: &str = "empty: every position is yes";
+
 /// The bytes of the log that the text describes, or what is wrong and in which line.
 ///
 /// ```
@@ -107,7 +110,8 @@ impl Part {
     }
 }
 
-/// A rule as a formula, or the refusal that it meets: the text that [`crate::parse`] reads, with the fewest brackets.
+/// A rule as a formula, or the refusal that it meets: the text that [`crate::parse`] reads, with the fewest brackets. A
+/// rule without entries has no formula: [`EMPTY`] says what it means.
 ///
 /// ```
 /// let rule = *b"KRL\x00\x01\x03\x00\x00\
@@ -118,7 +122,7 @@ impl Part {
 /// ```
 pub fn formula(rule: &[u8]) -> Result<String, Refusal> {
     measure(rule)?;
-    // The rule has no fault, so every entry finds its operands and one part is left.
+    // The rule has no fault, so every entry finds its operands and one part is left, or none of an empty rule.
     let mut parts: Vec<Part> = Vec::new();
     for entry in rule[8..].chunks_exact(10) {
         let part = match entry[0] {
@@ -140,7 +144,7 @@ pub fn formula(rule: &[u8]) -> Result<String, Refusal> {
         };
         parts.push(part);
     }
-    Ok(operand(&mut parts).text)
+    Ok(parts.pop().map_or(EMPTY.to_string(), |part| part.text))
 }
 
 fn operand(parts: &mut Vec<Part>) -> Part {

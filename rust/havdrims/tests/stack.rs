@@ -5,7 +5,8 @@ use evaluator::log;
 use evaluator::random::{self, LogShape, Random};
 use evaluator::rule::{self, Entry, NEXT, NO_END, PREVIOUS, SINCE, UNTIL};
 use evaluator::{cases, model, reading, typed};
-use havdrims::{measure, open, parse, resume, tally, Refusal, Resumed, Tally, MOST_RULE, MOST_STACK, PARSE_STACK};
+use havdrims::{measure, open, parse, resume, simulate, tally, worst_log};
+use havdrims::{Refusal, Resumed, Settings, Tally, MOST_RULE, MOST_STACK, PARSE_STACK};
 use std::ffi::{c_int, c_long, c_void};
 use std::io::Write;
 use std::{ptr, slice};
@@ -149,11 +150,19 @@ fn every_call_on_a_small_stack() {
             *most = now.max(*most);
         }
     }
+    let settings = Settings { warm_up: 20, print_time: 30, switch_off: 60, mean_gap: 50 };
+    let mut made = vec![7; 8 + 8 * 3600];
+    let (simulated, simulating) = on_small_stack(|| simulate(&settings, 3600, 1, &mut made));
+    assert_eq!(simulated.map(|given| given.written), Ok(made.len()));
     let [measuring, opening, resuming, tallying] = most;
+    let mut made = vec![0; 8 + 8 * 5000];
+    let (length, making) = on_small_stack(|| worst_log(0, 3600, 5000, &mut made));
+    assert_eq!(length, Ok(made.len()));
     // Past the test harness, which would hold back what a passing test prints.
     let _ = writeln!(
         std::io::stderr(),
-        "most bytes of stack: measure {measuring}, open {opening}, resume {resuming}, tally {tallying}"
+        "most bytes of stack: measure {measuring}, open {opening}, resume {resuming}, tally {tallying}, \
+         worst_log {making}, simulate {simulating}"
     );
     assert!(resuming > PAGE, "the stack was not measured");
     let header = include_str!("../../../include/havdrims.h");
@@ -191,5 +200,8 @@ fn parse_on_its_stack() {
     let _ = writeln!(std::io::stderr(), "most bytes of stack: parse {most}");
     assert!(most > 8 * PAGE, "the stack was not measured");
     let header = include_str!("../../../include/havdrims.h");
-    assert!(header.contains(&format!("#define HAVDRIMS_PARSE_STACK {PARSE_STACK}\n")), "the header says another number");
+    assert!(
+        header.contains(&format!("#define HAVDRIMS_PARSE_STACK {PARSE_STACK}\n")),
+        "the header says another number"
+    );
 }

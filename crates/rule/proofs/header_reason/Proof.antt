@@ -52,13 +52,10 @@ refuse-requires-2 c κs = search needs
 refuse-requires-3 : tie.Need-refuse-requires-3
 refuse-requires-3 c κs = search needs
 
-refuse-requires-4 : tie.Need-refuse-requires-4
-refuse-requires-4 c κs = search needs
-
 returns : tie.Need-returns
 unfolding header-refusal
 returns c =
-    simp (c .refuse4 .ensures, c .before .refuse3 .ensures, c .before .before .refuse2 .ensures, c .before .before .before .refuse .ensures, c .before .before .before .before .byte-at4 .ensures, c .before .before .before .before .before .byte-at3 .ensures, c .before .before .before .before .before .before .wide2 .ensures .0, c .before .before .before .before .before .before .before .byte-at2 .ensures, c .before .before .before .before .before .before .before .before .wide .ensures .0, c .before .before .before .before .before .before .before .before .before .byte-at .ensures, c .before .before .before .before .before .before .before .before .before .before .lacks-mark .ensures, c .before .before .before .before .before .before .before .before .before .before .before .before .entry-count .ensures .0)
+    simp (c .refuse3 .ensures, c .before .refuse2 .ensures, c .before .before .refuse .ensures, c .before .before .before .byte-at4 .ensures, c .before .before .before .before .byte-at3 .ensures, c .before .before .before .before .before .wide2 .ensures .0, c .before .before .before .before .before .before .byte-at2 .ensures, c .before .before .before .before .before .before .before .wide .ensures .0, c .before .before .before .before .before .before .before .before .byte-at .ensures, c .before .before .before .before .before .before .before .before .before .lacks-mark .ensures, c .before .before .before .before .before .before .before .before .before .before .before .entry-count .ensures .0)
 
 pub header-reason-spec : {M : Type 1} → statement M
 header-reason-spec =
@@ -80,5 +77,4 @@ header-reason-spec =
     refuse-requires
     refuse-requires-2
     refuse-requires-3
-    refuse-requires-4
     returns)

@@ -5,7 +5,7 @@ use borrow.Author.Needs.{needs}
 use mathlib.Core.Path.{_≡_, sym}
 use Rattle.rule.specs.Entries.{entry}
 use Rattle.rule.specs.Operands.{operands}
-use Rattle.rule.proofs.Run.{Running, none-read, one-more, lacks-operand, one-formula, other-than-one}
+use Rattle.rule.proofs.Run.{Running, none-read, one-more, lacks-operand, one-formula, more-than-one}
 use Rattle.rule.proofs.read.Statement.{statement}
 use Rattle.rule.proofs.read.Tie as tie
 
@@ -81,23 +81,25 @@ loop-again c =
           (rw e at (c .joined .ensures .0)) (rw e at (c .joined .ensures .1))),
     )
 
-array-read-t30 : tie.Need-array-read-t30 Inv-loop μ-loop
-array-read-t30 c = search needs
+mul-t28 : tie.Need-mul-t28 Inv-loop μ-loop
+mul-t28 c = search needs
+
+array-read-t31 : tie.Need-array-read-t31 Inv-loop μ-loop
+array-read-t31 c = search needs
 
 returns-2 : tie.Need-returns-2 Inv-loop μ-loop
 returns-2 c =
     let i = c .before .before .loop in
     let a = c .before .before .before .args in
     let e : i .k ≡ a .count = omega arith in
-    let r : Running (a .t1) (i .stack) 1 (a .count) = rw (e, c .if2 .taken) at (i .inv .1) in
-    sym (one-formula (a .t1) (i .stack) (a .count) r)
+    sym (one-formula (a .t1) (i .stack) (i .depth) (a .count) (rw e at (i .inv .1)) (omega arith))
 
 returns-3 : tie.Need-returns-3 Inv-loop μ-loop
 returns-3 c =
     let i = c .before .before .loop in
     let a = c .before .before .before .args in
     let e : i .k ≡ a .count = omega arith in
-    sym (other-than-one (a .t1) (i .stack) (i .depth) (a .count) (rw e at (i .inv .1)) (c .if2 .left))
+    sym (more-than-one (a .t1) (i .stack) (i .depth) (a .count) (rw e at (i .inv .1)) (λ l. omega arith))
 
 pub read-spec : {M : Type 1} → statement M
 read-spec =
@@ -122,6 +124,7 @@ read-spec =
     add-k
     loop-less
     loop-again
-    array-read-t30
+    mul-t28
+    array-read-t31
     returns-2
     returns-3)

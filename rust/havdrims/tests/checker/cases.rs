@@ -62,6 +62,24 @@ fn p10_and_limits() {
     let next = [Entry::letter(0), Entry::timed(NEXT, 1, NO_END)];
     assert_eq!(measure(&rule::encode(&next)), Ok(Needs { words: 48, reach: None }));
     let mut two_errors = rule::encode(&cases::p1_entries());
-    (two_errors[4], two_errors[5]) = (2, 0);
+    two_errors[4] = 2;
+    two_errors.pop();
     assert_eq!(measure(&two_errors), Err(Refusal::RuleVersion));
+}
+
+#[test]
+fn empty_rule_in_two_calls() {
+    let rule = rule::encode(&[]);
+    assert_eq!(measure(&rule), Ok(Needs { words: 16, reach: Some(0) }));
+    assert_eq!(measure(&[rule.as_slice(), &[0; 10]].concat()), Err(Refusal::RuleLength));
+    let three = log::encode(&cases::p1_records()[..3]);
+    let mut point = fresh(&rule);
+    let mut call = |length: usize| {
+        let mut sheet = [7; 2];
+        let got = resume(&rule, &three, &mut point, &mut sheet[..length]);
+        (got, sheet)
+    };
+    assert_eq!(call(2), (Ok(Resumed { verdicts: 2, more: true }), [1, 1]));
+    assert_eq!(call(2), (Ok(Resumed { verdicts: 1, more: false }), [1, 7]));
+    assert_eq!(call(0), (Ok(Resumed { verdicts: 0, more: false }), [7, 7]));
 }

@@ -73,7 +73,9 @@ fn forged_points() {
             assert!(possible, "refused {number}\n{}point {words:?}\nlog {}", kiosk.story, hex(&log));
         }
     };
-    cases("forged_points", 40_000, body, |counts| ["accepted", "refused 10", "refused 11"].iter().all(|name| counts.get(name) > 0));
+    cases("forged_points", 40_000, body, |counts| {
+        ["accepted", "refused 10", "refused 11"].iter().all(|name| counts.get(name) > 0)
+    });
 }
 
 /// Words that are no point: all the same, random, or a point of which only the beginning is left.
@@ -156,7 +158,7 @@ fn another_rule() {
         let kiosk = Kiosk::new(r, 8, 10);
         let mut rule = kiosk.rule.clone();
         let count = (rule.len() - 8) / 10;
-        for _ in 0..r.from_to(1, 2) {
+        for _ in 0..r.from_to(1, 2).min(count) {
             let at = 8 + 10 * r.below(count);
             match rule[at] {
                 0 => rule[at + 1] = r.below(32) as u8,

@@ -169,6 +169,7 @@ fn lists() {
             let given = kiosk.accepted(r, n);
             counts.returned(0);
             counts.add("verdicts", given.verdicts.len());
+            counts.add("of empty rules", if kiosk.rule.len() == 8 { given.verdicts.len() } else { 0 });
             written.extend(given.verdicts);
             caught_up = Some(!given.more);
         }
@@ -179,7 +180,10 @@ fn lists() {
             assert_eq!(caught_up, one_run.len() == written.len(), "{}", kiosk.story);
         }
     };
-    let shown = |counts: &Counts| (1..=14).all(|n| n == 8 || n == 11 || counts.get(&format!("refused {n:02}")) > 0);
+    let shown = |counts: &Counts| {
+        let met = |n: u32| counts.get(&format!("refused {n:02}")) > 0;
+        (1..=14).all(|n| met(n) || [3, 8, 11].contains(&n)) && counts.get("of empty rules") > 0
+    };
     cases("lists", 30_000, body, shown);
 }
 

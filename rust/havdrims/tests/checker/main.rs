@@ -10,4 +10,6 @@ mod guard;
 mod large;
 mod lists;
 mod runner;
+mod simulate;
 mod single;
+mod worst;

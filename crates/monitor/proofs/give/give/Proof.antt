@@ -13,11 +13,11 @@ use Rattle.monitor.proofs.give.give.Statement.{statement}
 use Rattle.monitor.proofs.give.give.Tie as tie
 
 abbrev Inv-loop : tie.InvT-loop
-Inv-loop table top records words₀ sheet₀ done₀ words sheet done =
-    Going table records top words₀ sheet₀ done words sheet
+Inv-loop table entries records words₀ sheet₀ done₀ words sheet done =
+    Going table records entries words₀ sheet₀ done words sheet
 
 abbrev μ-loop : tie.MeasureT-loop
-μ-loop table top records words₀ sheet₀ done₀ words sheet done = length sheet₀ - done
+μ-loop table entries records words₀ sheet₀ done₀ words sheet done = length sheet₀ - done
 
 -- something is held
 held : (d : tie.Else1 Inv-loop μ-loop) →
@@ -25,7 +25,7 @@ held : (d : tie.Else1 Inv-loop μ-loop) →
     Holds
     (a .table .now)
     (a .records .now)
-    (a .top)
+    (a .entries)
     (d .before .before .before .before .before .before .loop .words)
     true
     (d .before .before .before .hold .last .1 .1 .1 .0)
@@ -33,12 +33,15 @@ held d = rw (not-false (d .before .before .before .hold .result) (d .if1 .left))
 
 -- the words keep their length
 words-kept : (d : tie.Else1 Inv-loop μ-loop) → 16 ≤ length (d .before .before .before .hold .last .1 .1 .1 .0)
-words-kept d = omega (arith, held d .words-length, d .before .before .before .before .before .before .loop .inv .words-length, d .before .before .before .before .before .before .before .before .before .before .pre)
+words-kept d = omega (arith, held d .words-length, d .before .before .before .before .before .before .loop .inv .words-length, d .before .before .before .before .before .before .before .before .before .before .pre .0 .header)
 
 loop-holds : tie.Need-loop-holds Inv-loop μ-loop
 loop-holds c =
     let a = c .before .before .before .args in
-    going-none (a .table .now) (a .records .now) (a .top) (a .words .now) (a .sheet .now)
+    going-none (a .table .now) (a .records .now) (a .entries) (a .words .now) (a .sheet .now)
+
+hold-requires : tie.Need-hold-requires Inv-loop μ-loop
+hold-requires c κs = rw (c .before .before .loop .inv .words-length) (c .before .before .before .before .before .before .pre .0)
 
 returns : tie.Need-returns Inv-loop μ-loop
 returns c =
@@ -58,7 +61,7 @@ add-words c =
       l .inv .room,
       l .inv .sheet-length,
       n .1,
-      s .pre .3,
+      s .pre .1,
       s .good .1 .1 .1 .1 .0 .1,
     )
 
@@ -86,7 +89,7 @@ loop-again c =
     (portion-more
     (l .inv)
     (n .result)
-    (omega (arith, d .before .before .before .before .before .before .before .before .before .before .pre))
+    (d .before .before .before .before .before .before .before .before .before .before .pre .0 .header)
     (held d)
     (n .ensures .0)
     (omega (arith, n .ensures .1, l .inv .room, l .inv .sheet-length)))
@@ -101,7 +104,7 @@ give-spec =
     Inv-loop
     μ-loop
     loop-holds
-    (λ c κs. search needs)
+    hold-requires
     (λ c. search needs)
     (λ c. search needs)
     returns

@@ -1,7 +1,6 @@
--- `monitor::give::proceed` meets its contract: what `give` and `hold` promise for the rule's formula, and the log's end noted.
+-- `monitor::give::proceed` meets its contract: what `give` and `hold` promise for the rule's formulas, and the log's end noted.
 use borrow.Author.Needs.{needs}
-use Prim.Native.Nat.{_-_}
-use mathlib.Core.Path.{sym, _∙_}
+use mathlib.Core.Path.{_∙_}
 use native.Mathlib.Omega.{arith}
 use lib.ListN.{length-set}
 use Rattle.rule.proofs.Acceptance.{accepted}
@@ -11,7 +10,7 @@ use Rattle.monitor.proofs.give.proceed.Tie as tie
 
 -- the rule's table, once it is laid out
 table-of : (d : tie.After-lay-out) →
-    Tabled (d .before .before .before .before .before .before .before .args .rule .now) (d .lay-out .result) (d .before .entry-count .result - 1)
+    Tabled (d .before .before .before .before .before .before .before .args .rule .now) (d .lay-out .result) (d .before .entry-count .result)
 table-of d =
     let s = d .before .before .before .before .before .before .before in
     tabled
@@ -36,22 +35,17 @@ lay-out-requires c κs =
     let a = accepted (s .args .rule .now) (s .pre .0) in
     rw (c .before .entries .ensures, c .entry-count .ensures .0) (a .few-entries, a .well-formed)
 
-sub-top : tie.Need-sub-top
-sub-top c =
-    let s = c .before .before .before .before .before .before .before in
-    omega (arith, c .before .entry-count .ensures .0, accepted (s .args .rule .now) (s .pre .0) .some-entries)
-
 give-requires : tie.Need-give-requires
 give-requires c κs =
     let t = table-of (c .before .before .before) in
     let s = c .before .before .before .before .before .before .before .before .before .before in
-    (t .few, t .rows, t .size ∙ sym (s .pre .1), s .pre .2)
+    (rw (s .pre .1) (t .fits), s .pre .2)
 
 hold-requires : tie.Need-hold-requires
 hold-requires c κs =
     let t = table-of (c .before .before .before .before .before .before .before .before .before .before) in
     let s = c .before .before .before .before .before .before .before .before .before .before .before .before .before .before .before .before .before in
-    (t .few, t .rows, t .size ∙ sym (s .pre .1) ∙ sym (c .before .before .before .before .before .before .give .ensures .words-length))
+    rw (c .before .before .before .before .before .before .give .ensures .words-length, s .pre .1) (t .fits)
 
 slice-read-last-time : tie.Need-slice-read-last-time
 slice-read-last-time c = search needs
@@ -91,7 +85,7 @@ returns c =
     (a .rule .now)
     (d .lay-out .result)
     (a .records .now)
-    (d .before .entry-count .result - 1)
+    (d .before .entry-count .result)
     (a .words .now)
     (a .sheet .now)
     (g .result)
@@ -116,7 +110,6 @@ proceed-spec =
     entries-requires
     entry-count-requires
     lay-out-requires
-    sub-top
     give-requires
     hold-requires
     slice-read-last-time

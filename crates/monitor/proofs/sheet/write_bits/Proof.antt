@@ -5,15 +5,14 @@ use mathlib.Core.Path.{_≡_, refl, sym, ap, _∙_}
 use native.Mathlib.Omega.{arith}
 use lib.ListN.{length, set, length-set}
 use lib.Pow.{shr-shr}
-use Rattle.bits.specs.Packed.{bit}
+use Rattle.bits.specs.Packed.{bit, number}
 use Rattle.bits.proofs.Laws.{number-bit}
-use Rattle.monitor.specs.Verdicts.{verdict}
 use Rattle.monitor.proofs.Written.{written, written-none, written-more}
 use Rattle.monitor.proofs.sheet.write_bits.Statement.{statement}
 use Rattle.monitor.proofs.sheet.write_bits.Tie as tie
 
 -- the byte written at i is that of bit i
-byte-is : (bits i rest : ℕ) → rest ≡ bits / 2 ^ i → rest % 2 ≡ verdict (bit bits i)
+byte-is : (bits i rest : ℕ) → rest ≡ bits / 2 ^ i → rest % 2 ≡ number (bit bits i)
 byte-is bits i rest e = ap (λ (w : ℕ). w % 2) e ∙ sym (number-bit bits i)
 
 abbrev Inv-loop : tie.InvT-loop

@@ -1,0 +1,6 @@
+-- Laws of the generator, of a second of the kiosk, and of a run; Theorem has what is proved of every simulation.
+pub mod Xor
+pub mod Kept
+pub mod Running
+pub mod Outcome
+pub mod Theorem
