@@ -1,4 +1,4 @@
--- One accepted call on exactly the words that its rule needs: the rule's table, and the header once the log's end is noted.
+-- One accepted call on exactly the words that its entries need: their table, and the header once the log's end is noted.
 use Prim.Native.Nat.{ℕ, _+_, _-_, _≤_, _<_, min}
 use mathlib.Core.Bool.{Bool, true, false}
 use mathlib.Core.Path.{_≡_, refl, sym, _∙_}
@@ -14,28 +14,22 @@ use Rattle.mtl.specs.Log.{Log}
 use Rattle.mtl.specs.Progress.{joint-progress}
 use Rattle.mtl.proofs.Bounded.{le-or-lt}
 use Rattle.rule.specs.declared.Entry.{Entry}
-use Rattle.rule.specs.Entries.{count, decoded}
-use Rattle.rule.specs.Refusal.{refusal}
-use Rattle.rule.specs.Words.{offset, words}
+use Rattle.rule.specs.Words.{words}
 use Rattle.rule.specs.Accepted.{WellFormed, Whole}
-use Rattle.rule.proofs.Acceptance.{accepted}
 use Rattle.trace.specs.Format.{record-count}
 use Rattle.trace.specs.Order.{last-time}
 use Rattle.trace.proofs.Laws.{last-time-bound}
 use Rattle.engine.specs.Block.{word}
 use Rattle.engine.specs.Layout.{Laid}
 use Rattle.engine.proofs.Rows.{rows-ok, has-at, column-is-part}
-use Rattle.monitor.specs.Checkpoint.{need}
-use Rattle.monitor.specs.Verdicts.{formulas-of}
 use Rattle.monitor.specs.Stands.{Top}
-use Rattle.monitor.specs.Code.{Fits, Tops, Holding, Holds, Gave, Proceeded}
-use Rattle.monitor.proofs.Meaning.{rule-whole}
+use Rattle.monitor.specs.Code.{Fits, Tops, Holding, Holds, Gave, Ready, Proceeded}
 use Rattle.monitor.proofs.Giving.{agrees-later}
 
--- the table of an accepted rule
-pub record Tabled (rule table : List ℕ) (n : ℕ) : Type 0 where
-  pub fits : Fits table n (need rule)
-  pub tops : Tops (formulas-of rule) table n
+-- the table of an accepted rule's entries
+pub record Tabled (t : List Entry) (table : List ℕ) (n : ℕ) : Type 0 where
+  pub fits : Fits table n (words t n)
+  pub tops : (fs : List Formula) → Whole t n fs → Tops fs table n
 
 module _ (t : List Entry) (n : ℕ) (ok : WellFormed t n) (table : List ℕ) (laid : Laid t n table) (few : n ≤ 128) where
   -- its entries are its formulas
@@ -57,17 +51,12 @@ module _ (t : List Entry) (n : ℕ) (ok : WellFormed t n) (table : List ℕ) (la
       }
   fits-of (φ ∷ (ψ ∷ fs)) several = absurd several
 
-pub tabled : (rule : List ℕ) (t : List Entry) (n : ℕ) (table : List ℕ) → refusal rule ≡ 0 → t ≡ decoded rule → n ≡ count rule →
-    Laid t n table → Tabled rule table n
-tabled rule t n table ok same counted laid =
-    let a = accepted rule ok in
-    let laid′ : Laid (decoded rule) (count rule) table = rw (same, counted) at laid in
-    let whole = rule-whole rule ok in
-    rw counted
-    (record {
-      fits = fits-of (decoded rule) (count rule) (a .well-formed) table laid′ (a .few-entries) (formulas-of rule) whole;
-      tops = tops-of (decoded rule) (count rule) (a .well-formed) table laid′ (a .few-entries) (formulas-of rule) whole;
-    })
+pub tabled : (t : List Entry) (n : ℕ) (table : List ℕ) → Ready t n → Laid t n table → Tabled t table n
+tabled t n table ready laid =
+    record {
+      fits = fits-of t n (ready .well-formed) table laid (ready .few) (ready .the-formulas) (ready .whole);
+      tops = tops-of t n (ready .well-formed) table laid (ready .few);
+    }
 
 -- the header once the last time and the number of records are noted
 abbrev pub noted : (time size : ℕ) → List ℕ → List ℕ
@@ -115,12 +104,12 @@ counted fs L d c room true ws′ fits short some top =
 counted fs L d c room false ws′ fits short some (top, is-open) =
     record { top = top; count = omega arith; more = sym (le-ltb (d + c) (joint-progress fs L) (omega arith)) }
 
-pub proceeded : (rule table s : List ℕ) (k : ℕ) (ws sheet : List ℕ) (c : ℕ) (ws₁ sheet₁ : List ℕ) (more : Bool) (ws₂ : List ℕ)
-    (time size : ℕ) → Tabled rule table k → 16 ≤ length ws → ((i : ℕ) → getD s i 0 < 256) →
+pub proceeded : (t : List Entry) (table s : List ℕ) (k : ℕ) (ws sheet : List ℕ) (c : ℕ) (ws₁ sheet₁ : List ℕ) (more : Bool) (ws₂ : List ℕ)
+    (time size : ℕ) → Tabled t table k → 16 ≤ length ws → ((i : ℕ) → getD s i 0 < 256) →
     Gave table s k ws sheet c ws₁ sheet₁ → Holds table s k ws₁ more ws₂ →
     time ≡ last-time s (word ws₂ 2) (word ws₂ 3) → size ≡ record-count s →
-    Proceeded rule s ws sheet c more (noted time size ws₂) sheet₁
-proceeded rule table s k ws sheet c ws₁ sheet₁ more ws₂ time size tab room byte gave held timed sized =
+    Proceeded t k s ws sheet c more (noted time size ws₂) sheet₁
+proceeded t table s k ws sheet c ws₁ sheet₁ more ws₂ time size tab room byte gave held timed sized =
     let wide : 16 ≤ length ws₂ = omega (arith, held .words-length, gave .words-length) in
     let seen-same = kept 2 (omega arith) (λ e. omega arith) (λ e. omega arith) (λ e. omega arith) in
     let last-same = kept 3 (omega arith) (λ e. omega arith) (λ e. omega arith) (λ e. omega arith) in
@@ -144,11 +133,11 @@ proceeded rule table s k ws sheet c ws₁ sheet₁ more ws₂ time size tab room
       entries =
           noted-other time size ws₂ wide 6 (λ e. omega arith) (λ e. omega arith) ∙
           kept 6 (omega arith) (λ e. omega arith) (λ e. omega arith) (λ e. omega arith);
-      meaning = λ L d never agrees top.
-          let fs = formulas-of rule in
-          let (giving, short) = gave .meaning fs L d (tab .tops) never agrees top in
+      meaning = λ fs L d whole never agrees top.
+          let tops = tab .tops fs whole in
+          let (giving, short) = gave .meaning fs L d tops never agrees top in
           let later = agrees-later s L d (d + c) (omega arith) agrees in
-          let after = held .meaning fs L (d + c) (tab .tops) never later (giving .top) in
+          let after = held .meaning fs L (d + c) tops never later (giving .top) in
           let n = counted fs L d c (length sheet) more ws₂ (gave .room) short (held .some) after in (
             record { top = top-noted time size ws₂ wide fs L (d + c) (n .top); bytes = giving .bytes },
             n .count,

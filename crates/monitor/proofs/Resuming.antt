@@ -16,9 +16,11 @@ use Rattle.mtl.specs.Log.{Log, NeverFalls, Continues}
 use Rattle.mtl.specs.Satisfaction.{any}
 use Rattle.mtl.proofs.Bounded.{and-iff, leb-iff, le-or-lt}
 use Rattle.mtl.proofs.Joint.{joint-le-size}
+use Rattle.rule.specs.declared.Entry.{Entry}
 use Rattle.rule.specs.Entries.{count, decoded}
 use Rattle.rule.specs.Refusal.{before, refusal}
-use Rattle.rule.proofs.Headers.{first-zero, or-left}
+use Rattle.rule.proofs.Headers.{first-zero, or-left, Decoded}
+use Rattle.rule.proofs.Acceptance.{accepted}
 use Rattle.trace.specs.Format.{record-count, records-of, malformed}
 use Rattle.trace.specs.Order.{last-time}
 use Rattle.trace.proofs.Laws.{well-formed-records}
@@ -31,13 +33,14 @@ use Rattle.monitor.specs.Refusal.{open-refusal, point-refusal, resume-re
 use Rattle.monitor.specs.Verdicts.{formulas-of}
 use Rattle.monitor.specs.Stands.{Top, last-of, Stands}
 use Rattle.monitor.specs.Resume.{Resumes}
-use Rattle.monitor.specs.Code.{sized-of, sized-number, checked-by, checked-number, Proceeded, Proceeds}
+use Rattle.monitor.specs.Code.{sized-of, sized-number, checked-by, checked-number, Ready, Proceeded, Proceeds}
 use Rattle.monitor.specs.declared.check.Sized.{Sized}
 use Rattle.monitor.specs.declared.check.Sized.the-variants.{Words, Stopped}
 use Rattle.monitor.specs.declared.check.Checked.{Checked}
 use Rattle.monitor.specs.declared.check.Checked.the-variants.{Passed, Failed}
 use Rattle.monitor.specs.declared.Resumed.{Resumed}
 use Rattle.monitor.specs.declared.Resumed.the-variants.{Given, Refused}
+use Rattle.monitor.proofs.Meaning.{rule-whole}
 use Rattle.monitor.proofs.Sizes.{sized-refusal, enough, stops}
 use Rattle.monitor.proofs.Held.{held-longer, states-longer}
 
@@ -161,7 +164,7 @@ module _ (s : List ℕ) (K L : Log) (d : ℕ) (longer : Continues K L) (agrees :
 -- an accepted call: the words that the rule needs are ws′ then, the others are kept
 module _ (rule log p sheet : List ℕ) (ok : refusal rule ≡ 0) (room : need rule ≤ length p)
     (none : point-refusal (decoded rule) (count rule) log p ≡ 0) (c : ℕ) (more : Bool) (ws′ sheet′ : List ℕ)
-    (done : Proceeded rule (records-of log) (take (need rule) p) sheet c more ws′ sheet′) where
+    (done : Proceeded (decoded rule) (count rule) (records-of log) (take (need rule) p) sheet c more ws′ sheet′) where
   size : length ws′ ≡ need rule
   size = done .words-length ∙ length-take-le (need rule) p room
 
@@ -213,7 +216,7 @@ module _ (rule log p sheet : List ℕ) (ok : refusal rule ≡ 0) (room : need ru
                   rw (was 2 (omega arith), was 3 (omega arith));
               meaning = λ K L d stands longer never agrees.
                   let top = top-longer (formulas-of rule) K L d (take (need rule) p) longer never (stands .top) in
-                  let (giving, count, further) = done .meaning L d never agrees top in
+                  let (giving, count, further) = done .meaning (formulas-of rule) L d (rule-whole rule ok) never agrees top in
                   record {
                     count = count;
                     bytes = giving .bytes;
@@ -223,12 +226,19 @@ module _ (rule log p sheet : List ℕ) (ok : refusal rule ≡ 0) (room : need ru
             };
       }
 
--- the records and the words as they were lent, and the words as they came back
-pub resume-given : (rule log p sheet records : List ℕ) (w : ℕ) (r : Resumed) (ws′ sheet′ : List ℕ) →
-    Words w ≡ sized-of rule (length p) → point-refusal (decoded rule) (count rule) log p ≡ 0 → records ≡ records-of log →
-    Proceeds rule records (part 0 w p) sheet r ws′ sheet′ → Resumes rule log p sheet r (put-back 0 w ws′ p) sheet′
-resume-given rule log p sheet records w (Given c more) ws′ sheet′ sized none handed done =
+-- the decoded entries of an accepted rule are ready
+pub ready-of : (rule : List ℕ) (t : List Entry) (n : ℕ) → refusal rule ≡ 0 → Decoded rule t n → Ready t n
+ready-of rule t n ok d =
+    let a = accepted rule ok in
+    rw (d .entries-are, d .count-is)
+    (record { few = a .few-entries; well-formed = a .well-formed; the-formulas = a .the-formulas; whole = a .whole })
+
+-- the entries as they were decoded, the records and the words as they were lent, and the words as they came back
+pub resume-given : (rule log p sheet : List ℕ) (t : List Entry) (n : ℕ) (records : List ℕ) (w : ℕ) (r : Resumed) (ws′ sheet′ : List ℕ) →
+    Words w ≡ sized-of rule (length p) → Decoded rule t n → point-refusal (decoded rule) (count rule) log p ≡ 0 → records ≡ records-of log →
+    Proceeds t n records (part 0 w p) sheet r ws′ sheet′ → Resumes rule log p sheet r (put-back 0 w ws′ p) sheet′
+resume-given rule log p sheet t n records w (Given c more) ws′ sheet′ sized d none handed done =
     let e = enough rule (length p) w sized in
     let is : w - 0 ≡ need rule = sub-zero w ∙ e .words-are in
-    rw is (resumed rule log p sheet (e .accepted) (e .room) none c more ws′ sheet′ (rw (is, handed) at done))
-resume-given rule log p sheet records w (Refused m) ws′ sheet′ sized none handed done = absurd done
+    rw is (resumed rule log p sheet (e .accepted) (e .room) none c more ws′ sheet′ (rw (is, handed, d .entries-are, d .count-is) at done))
+resume-given rule log p sheet t n records w (Refused m) ws′ sheet′ sized d none handed done = absurd done

@@ -5,39 +5,32 @@ use mathlib.Core.Bool.{Bool, true, false, cond}
 use mathlib.Core.Path.{_≡_, refl}
 use mathlib.Core.List.{List}
 use lib.Dec.{eqb, ltb}
-use borrow.Author.Tests.{eqb-true, eqb-false, ltb-false, ne-eqb, lt-ltb, le-ltb}
+use borrow.Author.Tests.{eqb-true, eqb-false, ltb-false, ne-eqb}
 use Rattle.rule.specs.declared.Entry.{Entry}
+use Rattle.rule.specs.declared.refusals.Header.{Header}
+use Rattle.rule.specs.declared.Measured.{Measured}
 use Rattle.rule.specs.declared.Measured.the-variants.{Words as Weighed, Refused}
-use Rattle.rule.specs.Entries.{count, decoded}
 use Rattle.rule.specs.Words.{offset}
 use Rattle.rule.specs.Refusal.{refusal}
 use Rattle.rule.specs.Measure.{answer, measured}
+use Rattle.rule.specs.Code.{header, header-count, filled}
 use Rattle.rule.proofs.Acceptance.{accepted}
+use Rattle.rule.proofs.Headers.{before-none, Decoded, decoded-once}
 use Rattle.rule.proofs.Outcome.{passes-with, stops-with}
 use Rattle.monitor.specs.Checkpoint.{need}
-use Rattle.monitor.specs.Code.{sized-of, sized-number}
+use Rattle.monitor.specs.Code.{sized-by, sized-of, sized-number}
 use Rattle.monitor.specs.Refusal.{open-refusal}
 use Rattle.monitor.specs.declared.check.Sized.the-variants.{Words, Stopped}
 
--- `measure` refused the rule
-pub stopped : (s : List ℕ) (lent m : ℕ) → answer (Refused m) ≡ measured s → Stopped m ≡ sized-of s lent
-stopped s lent m e =
-    let o = stops-with s m e in
-    let n : refusal s ≡ 0 → ⊥ = λ z. o .not-zero (omega (arith, o .number-is)) in
-    rw (ne-eqb (refusal s) 0 n, o .number-is)
-
--- the number of words lent is below the need, or not
-pub short : (s : List ℕ) (w r lent : ℕ) → answer (Weighed w r) ≡ measured s → lent < w → Stopped 9 ≡ sized-of s lent
-short s w r lent e h =
-    let o = passes-with s w r e in
-    let l : lent < need s = omega (arith, o .words-are) in
-    rw (o .accepted, lt-ltb lent (need s) l)
-
-pub sized : (s : List ℕ) (w r lent : ℕ) → answer (Weighed w r) ≡ measured s → w ≤ lent → Words w ≡ sized-of s lent
-sized s w r lent e h =
-    let o = passes-with s w r e in
-    let l : need s ≤ lent = omega (arith, o .words-are) in
-    rw (o .accepted, le-ltb lent (need s) l, o .words-are)
+-- by what weighing the rule answers
+pub sized-is : (s : List ℕ) (m : Measured) (lent : ℕ) → answer m ≡ measured s → sized-by m lent ≡ sized-of s lent
+sized-is s (Refused n) lent e =
+    let o = stops-with s n e in
+    let some : refusal s ≡ 0 → ⊥ = λ z. o .not-zero (omega (arith, o .number-is)) in
+    rw (ne-eqb (refusal s) 0 some, o .number-is)
+sized-is s (Weighed w far) lent e =
+    let o = passes-with s w far e in
+    rw (o .accepted, o .words-are)
 
 -- the number that the answer stands for is the refusal of `open`
 number-by : (b b′ : Bool) (w n : ℕ) → sized-number (cond b (cond b′ (Stopped 9) (Words w)) (Stopped n)) ≡ cond b (cond b′ 9 0) n
@@ -73,7 +66,12 @@ stops-by false b′ w n m t e = let z : m ≡ n = cc in let h = eqb-false n 0 t 
 pub stops : (s : List ℕ) (lent m : ℕ) → Stopped m ≡ sized-of s lent → 0 < m
 stops s lent m e = stops-by (eqb (refusal s) 0) (ltb lent (need s)) (need s) (refusal s) m refl e
 
--- the decoded rule fits into a checkpoint of its need
-pub fits-in : (s : List ℕ) (t : List Entry) (n lent : ℕ) → refusal s ≡ 0 → t ≡ decoded s → n ≡ count s → need s ≤ lent →
+-- the entries decoded by the header of a rule that is accepted
+pub is-decoded : (s : List ℕ) (h : Header) (t : List Entry) (n : ℕ) → h ≡ header s → n ≡ header-count h → t ≡ filled s n →
+    refusal s ≡ 0 → Decoded s t n
+is-decoded s h t n is e e′ ok = decoded-once s h is t n e e′ (before-none _ _ ok .0)
+
+-- they fit into a checkpoint of the rule's need
+pub fits-in : (s : List ℕ) (t : List Entry) (n lent : ℕ) → refusal s ≡ 0 → Decoded s t n → need s ≤ lent →
     (n ≤ 128) × (16 + offset t n ≤ lent)
-fits-in s t n lent ok e e′ h = rw (e, e′) (accepted s ok .few-entries, h)
+fits-in s t n lent ok d h = rw (d .entries-are, d .count-is) (accepted s ok .few-entries, h)

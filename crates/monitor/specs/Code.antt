@@ -9,15 +9,19 @@ use Rattle.mtl.specs.Formula.{Formula}
 use Rattle.mtl.specs.Log.{Log, NeverFalls}
 use Rattle.mtl.specs.Progress.{joint-progress}
 use Rattle.rule.specs.declared.Entry.{Entry}
+use Rattle.rule.specs.declared.Measured.{Measured}
+use Rattle.rule.specs.declared.Measured.the-variants.{Words as Weighed}
+use Rattle.rule.specs.declared.Measured.the-variants.{Refused as Unmeasured}
 use Rattle.rule.specs.Entries.{entry}
 use Rattle.rule.specs.Refusal.{refusal}
+use Rattle.rule.specs.Accepted.{WellFormed, Whole}
 use Rattle.engine.specs.Block.{word}
 use Rattle.engine.specs.Step.{Agrees}
 use Rattle.engine.specs.Table.{RowsOk, column, Has}
 use Rattle.trace.specs.Format.{record-count}
 use Rattle.trace.specs.Order.{last-time}
 use Rattle.monitor.specs.Checkpoint.{format, given, seen, last, held-count, need, block-at, copy-head, copy-ends}
-use Rattle.monitor.specs.Verdicts.{formulas-of, verdict}
+use Rattle.monitor.specs.Verdicts.{verdict}
 use Rattle.monitor.specs.Stands.{Top}
 use Rattle.monitor.specs.declared.check.Sized.{Sized}
 use Rattle.monitor.specs.declared.check.Sized.the-variants.{Words, Stopped}
@@ -30,7 +34,12 @@ abbrev pub sized-number : Sized → ℕ
 sized-number (Words n) = 0
 sized-number (Stopped n) = n
 
--- refusals 1 to 9, or the need
+-- refusals 1 to 9, or the need, by what weighing answers
+abbrev pub sized-by : Measured → ℕ → Sized
+sized-by (Weighed w far) lent = cond (ltb lent w) (Stopped 9) (Words w)
+sized-by (Unmeasured n) lent = Stopped n
+
+-- the same of the rule's bytes
 abbrev pub sized-of : List ℕ → ℕ → Sized
 sized-of rule lent =
     cond (eqb (refusal rule) 0) (cond (ltb lent (need rule)) (Stopped 9) (Words (need rule))) (Stopped (refusal rule))
@@ -104,8 +113,15 @@ pub record Gave (t s : List ℕ) (n : ℕ) (ws sheet : List ℕ) (c : ℕ) (ws�
   pub meaning : (fs : List Formula) (L : Log) (d : ℕ) → Tops fs t n → NeverFalls L → Agrees s L d → Top fs L d ws →
       Giving fs L d c ws′ sheet′ × (c < length sheet → joint-progress fs L ≡ d + c)
 
--- an accepted call on exactly the words that the rule needs
-pub record Proceeded (rule s ws sheet : List ℕ) (c : ℕ) (more : Bool) (ws′ sheet′ : List ℕ) : Type 0 where
+-- the decoded entries of an accepted rule
+pub record Ready (t : List Entry) (n : ℕ) : Type 0 where
+  pub few : n ≤ 128
+  pub well-formed : WellFormed t n
+  pub the-formulas : List Formula
+  pub whole : Whole t n the-formulas
+
+-- an accepted call on exactly the words that the n entries of t need
+pub record Proceeded (t : List Entry) (n : ℕ) (s ws sheet : List ℕ) (c : ℕ) (more : Bool) (ws′ sheet′ : List ℕ) : Type 0 where
   pub room : c ≤ length sheet
   pub rest : drop c sheet′ ≡ drop c sheet
   pub sheet-length : length sheet′ ≡ length sheet
@@ -116,10 +132,10 @@ pub record Proceeded (rule s ws sheet : List ℕ) (c : ℕ) (more : Bool) (ws′
   pub time : last ws′ ≡ last-time s (seen ws) (last ws)
   pub fits : last ws < 2 ^ 32 → last ws′ < 2 ^ 32
   pub entries : word ws′ 6 ≡ word ws 6
-  pub meaning : (L : Log) (d : ℕ) → NeverFalls L → Agrees s L d → Top (formulas-of rule) L d ws →
-      Giving (formulas-of rule) L d c ws′ sheet′ × (c ≡ min (joint-progress (formulas-of rule) L - d) (length sheet)) ×
-      (more ≡ ltb (d + c) (joint-progress (formulas-of rule) L))
+  pub meaning : (fs : List Formula) (L : Log) (d : ℕ) → Whole t n fs → NeverFalls L → Agrees s L d → Top fs L d ws →
+      Giving fs L d c ws′ sheet′ × (c ≡ min (joint-progress fs L - d) (length sheet)) ×
+      (more ≡ ltb (d + c) (joint-progress fs L))
 
-abbrev pub Proceeds : (rule s ws sheet : List ℕ) → Resumed → (ws′ sheet′ : List ℕ) → Type 0
-Proceeds rule s ws sheet (Given c more) ws′ sheet′ = Proceeded rule s ws sheet c more ws′ sheet′
-Proceeds rule s ws sheet (Refused n) ws′ sheet′ = ⊥
+abbrev pub Proceeds : List Entry → (n : ℕ) → (s ws sheet : List ℕ) → Resumed → (ws′ sheet′ : List ℕ) → Type 0
+Proceeds t n s ws sheet (Given c more) ws′ sheet′ = Proceeded t n s ws sheet c more ws′ sheet′
+Proceeds t n s ws sheet (Refused m) ws′ sheet′ = ⊥

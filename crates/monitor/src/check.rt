@@ -3,11 +3,10 @@ ghost use mathlib.Core.Path.{_≡_};
 ghost use Prim.Native.Nat.{_+_, _≤_, _<_};
 ghost use lib.ListN.{length, drop};
 ghost use Rattle.mtl.specs.Satisfaction.{any};
-ghost use Rattle.rule.specs.Entries.{count, decoded};
-ghost use Rattle.rule.specs.Refusal.{first, refusal};
+ghost use Rattle.rule.specs.Refusal.{first};
 ghost use Rattle.rule.specs.Words.{offset};
-ghost use Rattle.monitor.specs.Checkpoint.{copy-head, copy-ends, need, copy-differs, foreign, room, block-in-range, block-outside, outside};
-ghost use Rattle.monitor.specs.Code.{sized-of, sized-number, checked-by, checked-number};
+ghost use Rattle.monitor.specs.Checkpoint.{copy-head, copy-ends, copy-differs, foreign, room, block-in-range, block-outside, outside};
+ghost use Rattle.monitor.specs.Code.{sized-by, sized-number, checked-by, checked-number};
 ghost use Rattle.monitor.specs.Refusal.{point-refusal};
 ghost use Rattle.engine.specs.Block.{cells-of};
 use super::header;
@@ -52,10 +51,9 @@ impl Checked {
     }
 }
 
-pub fn size_of(rule: &[u8], lent: usize) -> Sized
-    ensures { λ r. ⌜ r ≡ sized-of (now (rule .entry)) lent ⌝ }
+pub fn size_of(measured: Measured, lent: usize) -> Sized
+    ensures { λ r. ⌜ r ≡ sized-by measured lent ⌝ }
 {
-    let measured = rule::measure(rule);
     let Measured::Words { words, reach: _ } = measured else {
         return Sized::Stopped(measured.number());
     };
@@ -185,12 +183,10 @@ fn is_outside(entries: [Entry; 128], count: usize, point: &[u64]) -> bool
 }
 
 // The number of the first of refusals 10 to 14 that applies, or 0.
-fn reason(rule: &[u8], log: &[u8], point: &[u64]) -> u32
-    requires { ⌜ (refusal (now rule) ≡ 0) × (need (now rule) ≤ length (now point)) ⌝ }
-    ensures { λ r. ⌜ r ≡ point-refusal (decoded (now (rule .entry))) (count (now (rule .entry))) (now (log .entry)) (now (point .entry)) ⌝ }
+fn reason(entries: [Entry; 128], count: usize, log: &[u8], point: &[u64]) -> u32
+    requires { ⌜ (count ≤ 128) × (16 + offset entries count ≤ length (now point)) ⌝ }
+    ensures { λ r. ⌜ r ≡ point-refusal entries count (now (log .entry)) (now (point .entry)) ⌝ }
 {
-    let entries = rule::entries(rule);
-    let count = rule::entry_count(rule);
     let records = trace::records(log);
     let given = point[header::GIVEN] as usize;
     let seen = point[header::SEEN] as usize;
@@ -208,11 +204,11 @@ fn reason(rule: &[u8], log: &[u8], point: &[u64]) -> u32
     )
 }
 
-pub fn check_point(rule: &[u8], log: &[u8], point: &[u64]) -> Checked
-    requires { ⌜ (refusal (now rule) ≡ 0) × (need (now rule) ≤ length (now point)) ⌝ }
-    ensures { λ r. ⌜ r ≡ checked-by (point-refusal (decoded (now (rule .entry))) (count (now (rule .entry))) (now (log .entry)) (now (point .entry))) ⌝ }
+pub fn check_point(entries: [Entry; 128], count: usize, log: &[u8], point: &[u64]) -> Checked
+    requires { ⌜ (count ≤ 128) × (16 + offset entries count ≤ length (now point)) ⌝ }
+    ensures { λ r. ⌜ r ≡ checked-by (point-refusal entries count (now (log .entry)) (now (point .entry))) ⌝ }
 {
-    let number = reason(rule, log, point);
+    let number = reason(entries, count, log, point);
     if number == 0 {
         Checked::Passed
     } else {

@@ -2,10 +2,8 @@
 ghost use mathlib.Core.Path.{_≡_};
 ghost use Prim.Native.Nat.{_+_, _≤_, _<_};
 ghost use lib.ListN.{length, replicate};
-ghost use Rattle.rule.specs.Entries.{count, decoded};
-ghost use Rattle.rule.specs.Refusal.{refusal};
 ghost use Rattle.rule.specs.Words.{offset};
-ghost use Rattle.monitor.specs.Checkpoint.{need};
+ghost use Rattle.rule.specs.Words.{words as needed};
 ghost use Rattle.monitor.specs.Code.{Fresh, copies};
 use super::check;
 use super::header;
@@ -39,13 +37,11 @@ fn write_copies(entries: [Entry; 128], count: usize, words: &mut [u64])
     }
 }
 
-// Writes a fresh checkpoint into exactly the words that the rule needs.
-pub fn write(rule: &[u8], words: &mut [u64])
-    requires { ⌜ (refusal (now rule) ≡ 0) × (length (now words) ≡ need (now rule)) ⌝ }
-    ensures { λ _. ⌜ Fresh (decoded (now (rule .entry))) (count (now (rule .entry))) (now (words .exit)) ⌝ }
+// Writes a fresh checkpoint into exactly the words that the entries need.
+pub fn write(entries: [Entry; 128], count: usize, words: &mut [u64])
+    requires { ⌜ (count ≤ 128) × (length (now words) ≡ needed entries count) ⌝ }
+    ensures { λ _. ⌜ Fresh entries count (now (words .exit)) ⌝ }
 {
-    let entries = rule::entries(rule);
-    let count = rule::entry_count(rule);
     clear(words);
     words[header::FORMAT] = check::FORMAT;
     words[header::ENTRIES] = count as u64;

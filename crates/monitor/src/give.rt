@@ -5,13 +5,14 @@ ghost use mathlib.Core.Bool.{true};
 ghost use Prim.Native.Nat.{_+_, _-_, _≤_, _<_, _^_, min};
 ghost use lib.ListN.{length};
 ghost use lib.Dec.{ltb};
-ghost use Rattle.rule.specs.Refusal.{refusal};
+ghost use Rattle.rule.specs.Words.{words as needed};
 ghost use Rattle.trace.specs.Format.{record-count};
-ghost use Rattle.monitor.specs.Checkpoint.{need, given};
-ghost use Rattle.monitor.specs.Code.{Fits, Holds, all-yes, Gave, Proceeds};
+ghost use Rattle.monitor.specs.Checkpoint.{given};
+ghost use Rattle.monitor.specs.Code.{Fits, Holds, all-yes, Gave, Ready, Proceeds};
 use super::Resumed;
 use super::header;
 use super::sheet;
+use rule::Entry;
 
 // a word of answers that are all yes
 const ALL_YES: u64 = 18446744073709551615;
@@ -102,12 +103,16 @@ fn give(
 }
 
 // Gives the verdicts that are settled, as far as the sheet goes, and notes what was seen of the log.
-pub fn proceed(rule: &[u8], records: &[u8], words: &mut [u64], sheet: &mut [u8]) -> Resumed
-    requires { ⌜ (refusal (now rule) ≡ 0) × (length (now words) ≡ need (now rule)) × (given (now words) ≤ 1000000) ⌝ }
-    ensures { λ r. ⌜ Proceeds (now (rule .entry)) (now (records .entry)) (now (words .entry)) (now (sheet .entry)) r (now (words .exit)) (now (sheet .exit)) ⌝ }
+pub fn proceed(
+    entries: [Entry; 128],
+    count: usize,
+    records: &[u8],
+    words: &mut [u64],
+    sheet: &mut [u8],
+) -> Resumed
+    requires { ⌜ Ready entries count × (length (now words) ≡ needed entries count) × (given (now words) ≤ 1000000) ⌝ }
+    ensures { λ r. ⌜ Proceeds entries count (now (records .entry)) (now (words .entry)) (now (sheet .entry)) r (now (words .exit)) (now (sheet .exit)) ⌝ }
 {
-    let entries = rule::entries(rule);
-    let count = rule::entry_count(rule);
     let table = engine::layout::lay_out(entries, count);
     let given = give(&table, count, records, words, sheet);
     let more = hold(&table, count, records, words);

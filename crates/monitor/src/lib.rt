@@ -68,11 +68,14 @@ impl Tallied {
 pub fn open(rule: &[u8], point: &mut [u64]) -> Opened
     ensures { λ r. ⌜ Opens (now (rule .entry)) (now (point .entry)) r (now (point .exit)) ⌝ }
 {
-    let sized = check::size_of(rule, point.len());
+    let header = rule::check_header(rule);
+    let count = header.count();
+    let entries = rule::decode(rule, count);
+    let sized = check::size_of(rule::measure_decoded(header, entries), point.len());
     let Sized::Words(words) = sized else {
         return Opened::Refused(sized.number());
     };
-    fresh::write(rule, &mut point[0..words]);
+    fresh::write(entries, count, &mut point[0..words]);
     Opened::Done
 }
 
@@ -80,15 +83,24 @@ pub fn open(rule: &[u8], point: &mut [u64]) -> Opened
 pub fn resume(rule: &[u8], log: &[u8], point: &mut [u64], sheet: &mut [u8]) -> Resumed
     ensures { λ r. ⌜ Resumes (now (rule .entry)) (now (log .entry)) (now (point .entry)) (now (sheet .entry)) r (now (point .exit)) (now (sheet .exit)) ⌝ }
 {
-    let sized = check::size_of(rule, point.len());
+    let header = rule::check_header(rule);
+    let count = header.count();
+    let entries = rule::decode(rule, count);
+    let sized = check::size_of(rule::measure_decoded(header, entries), point.len());
     let Sized::Words(words) = sized else {
         return Resumed::Refused(sized.number());
     };
-    let checked = check::check_point(rule, log, point);
+    let checked = check::check_point(entries, count, log, point);
     let Checked::Passed = checked else {
         return Resumed::Refused(checked.number());
     };
-    give::proceed(rule, trace::records(log), &mut point[0..words], sheet)
+    give::proceed(
+        entries,
+        count,
+        trace::records(log),
+        &mut point[0..words],
+        sheet,
+    )
 }
 
 // Counts the verdicts of a sheet.

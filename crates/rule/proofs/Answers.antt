@@ -11,8 +11,8 @@ use Rattle.mtl.specs.Formula.{Formula, unbounded, has-next}
 use Rattle.mtl.specs.Formula.{reach as formula-reach}
 use Rattle.mtl.specs.Satisfaction.{any}
 use Rattle.rule.specs.declared.Entry.{Entry}
-use Rattle.rule.specs.declared.Reading.the-variants.{Reach, Faulty}
-use Rattle.rule.specs.declared.Totals.{Totals}
+use Rattle.rule.specs.declared.measuring.Reading.the-variants.{Reach, Faulty}
+use Rattle.rule.specs.declared.measuring.Totals.{Totals}
 use Rattle.rule.specs.Words.{words, limit}
 use Rattle.rule.specs.Postfix.{at-most-one, stack-after, formulas}
 use Rattle.rule.specs.Refusal.{misshapen-at, misplaced-at, lacking, over-limit, entries-refusal}

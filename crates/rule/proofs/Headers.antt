@@ -1,7 +1,7 @@
--- What the header's answer says of the whole answer, and what an accepted header says of the bytes.
+-- What an accepted header says of the bytes, and that the entries decoded once are the rule's.
 -- (Cases is named first so that the worked rows are checked before any theorem.)
 use Rattle.rule.proofs.Cases
-use Prim.Native.Nat.{ℕ, suc, _+_, _*_, _≤_, _<_}
+use Prim.Native.Nat.{ℕ, suc, _+_, _*_, _≤_, _<_, zero-le}
 use native.Mathlib.Omega.{arith}
 use borrow.Author.Tests.{eqb-true, eqb-false, ltb-false, not-false}
 use mathlib.Core.Path.{_≡_, refl, ap, _∙_}
@@ -9,12 +9,15 @@ use mathlib.Core.Bool.{Bool, true, false, cond, _||_, not}
 use mathlib.Core.List.{List}
 use lib.Dec.{eqb, ltb}
 use lib.ListN.{length}
-use Rattle.rule.specs.declared.Header.the-variants.{Count, Stopped}
+use Rattle.rule.specs.declared.refusals.Header.{Header}
+use Rattle.rule.specs.declared.refusals.Header.the-variants.{Count, Stopped}
+use Rattle.rule.specs.declared.Entry.{Entry}
 use Rattle.rule.specs.Bytes.{byte}
 use Rattle.rule.specs.Entries.{count, decoded}
 use Rattle.rule.specs.Refusal.{first, before, unmarked, other-version, malformed, header-refusal}
 use Rattle.rule.specs.Measure.{refused, measured}
-use Rattle.rule.specs.Code.{measured-entries, header}
+use Rattle.rule.specs.Code.{measured-entries, header, header-count, filled, measured-by}
+use Rattle.rule.proofs.Decoded.{decoded-filled}
 
 -- no refusal: neither this one nor a later one
 pub first-zero : (n : ℕ) (b : Bool) (other : ℕ) → first (suc n) b other ≡ 0 → (b ≡ false) × (other ≡ 0)
@@ -36,16 +39,6 @@ before-none m n = go (eqb m 0) refl
     go true p q = (eqb-true m 0 p, q)
     go false p q = absurd (eqb-false m 0 p q)
 
-pub stopped : (s : List ℕ) (m : ℕ) → header s ≡ Stopped m → refused m ≡ measured s
-stopped s m e = go (eqb (header-refusal s) 0) refl
-  where
-    go : (b : Bool) → eqb (header-refusal s) 0 ≡ b → refused m ≡ measured s
-    go true p = let q : Count (count s) ≡ Stopped m = simp p at e in cc
-    go false p =
-        let q : Stopped (header-refusal s) ≡ Stopped m = simp p at e in
-        let r : m ≡ header-refusal s = cc in
-        ap refused r ∙ simp p
-
 -- an accepted header
 pub record Headed (s : List ℕ) : Type 0 where
   pub few : count s ≤ 128
@@ -66,17 +59,34 @@ headed s e =
           (or-right (ltb 128 (count s) || not (eqb (byte s 6) 0) || not (eqb (byte s 7) 0)) (not (eqb (length s) (8 + count s * 10))) (d .0)));
     }
 
-pub record Counted (s : List ℕ) (n : ℕ) : Type 0 where
-  pub is-count : n ≡ count s
-  pub accepted : header-refusal s ≡ 0
-  pub answer-is : measured s ≡ measured-entries (decoded s) (count s)
+headed-decoded : (s : List ℕ) → header-refusal s ≡ 0 → filled s (count s) ≡ decoded s
+headed-decoded s e = let h = headed s e in decoded-filled s (count s) (h .few) (omega (arith, h .size))
 
-pub counted : (s : List ℕ) (n : ℕ) → header s ≡ Count n → Counted s n
-counted s n e = go (eqb (header-refusal s) 0) refl
-  where
-    go : (b : Bool) → eqb (header-refusal s) 0 ≡ b → Counted s n
-    go true p =
-        let z : header-refusal s ≡ 0 = eqb-true (header-refusal s) 0 p in
-        let q : Count (count s) ≡ Count n = simp p at e in
-        record { is-count = cc; accepted = z; answer-is = simp z }
-    go false p = let q : Stopped (header-refusal s) ≡ Count n = simp p at e in let z : _≡_ {A = ℕ} 0 1 = cc in absurd (omega arith)
+-- t and n are the decoded rule and its count
+pub record Decoded (s : List ℕ) (t : List Entry) (n : ℕ) : Type 0 where
+  pub entries-are : t ≡ decoded s
+  pub count-is : n ≡ count s
+
+-- the header's answer, its count, and the entries decoded by it
+module _ (s : List ℕ) (h : Header) (is : h ≡ header s) where
+  pub few-to-decode : header-count h ≤ 128
+  few-to-decode = rw is (go (eqb (header-refusal s) 0) refl)
+    where
+      go : (b : Bool) → eqb (header-refusal s) 0 ≡ b → header-count (cond b (Count (count s)) (Stopped (header-refusal s))) ≤ 128
+      go true p = headed s (eqb-true (header-refusal s) 0 p) .few
+      go false p = zero-le
+
+  pub decoded-once : (t : List Entry) (n : ℕ) → n ≡ header-count h → t ≡ filled s n → header-refusal s ≡ 0 → Decoded s t n
+  decoded-once t n e e′ z =
+      let c : n ≡ count s = e ∙ ap header-count is ∙ simp z in
+      record { entries-are = e′ ∙ ap (filled s) c ∙ headed-decoded s z; count-is = c }
+
+  -- the answer by them is the rule's
+  pub measured-once : (t : List Entry) (n : ℕ) → n ≡ header-count h → t ≡ filled s n → measured-by h t ≡ measured s
+  measured-once t n e e′ = ap (λ (x : Header). measured-by x t) is ∙ go (eqb (header-refusal s) 0) refl
+    where
+      go : (b : Bool) → eqb (header-refusal s) 0 ≡ b → measured-by (header s) t ≡ measured s
+      go true p =
+          let z : header-refusal s ≡ 0 = eqb-true (header-refusal s) 0 p in
+          simp z (ap (λ (l : List Entry). measured-entries l (count s)) (decoded-once t n e e′ z .entries-are))
+      go false p = simp p

@@ -4,12 +4,12 @@ pub mod Stacks
 pub mod Run
 pub mod Nexts
 pub mod Answers
+pub mod Decoded
 pub mod Headers
 pub mod Spans
 pub mod Subformulas
 pub mod Ranges
 pub mod Flat
-pub mod Decoded
 pub mod Acceptance
 pub mod Reach
 pub mod Outcome

@@ -11,7 +11,7 @@ use lib.Seq.{getD-set-same, getD-set-other}
 use Rattle.mtl.specs.Formula.{Formula, reach}
 use Rattle.mtl.specs.Formula.Formula.{letter, not, or, previous, next, since, until}
 use Rattle.rule.specs.declared.Entry.{Entry}
-use Rattle.rule.specs.declared.Reading.the-variants.{Reach, Faulty}
+use Rattle.rule.specs.declared.measuring.Reading.the-variants.{Reach, Faulty}
 use Rattle.rule.specs.Entries.{entry}
 use Rattle.rule.specs.Postfix.{unary, binary, push-kind, push, read, stack-after, at-most-one, formulas}
 use Rattle.rule.specs.Operands.{operands}

@@ -1,23 +1,23 @@
 -- What the crate's own functions answer, between the bytes and the answer of `measure`.
-use Prim.Native.Nat.{ℕ, _+_, max}
+use Prim.Native.Nat.{ℕ, zero, suc, _+_, max}
 use mathlib.Core.Bool.{Bool, cond, _&&_, _||_, not}
 use mathlib.Core.List.{List, [], _∷_}
 use mathlib.Core.Option.{Option, none, some}
 use lib.Dec.{eqb}
-use lib.ListN.{getD}
+use lib.ListN.{getD, set, replicate}
 use Rattle.mtl.specs.Formula.{Formula}
 use Rattle.mtl.specs.Formula.{reach as formula-reach}
 use Rattle.mtl.specs.Satisfaction.{any}
 use Rattle.rule.specs.declared.Entry.{Entry}
-use Rattle.rule.specs.declared.Totals.{Totals}
-use Rattle.rule.specs.declared.Header.{Header}
-use Rattle.rule.specs.declared.Header.the-variants.{Count, Stopped}
-use Rattle.rule.specs.declared.Reading.{Reading}
-use Rattle.rule.specs.declared.Reading.the-variants.{Reach, Faulty}
-use Rattle.rule.specs.Entries.{count, entry}
+use Rattle.rule.specs.declared.measuring.Totals.{Totals}
+use Rattle.rule.specs.declared.refusals.Header.{Header}
+use Rattle.rule.specs.declared.refusals.Header.the-variants.{Count, Stopped}
+use Rattle.rule.specs.declared.measuring.Reading.{Reading}
+use Rattle.rule.specs.declared.measuring.Reading.the-variants.{Reach, Faulty}
+use Rattle.rule.specs.Entries.{count, entry-of, blank, entry}
 use Rattle.rule.specs.Words.{own, offset}
 use Rattle.rule.specs.Refusal.{misshapen, misplaced, misshapen-at, misplaced-at, header-refusal, entries-refusal}
-use Rattle.rule.specs.Measure.{Answer, answer-by}
+use Rattle.rule.specs.Measure.{Answer, refused, answer-by}
 
 -- the list does not begin with the mark
 abbrev pub lacks : List ℕ → List ℕ → Bool
@@ -48,6 +48,21 @@ measured-entries t n = answer-by (entries-refusal t n) t n
 abbrev pub header-number : Header → ℕ
 header-number (Count n) = 0
 header-number (Stopped n) = n
+
+-- the entries to decode: none where the header is refused
+abbrev pub header-count : Header → ℕ
+header-count (Count n) = n
+header-count (Stopped n) = 0
+
+-- the first n entries in their places, and blank ones behind them
+unfoldable pub filled : List ℕ → ℕ → List Entry
+filled s zero = replicate 128 blank
+filled s (suc n) = set (filled s n) n (entry-of s n)
+
+-- the answer by the header's
+abbrev pub measured-by : Header → List Entry → Answer
+measured-by (Count n) t = measured-entries t n
+measured-by (Stopped n) t = refused n
 
 -- what the check of the header answers
 abbrev pub header : List ℕ → Header

@@ -7,31 +7,71 @@ use lib.ListN.{length}
 use lib.Seq.{length-take-le, getD-take}
 use Rattle.rule.specs.Entries.{count, decoded}
 use Rattle.monitor.specs.Refusal.{point-refusal}
-use Rattle.monitor.specs.Code.{sized-of}
+use Rattle.rule.specs.Refusal.{refusal}
+use Rattle.rule.proofs.Headers.{Decoded, few-to-decode, measured-once}
+use Rattle.monitor.specs.Code.{sized-of, checked-by}
 use Rattle.monitor.specs.declared.check.Sized.the-variants.{Words}
-use Rattle.monitor.proofs.Sizes.{Enough, enough}
-use Rattle.monitor.proofs.Resuming.{resume-stopped, resume-refused, resume-given, passed, passes}
+use Rattle.monitor.proofs.Sizes.{Enough, enough, sized-is, is-decoded, fits-in}
+use Rattle.monitor.proofs.Resuming.{resume-stopped, resume-refused, resume-given, passed, passes, ready-of}
 use Rattle.monitor.proofs.resume.Statement.{statement}
 use Rattle.monitor.proofs.resume.Tie as tie
 
+-- the answer of `size_of` is by the rule's own answer, and what was decoded by its header is its entries where it is accepted
+sized-for : (d : tie.After-size-of) →
+    let a = d .before .before .before .before .before .before .before .before .before .args in
+    d .size-of .result ≡ sized-of (a .rule .now) (length (a .point .now))
+sized-for d =
+    let a = d .before .before .before .before .before .before .before .before .before .args in
+    let measured = measured-once _ _ (d .before .before .before .before .check-header .ensures) _ _ (d .before .before .before .count .ensures) (d .before .before .decode .ensures) in
+    d .size-of .ensures
+    ∙ sized-is (a .rule .now) (d .before .measure-decoded .result) (length (a .point .now)) (d .before .measure-decoded .ensures ∙ measured)
+
+decoded-for : (d : tie.After-size-of) →
+    let s = d .before .before .before .before .before .before .before .before .before .args .rule .now in
+    refusal s ≡ 0 → Decoded s (d .before .before .decode .result) (d .before .before .before .count .result)
+decoded-for d = is-decoded _ _ _ _ (d .before .before .before .before .check-header .ensures) (d .before .before .before .count .ensures) (d .before .before .decode .ensures)
+
 -- the words that `size_of` gives
 words-of : (d : tie.After-sized) →
-    let a = d .before .before .before .before .before .before .before .args in
+    let a = d .before .before .before .before .before .before .before .before .before .before .before .args in
     Words (d .sized .given .0 .0) ≡ sized-of (a .rule .now) (length (a .point .now))
-words-of d = sym (d .sized .given .1) ∙ d .before .before .size-of .ensures
+words-of d = sym (d .sized .given .1) ∙ sized-for (d .before .before)
 
 fit : (d : tie.After-sized) →
-    let a = d .before .before .before .before .before .before .before .args in
+    let a = d .before .before .before .before .before .before .before .before .before .before .before .args in
     Enough (a .rule .now) (length (a .point .now)) (d .sized .given .0 .0)
 fit d =
-    let a = d .before .before .before .before .before .before .before .args in
+    let a = d .before .before .before .before .before .before .before .before .before .before .before .args in
     enough (a .rule .now) (length (a .point .now)) (d .sized .given .0 .0) (words-of d)
+
+decoded-in : (d : tie.After-sized) → Decoded (d .before .before .before .before .before .before .before .before .before .before .before .args .rule .now) (d .before .before .before .before .decode .result) (d .before .before .before .before .before .count .result)
+decoded-in d = decoded-for (d .before .before) (fit d .accepted)
+
+-- the check is that of the rule's entries
+checked-for : (d : tie.After-check-point) →
+    let a = d .before .before .before .before .before .before .before .before .before .before .before .before .before .before .args in
+    d .check-point .result ≡ checked-by (point-refusal (decoded (a .rule .now)) (count (a .rule .now)) (a .log .now) (a .point .now))
+checked-for d =
+    let e = decoded-in (d .before .before .before) in
+    rw (e .entries-are, e .count-is) at (d .check-point .ensures)
 
 -- no refusal applies where the check passed
 none-of : (d : tie.After-enum-told2) →
-    let a = d .before .before .before .before .before .before .before .before .before .before .before .before .args in
+    let a = d .before .before .before .before .before .before .before .before .before .before .before .before .before .before .before .before .args in
     point-refusal (decoded (a .rule .now)) (count (a .rule .now)) (a .log .now) (a .point .now) ≡ 0
-none-of d = passed _ (sym (d .enum-told2 .given .1) ∙ d .before .before .check-point .ensures)
+none-of d = passed _ (sym (d .enum-told2 .given .1) ∙ checked-for (d .before .before))
+
+check-header-requires : tie.Need-check-header-requires
+check-header-requires c κs = search needs
+
+count-requires : tie.Need-count-requires
+count-requires c κs = search needs
+
+decode-requires : tie.Need-decode-requires
+decode-requires c κs = omega (arith, c .count .ensures, few-to-decode _ _ (c .before .check-header .ensures))
+
+measure-decoded-requires : tie.Need-measure-decoded-requires
+measure-decoded-requires c κs = few-to-decode _ _ (c .before .before .check-header .ensures)
 
 size-of-requires : tie.Need-size-of-requires
 size-of-requires c κs = search needs
@@ -47,7 +87,7 @@ number-requires c κs = search needs
 
 returns : tie.Need-returns
 returns c =
-    let a = c .before .before .before .before .before .before .before .before .args in
+    let a = c .before .before .before .before .before .before .before .before .before .before .before .before .args in
     resume-stopped
     (a .rule .now)
     (a .log .now)
@@ -56,14 +96,14 @@ returns c =
     (c .before .before .before .size-of .result)
     (c .before .enum-told .given .0 .0)
     (c .number .result)
-    (c .before .before .before .size-of .ensures)
+    (sized-for (c .before .before .before))
     (c .before .enum-told .given .1)
     (c .number .ensures)
 
 check-point-requires : tie.Need-check-point-requires
 check-point-requires c κs =
     let e = fit (c .before .before) in
-    (e .accepted, e .room)
+    fits-in _ _ _ _ (e .accepted) (decoded-in (c .before .before)) (e .room)
 
 enum-told-2 : tie.Need-enum-told-2
 enum-told-2 c = search needs
@@ -79,7 +119,7 @@ same-length c = search needs
 
 returns-2 : tie.Need-returns-2
 returns-2 c =
-    let a = c .before .before .before .before .before .before .before .before .before .before .before .before .before .args in
+    let a = c .before .before .before .before .before .before .before .before .before .before .before .before .before .before .before .before .before .args in
     resume-refused
     (a .rule .now)
     (a .log .now)
@@ -90,7 +130,7 @@ returns-2 c =
     (c .before .enum-told3 .given .0 .0)
     (c .number2 .result)
     (words-of (c .before .before .before .before .before .before))
-    (c .before .before .before .check-point .ensures)
+    (checked-for (c .before .before .before))
     (c .before .enum-told3 .given .1)
     (c .number2 .ensures)
 
@@ -110,12 +150,13 @@ part-proceed-end c =
 
 proceed-requires : tie.Need-proceed-requires
 proceed-requires c κs =
-    let a = c .before .before .before .before .before .before .before .before .before .before .before .before .before .before .before .args in
+    let a = c .before .before .before .before .before .before .before .before .before .before .before .before .before .before .before .before .before .before .before .args in
     let w = c .before .before .before .before .before .before .before .before .sized .given .0 .0 in
     let e = fit (c .before .before .before .before .before .before .before .before) in
+    let d = decoded-in (c .before .before .before .before .before .before .before .before) in
     let p = passes (a .rule .now) (a .log .now) (a .point .now) (none-of (c .before .before .before)) in (
-      e .accepted,
-      omega (arith, length-take-le (w - 0) (a .point .now) (omega arith)),
+      ready-of _ _ _ (e .accepted) d,
+      rw (d .entries-are, d .count-is) (omega (arith, length-take-le (w - 0) (a .point .now) (omega arith))),
       omega (arith, getD-take (w - 0) (a .point .now) 1 0 (omega arith)),
     )
 
@@ -127,19 +168,22 @@ same-length-3 c = search needs
 
 returns-3 : tie.Need-returns-3
 returns-3 c =
-    let a = c .before .before .before .before .before .before .before .before .before .before .before .before .before .before .before .before .before .before .before .before .args in
+    let a = c .before .before .before .before .before .before .before .before .before .before .before .before .before .before .before .before .before .before .before .before .before .before .before .before .args in
     let y = c .before .before .before .before .proceed in
     resume-given
     (a .rule .now)
     (a .log .now)
     (a .point .now)
     (a .sheet .now)
+    _
+    _
     (c .before .before .before .before .before .before .before .records .result .now)
     (c .before .before .before .before .before .before .before .before .before .before .before .before .before .sized .given .0 .0)
     (y .result)
-    (y .last .1 .1 .0)
     (y .last .1 .1 .1 .0)
+    (y .last .1 .1 .1 .1 .0)
     (words-of (c .before .before .before .before .before .before .before .before .before .before .before .before .before))
+    (decoded-in (c .before .before .before .before .before .before .before .before .before .before .before .before .before))
     (none-of (c .before .before .before .before .before .before .before .before))
     (c .before .before .before .before .before .before .before .records .ensures)
     (y .ensures)
@@ -148,6 +192,10 @@ pub resume-spec : {M : Type 1} → statement M
 resume-spec =
     tie.close
     (tie.spec
+    check-header-requires
+    count-requires
+    decode-requires
+    measure-decoded-requires
     size-of-requires
     enum-known-sized
     enum-told

@@ -1,55 +1,27 @@
--- `rule::measure` meets its contract: a refusal of the header is the answer, and else the entries' answer is.
+-- `rule::measure` meets its contract, by that of `measure_decoded`.
 use native.Mathlib.Omega.{arith}
+use mathlib.Core.Path.{_∙_}
 use borrow.Author.Needs.{needs}
-use mathlib.Core.Path.{sym, ap, ap₂, _∙_}
-use Rattle.rule.specs.Measure.{refused}
-use Rattle.rule.specs.Code.{measured-entries, header-number}
-use Rattle.rule.proofs.Headers.{stopped, counted, headed}
+use Rattle.rule.proofs.Headers.{few-to-decode, measured-once}
 use Rattle.rule.proofs.measure.Statement.{statement}
 use Rattle.rule.proofs.measure.Tie as tie
 
 check-header-requires : tie.Need-check-header-requires
 check-header-requires c κs = search needs
 
-enum-known-header : tie.Need-enum-known-header
-enum-known-header c = search needs
+count-requires : tie.Need-count-requires
+count-requires c κs = search needs
 
-enum-told : tie.Need-enum-told
-enum-told c = search needs
+decode-requires : tie.Need-decode-requires
+decode-requires c κs = omega (arith, c .count .ensures, few-to-decode _ _ (c .before .check-header .ensures))
 
-number-requires : tie.Need-number-requires
-number-requires c κs = search needs
+measure-decoded-requires : tie.Need-measure-decoded-requires
+measure-decoded-requires c κs = few-to-decode _ _ (c .before .before .check-header .ensures)
 
 returns : tie.Need-returns
 returns c =
-    ap refused (c .number .ensures ∙ ap header-number (c .before .enum-told .given .1))
-    ∙ stopped _ _ (sym (c .before .before .before .check-header .ensures) ∙ c .before .enum-told .given .1)
-
-entries-requires : tie.Need-entries-requires
-entries-requires c κs = search needs
-
-measure-entries-requires : tie.Need-measure-entries-requires
-measure-entries-requires c κs =
-    let d = counted _ _ (sym (c .before .before .before .before .check-header .ensures) ∙ c .before .before .header .given .1) in
-    let h = headed _ (d .accepted) in
-    omega (arith, d .is-count, h .few)
-
-returns-2 : tie.Need-returns-2
-returns-2 c =
-    let d = counted _ _ (sym (c .before .before .before .before .before .check-header .ensures) ∙ c .before .before .before .header .given .1) in
-    c .measure-entries .ensures
-    ∙ ap₂ measured-entries (c .before .entries .ensures) (d .is-count)
-    ∙ sym (d .answer-is)
+    c .measure-decoded .ensures
+    ∙ measured-once _ _ (c .before .before .before .check-header .ensures) _ _ (c .before .before .count .ensures) (c .before .decode .ensures)
 
 pub measure-spec : {M : Type 1} → statement M
-measure-spec =
-    tie.close
-    (tie.spec
-    check-header-requires
-    enum-known-header
-    enum-told
-    number-requires
-    returns
-    entries-requires
-    measure-entries-requires
-    returns-2)
+measure-spec = tie.close (tie.spec check-header-requires count-requires decode-requires measure-decoded-requires returns)

@@ -2,15 +2,8 @@
 use mathlib.Core.Path.{_≡_}
 use borrow.Author.Needs.{needs}
 use Rattle.rule.specs.Refusal.{first}
-use Rattle.monitor.proofs.Sizes.{fits-in}
 use Rattle.monitor.proofs.check.reason.Statement.{statement}
 use Rattle.monitor.proofs.check.reason.Tie as tie
-
-entries-requires : tie.Need-entries-requires
-entries-requires c κs = search needs
-
-entry-count-requires : tie.Need-entry-count-requires
-entry-count-requires c κs = search needs
 
 records-requires : tie.Need-records-requires
 records-requires c κs = search needs
@@ -43,12 +36,10 @@ refuse-requires-3 : tie.Need-refuse-requires-3
 refuse-requires-3 c κs = search needs
 
 is-foreign-requires : tie.Need-is-foreign-requires
-is-foreign-requires c κs =
-    fits-in (c .before .before .before .before .before .before .before .before .before .before .before .before .before .before .before .args .rule .now) _ _ _ (c .before .before .before .before .before .before .before .before .before .before .before .before .before .before .before .pre .0) (c .before .before .before .before .before .before .before .before .before .before .before .entries .ensures) (c .before .before .before .before .before .before .before .before .before .before .entry-count .ensures .0) (c .before .before .before .before .before .before .before .before .before .before .before .before .before .before .before .pre .1)
+is-foreign-requires c κs = search needs
 
 is-outside-requires : tie.Need-is-outside-requires
-is-outside-requires c κs =
-    fits-in (c .before .before .before .before .before .before .before .before .before .before .before .before .before .before .before .before .args .rule .now) _ _ _ (c .before .before .before .before .before .before .before .before .before .before .before .before .before .before .before .before .pre .0) (c .before .before .before .before .before .before .before .before .before .before .before .before .entries .ensures) (c .before .before .before .before .before .before .before .before .before .before .before .entry-count .ensures .0) (c .before .before .before .before .before .before .before .before .before .before .before .before .before .before .before .before .pre .1)
+is-outside-requires c κs = search needs
 
 refuse-requires-4 : tie.Need-refuse-requires-4
 refuse-requires-4 c κs = search needs
@@ -71,16 +62,12 @@ returns c =
       c .before .before .before .before .before .before .before .before .count .ensures,
       c .before .before .before .before .before .before .before .before .before .is-disordered .ensures,
       c .before .before .before .before .before .before .before .before .before .before .before .before .before .records .ensures,
-      c .before .before .before .before .before .before .before .before .before .before .before .before .before .before .entry-count .ensures .0,
-      c .before .before .before .before .before .before .before .before .before .before .before .before .before .before .before .entries .ensures,
     )
 
 pub reason-spec : {M : Type 1} → statement M
 reason-spec =
     tie.close
     (tie.spec
-    entries-requires
-    entry-count-requires
     records-requires
     shared-slice-read-given
     shared-slice-read-seen

@@ -3,17 +3,9 @@ use native.Mathlib.Omega.{arith}
 use mathlib.Core.Path.{_∙_}
 use lib.ListN.{length, length-set}
 use borrow.Author.Needs.{needs}
-use Rattle.rule.specs.Entries.{count, decoded}
 use Rattle.monitor.proofs.Copies.{fresh-words}
-use Rattle.monitor.proofs.Sizes.{fits-in}
 use Rattle.monitor.proofs.fresh.write.Statement.{statement}
 use Rattle.monitor.proofs.fresh.write.Tie as tie
-
-entries-requires : tie.Need-entries-requires
-entries-requires c κs = search needs
-
-entry-count-requires : tie.Need-entry-count-requires
-entry-count-requires c κs = search needs
 
 clear-requires : tie.Need-clear-requires
 clear-requires c κs = search needs
@@ -26,27 +18,23 @@ slice-write-words-2 c = simp length-set (omega (arith, c .before .before .clear 
 
 write-copies-requires : tie.Need-write-copies-requires
 write-copies-requires c κs =
-    let s = c .before .before .before .before .before .before .before .before .before .args .rule .now in
     let l = c .before .before .before .clear .kept .0 in
-    simp length-set (fits-in s _ _ _ (c .before .before .before .before .before .before .before .before .before .pre .0) (c .before .before .before .before .before .before .entries .ensures) (c .before .before .before .before .before .entry-count .ensures .0) (omega arith))
+    simp length-set (omega arith)
 
 same-length : tie.Need-same-length
 same-length c = c .before .before .write-copies .kept .1 .1 .0 ∙ simp length-set (c .before .before .before .before .before .before .clear .kept .0)
 
 returns : tie.Need-returns
 returns c =
-    let a = c .before .before .before .before .before .before .before .before .before .before .before .before .args in
-    let s = a .rule .now in
+    let a = c .before .before .before .before .before .before .before .before .before .args in
     rw
-    (c .before .before .write-copies .ensures, c .before .before .before .before .before .before .clear .ensures, c .before .before .before .before .before .before .before .before .before .entries .ensures, c .before .before .before .before .before .before .before .before .entry-count .ensures .0)
-    (fresh-words (decoded s) (count s) (length (a .words .now)) (omega arith))
+    (c .before .before .write-copies .ensures, c .before .before .before .before .before .before .clear .ensures)
+    (fresh-words (a .entries) (a .count) (length (a .words .now)) (omega arith))
 
 pub write-spec : {M : Type 1} → statement M
 write-spec =
     tie.close
     (tie.spec
-    entries-requires
-    entry-count-requires
     clear-requires
     slice-write-words
     slice-write-words-2

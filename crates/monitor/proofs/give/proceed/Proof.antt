@@ -3,48 +3,32 @@ use borrow.Author.Needs.{needs}
 use mathlib.Core.Path.{_∙_}
 use native.Mathlib.Omega.{arith}
 use lib.ListN.{length-set}
-use Rattle.rule.proofs.Acceptance.{accepted}
 use Rattle.monitor.proofs.Proceeding.{Tabled, tabled, proceeded}
 use Rattle.monitor.proofs.give.proceed.Statement.{statement}
 use Rattle.monitor.proofs.give.proceed.Tie as tie
 
--- the rule's table, once it is laid out
+-- the entries' table, once it is laid out
 table-of : (d : tie.After-lay-out) →
-    Tabled (d .before .before .before .before .before .before .before .args .rule .now) (d .lay-out .result) (d .before .entry-count .result)
+    (let a = d .before .before .before .before .args in Tabled (a .entries) (d .lay-out .result) (a .count))
 table-of d =
-    let s = d .before .before .before .before .before .before .before in
-    tabled
-    (s .args .rule .now)
-    (d .before .before .entries .result)
-    (d .before .entry-count .result)
-    (d .lay-out .result)
-    (s .pre .0)
-    (d .before .before .entries .ensures)
-    (d .before .entry-count .ensures .0)
-    (d .lay-out .ensures)
-
-entries-requires : tie.Need-entries-requires
-entries-requires c κs = search needs
-
-entry-count-requires : tie.Need-entry-count-requires
-entry-count-requires c κs = search needs
+    let s = d .before .before .before .before in
+    tabled (s .args .entries) (s .args .count) (d .lay-out .result) (s .pre .0) (d .lay-out .ensures)
 
 lay-out-requires : tie.Need-lay-out-requires
 lay-out-requires c κs =
-    let s = c .before .before .before .before .before .before in
-    let a = accepted (s .args .rule .now) (s .pre .0) in
-    rw (c .before .entries .ensures, c .entry-count .ensures .0) (a .few-entries, a .well-formed)
+    let s = c .before .before .before in
+    (s .pre .0 .few, s .pre .0 .well-formed)
 
 give-requires : tie.Need-give-requires
 give-requires c κs =
     let t = table-of (c .before .before .before) in
-    let s = c .before .before .before .before .before .before .before .before .before .before in
+    let s = c .before .before .before .before .before .before .before in
     (rw (s .pre .1) (t .fits), s .pre .2)
 
 hold-requires : tie.Need-hold-requires
 hold-requires c κs =
     let t = table-of (c .before .before .before .before .before .before .before .before .before .before) in
-    let s = c .before .before .before .before .before .before .before .before .before .before .before .before .before .before .before .before .before in
+    let s = c .before .before .before .before .before .before .before .before .before .before .before .before .before .before in
     rw (c .before .before .before .before .before .before .give .ensures .words-length, s .pre .1) (t .fits)
 
 slice-read-last-time : tie.Need-slice-read-last-time
@@ -65,7 +49,7 @@ count-requires c κs = search needs
 slice-write-words-2 : tie.Need-slice-write-words-2
 slice-write-words-2 c =
     simp length-set
-    (omega (arith, c .before .before .before .before .before .before .hold .ensures .words-length, c .before .before .before .before .before .before .before .before .before .before .before .before .before .give .ensures .words-length, c .before .before .before .before .before .before .before .before .before .before .before .before .before .before .before .before .before .before .before .before .before .before .before .before .pre .1))
+    (omega (arith, c .before .before .before .before .before .before .hold .ensures .words-length, c .before .before .before .before .before .before .before .before .before .before .before .before .before .give .ensures .words-length, c .before .before .before .before .before .before .before .before .before .before .before .before .before .before .before .before .before .before .before .before .before .pre .1))
 
 same-length : tie.Need-same-length
 same-length c =
@@ -76,16 +60,16 @@ same-length-2 c = search needs
 
 returns : tie.Need-returns
 returns c =
-    let s = c .before .before .before .before .before .before .before .before .before .before .before .before .before .before .before .before .before .before .before .before .before .before .before .before in
+    let s = c .before .before .before .before .before .before .before .before .before .before .before .before .before .before .before .before .before .before .before .before .before in
     let a = s .args in
     let d = c .before .before .before .before .before .before .before .before .before .before .before .before .before .before .before .before .before in
     let g = c .before .before .before .before .before .before .before .before .before .before .before .before .before .give in
     let h = c .before .before .before .before .before .before .hold in
     proceeded
-    (a .rule .now)
+    (a .entries)
     (d .lay-out .result)
     (a .records .now)
-    (d .before .entry-count .result)
+    (a .count)
     (a .words .now)
     (a .sheet .now)
     (g .result)
@@ -97,7 +81,7 @@ returns c =
     (c .count .result)
     (table-of d)
     (omega (arith, s .pre .1))
-    (λ i. c .before .before .before .before .before .before .before .before .before .before .before .before .before .before .before .before .before .before .before .before .before .before .shared-slice-known2 .given i .fits)
+    (λ i. c .before .before .before .before .before .before .before .before .before .before .before .before .before .before .before .before .before .before .before .before .shared-slice-known .given i .fits)
     (g .ensures)
     (h .ensures)
     (c .before .last-time .ensures)
@@ -107,8 +91,6 @@ pub proceed-spec : {M : Type 1} → statement M
 proceed-spec =
     tie.close
     (tie.spec
-    entries-requires
-    entry-count-requires
     lay-out-requires
     give-requires
     hold-requires

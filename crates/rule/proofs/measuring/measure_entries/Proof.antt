@@ -1,11 +1,11 @@
--- `rule::measure_entries` meets its contract: one law for each way out.
+-- `measuring::measure_entries` meets its contract: one law for each way out.
 use native.Mathlib.Omega.{arith}
 use borrow.Author.Needs.{needs}
 use mathlib.Core.Path.{sym, _∙_}
 use mathlib.Core.Bool.{true, false}
 use Rattle.rule.proofs.Answers.{stop5, stop6, stop7, stop8, passes}
-use Rattle.rule.proofs.measure_entries.Statement.{statement}
-use Rattle.rule.proofs.measure_entries.Tie as tie
+use Rattle.rule.proofs.measuring.measure_entries.Statement.{statement}
+use Rattle.rule.proofs.measuring.measure_entries.Tie as tie
 
 add-up-requires : tie.Need-add-up-requires
 add-up-requires c κs = search needs

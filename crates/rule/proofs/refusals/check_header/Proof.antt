@@ -1,8 +1,8 @@
--- `rule::check_header` meets its contract: the test on the reason is the one that `header` makes.
+-- `refusals::check_header` meets its contract: the test on the reason is the one that `header` makes.
 use borrow.Author.Tests.{eq-eqb, ne-eqb}
 use borrow.Author.Needs.{needs}
-use Rattle.rule.proofs.check_header.Statement.{statement}
-use Rattle.rule.proofs.check_header.Tie as tie
+use Rattle.rule.proofs.refusals.check_header.Statement.{statement}
+use Rattle.rule.proofs.refusals.check_header.Tie as tie
 
 header-reason-requires : tie.Need-header-reason-requires
 header-reason-requires c κs = search needs

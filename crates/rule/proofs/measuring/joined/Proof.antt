@@ -1,9 +1,9 @@
--- `rule::joined` meets its contract: the tests on the kind are those of `joined-reach`.
+-- `measuring::joined` meets its contract: the tests on the kind are those of `joined-reach`.
 use native.Mathlib.Omega.{arith}
 use borrow.Author.Tests.{eq-eqb, ne-eqb}
 use borrow.Author.Needs.{needs}
-use Rattle.rule.proofs.joined.Statement.{statement}
-use Rattle.rule.proofs.joined.Tie as tie
+use Rattle.rule.proofs.measuring.joined.Statement.{statement}
+use Rattle.rule.proofs.measuring.joined.Tie as tie
 
 larger-requires : tie.Need-larger-requires
 larger-requires c κs = search needs

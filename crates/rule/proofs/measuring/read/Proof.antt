@@ -1,4 +1,4 @@
--- `rule::read` meets its contract. The loop's invariant: the array holds the reaches of the formulas on the stack after k entries.
+-- `measuring::read` meets its contract. The loop's invariant: the array holds the reaches of the formulas on the stack after k entries.
 use Prim.Native.Nat.{_<_, zero-le, _+_, _-_, _≤_}
 use native.Mathlib.Omega.{arith}
 use borrow.Author.Needs.{needs}
@@ -6,8 +6,8 @@ use mathlib.Core.Path.{_≡_, sym}
 use Rattle.rule.specs.Entries.{entry}
 use Rattle.rule.specs.Operands.{operands}
 use Rattle.rule.proofs.Run.{Running, none-read, one-more, lacks-operand, one-formula, more-than-one}
-use Rattle.rule.proofs.read.Statement.{statement}
-use Rattle.rule.proofs.read.Tie as tie
+use Rattle.rule.proofs.measuring.read.Statement.{statement}
+use Rattle.rule.proofs.measuring.read.Tie as tie
 
 abbrev Inv-loop : tie.InvT-loop
 Inv-loop count table stack₀ depth₀ k₀ stack depth k = (k ≤ count) × Running table stack depth k

@@ -1,7 +1,7 @@
--- `rule::entry_at` meets its contract: each field is what the callee for it ensures.
+-- `entries::entry_at` meets its contract: each field is what the callee for it ensures.
 use borrow.Author.Needs.{needs}
-use Rattle.rule.proofs.entry_at.Statement.{statement}
-use Rattle.rule.proofs.entry_at.Tie as tie
+use Rattle.rule.proofs.entries.entry_at.Statement.{statement}
+use Rattle.rule.proofs.entries.entry_at.Tie as tie
 
 mul-at : tie.Need-mul-at
 mul-at c = search needs

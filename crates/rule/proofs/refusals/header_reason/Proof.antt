@@ -1,8 +1,8 @@
--- `rule::header_reason` meets its contract: its tests are those of `header-refusal`, by what the callees ensure.
+-- `refusals::header_reason` meets its contract: its tests are those of `header-refusal`, by what the callees ensure.
 use borrow.Author.Needs.{needs}
 use Rattle.rule.specs.Refusal.{header-refusal}
-use Rattle.rule.proofs.header_reason.Statement.{statement}
-use Rattle.rule.proofs.header_reason.Tie as tie
+use Rattle.rule.proofs.refusals.header_reason.Statement.{statement}
+use Rattle.rule.proofs.refusals.header_reason.Tie as tie
 
 entry-count-requires : tie.Need-entry-count-requires
 entry-count-requires c κs = search needs

@@ -1,10 +1,10 @@
--- `rule::byte_at` meets its contract: past the end `getD` gives its default.
+-- `bytes::byte_at` meets its contract: past the end `getD` gives its default.
 use borrow.Author.Needs.{needs}
 use denote.Ref.{now}
 use mathlib.Core.Path.{sym}
 use lib.ListN.{List·getD-eq-default}
-use Rattle.rule.proofs.byte_at.Statement.{statement}
-use Rattle.rule.proofs.byte_at.Tie as tie
+use Rattle.rule.proofs.bytes.byte_at.Statement.{statement}
+use Rattle.rule.proofs.bytes.byte_at.Tie as tie
 
 shared-slice-read-result : tie.Need-shared-slice-read-result
 shared-slice-read-result c = search needs

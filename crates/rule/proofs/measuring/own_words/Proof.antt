@@ -1,8 +1,8 @@
--- `rule::own_words` meets its contract: the tests on kind and high are those of `own`.
+-- `measuring::own_words` meets its contract: the tests on kind and high are those of `own`.
 use borrow.Author.Tests.{eq-eqb, ne-eqb}
 use borrow.Author.Needs.{needs}
-use Rattle.rule.proofs.own_words.Statement.{statement}
-use Rattle.rule.proofs.own_words.Tie as tie
+use Rattle.rule.proofs.measuring.own_words.Statement.{statement}
+use Rattle.rule.proofs.measuring.own_words.Tie as tie
 
 cast-high : tie.Need-cast-high
 cast-high c = search needs

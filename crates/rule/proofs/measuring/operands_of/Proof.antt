@@ -1,11 +1,11 @@
--- `rule::operands_of` meets its contract: below 7 the array has the column's number, and from 7 on the column has its default.
+-- `measuring::operands_of` meets its contract: below 7 the array has the column's number, and from 7 on the column has its default.
 use borrow.Author.Needs.{needs}
 use mathlib.Core.List.{[], _∷_}
 use mathlib.Core.Path.{sym}
 use lib.ListN.{List·getD-eq-default}
 use Rattle.rule.proofs.Laws.{getD-default}
-use Rattle.rule.proofs.operands_of.Statement.{statement}
-use Rattle.rule.proofs.operands_of.Tie as tie
+use Rattle.rule.proofs.measuring.operands_of.Statement.{statement}
+use Rattle.rule.proofs.measuring.operands_of.Tie as tie
 
 mul-result : tie.Need-mul-result
 mul-result c = search needs

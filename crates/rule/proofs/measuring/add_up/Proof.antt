@@ -1,16 +1,16 @@
--- `rule::add_up` meets its contract. The loop's invariant: the sums are those over the entries passed, and the words have a bound that fits.
+-- `measuring::add_up` meets its contract. The loop's invariant: the sums are those over the entries passed, and the words have a bound that fits.
 use Prim.Native.Nat.{zero-le, _≤_, _*_, _-_}
 use native.Mathlib.Omega.{arith}
 use borrow.Author.Needs.{needs}
 use mathlib.Core.Path.{sym, ap, _∙_, refl, _≡_}
 use Rattle.mtl.specs.Satisfaction.{any}
-use Rattle.rule.specs.declared.Totals.{Totals}
+use Rattle.rule.specs.declared.measuring.Totals.{Totals}
 use Rattle.rule.specs.Entries.{entry}
 use Rattle.rule.specs.Code.{with-entry, totals}
 use Rattle.rule.specs.Words.{offset}
 use Rattle.rule.proofs.Laws.{totals-more}
-use Rattle.rule.proofs.add_up.Statement.{statement}
-use Rattle.rule.proofs.add_up.Tie as tie
+use Rattle.rule.proofs.measuring.add_up.Statement.{statement}
+use Rattle.rule.proofs.measuring.add_up.Tie as tie
 
 abbrev Inv-loop : tie.InvT-loop
 Inv-loop count table sums₀ k₀ sums k = (k ≤ count) × (sums ≡ totals table k) × (sums .words ≤ k * 8589934610)

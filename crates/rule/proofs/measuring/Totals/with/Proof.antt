@@ -1,8 +1,8 @@
--- `rule::Totals::with` meets its contract: each field is what the callee for it ensures.
+-- `measuring::Totals::with` meets its contract: each field is what the callee for it ensures.
 use native.Mathlib.Omega.{arith}
 use borrow.Author.Needs.{needs}
-use Rattle.rule.proofs.Totals.with.Statement.{statement}
-use Rattle.rule.proofs.Totals.with.Tie as tie
+use Rattle.rule.proofs.measuring.Totals.with.Statement.{statement}
+use Rattle.rule.proofs.measuring.Totals.with.Tie as tie
 
 is-misshapen-requires : tie.Need-is-misshapen-requires
 is-misshapen-requires c κs = search needs

@@ -1,7 +1,7 @@
--- `rule::lacks_mark` meets its contract: it compares the bytes that `lacks` compares.
+-- `bytes::lacks_mark` meets its contract: it compares the bytes that `lacks` compares.
 use borrow.Author.Needs.{needs}
-use Rattle.rule.proofs.lacks_mark.Statement.{statement}
-use Rattle.rule.proofs.lacks_mark.Tie as tie
+use Rattle.rule.proofs.bytes.lacks_mark.Statement.{statement}
+use Rattle.rule.proofs.bytes.lacks_mark.Tie as tie
 
 byte-at-requires : tie.Need-byte-at-requires
 byte-at-requires c κs = search needs

@@ -1,0 +1,181 @@
+// The words and the reach of a rule's entries ("Points and sheets", "Which positions are settled"), and refusals 5 to 8.
+ghost use mathlib.Core.Path.{_≡_};
+ghost use Prim.Native.Nat.{_+_, _≤_, _<_, max};
+ghost use Rattle.rule.specs.Words.{own};
+ghost use Rattle.rule.specs.Postfix.{formulas};
+ghost use Rattle.rule.specs.Measure.{answer};
+ghost use Rattle.rule.specs.Code.{joined-reach, totals, with-entry, reading, measured-entries, header-count, measured-by};
+ghost use Rattle.rule.specs.Operands.{operands};
+use super::Entry;
+use super::Measured;
+use super::entries;
+use super::refusals;
+use super::refusals::Header;
+
+// What reading the entries in postfix order answers: the reach of the formula, 0 where there is no entry.
+enum Reading {
+    Reach(u64),
+    Faulty,
+}
+
+// What one pass over the entries adds up.
+struct Totals {
+    misshapen: bool,
+    misplaced: bool,
+    next: bool,
+    words: u64,
+}
+
+// the most words that a checkpoint may need
+const LIMIT: u64 = 8192;
+
+// the operands of the kinds 0 to 6
+const OPERANDS: [usize; 7] = [0, 1, 2, 1, 1, 2, 2];
+
+// The words of one entry.
+pub fn own_words(e: Entry) -> u64
+    ensures { λ r. ⌜ (r ≡ own e) × (r ≤ 8589934610) ⌝ }
+{
+    let high = e.high as u64;
+    if e.kind == 5 {
+        if e.high == entries::UNBOUNDED {
+            16 + 1
+        } else {
+            16 + (high + 1)
+        }
+    } else if e.kind == 6 {
+        16 + 2 * (high + 1)
+    } else {
+        16
+    }
+}
+
+impl Totals {
+    fn with(self, e: Entry) -> Totals
+        requires { ⌜ self .words < 1125899906842624 ⌝ }
+        ensures { λ r. ⌜ (r ≡ with-entry self e) × (r .words ≤ self .words + 8589934610) ⌝ }
+    {
+        Totals {
+            misshapen: self.misshapen | refusals::is_misshapen(e),
+            misplaced: self.misplaced | refusals::is_misplaced(e),
+            next: self.next | (e.kind == 4),
+            words: self.words + own_words(e),
+        }
+    }
+}
+
+// Refusals 5 and 6 over all entries, whether there is a next, and the words.
+fn add_up(table: [Entry; 128], count: usize) -> Totals
+    requires { ⌜ count ≤ 128 ⌝ }
+    ensures { λ r. ⌜ (r ≡ totals table count) × (r .words ≤ 1099511630080) ⌝ }
+{
+    let mut sums = Totals {
+        misshapen: false,
+        misplaced: false,
+        next: false,
+        words: 0,
+    };
+    let mut k: usize = 0;
+    while k < count {
+        sums = sums.with(table[k]);
+        k += 1;
+    }
+    sums
+}
+
+fn operands_of(kind: u8) -> usize
+    ensures { λ r. ⌜ r ≡ operands kind ⌝ }
+{
+    let k = kind as usize;
+    if k < 7 { OPERANDS[k] } else { 200 }
+}
+
+fn larger(a: u64, b: u64) -> u64
+    ensures { λ r. ⌜ r ≡ max a b ⌝ }
+{
+    if a < b { b } else { a }
+}
+
+// The reach of an entry's formula from those of its operands.
+fn joined(e: Entry, left: u64, right: u64) -> u64
+    requires { ⌜ (left < 1125899906842624) × (right < 1125899906842624) ⌝ }
+    ensures { λ r. ⌜ (r ≡ joined-reach e left right) × (r ≤ max left right + 4294967295) ⌝ }
+{
+    let most = larger(left, right);
+    let high = e.high as u64;
+    if e.kind == 0 {
+        0
+    } else if e.kind == 6 {
+        high + most
+    } else {
+        most
+    }
+}
+
+// The entries are read with a stack, which holds the reach of each formula: position 1 is its bottom, and 0 stands below it.
+fn read(table: [Entry; 128], count: usize) -> Reading
+    requires { ⌜ count ≤ 128 ⌝ }
+    ensures { λ r. ⌜ r ≡ reading (formulas table count) ⌝ }
+{
+    let mut stack = [0u64; 129];
+    let mut depth: usize = 0;
+    let mut k: usize = 0;
+    while k < count {
+        let e = table[k];
+        let taken = operands_of(e.kind);
+        if depth < taken {
+            return Reading::Faulty;
+        }
+        let at = depth + 1 - taken;
+        stack[at] = joined(e, stack[at], stack[depth]);
+        depth = at;
+        k += 1;
+    }
+    if depth < 2 {
+        Reading::Reach(stack[depth])
+    } else {
+        Reading::Faulty
+    }
+}
+
+// Refusals 5 to 8, or the words and the reach.
+fn measure_entries(table: [Entry; 128], count: usize) -> Measured
+    requires { ⌜ count ≤ 128 ⌝ }
+    ensures { λ r. ⌜ answer r ≡ measured-entries table count ⌝ }
+{
+    let sums = add_up(table, count);
+    if sums.misshapen {
+        return Measured::Refused(5);
+    }
+    if sums.misplaced {
+        return Measured::Refused(6);
+    }
+    let Reading::Reach(reach) = read(table, count) else {
+        return Measured::Refused(7);
+    };
+    let words = 16 + sums.words;
+    if words > LIMIT {
+        return Measured::Refused(8);
+    }
+    if sums.next {
+        return Measured::Words {
+            words: words as usize,
+            reach: entries::UNBOUNDED as u64,
+        };
+    }
+    Measured::Words {
+        words: words as usize,
+        reach,
+    }
+}
+
+// The header's refusal, or what comes of the entries.
+pub fn measure_decoded(header: Header, table: [Entry; 128]) -> Measured
+    requires { ⌜ header-count header ≤ 128 ⌝ }
+    ensures { λ r. ⌜ answer r ≡ measured-by header table ⌝ }
+{
+    let Header::Count(count) = header else {
+        return Measured::Refused(header.number());
+    };
+    measure_entries(table, count)
+}
