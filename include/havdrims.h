@@ -18,15 +18,16 @@ extern "C" {
  *
  * The caller owns every buffer, before, during and after the call. The library allocates nothing, keeps no pointer
  * and has no state of its own: all that it knows between two calls is in the point. Calls on different points may
- * run at the same time. A thread with a stack of HAVDRIMS_MOST_STACK bytes can make every call, whatever the rule.
+ * run at the same time. A thread with a stack of HAVDRIMS_MOST_STACK bytes can make every call but havdrims_parse,
+ * whatever the rule, and one with HAVDRIMS_PARSE_STACK bytes that one too.
  *
  * A length counts the elements of its buffer: bytes, or 64-bit words for a point. A buffer of length 0 is not
  * touched, and its pointer may be null. Words are aligned as uint64_t is.
  *
- * The last two pointers of measure, resume and tally, the last of worst_log, and the last four of simulate each point
+ * The last two pointers of measure, resume and tally, the last of parse and of worst_log, and the last four of simulate each point
  * to a number of the caller's and are never null.
  *
- * What a call writes (point, sheet, a log that it makes, the numbers behind its last pointers) shares no byte with
+ * What a call writes (point, sheet, a rule or log that it makes, the numbers behind its last pointers) shares no byte with
  * anything else that the call is given. What it only reads may overlap.
  *
  * The formats of rule, log and sheet are those of docs/FORMATS.md. A point's words are the library's own, in the
@@ -57,6 +58,10 @@ enum havdrims_refusal {
     HAVDRIMS_TIME_FALLS = 14,     /* some record after the first without a verdict has a time below that of the
                                      record before it, or the first new record's time is below the last time seen */
     HAVDRIMS_SHEET_BYTE = 15,     /* a sheet given to tally has a byte above 1 */
+    HAVDRIMS_UNKNOWN_WORD = 16,   /* a word, sign or form of number of a text is unknown, or it has more than 1,024
+                                     bytes */
+    HAVDRIMS_NOT_DERIVED = 17,    /* the grammar does not derive the text */
+    HAVDRIMS_SHORT_RULE = 18,     /* the lent rule buffer is short */
     HAVDRIMS_LOG_ROOM = 19,       /* the number of records is above 1,000,000, or the lent log buffer is under
                                      8 + 8 * records bytes */
     HAVDRIMS_SETTINGS = 26        /* a setting, the seconds or the seed given to simulate is outside its range, or the
@@ -71,6 +76,13 @@ enum havdrims_refusal {
 
 /* The most bytes of stack that a call needs: measured and tested on x86-64 Linux, not proved. */
 #define HAVDRIMS_MOST_STACK 65536
+
+/* The most bytes of stack that havdrims_parse needs, for 1,024 open brackets: measured and tested in the same way. */
+#define HAVDRIMS_PARSE_STACK 1048576
+
+/* The most bytes of a text and of a rule. */
+#define HAVDRIMS_MOST_TEXT 1024
+#define HAVDRIMS_MOST_RULE 1288
 
 /*
  * Weighs a rule of rule_len bytes.
@@ -120,6 +132,20 @@ uint32_t havdrims_resume(const uint8_t *rule, size_t rule_len, const uint8_t *lo
  * Refusal: 15.
  */
 uint32_t havdrims_tally(const uint8_t *sheet, size_t sheet_len, uint64_t *no, uint64_t *yes);
+
+/*
+ * Writes the rule that a text of text_len bytes says into the first bytes of `rule`. The bytes behind them are kept.
+ * HAVDRIMS_MOST_RULE bytes are enough for every text.
+ *
+ * A text is a formula, as in "not e2 or e0 until[0,90] e1". Letters are e0 to e31. not, prev and next bind tightest,
+ * then since and until, grouping to the right, then or, grouping to the left; round brackets override. prev, next,
+ * since and until carry [low,high] in seconds, inf as high meaning no upper end. docs/FORMATS.md has the grammar.
+ *
+ * *written becomes the number of bytes written.
+ *
+ * Refusals, in this order: 16, 17, then 4 (more than 128 entries), 6, 8, and 18.
+ */
+uint32_t havdrims_parse(const uint8_t *text, size_t text_len, uint8_t *rule, size_t rule_len, uint64_t *written);
 
 /*
  * Writes the log that keeps most seconds waiting: for the rule "letter 0 until letter 1, within low to high seconds",

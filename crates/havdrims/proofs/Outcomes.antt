@@ -24,13 +24,19 @@ use Rattle.monitor.specs.Open.{Opens, opened-number}
 use Rattle.monitor.specs.Resume.{Resumes, resumed-number, resumed-count, resumed-more}
 use Rattle.monitor.specs.Tally.{tallied, count-of, above-one}
 use Rattle.monitor.specs.Tally.{Answer as Tally, answer as tally-of}
+use Rattle.text.specs.declared.Parsed.{Parsed}
+use Rattle.text.specs.declared.Parsed.the-variants.{Written}
+use Rattle.text.specs.declared.Parsed.the-variants.{Refused as Unparsed}
+use Rattle.text.specs.Parse.{Parses}
+use Rattle.text.specs.Parse.{answer as parse-of}
+use Rattle.text.proofs.Accepted.{refused-not-zero}
 use Rattle.worst.specs.declared.Made.{Made}
 use Rattle.worst.specs.declared.Made.the-variants.{Length}
 use Rattle.worst.specs.declared.Made.the-variants.{Refused as Unmade}
 use Rattle.worst.specs.Call.{answered, Writes}
 use Rattle.worst.specs.Call.{Answer as Making, answer as made-of}
 use Rattle.worst.proofs.Outcome.{not-zero}
-use Rattle.havdrims.specs.Interface.{or-kept, flag, MeasureCall, OpenCall, ResumeCall, TallyCall, WorstLogCall}
+use Rattle.havdrims.specs.Interface.{or-kept, flag, MeasureCall, OpenCall, ResumeCall, TallyCall, ParseCall, WorstLogCall}
 
 -- a number that is not 0 keeps what stood behind the pointer
 pub kept : (n old new : ℕ) → (n ≡ 0 → ⊥) → old ≡ or-kept n old new
@@ -119,6 +125,22 @@ module _ (s : List ℕ) (noes yeses : ℕ) (o : Tallied) (e : tally-of o ≡ tal
         number = ap (λ (a : Tally). a .number) q;
         no-count = ap (λ (a : Tally). a .no-count) q;
         yes-count = ap (λ (a : Tally). a .yes-count) q;
+      }
+
+module _ (text rule : List ℕ) (old : ℕ) (o : Parsed) (rule′ : List ℕ) (h : Parses text rule o rule′) where
+  pub not-parsed : (n : ℕ) → o ≡ Unparsed n → (r : ℕ) → r ≡ parse-of o .number → ParseCall text rule old r rule′ old
+  not-parsed n is r number =
+      let z = refused-not-zero text rule rule′ n (subst (λ (p : Parsed). Parses text rule p rule′) is h) in
+      let same : r ≡ n = number ∙ ap (λ (p : Parsed). parse-of p .number) is in
+      record { outcome = o; parses = h; number = number; written = kept r old (parse-of o .written) (λ f. z (sym same ∙ f)) }
+
+  pub is-parsed : (n : ℕ) → o ≡ Written n → ParseCall text rule old 0 rule′ n
+  is-parsed n is =
+      record {
+        outcome = o;
+        parses = h;
+        number = sym (ap (λ (p : Parsed). parse-of p .number) is);
+        written = sym (ap (λ (p : Parsed). parse-of p .written) is);
       }
 
 module _ (low high n : ℕ) (log : List ℕ) (written : ℕ) (o : Made) (log′ : List ℕ) (h : Writes low high n log o log′) where

@@ -13,6 +13,8 @@ use Rattle.monitor.specs.Resume.{Resumes, resumed-number, resumed-count, resume
 use Rattle.monitor.specs.Tally.{tallied}
 use Rattle.monitor.specs.declared.Opened.{Opened}
 use Rattle.monitor.specs.declared.Resumed.{Resumed}
+use Rattle.text.specs.declared.Parsed.{Parsed}
+use Rattle.text.specs.Parse.{answer, Parses}
 use Rattle.worst.specs.Call.{answered, buffer-after}
 use Rattle.simulation.specs.Simulate.{simulated, log-after}
 use Rattle.simulation.specs.declared.Settings.{Settings}
@@ -46,6 +48,12 @@ pub record TallyCall (sheet : List ℕ) (noes yeses r noes′ yeses′ : ℕ) : 
   pub number : r ≡ tallied sheet .number
   pub no-count : noes′ ≡ or-kept r noes (tallied sheet .no-count)
   pub yes-count : yeses′ ≡ or-kept r yeses (tallied sheet .yes-count)
+
+pub record ParseCall (text rule : List ℕ) (n r : ℕ) (rule′ : List ℕ) (n′ : ℕ) : Type 0 where
+  pub outcome : Parsed
+  pub parses : Parses text rule outcome rule′
+  pub number : r ≡ answer outcome .number
+  pub written : n′ ≡ or-kept r n (answer outcome .written)
 
 pub record WorstLogCall (low high n : ℕ) (log : List ℕ) (w r : ℕ) (log′ : List ℕ) (w′ : ℕ) : Type 0 where
   pub number : r ≡ answered low high n (length log) .number

@@ -1,12 +1,13 @@
 // The C interface: the library's calls under plain names. Each answers 0, or the refusal's number, and then every number
 // behind a pointer is as it was. include/havdrims.h says what a C programmer needs to know.
-ghost use Rattle.havdrims.specs.Interface.{MeasureCall, OpenCall, ResumeCall, TallyCall, WorstLogCall, settings, SimulateCall};
+ghost use Rattle.havdrims.specs.Interface.{MeasureCall, OpenCall, ResumeCall, TallyCall, ParseCall, WorstLogCall, settings, SimulateCall};
 use monitor::Opened;
 use monitor::Resumed;
 use monitor::Tallied;
 use rule::Measured;
 use simulation::Settings;
 use simulation::Simulated;
+use text::Parsed;
 use worst::Made;
 
 // Document 01's weigh.
@@ -71,6 +72,19 @@ pub extern "C" fn havdrims_tally(sheet: &[u8], no: &mut u64, yes: &mut u64) -> u
     };
     *no = n as u64;
     *yes = y as u64;
+    0
+}
+
+// Writes the rule that a text says (paper 1).
+#[no_mangle]
+pub extern "C" fn havdrims_parse(text: &[u8], rule: &mut [u8], written: &mut u64) -> u32
+    ensures { λ r. ⌜ ParseCall (now (text .entry)) (now (rule .entry)) (now (written .entry)) r (now (rule .exit)) (now (written .exit)) ⌝ }
+{
+    let parsed = text::parse(text, rule);
+    let Parsed::Written(size) = parsed else {
+        return parsed.number();
+    };
+    *written = size as u64;
     0
 }
 

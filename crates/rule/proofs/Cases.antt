@@ -1,28 +1,17 @@
 -- The measuring rows of document 01, and those of an empty rule, worked out by the definitions.
-use Prim.Native.Nat.{ℕ, _/_, _%_}
+use Prim.Native.Nat.{ℕ}
 use mathlib.Core.Path.{_≡_, refl}
 use mathlib.Core.List.{List, [], _∷_, _++_}
 use lib.ListN.{length, set}
 use Rattle.mtl.specs.Formula.{Formula, unbounded, reach, has-next}
 use Rattle.mtl.specs.Formula.Formula.{letter, next, until}
 use Rattle.mtl.specs.Satisfaction.{any}
-use Rattle.rule.specs.declared.Entry.{Entry}
 use Rattle.rule.specs.Entries.{first-entries}
 use Rattle.rule.specs.Words.{offset}
 use Rattle.rule.specs.Postfix.{push-kind, read, postfix}
+use Rattle.rule.specs.Encoding.{body, encoded, rule-of}
 use Rattle.rule.specs.Refusal.{header-refusal, entries-refusal}
 use Rattle.rule.specs.Measure.{farthest, measured}
-
-abbrev pub bytes-of : ℕ → List ℕ
-bytes-of n = n / 16777216 ∷ n / 65536 % 256 ∷ n / 256 % 256 ∷ n % 256 ∷ []
-
-unfoldable pub body : List Entry → List ℕ
-body [] = []
-body (e ∷ es) = e .kind ∷ e .letter ∷ bytes-of (e .low) ++ bytes-of (e .high) ++ body es
-
--- the rule of a formula, as document 01 has it in bytes
-unfoldable pub rule-of : Formula → List ℕ
-rule-of φ = 0x4B ∷ 0x52 ∷ 0x4C ∷ 0 ∷ 1 ∷ length (postfix φ) ∷ 0 ∷ 0 ∷ body (postfix φ)
 
 -- the rule with nothing in it
 abbrev no-entry : List ℕ
@@ -50,5 +39,5 @@ pub rows :
     × Weighs (rule-of (until 0 unbounded (letter 0) (letter 1))) 6 0 0
     × Weighs no-entry 0 16 0
     × Weighs (no-entry ++ body (postfix (letter 0))) 4 0 0
-unfolding rule-of body postfix header-refusal entries-refusal first-entries any offset read push-kind reach has-next farthest
+unfolding encoded body postfix header-refusal entries-refusal first-entries any offset read push-kind reach has-next farthest
 rows = (refl, refl, refl, refl, refl, refl, refl, refl, refl, refl, refl)

@@ -1,9 +1,10 @@
--- The rule format of document 01 and what weighing a rule gives. Read Bytes, Entries, Words, Postfix, Refusal, Measure; then
+-- The rule format of document 01 and what weighing a rule gives. Read Bytes, Entries, Words, Postfix, Encoding, Refusal, Measure; then
 -- Operands and Accepted, on which the layers above rely. Code has what the private functions answer.
 pub mod Bytes
 pub mod Entries
 pub mod Words
 pub mod Postfix
+pub mod Encoding
 pub mod Refusal
 pub mod Measure
 pub mod Code

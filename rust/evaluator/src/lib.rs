@@ -4,7 +4,7 @@
 //! [`reading`] is the plain reading and the settling rules word for word, slow and easy to believe.
 //! [`linear`] gives the same verdicts in time proportional to the log, for logs of a million records; a test
 //! compares the two. [`model`] is a point as the paper describes it: what each call must answer. [`kiosk`] is document
-//! 02's simulated kiosk.
+//! 02's simulated kiosk, and [`typed`] reads rules that are typed as text.
 
 pub mod cases;
 pub mod kiosk;
@@ -14,3 +14,4 @@ pub mod model;
 pub mod random;
 pub mod reading;
 pub mod rule;
+pub mod typed;

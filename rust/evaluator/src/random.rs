@@ -186,3 +186,70 @@ pub fn damage(r: &mut Random, bytes: &mut Vec<u8>) {
         }
     }
 }
+
+/// How tightly a text binds: or, then since and until, then a word in front, then a letter or brackets.
+const OR_BINDS: u8 = 0;
+const TIMED_BINDS: u8 = 1;
+const PREFIX_BINDS: u8 = 2;
+const ATOM_BINDS: u8 = 3;
+
+/// A text that says these entries, with needless brackets and spaces here and there.
+pub fn text(r: &mut Random, entries: &[Entry]) -> String {
+    let mut parts: Vec<(String, u8)> = Vec::new();
+    for e in entries {
+        let operand = |r: &mut Random, parts: &mut Vec<(String, u8)>, least: u8| {
+            let (text, binds) = parts.pop().expect("the entries stand in postfix order");
+            if binds < least || r.one_in(9) {
+                format!("({}{text}{})", spaces(r, 0), spaces(r, 0))
+            } else {
+                text
+            }
+        };
+        let part = match e.kind {
+            NOT => {
+                let inner = operand(r, &mut parts, PREFIX_BINDS);
+                (format!("not{}", behind(r, &inner)), PREFIX_BINDS)
+            }
+            PREVIOUS | NEXT => {
+                let inner = operand(r, &mut parts, PREFIX_BINDS);
+                (format!("{}{}{inner}", timed_word(r, e), spaces(r, 0)), PREFIX_BINDS)
+            }
+            OR => {
+                let right = operand(r, &mut parts, TIMED_BINDS);
+                let left = operand(r, &mut parts, OR_BINDS);
+                (format!("{}or{}", before(r, &left), behind(r, &right)), OR_BINDS)
+            }
+            SINCE | UNTIL => {
+                let right = operand(r, &mut parts, TIMED_BINDS);
+                let left = operand(r, &mut parts, PREFIX_BINDS);
+                (format!("{}{}{}{right}", before(r, &left), timed_word(r, e), spaces(r, 0)), TIMED_BINDS)
+            }
+            _ => (format!("e{}", e.letter), ATOM_BINDS),
+        };
+        parts.push(part);
+    }
+    parts.pop().expect("there is an entry").0
+}
+
+fn spaces(r: &mut Random, least: usize) -> String {
+    let further = if r.one_in(5) { r.from_to(1, 3) } else { 0 };
+    " ".repeat(least + further)
+}
+
+/// The text with a space in front where a word before it would run into it.
+fn behind(r: &mut Random, text: &str) -> String {
+    let least = usize::from(!text.starts_with('(') || r.one_in(2));
+    format!("{}{text}", spaces(r, least))
+}
+
+fn before(r: &mut Random, text: &str) -> String {
+    let least = usize::from(!text.ends_with(')') || r.one_in(2));
+    format!("{text}{}", spaces(r, least))
+}
+
+fn timed_word(r: &mut Random, e: &Entry) -> String {
+    let word = ["prev", "next", "since", "until"][usize::from(e.kind - PREVIOUS)];
+    let high = if e.high == NO_END { "inf".to_string() } else { e.high.to_string() };
+    let mut gap = || spaces(r, 0);
+    format!("{word}{}[{}{}{},{}{high}{}]", gap(), gap(), e.low, gap(), gap(), gap())
+}

@@ -37,6 +37,12 @@ extern "C" {
     /// See [`havdrims_measure`].
     pub fn havdrims_tally(sheet: *const u8, sheet_len: usize, no: *mut u64, yes: *mut u64) -> u32;
 
+    /// The rule that a text says.
+    ///
+    /// # Safety
+    /// See [`havdrims_measure`].
+    pub fn havdrims_parse(text: *const u8, text_len: usize, rule: *mut u8, rule_len: usize, written: *mut u64) -> u32;
+
     /// The log that keeps most seconds waiting.
     ///
     /// # Safety

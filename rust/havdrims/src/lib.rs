@@ -6,38 +6,38 @@
 //! words that the caller lends and keeps. A record that has its verdict is never read again, so the kiosk may
 //! overwrite it.
 //!
-//! The calls: [`measure`] (weigh), [`open`], [`resume`] (carry on) and [`tally`]; and [`worst_log`] and [`simulate`],
-//! which write logs to try a kiosk or its settings with. Each yields its result or one [`Refusal`], and a refused call
-//! changes nothing. The checker is proved; this crate only hands slices on to it. Nothing here allocates, and a thread
-//! with [`MOST_STACK`] bytes of stack can make every call.
+//! The calls: [`measure`] (weigh), [`open`], [`resume`] (carry on) and [`tally`]; [`parse`], which writes a rule that is
+//! typed as text; and [`worst_log`] and [`simulate`], which write logs to try a kiosk or its settings with. Each yields
+//! its result or one [`Refusal`], and a refused call changes nothing. The checker is proved; this crate only hands
+//! slices on to it. Nothing here allocates, and a thread with [`MOST_STACK`] bytes of stack can make every call but
+//! `parse`, which takes [`PARSE_STACK`].
 //!
 //! # Example
 //!
 //! Letter 0 until letter 1, within two seconds, over a log that grows:
 //!
 //! ```
-//! use havdrims::{measure, open, resume, tally, Refusal};
+//! use havdrims::{measure, open, parse, resume, tally, Refusal, MOST_RULE};
 //!
 //! # fn main() -> Result<(), Refusal> {
-//! let mut rule = b"KRL\x00\x01\x03\x00\x00".to_vec();
-//! rule.extend([0, 0, 0, 0, 0, 0, 0, 0, 0, 0]); // letter 0
-//! rule.extend([0, 1, 0, 0, 0, 0, 0, 0, 0, 0]); // letter 1
-//! rule.extend([6, 0, 0, 0, 0, 0, 0, 0, 0, 2]); // until, 0 to 2 seconds
+//! let mut buffer = [0; MOST_RULE];
+//! let size = parse(b"e0 until[0,2] e1", &mut buffer)?;
+//! let rule = &buffer[..size];
 //!
-//! let needs = measure(&rule)?;
+//! let needs = measure(rule)?;
 //! assert_eq!((needs.words, needs.reach), (70, Some(2)));
 //! let mut checkpoint = vec![0; needs.words];
-//! open(&rule, &mut checkpoint)?;
+//! open(rule, &mut checkpoint)?;
 //!
 //! let mut log = b"KLG\x00\x01\x00\x00\x00".to_vec();
 //! log.extend([0, 0, 0, 10, 0, 0, 0, 1]); // second 10: letter 0
 //! log.extend([0, 0, 0, 12, 0, 0, 0, 1]); // second 12: letter 0
 //! let mut sheet = [0; 16];
-//! let first = resume(&rule, &log, &mut checkpoint, &mut sheet)?;
+//! let first = resume(rule, &log, &mut checkpoint, &mut sheet)?;
 //! assert_eq!((first.verdicts, first.more), (0, false)); // both still open
 //!
 //! log.extend([0, 0, 0, 13, 0, 0, 0, 2]); // second 13: letter 1
-//! let second = resume(&rule, &log, &mut checkpoint, &mut sheet)?;
+//! let second = resume(rule, &log, &mut checkpoint, &mut sheet)?;
 //! assert_eq!(sheet[..second.verdicts], [0, 1, 1]); // no, yes, yes
 //!
 //! let counts = tally(&sheet[..second.verdicts])?;
@@ -52,8 +52,15 @@ pub mod text;
 
 pub use refusal::Refusal;
 
-/// The most bytes of stack that a call needs, whatever the rule: measured and tested on x86-64 Linux, not proved.
+/// The most bytes of stack that a call other than [`parse`] needs, whatever the rule: measured and tested on x86-64
+/// Linux, not proved.
 pub const MOST_STACK: usize = 65_536;
+
+/// The most bytes of stack that [`parse`] needs, whatever the text: measured and tested on x86-64 Linux, not proved.
+pub const PARSE_STACK: usize = 1_048_576;
+
+/// The most bytes of a rule: a header and 128 entries.
+pub const MOST_RULE: usize = 1_288;
 
 /// What a rule needs.
 #[derive(Clone, Copy, Debug, PartialEq, Eq)]
@@ -132,6 +139,30 @@ pub fn tally(sheet: &[u8]) -> Result<Tally, Refusal> {
     let number = unsafe { ffi::havdrims_tally(sheet.as_ptr(), sheet.len(), &mut no, &mut yes) };
     refusal::checked(number)?;
     Ok(Tally { no, yes })
+}
+
+/// Writes the rule that a text says, and gives the number of its bytes. The rest of the buffer keeps its bytes.
+///
+/// Letters are e0 to e31. not, prev and next bind tightest, then since and until, grouping to the right, then or,
+/// grouping to the left; round brackets override. prev, next, since and until carry `[low,high]` in seconds, with inf
+/// for no upper end. Refusals: 16, 17, 4, 6, 8, 18, the first of them in this order that applies.
+///
+/// ```
+/// use havdrims::{parse, text, Refusal, MOST_RULE};
+///
+/// let mut rule = [0; MOST_RULE];
+/// let size = parse(b"not e2 or e0 until[0,90] e1", &mut rule).unwrap();
+/// assert_eq!(size, 68);
+/// assert_eq!(text::formula(&rule[..size]).unwrap(), "not e2 or e0 until[0,90] e1");
+/// assert_eq!(parse(b"e0 until e1", &mut rule), Err(Refusal::NotDerived));
+/// ```
+pub fn parse(text: &[u8], rule: &mut [u8]) -> Result<usize, Refusal> {
+    let mut written = 0;
+    // SAFETY: the pointers and lengths are those of two slices, the second of them borrowed for this call alone, and of
+    // a number.
+    let number = unsafe { ffi::havdrims_parse(text.as_ptr(), text.len(), rule.as_mut_ptr(), rule.len(), &mut written) };
+    refusal::checked(number)?;
+    Ok(written as usize)
 }
 
 /// Writes a log of exactly `records` records that keeps most seconds waiting, for the rule "letter 0 until letter 1,

@@ -110,9 +110,8 @@ impl Part {
     }
 }
 
-/// A rule as a formula, or the refusal that it meets. The words not, prev, next bind tightest, then since and until,
-/// grouping to the right, then or, grouping to the left. A rule without entries has no formula: [`EMPTY`] says what it
-/// means.
+/// A rule as a formula, or the refusal that it meets: the text that [`crate::parse`] reads, with the fewest brackets. A
+/// rule without entries has no formula: [`EMPTY`] says what it means.
 ///
 /// ```
 /// let rule = *b"KRL\x00\x01\x03\x00\x00\

@@ -1,11 +1,12 @@
-//! The stack of a call: every call on the deepest and the largest rules, in a thread that has no more than
-//! `MOST_STACK` bytes, its own start included. Below them lies a page that may not be touched.
+//! The stack of a call: every call on the deepest and the largest rules and texts, in a thread that has no more than
+//! `MOST_STACK` bytes, or `PARSE_STACK`, its own start included. Below them lies a page that may not be touched.
 
 use evaluator::log;
 use evaluator::random::{self, LogShape, Random};
 use evaluator::rule::{self, Entry, NEXT, NO_END, PREVIOUS, SINCE, UNTIL};
-use evaluator::{cases, model, reading};
-use havdrims::{measure, open, resume, simulate, tally, worst_log, Resumed, Settings, Tally, MOST_STACK};
+use evaluator::{cases, model, reading, typed};
+use havdrims::{measure, open, parse, resume, simulate, tally, worst_log};
+use havdrims::{Refusal, Resumed, Settings, Tally, MOST_RULE, MOST_STACK, PARSE_STACK};
 use std::ffi::{c_int, c_long, c_void};
 use std::io::Write;
 use std::{ptr, slice};
@@ -52,25 +53,29 @@ extern "C" fn start(job: *mut c_void) -> *mut c_void {
 
 /// Runs the work in a thread with a stack of `MOST_STACK` bytes: what it gives, and the bytes of stack that it took.
 fn on_small_stack<T>(work: impl FnOnce() -> T) -> (T, usize) {
+    on_stack(MOST_STACK, work)
+}
+
+fn on_stack<T>(size: usize, work: impl FnOnce() -> T) -> (T, usize) {
     let (mut work, mut given) = (Some(work), None);
     let mut run = || given = work.take().map(|work| work());
     let mut job = Job { work: &mut run, begun: 0 };
     // SAFETY: the mapping is this function's own and outlives the thread, which alone uses it as long as it runs; the
     // lowest page is taken out of use before.
     let lowest = unsafe {
-        let map = mmap(ptr::null_mut(), PAGE + MOST_STACK, READ_WRITE, PRIVATE_ANONYMOUS, -1, 0);
+        let map = mmap(ptr::null_mut(), PAGE + size, READ_WRITE, PRIVATE_ANONYMOUS, -1, 0);
         assert!(map as isize != -1, "no memory for a stack");
         assert_eq!(mprotect(map, PAGE, NONE), 0);
         let stack = map.byte_add(PAGE);
-        stack.cast::<u8>().write_bytes(PAINT, MOST_STACK);
+        stack.cast::<u8>().write_bytes(PAINT, size);
         let (mut attributes, mut thread): (Attributes, usize) = ([0; 16], 0);
         assert_eq!(pthread_attr_init(&mut attributes), 0);
-        assert_eq!(pthread_attr_setstack(&mut attributes, stack, MOST_STACK), 0);
+        assert_eq!(pthread_attr_setstack(&mut attributes, stack, size), 0);
         assert_eq!(pthread_create(&mut thread, &attributes, start, ptr::from_mut(&mut job).cast()), 0);
         assert_eq!(pthread_join(thread, ptr::null_mut()), 0);
-        let untouched = slice::from_raw_parts(stack.cast::<u8>(), MOST_STACK).iter().take_while(|&&b| b == PAINT);
+        let untouched = slice::from_raw_parts(stack.cast::<u8>(), size).iter().take_while(|&&b| b == PAINT);
         let lowest = stack as usize + untouched.count();
-        assert_eq!(munmap(map, PAGE + MOST_STACK), 0);
+        assert_eq!(munmap(map, PAGE + size), 0);
         lowest
     };
     let used = job.begun - lowest;
@@ -162,4 +167,41 @@ fn every_call_on_a_small_stack() {
     assert!(resuming > PAGE, "the stack was not measured");
     let header = include_str!("../../../include/havdrims.h");
     assert!(header.contains(&format!("#define HAVDRIMS_MOST_STACK {MOST_STACK}\n")), "the header says another number");
+}
+
+/// The deepest texts: open brackets alone, brackets around a letter, words in front, untils, and ors.
+#[test]
+fn parse_on_its_stack() {
+    let around = |n: usize| "(".repeat(n) + "e0" + &")".repeat(n);
+    let mixed = "not (".repeat(170) + "e0" + &")".repeat(170);
+    let texts = [
+        "(".repeat(1024),
+        "(".repeat(1025),
+        around(511),
+        mixed,
+        "not ".repeat(127) + "e0",
+        "prev[0,1]".repeat(113) + "e0",
+        "e0 until[0,1] ".repeat(60) + "e0",
+        "e0 until[0,1](".repeat(60) + "e0" + &")".repeat(60),
+        vec!["e0"; 64].join(" or "),
+        vec!["e0"; 170].join(" or "),
+    ];
+    let mut most = 0;
+    for text in &texts {
+        let mut rule = [7; MOST_RULE];
+        let (size, used) = on_stack(PARSE_STACK, || parse(text.as_bytes(), &mut rule));
+        let expected = typed::parse(text.as_bytes(), MOST_RULE);
+        assert_eq!(size.map_err(Refusal::number), expected.as_ref().map(Vec::len).map_err(|&number| number), "{text}");
+        if let Ok(bytes) = expected {
+            assert_eq!(rule[..bytes.len()], bytes, "{text}");
+        }
+        most = most.max(used);
+    }
+    let _ = writeln!(std::io::stderr(), "most bytes of stack: parse {most}");
+    assert!(most > 8 * PAGE, "the stack was not measured");
+    let header = include_str!("../../../include/havdrims.h");
+    assert!(
+        header.contains(&format!("#define HAVDRIMS_PARSE_STACK {PARSE_STACK}\n")),
+        "the header says another number"
+    );
 }

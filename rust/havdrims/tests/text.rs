@@ -1,6 +1,6 @@
 //! The tool for logs as text and rules as formulas.
 
-use evaluator::random::{self, LogShape, Random, RuleShape};
+use evaluator::random::{self, LogShape, Random};
 use evaluator::rule::{self, Entry, NEXT, NO_END, PREVIOUS, SINCE, UNTIL};
 use evaluator::{cases, log};
 use havdrims::text::{formula, log_from_text, log_to_text, EMPTY};
@@ -79,87 +79,6 @@ fn formulas() {
     assert_eq!(formula(b"KRL"), Err(Refusal::RuleMark));
 }
 
-/// Reads a formula back: the grammar of the formulas shown, one function to a level.
-struct Reader<'a> {
-    rest: &'a str,
-    entries: Vec<Entry>,
-}
-
-impl Reader<'_> {
-    fn takes(&mut self, sign: &str) -> bool {
-        let rest = self.rest.trim_start();
-        self.rest = rest.strip_prefix(sign).unwrap_or(rest);
-        self.rest.len() < rest.len()
-    }
-
-    fn interval(&mut self, kind: u8) -> Entry {
-        let (inside, rest) = self.rest.strip_prefix('[').unwrap().split_once(']').unwrap();
-        self.rest = rest;
-        let (low, high) = inside.split_once(',').unwrap();
-        let high = if high == "inf" { NO_END } else { high.parse().unwrap() };
-        Entry::timed(kind, low.parse().unwrap(), high)
-    }
-
-    fn or(&mut self) {
-        self.binary();
-        while self.takes("or") {
-            self.binary();
-            self.entries.push(Entry::or());
-        }
-    }
-
-    fn binary(&mut self) {
-        self.unary();
-        for (word, kind) in [("since", SINCE), ("until", UNTIL)] {
-            if self.takes(word) {
-                let entry = self.interval(kind);
-                self.binary();
-                self.entries.push(entry);
-                return;
-            }
-        }
-    }
-
-    fn unary(&mut self) {
-        for (word, kind) in [("prev", PREVIOUS), ("next", NEXT)] {
-            if self.takes(word) {
-                let entry = self.interval(kind);
-                self.unary();
-                self.entries.push(entry);
-                return;
-            }
-        }
-        if self.takes("not") {
-            self.unary();
-            self.entries.push(Entry::not());
-        } else if self.takes("(") {
-            self.or();
-            assert!(self.takes(")"));
-        } else {
-            assert!(self.takes("e"));
-            let digits = self.rest.len() - self.rest.trim_start_matches(|c: char| c.is_ascii_digit()).len();
-            self.entries.push(Entry::letter(self.rest[..digits].parse().unwrap()));
-            self.rest = &self.rest[digits..];
-        }
-    }
-}
-
-#[test]
-fn formulas_read_back_are_the_rule() {
-    let mut r = Random::new(6);
-    for _ in 0..5_000 {
-        let entries = random::valid_entries(&mut r, RuleShape { entries: 20, letters: 32, high: 50 });
-        let shown = formula(&rule::encode(&entries)).unwrap();
-        if entries.is_empty() {
-            assert_eq!(shown, EMPTY);
-            continue;
-        }
-        let mut reader = Reader { rest: &shown, entries: Vec::new() };
-        reader.or();
-        assert_eq!((reader.rest, reader.entries), ("", entries), "{shown}");
-    }
-}
-
 fn tool(directory: &Path, words: &[&str]) -> (Output, String, String) {
     let program = env!("CARGO_BIN_EXE_kiosk-text");
     let output = Command::new(program).args(words).current_dir(directory).output().unwrap();
@@ -184,6 +103,13 @@ fn the_program() {
     assert_eq!(tool(&directory, &["to-text", "day.klg"]).1, P1);
     assert_eq!(tool(&directory, &["formula", "rule.krl"]).1, "e0 until[0,2] e1\nwords 70, reach 2 seconds\n");
 
+    let (done, out, _) = tool(&directory, &["rule", "e0 until[0,2] e1", "typed.krl"]);
+    assert!(done.status.success());
+    assert_eq!(out, "typed.krl: 3 entries\n");
+    assert_eq!(fs::read(directory.join("typed.krl")).unwrap(), rule::encode(&cases::p1_entries()));
+    let (failed, _, err) = tool(&directory, &["rule", "e0 until e1", "none.krl"]);
+    assert!(!failed.status.success() && !directory.join("none.krl").exists());
+    assert_eq!(err, "`e0 until e1`: refused 17: The grammar does not derive the text.\n");
     let empty = tool(&directory, &["formula", "empty.krl"]).1;
     assert_eq!(empty, "empty: every position is yes\nwords 16, reach 0 seconds\n");
     let (done, out, _) = tool(&directory, &["worst", "0", "2", "5", "worst.klg"]);

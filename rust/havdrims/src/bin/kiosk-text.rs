@@ -1,7 +1,7 @@
-//! Turns a log typed as text into a .klg file and back, shows a rule file as a formula, and writes logs to try a kiosk
-//! with.
+//! Turns a log typed as text into a .klg file and back, and a rule typed as text into a .krl file and back, and writes
+//! logs to try a kiosk with.
 
-use havdrims::{measure, simulate, text, worst_log, Settings};
+use havdrims::{measure, parse, simulate, text, worst_log, Settings, MOST_RULE};
 use std::env;
 use std::fs;
 use std::io::{self, Write};
@@ -11,6 +11,7 @@ use std::str::FromStr;
 const USAGE: &str = "\
 kiosk-text to-log TEXT LOG     write the log file that the text describes
 kiosk-text to-text LOG         print a log file as text
+kiosk-text rule FORMULA RULE   write the rule file that the formula says
 kiosk-text formula RULE        print a rule file as a formula, its words and its reach
 kiosk-text worst LOW HIGH N FILE
                                write the log of N records that keeps most seconds waiting for the rule
@@ -21,7 +22,7 @@ kiosk-text simulate LOG OPTIONS
                                and --mean-gap (1 to 3600) --seed (1 to 4294967295), each with its number
 
 A text has a line for each record, the seconds and then the letters, as in `12 e0 e3` or `12 none`.
-What follows a # is passed over.";
+What follows a # is passed over. A formula is one argument, as in 'not e2 or e0 until[0,90] e1'.";
 
 fn read(path: &str) -> Result<Vec<u8>, String> {
     fs::read(path).map_err(|fault| format!("{path}: {fault}"))
@@ -36,6 +37,13 @@ fn to_log(text: &str, log: &str) -> Result<String, String> {
 
 fn to_text(log: &str) -> Result<String, String> {
     text::log_to_text(&read(log)?).map_err(|refusal| format!("{log}: {refusal}"))
+}
+
+fn rule(formula: &str, path: &str) -> Result<String, String> {
+    let mut bytes = [0; MOST_RULE];
+    let size = parse(formula.as_bytes(), &mut bytes).map_err(|refusal| format!("`{formula}`: {refusal}"))?;
+    fs::write(path, &bytes[..size]).map_err(|fault| format!("{path}: {fault}"))?;
+    Ok(format!("{path}: {} entries\n", (size - 8) / 10))
 }
 
 fn formula(path: &str) -> Result<String, String> {
@@ -101,7 +109,8 @@ fn main() -> ExitCode {
     let answer = match words.as_slice() {
         ["to-log", text, log] => to_log(text, log),
         ["to-text", log] => to_text(log),
-        ["formula", rule] => formula(rule),
+        ["rule", typed, path] => rule(typed, path),
+        ["formula", path] => formula(path),
         ["worst", low, high, records, log] => worst(low, high, records, log),
         ["simulate", log, options @ ..] => simulated(log, options),
         _ => Err(USAGE.to_string()),

@@ -73,7 +73,9 @@ fn forged_points() {
             assert!(possible, "refused {number}\n{}point {words:?}\nlog {}", kiosk.story, hex(&log));
         }
     };
-    cases("forged_points", 40_000, body, |counts| ["accepted", "refused 10", "refused 11"].iter().all(|name| counts.get(name) > 0));
+    cases("forged_points", 40_000, body, |counts| {
+        ["accepted", "refused 10", "refused 11"].iter().all(|name| counts.get(name) > 0)
+    });
 }
 
 /// Words that are no point: all the same, random, or a point of which only the beginning is left.
