@@ -74,7 +74,7 @@ enum havdrims_refusal {
 /* The most words that a point can need. */
 #define HAVDRIMS_MOST_WORDS 8192
 
-/* The most bytes of stack that a call needs: measured and tested on x86-64 Linux, not proved. */
+/* The most bytes of stack that a call other than havdrims_parse needs: measured and tested on x86-64 Linux, not proved. */
 #define HAVDRIMS_MOST_STACK 65536
 
 /* The most bytes of stack that havdrims_parse needs, for 1,024 open brackets: measured and tested in the same way. */
