@@ -7,8 +7,8 @@ use mathlib.Core.List.{List}
 use lib.ListN.{take, drop}
 use Rattle.mtl.specs.Formula.{Formula}
 use Rattle.mtl.specs.Formula.Formula.{letter, not, or, previous, next, since, until}
-use Rattle.engine.specs.Block.{KeptBlock}
-use Rattle.engine.specs.Step.{has-left, has-right, left-of, right-of}
+use Rattle.blocks.specs.Block.{KeptBlock}
+use Rattle.blocks.specs.Step.{has-left, has-right, left-of, right-of}
 use Rattle.engine.specs.State.{Kept, KeptParts, KeptNone, left-words, right-words}
 use Rattle.engine.proofs.Parts.{Side, lent, lent-left, lent-right}
 use Rattle.engine.proofs.Parts.Side.{on-left, on-right}
