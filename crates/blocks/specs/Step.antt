@@ -90,7 +90,8 @@ empty (suc n) = 0
 abbrev pub left-to-do : List ℕ → List ℕ → ℕ
 left-to-do s b = 3 * (record-count s - taken b) + empty (left-count b) + empty (right-count b)
 
--- what a step promises on any words, for an operator that has a left operand and a right one, or not
+-- what a step promises on any words, for an operator that has a left operand and a right one, or not: where it writes, it keeps
+-- words 12 to 15
 abbrev pub Ends : (left right : Bool) → List ℕ → List ℕ → Step → List ℕ → Type 0
 Ends left right s b (Batch bits count) b′ = KeptBlock b b′
 Ends left right s b Again b′ = (left-to-do s b′ < left-to-do s b) × KeptBlock b b′

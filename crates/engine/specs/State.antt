@@ -58,7 +58,7 @@ State (next low high φ) L g = Parts (Ready (next low high φ) L g) Absent (Stat
 State (since low high φ ψ) L g = Parts (Ready (since low high φ ψ) L g) (State φ L) (State ψ L) (words φ) (words ψ)
 State (until low high φ ψ) L g = Parts (Ready (until low high φ ψ) L g) (State φ L) (State ψ L) (words φ) (words ψ)
 
--- of such parts, before and after
+-- such parts before and after: the operator's own block has words 12 to 15 as before, and so have its operands' blocks
 pub record KeptParts (Left Right : List ℕ → List ℕ → Type 0) (a c : ℕ) (ws ws′ : List ℕ) : Type 0 where
   pub own : KeptBlock (drop (a + c) ws) (drop (a + c) ws′)
   pub left : Left (take a ws) (take a ws′)
