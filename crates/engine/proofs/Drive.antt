@@ -10,6 +10,7 @@ use lib.ListN.{length, drop, length-drop}
 use Rattle.mtl.specs.Formula.{Formula}
 use Rattle.mtl.specs.Log.{Log, NeverFalls}
 use Rattle.mtl.specs.Progress.{progress}
+use Rattle.mtl.specs.Wanted.{depth}
 use Rattle.mtl.proofs.Bounded.{true-and-false}
 use Rattle.trace.specs.Format.{record-count}
 use Rattle.rule.specs.Words.{own-words}
@@ -26,13 +27,13 @@ use Rattle.blocks.specs.declared.Step.the-variants.{Batch, Left, Right, Again, 
 use Rattle.engine.specs.declared.Reply.the-variants.{Batch as Answered, Open as Unanswered}
 use Rattle.engine.proofs.Parts.{part-end, length-part, put-back, back-from, drop-back-last, back-same, Side, other, by-side, start, stop, slot, lent, lent-own, Asked, asked, asked-stored}
 use Rattle.engine.proofs.Parts.Side.{on-left, on-right}
-use Rattle.engine.proofs.Uniform.{View, view, unview, has, of, entry, Stands-at, operand, view-of, answered-taken, row, operand-rows}
+use Rattle.engine.proofs.Uniform.{View, view, unview, has, of, entry, Stands-at, operand, view-of, agrees-later, step-from, operand-from, row, operand-rows}
 use Rattle.engine.proofs.Fill.{stored-at, stored-count, stored-count-other, ready-filled}
 
 -- the words stand for whatever formula they stood for at the loop's start
 abbrev pub Stands : (t s : List ℕ) → ℕ → (ws₀ ws : List ℕ) → Type 0
 Stands t s k ws₀ ws =
-    (φ : Formula) (L : Log) (g : ℕ) → Has φ t k → NeverFalls L → Agrees s L g → State φ L g ws₀ → State φ L g ws
+    (φ : Formula) (L : Log) (g : ℕ) → Has φ t k → NeverFalls L → Agrees s L (g - depth φ) → State φ L g ws₀ → State φ L g ws
 
 -- the row of entry k as it is read: its operands have a and c words, and it has `end` in all
 pub record Reading (t : List ℕ) (k kind letter low high left a c end : ℕ) : Type 0 where
@@ -161,7 +162,7 @@ module _ {t s : List ℕ} {k left a c end : ℕ} {ws₀ ws b′ : List ℕ} wher
         drop-back-last (a + c) end b′ ws inside (turn .last)
 
     module _ (φ : Formula) (L : Log) (g : ℕ) (entered : Has φ t k) where
-      viewed : NeverFalls L → Agrees s L g → State φ L g ws₀ → View a c φ L g ws
+      viewed : NeverFalls L → Agrees s L (g - depth φ) → State φ L g ws₀ → View a c φ L g ws
       viewed never agrees state =
           let e = row φ t k entered in
           view φ L g ws (turn .is-a ∙ e .left-words) (turn .is-c ∙ e .right-words) (turn .stands φ L g entered never agrees state)
@@ -172,8 +173,8 @@ module _ {t s : List ℕ} {k left a c end : ℕ} {ws₀ ws b′ : List ℕ} wher
           let e = row φ t k entered in
           unview φ L p ws′ (turn .is-a ∙ e .left-words) (turn .is-c ∙ e .right-words) (view-of a c φ L p ws′ b own ready parts)
 
-      stepped : NeverFalls L → Agrees s L g → View a c φ L g ws → Stepped φ L g (drop (a + c) ws) r b′
-      stepped never agrees v = turn .steps φ (row φ t k entered) L g never agrees (v .own)
+      stepped : NeverFalls L → Agrees s L (g - depth φ) → View a c φ L g ws → Stepped φ L g (drop (a + c) ws) r b′
+      stepped never agrees v = turn .steps φ (row φ t k entered) L g never (agrees-later agrees (step-from φ g)) (v .own)
 
       -- the operands stay where they stand
       moved-on : (p : ℕ) → View a c φ L g ws → Ready φ L p b′ → Moved φ (drop (a + c) ws) b′ →
@@ -257,13 +258,12 @@ module _ {t s : List ℕ} {k left a c end : ℕ} {ws₀ ws b′ : List ℕ} (sid
 
   -- what the operand is asked, it is asked at the next position to take
   ask-at : (P : Formula → Log → ℕ → Type 0) →
-      ((φ : Formula) (L : Log) (q : ℕ) → Has φ t (entry side left k) → NeverFalls L → Agrees s L q →
+      ((φ : Formula) (L : Log) (q : ℕ) → Has φ t (entry side left k) → NeverFalls L → Agrees s L (q - depth φ) →
       State φ L q (lent side a c ws) → P φ L q) →
-      (φ : Formula) (L : Log) (g : ℕ) → Has φ t k → NeverFalls L → Agrees s L g → View a c φ L g ws → has side φ ≡ true →
+      (φ : Formula) (L : Log) (g : ℕ) → Has φ t k → NeverFalls L → Agrees s L (g - depth φ) → View a c φ L g ws → has side φ ≡ true →
       P (of side φ) L (taken (drop (a + c) ws))
   ask-at P promise φ L g entered never agrees v e =
       let b = drop (a + c) ws in
-      let later = answered-taken φ L g b (v .own .core .own) in
       let here : taken b + word b (slot side) ≡ taken b = omega (arith, none) in
       promise
       (of side φ)
@@ -271,7 +271,7 @@ module _ {t s : List ℕ} {k left a c end : ℕ} {ws₀ ws b′ : List ℕ} (sid
       (taken b)
       (rw (turn .is-left) (operand-rows φ t k entered side e))
       never
-      (record { size = agrees .size; same = λ i ge lt. agrees .same i (omega arith) lt })
+      (agrees-later agrees (operand-from φ L g b (v .own .core .own) side))
       (rw here at (operand v side e))
 
   -- the words after the question
