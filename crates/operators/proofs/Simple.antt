@@ -19,16 +19,20 @@ use Rattle.mtl.proofs.Until.{progress-le-size}
 use Rattle.bits.specs.Packed.{Packed}
 use Rattle.bits.proofs.Laws.{packed-none, packed-push, packed-same, packed-not, packed-or, packed-and}
 use Rattle.trace.specs.Format.{record-count, has-letter}
-use Rattle.blocks.specs.Block.{taken, left-count, left-bits, right-count, right-bits, answered, Core, Own, RightBuffer, Buffers, Ready, took-right, took-both}
+use Rattle.blocks.specs.Block.{taken, left-count, left-bits, right-count, right-bits, answered, KeptBlock, Core, Own, RightBuffer, Buffers, Ready, took-right, took-both}
 use Rattle.blocks.specs.Near.{near-at}
 use Rattle.blocks.specs.Step.{Agrees, Stepped, Moved, has-left, left-to-do}
 use Rattle.blocks.specs.declared.Step.the-variants.{Batch, Again}
-use Rattle.blocks.proofs.Words.{Store, put, stores, word-stores, copied, less-to-do, fits}
+use Rattle.blocks.proofs.Words.{Store, put, stores, word-stores, stores-keep, less-to-do, fits}
 use Rattle.blocks.proofs.Taking.{right-stores, both-stores, first-of, taken-right, taken-both}
 
 -- the stores of a previous that has taken n positions
 abbrev previous-stores : ℕ → List ℕ → List Store
 previous-stores n b = right-stores n b (put 5 (answered b + n) ∷ [])
+
+-- they keep words 12 to 15
+pub previous-keeps : (n : ℕ) (b : List ℕ) → KeptBlock b (set (took-right n b) 5 (answered b + n))
+previous-keeps n b = stores-keep (previous-stores n b) b (omega arith)
 
 module _ (s b : List ℕ) (room : 16 ≤ length b) (n : ℕ) (some : 0 < n) where
   right-at : taken (took-right n b) ≡ taken b + n
@@ -58,7 +62,6 @@ module _ (s b : List ℕ) (room : 16 ≤ length b) (n : ℕ) (some : 0 < n) wher
             core = record {
               reached = omega arith;
               range = omega (arith, at 0, at 1, at 3, at 5, at 6, at 7, at 8, at 9, at 10);
-              copy = copied (at 14) (at 15) (core .copy);
               own = omega (arith, at 0);
             };
             buffers = tt;
@@ -74,8 +77,8 @@ module _ (s b : List ℕ) (room : 16 ≤ length b) (n : ℕ) (some : 0 < n) wher
         let at = word-stores (right-stores n b []) b (omega arith) room in
         let range = core .range in
         let most = fits right in
-        taken-right φ core n g′ (took-right n b) reached (omega (arith, at 0, at 1, at 3, at 5, at 6, at 7, at 8, at 9, at 10)) own single whole h
-        (record { at = at 0; count = at 3; bits = at 4; answered = omega (arith, at 5); head = at 14; ends = at 15 })
+        taken-right φ b n g′ (took-right n b) reached (omega (arith, at 0, at 1, at 3, at 5, at 6, at 7, at 8, at 9, at 10)) own single whole h
+        (record { at = at 0; count = at 3; bits = at 4; answered = omega (arith, at 5) })
         right
 
     pub not-batch : (φ : Formula) → n ≤ right-count b → right-bits b < 2 ^ 64 → Ready (not φ) L g b →
@@ -106,11 +109,11 @@ module _ (s b : List ℕ) (room : 16 ≤ length b) (n : ℕ) (some : 0 < n) wher
         let right = ready .buffers .1 in
         let most = progress-le-size φ L in
         let moved =
-        taken-both (or φ ψ) core n (g + n) (took-both n b) (omega arith)
+        taken-both (or φ ψ) b n (g + n) (took-both n b) (omega arith)
         (omega (arith, at 0, at 1, at 3, at 5, at 6, at 7, at 8, at 9, at 10))
         (omega (arith, at 0))
         (λ x. x) l r
-        (record { right = record { at = at 0; count = at 3; bits = at 4; answered = omega (arith, at 5); head = at 14; ends = at 15 }; count = at 1; bits = at 2 })
+        (record { right = record { at = at 0; count = at 3; bits = at 4; answered = omega (arith, at 5) }; count = at 1; bits = at 2 })
         left right
         in (
           record {
@@ -166,7 +169,7 @@ module _ (s b : List ℕ) (room : 16 ≤ length b) (n : ℕ) (some : 0 < n) wher
           let moved =
           taken-right
           (previous low high φ)
-          core
+          b
           n
           (g + n)
           (stores (previous-stores n b) b)
@@ -176,7 +179,7 @@ module _ (s b : List ℕ) (room : 16 ≤ length b) (n : ℕ) (some : 0 < n) wher
           refl
           (λ x. x)
           h
-          (record { at = at 0; count = at 3; bits = at 4; answered = omega (arith, at 5); head = at 14; ends = at 15 })
+          (record { at = at 0; count = at 3; bits = at 4; answered = omega (arith, at 5) })
           right
           in (
             record {
@@ -255,7 +258,7 @@ previous-first s b room some first low high φ L g agrees ready =
     let moved =
     taken-right
     (previous low high φ)
-    core
+    b
     0
     (g + 1)
     (set b 5 1)
@@ -265,14 +268,7 @@ previous-first s b room some first low high φ L g agrees ready =
     refl
     (λ x. x)
     (omega arith)
-    (record {
-      at = omega (arith, at 0);
-      count = omega (arith, at 3);
-      bits = omega (arith, at 4);
-      answered = omega (arith, at 5);
-      head = at 14;
-      ends = at 15;
-    })
+    (record { at = omega (arith, at 0); count = omega (arith, at 3); bits = omega (arith, at 4); answered = omega (arith, at 5) })
     (ready .buffers)
     in (
       record {

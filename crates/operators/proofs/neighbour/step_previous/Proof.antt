@@ -4,6 +4,7 @@ use Prim.Native.Nat.{ℕ, _+_, _-_, _≤_, _<_, min}
 use native.Mathlib.Nat.{pos-of-ne-zero}
 use native.Mathlib.Omega.{arith}
 use mathlib.Core.Bool.{false, _||_}
+use mathlib.Core.List.{[], _∷_}
 use mathlib.Core.Path.{_≡_, refl}
 use lib.Dec.{leb, ltb}
 use borrow.Author.Needs.{needs}
@@ -12,7 +13,8 @@ use Rattle.mtl.specs.Progress.{progress}
 use Rattle.trace.specs.Format.{record-count}
 use Rattle.trace.proofs.Laws.{neither}
 use Rattle.blocks.specs.Block.{taken, right-count, answered}
-use Rattle.operators.proofs.Simple.{previous-open, previous-first, previous-batch}
+use Rattle.blocks.proofs.Words.{put, stores-keep}
+use Rattle.operators.proofs.Simple.{previous-keeps, previous-open, previous-first, previous-batch}
 use Rattle.operators.proofs.neighbour.step_previous.Statement.{statement}
 use Rattle.operators.proofs.neighbour.step_previous.Tie as tie
 
@@ -72,7 +74,7 @@ returns-2 c =
     let start = c .before .before .before .before .before .before .before in
     let b = start .args .block .now in
     let first = not-open (taken b) (answered b) (record-count (start .args .records .now)) (rw (c .before .before .before .count .ensures) at (c .before .if1 .left)) in (
-      tt,
+      stores-keep (put 5 1 ∷ []) b (omega arith),
       λ φ L g falls agrees ready.
           previous-first (start .args .records .now) (start .args .block .now) (start .pre) (omega arith) (c .if2 .taken) (start .args .low) (start .args .high)
           φ L g agrees ready,
@@ -116,7 +118,7 @@ returns-4 c =
     let start = c .before .before .before .before .before .before .before .before .before .before .before .before .before .before .before .before .before in
     let near = c .before .before .before .before .before .near in
     let (past, (behind, some, most, few, inside)) = taking (c .before .before .before .before .before .before) in (
-      tt,
+      rw (c .before .before .take-right .ensures) (previous-keeps (c .before .before .before .before .before .before .available .result) (start .args .block .now)),
       λ φ L g falls agrees ready.
           rw (c .before .before .take-right .ensures)
           (previous-batch (start .args .records .now) (start .args .block .now) (start .pre) (c .before .before .before .before .before .before .available .result) some L g (start .args .low) (start .args .high)
