@@ -14,6 +14,9 @@ shared-slice-read-given c = search needs
 shared-slice-read-seen : tie.Need-shared-slice-read-seen
 shared-slice-read-seen c = search needs
 
+first-wanted-requires : tie.Need-first-wanted-requires
+first-wanted-requires c κs = search needs
+
 shared-slice-read-is-disordered : tie.Need-shared-slice-read-is-disordered
 shared-slice-read-is-disordered c = search needs
 
@@ -61,7 +64,8 @@ returns c =
       c .before .before .before .before .before .before .before .is-malformed .ensures,
       c .before .before .before .before .before .before .before .before .count .ensures,
       c .before .before .before .before .before .before .before .before .before .is-disordered .ensures,
-      c .before .before .before .before .before .before .before .before .before .before .before .before .before .records .ensures,
+      c .before .before .before .before .before .before .before .before .before .before .before .first-wanted .ensures,
+      c .before .before .before .before .before .before .before .before .before .before .before .before .before .before .records .ensures,
     )
 
 pub reason-spec : {M : Type 1} → statement M
@@ -71,6 +75,7 @@ reason-spec =
     records-requires
     shared-slice-read-given
     shared-slice-read-seen
+    first-wanted-requires
     shared-slice-read-is-disordered
     is-disordered-requires
     count-requires
