@@ -17,11 +17,12 @@ use Rattle.blocks.specs.Step.{Agrees}
 use Rattle.blocks.proofs.Words.{Store, put, stores, after, Inside, word-stores}
 use Rattle.monitor.specs.Checkpoint.{given, held-count, held-bits, no-count, after-latest}
 use Rattle.monitor.specs.Stands.{Top}
-use Rattle.monitor.specs.Code.{Tops, Holds, later-end, spent, Giving, Gave}
+use Rattle.monitor.specs.Code.{Tops, KeptBlocks, Holds, later-end, spent, Giving, Gave}
 use Rattle.monitor.specs.Summary.{Noes, noes-in, laid-behind, latest-of, stored-noes}
 use Rattle.monitor.specs.Tally.{count-of, latest-no}
 use Rattle.monitor.specs.Verdicts.{bytes-of}
 use Rattle.monitor.proofs.Held.{held-rest}
+use Rattle.monitor.proofs.Holding.{kept-same, kept-then}
 use Rattle.monitor.proofs.Noes.{noes, count-le, behind-none, noes-same, noes-behind, behind-behind, noes-of-bits, noes-bits, latest-end}
 use Rattle.monitor.proofs.Written.{byte-at, written, length-written, drop-written, written-before, written-at}
 
@@ -43,6 +44,7 @@ pub record Going (t s : List ℕ) (k : ℕ) (ws sheet : List ℕ) (done : ℕ) (
   pub count : given ws′ ≡ given ws + done
   pub header : (i : ℕ) → i < 8 → (i ≡ 1 → ⊥) → (i ≡ 4 → ⊥) → (i ≡ 5 → ⊥) → word ws′ i ≡ word ws i
   pub noes : stored-noes ws′ ≡ laid-behind (stored-noes ws) (given ws) (noes-in sheet′ done)
+  pub kept : KeptBlocks t k ws ws′
   pub meaning : (fs : List Formula) (L : Log) (d : ℕ) → Tops fs t k → NeverFalls L → Agrees s L d → Top fs L d ws →
       Giving fs L d done ws′ sheet′
 
@@ -57,6 +59,7 @@ going-none t s k ws sheet =
       words-length = refl;
       count = omega arith;
       header = λ i low ne ne′ ne″. refl;
+      kept = kept-same t k ws ws refl;
       meaning = λ fs L d tops never agrees top.
           let still : d + 0 ≡ d = omega arith in
           record { top = rw still top; bytes = λ i below. absurd (omega arith) };
@@ -159,6 +162,9 @@ module _ {t s : List ℕ} {k : ℕ} {ws sheet : List ℕ} {done : ℕ} {ws₁ sh
         header = λ i low ne ne′ ne″.
             header-spent n ws₂ wide i low ne ne′ ne″ ∙ held .header i (omega arith) ne′ ne″ ∙ going .header i low ne ne′ ne″;
         noes = noes-portion n room held fits;
+        kept =
+            kept-then t k ws ws₁ (spent n ws₂) (going .kept)
+            (kept-then t k ws₁ ws₂ (spent n ws₂) (held .kept) (kept-same t k ws₂ (spent n ws₂) (drop-spent n ws₂ wide)));
         meaning = λ fs L d tops never agrees top.
             let so-far = going .meaning fs L d tops never agrees top in
             let next =
@@ -189,6 +195,7 @@ module _ {t s : List ℕ} {k : ℕ} {ws sheet : List ℕ} {done : ℕ} {ws₁ sh
         count = held .header 1 (omega arith) (λ e. omega arith) (λ e. omega arith) ∙ going .count;
         header = λ i low ne ne′ ne″. held .header i (omega arith) ne′ ne″ ∙ going .header i low ne ne′ ne″;
         noes = noes-held held ∙ going .noes;
+        kept = kept-then t k ws ws₁ ws₂ (going .kept) (held .kept);
         meaning = λ fs L d tops never agrees top.
             let so-far = going .meaning fs L d tops never agrees top in
             let (next, is-open) =
@@ -208,5 +215,6 @@ gave-full going full =
       count = going .count;
       header = going .header;
       noes = going .noes;
+      kept = going .kept;
       meaning = λ fs L d tops never agrees top. (going .meaning fs L d tops never agrees top, λ below. absurd (omega arith));
     }

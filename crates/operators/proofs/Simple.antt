@@ -19,16 +19,20 @@ use Rattle.mtl.proofs.Until.{progress-le-size}
 use Rattle.bits.specs.Packed.{moved-up, Packed}
 use Rattle.bits.proofs.Laws.{packed-same, packed-moved, packed-not, packed-or, packed-and}
 use Rattle.trace.specs.Format.{record-count, time-at, has-letter}
-use Rattle.blocks.specs.Block.{taken, left-count, left-bits, right-count, right-bits, last-left, last-time, Core, Own, RightBuffer, Buffers, Ready, took-right, took-both}
+use Rattle.blocks.specs.Block.{taken, left-count, left-bits, right-count, right-bits, last-left, last-time, KeptBlock, Core, Own, RightBuffer, Buffers, Ready, took-right, took-both}
 use Rattle.blocks.specs.Near.{near-at}
 use Rattle.blocks.specs.Step.{Agrees, Stepped, Moved, has-left, left-to-do}
 use Rattle.blocks.specs.declared.Step.the-variants.{Batch, Again}
-use Rattle.blocks.proofs.Words.{Store, put, stores, word-stores, copied, less-to-do, fits}
+use Rattle.blocks.proofs.Words.{Store, put, stores, word-stores, stores-keep, less-to-do, fits}
 use Rattle.blocks.proofs.Taking.{right-stores, both-stores, first-of, taken-right, taken-both}
 
 -- the block of a previous that has taken n positions, the last of them at this time
 abbrev previous-stores : ℕ → List ℕ → ℕ → List Store
 previous-stores n b time = right-stores n b (put 6 (right-bits b / 2 ^ (n - 1) % 2) ∷ put 8 time ∷ [])
+
+-- what a previous stores keeps words 12 to 15
+pub previous-keeps : (n : ℕ) (b : List ℕ) (last time : ℕ) → KeptBlock b (set (set (took-right n b) 6 last) 8 time)
+previous-keeps n b last time = stores-keep (right-stores n b (put 6 last ∷ put 8 time ∷ [])) b (omega arith)
 
 module _ (s b : List ℕ) (room : 16 ≤ length b) (n : ℕ) (some : 0 < n) where
   right-at : taken (took-right n b) ≡ taken b + n
@@ -58,7 +62,6 @@ module _ (s b : List ℕ) (room : 16 ≤ length b) (n : ℕ) (some : 0 < n) wher
             core = record {
               reached = omega arith;
               range = omega (arith, at 0, at 1, at 3, at 5, at 6, at 7, at 8, at 9, at 10);
-              copy = copied (at 14) (at 15) (core .copy);
               own = omega (arith, at 0);
             };
             buffers = tt;
@@ -74,8 +77,8 @@ module _ (s b : List ℕ) (room : 16 ≤ length b) (n : ℕ) (some : 0 < n) wher
         let at = word-stores (right-stores n b []) b (omega arith) room in
         let range = core .range in
         let most = fits right in
-        taken-right φ core n g′ (took-right n b) reached (omega (arith, at 0, at 1, at 3, at 5, at 6, at 7, at 8, at 9, at 10)) own single whole h
-        (record { at = at 0; count = at 3; bits = at 4; answered = omega (arith, at 5); head = at 14; ends = at 15 })
+        taken-right φ b n g′ (took-right n b) reached (omega (arith, at 0, at 1, at 3, at 5, at 6, at 7, at 8, at 9, at 10)) own single whole h
+        (record { at = at 0; count = at 3; bits = at 4; answered = omega (arith, at 5) })
         right
 
     pub not-batch : (φ : Formula) → n ≤ right-count b → right-bits b < 2 ^ 64 → Ready (not φ) L g b →
@@ -106,11 +109,11 @@ module _ (s b : List ℕ) (room : 16 ≤ length b) (n : ℕ) (some : 0 < n) wher
         let right = ready .buffers .1 in
         let most = progress-le-size φ L in
         let moved =
-        taken-both (or φ ψ) core n (g + n) (took-both n b) (omega arith)
+        taken-both (or φ ψ) b n (g + n) (took-both n b) (omega arith)
         (omega (arith, at 0, at 1, at 3, at 5, at 6, at 7, at 8, at 9, at 10))
         (omega (arith, at 0))
         (λ x. x) l r
-        (record { right = record { at = at 0; count = at 3; bits = at 4; answered = omega (arith, at 5); head = at 14; ends = at 15 }; count = at 1; bits = at 2 })
+        (record { right = record { at = at 0; count = at 3; bits = at 4; answered = omega (arith, at 5) }; count = at 1; bits = at 2 })
         left right
         in (
           record {
@@ -195,7 +198,7 @@ module _ (s b : List ℕ) (room : 16 ≤ length b) (n : ℕ) (some : 0 < n) wher
             let moved =
             taken-right
             (previous low high φ)
-            core
+            b
             n
             (g + n)
             (stores (previous-stores n b time) b)
@@ -209,7 +212,7 @@ module _ (s b : List ℕ) (room : 16 ≤ length b) (n : ℕ) (some : 0 < n) wher
             refl
             (λ x. x)
             h
-            (record { at = at 0; count = at 3; bits = at 4; answered = omega (arith, at 5); head = at 14; ends = at 15 })
+            (record { at = at 0; count = at 3; bits = at 4; answered = omega (arith, at 5) })
             right
             in (
               record { some = some; buffer = record { within = omega arith; packed = previous-packed near word inside packed } },

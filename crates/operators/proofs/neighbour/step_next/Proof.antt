@@ -9,7 +9,7 @@ use Rattle.trace.specs.Format.{record-count}
 use Rattle.blocks.specs.Block.{taken, right-count}
 use Rattle.blocks.proofs.Words.{available}
 use Rattle.operators.proofs.Simple.{right-less, next-pass, next-batch}
-use Rattle.blocks.proofs.Taking.{all-of}
+use Rattle.blocks.proofs.Taking.{right-keeps, all-of}
 use Rattle.operators.proofs.neighbour.step_next.Statement.{statement}
 use Rattle.operators.proofs.neighbour.step_next.Tie as tie
 
@@ -59,7 +59,10 @@ same-length c = search needs
 returns-3 : tie.Need-returns-3
 returns-3 c =
     let start = c .before .before .before .before .before .before .before .before .before .before .before .before .before .before in (
-      rw (c .before .before .take-right .ensures) (right-less (start .args .records .now) (start .args .block .now) (start .pre) 1 (omega arith) (omega arith)),
+      rw (c .before .before .take-right .ensures) (
+        right-less (start .args .records .now) (start .args .block .now) (start .pre) 1 (omega arith) (omega arith),
+        right-keeps 1 (start .args .block .now),
+      ),
       λ φ L g falls agrees ready.
           rw (c .before .before .take-right .ensures)
           (next-pass (start .args .records .now) (start .args .block .now) (start .pre) 1 (omega arith) L g agrees (start .args .low) (start .args .high)
@@ -88,7 +91,7 @@ returns-4 : tie.Need-returns-4
 returns-4 c =
     let start = c .before .before .before .before .before .before .before .before .before .before .before .before .before .before .before .before .before in
     let n = taking (c .before .before .before .before .before .before .before .before) in (
-      tt,
+      rw (c .before .before .take-right2 .ensures) (right-keeps (c .before .before .before .before .before .before .before .before .before .available .result) (start .args .block .now)),
       λ φ L g falls agrees ready.
           rw (c .before .before .take-right2 .ensures)
           (next-batch (start .args .records .now) (start .args .block .now) (start .pre) (c .before .before .before .before .before .before .before .before .before .available .result) (n .1) L g agrees (start .args .low) (start .args .high)
