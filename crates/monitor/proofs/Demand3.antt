@@ -340,7 +340,7 @@ own-summary : (rule : List ℕ) (K : Log) (d : ℕ) (p : List ℕ) → refusal r
 own-summary rule K d p fine stands =
     rw (
       open-enough rule (length p) fine (stands .enough),
-      not-foreign rule K d p fine stands,
+      stands .own,
       not-outside rule K d p fine stands,
     ) (ap told (stands .noes))
 
