@@ -54,10 +54,10 @@ pub record TallyCall (sheet : List ℕ) (noes yeses r noes′ yeses′ : ℕ) : 
 abbrev pub no-position : ℕ
 no-position = 2 ^ 64 - 1
 
-pub record SummaryCall (rule p : List ℕ) (noes latest r noes′ latest′ : ℕ) : Type 0 where
+pub record SummaryCall (rule p : List ℕ) (noes at r noes′ at′ : ℕ) : Type 0 where
   pub number : r ≡ summarized rule p .number
   pub no-count : noes′ ≡ or-kept r noes (summarized rule p .noes .count)
-  pub latest : latest′ ≡ or-kept r latest (position-or (summarized rule p .noes .latest) no-position)
+  pub latest : at′ ≡ or-kept r at (position-or (summarized rule p .noes .latest) no-position)
 
 pub record ParseCall (text rule : List ℕ) (n r : ℕ) (rule′ : List ℕ) (n′ : ℕ) : Type 0 where
   pub outcome : Parsed
