@@ -77,9 +77,19 @@ Stepped φ L g b Left b′ = (has-left φ ≡ true) × (progress (left-of φ) L 
 Stepped φ L g b Right b′ = (has-right φ ≡ true) × (progress (right-of φ) L ≡ taken b → progress φ L ≡ g)
 Stepped φ L g b Open b′ = progress φ L ≡ g
 
+-- the first record that a step at g may read: previous looks at the time of the position before
+abbrev pub reads-from : Formula → ℕ → ℕ
+reads-from (letter k) g = g
+reads-from (not φ) g = g
+reads-from (or φ ψ) g = g
+reads-from (previous low high φ) g = g - 1
+reads-from (next low high φ) g = g
+reads-from (since low high φ ψ) g = g
+reads-from (until low high φ ψ) g = g
+
 -- what a step promises where its block stands for the formula on some log
 abbrev pub Steps : Formula → List ℕ → List ℕ → Step → List ℕ → Type 0
-Steps φ s b r b′ = (L : Log) (g : ℕ) → NeverFalls L → Agrees s L g → Ready φ L g b → Stepped φ L g b r b′
+Steps φ s b r b′ = (L : Log) (g : ℕ) → NeverFalls L → Agrees s L (reads-from φ g) → Ready φ L g b → Stepped φ L g b r b′
 
 -- 1 for an empty buffer
 abbrev pub empty : ℕ → ℕ

@@ -19,14 +19,14 @@ use Rattle.blocks.specs.Step.{Agrees, Batched, Moved, Stepped, Steps, Ends, emp
 use Rattle.engine.specs.State.{State}
 use Rattle.blocks.specs.Kinds.{takes-left, takes-right, Fields}
 use Rattle.engine.specs.Table.{Has, Row, RowOk, RowsOk, column}
-use Rattle.engine.specs.Answer.{Keeps, Answers}
+use Rattle.engine.specs.Answer.{Keeps, first-read, Answers}
 use Rattle.engine.specs.Ask.{part, back, stored, Asks}
 use Rattle.blocks.specs.declared.Step.{Step}
 use Rattle.blocks.specs.declared.Step.the-variants.{Batch, Left, Right, Again, Open}
 use Rattle.engine.specs.declared.Reply.the-variants.{Batch as Answered, Open as Unanswered}
 use Rattle.engine.proofs.Parts.{part-end, length-part, put-back, back-from, drop-back-last, back-same, Side, other, by-side, start, stop, slot, lent, lent-own, Asked, asked, asked-stored}
 use Rattle.engine.proofs.Parts.Side.{on-left, on-right}
-use Rattle.engine.proofs.Uniform.{View, view, unview, has, of, entry, Stands-at, operand, view-of, answered-taken, row, operand-rows}
+use Rattle.engine.proofs.Uniform.{View, view, unview, has, of, entry, Stands-at, operand, view-of, agrees-later, step-from, operand-from, row, operand-rows}
 use Rattle.engine.proofs.Kept.{kept-refl, kept-trans, KeptAt, kept-of}
 use Rattle.engine.proofs.Fill.{stored-at, stored-keeps, stored-count, stored-count-other, ready-filled}
 
@@ -34,7 +34,7 @@ use Rattle.engine.proofs.Fill.{stored-at, stored-keeps, stored-count, s
 abbrev pub Stands : (t s : List ℕ) → ℕ → (ws₀ ws : List ℕ) → Type 0
 Stands t s k ws₀ ws =
     Keeps t k ws₀ ws ×
-    ((φ : Formula) (L : Log) (g : ℕ) → Has φ t k → NeverFalls L → Agrees s L g → State φ L g ws₀ → State φ L g ws)
+    ((φ : Formula) (L : Log) (g : ℕ) → Has φ t k → NeverFalls L → Agrees s L (first-read φ g) → State φ L g ws₀ → State φ L g ws)
 
 pub stands-first : (t s : List ℕ) (k : ℕ) (ws : List ℕ) → Stands t s k ws ws
 stands-first t s k ws = (λ φ entered. kept-refl φ ws, λ φ L g entered never agrees state. state)
@@ -182,7 +182,7 @@ module _ {t s : List ℕ} {k left a c end : ℕ} {ws₀ ws b′ : List ℕ} wher
         keeps-from (put-back (a + c) end b′ ws) (rw own-put own) (λ φ entered x e. rw (stay x) (kept-refl (of x φ) (lent x a c ws)))
 
     module _ (φ : Formula) (L : Log) (g : ℕ) (entered : Has φ t k) where
-      viewed : NeverFalls L → Agrees s L g → State φ L g ws₀ → View a c φ L g ws
+      viewed : NeverFalls L → Agrees s L (first-read φ g) → State φ L g ws₀ → View a c φ L g ws
       viewed never agrees state =
           let e = row φ t k entered in
           view φ L g ws (turn .is-a ∙ e .left-words) (turn .is-c ∙ e .right-words) (turn .stands .1 φ L g entered never agrees state)
@@ -193,8 +193,8 @@ module _ {t s : List ℕ} {k left a c end : ℕ} {ws₀ ws b′ : List ℕ} wher
           let e = row φ t k entered in
           unview φ L p ws′ (turn .is-a ∙ e .left-words) (turn .is-c ∙ e .right-words) (view-of a c φ L p ws′ b own ready parts)
 
-      stepped : NeverFalls L → Agrees s L g → View a c φ L g ws → Stepped φ L g (drop (a + c) ws) r b′
-      stepped never agrees v = turn .steps φ (row φ t k entered) L g never agrees (v .own)
+      stepped : NeverFalls L → Agrees s L (first-read φ g) → View a c φ L g ws → Stepped φ L g (drop (a + c) ws) r b′
+      stepped never agrees v = turn .steps φ (row φ t k entered) L g never (agrees-later agrees (step-from φ g)) (v .own)
 
       -- the operands stay where they stand
       moved-on : (p : ℕ) → View a c φ L g ws → Ready φ L p b′ → Moved φ (drop (a + c) ws) b′ →
@@ -283,13 +283,12 @@ module _ {t s : List ℕ} {k left a c end : ℕ} {ws₀ ws b′ : List ℕ} (sid
 
   -- what the operand is asked, it is asked at the next position to take
   ask-at : (P : Formula → Log → ℕ → Type 0) →
-      ((φ : Formula) (L : Log) (q : ℕ) → Has φ t (entry side left k) → NeverFalls L → Agrees s L q →
+      ((φ : Formula) (L : Log) (q : ℕ) → Has φ t (entry side left k) → NeverFalls L → Agrees s L (first-read φ q) →
       State φ L q (lent side a c ws) → P φ L q) →
-      (φ : Formula) (L : Log) (g : ℕ) → Has φ t k → NeverFalls L → Agrees s L g → View a c φ L g ws → has side φ ≡ true →
+      (φ : Formula) (L : Log) (g : ℕ) → Has φ t k → NeverFalls L → Agrees s L (first-read φ g) → View a c φ L g ws → has side φ ≡ true →
       P (of side φ) L (taken (drop (a + c) ws))
   ask-at P promise φ L g entered never agrees v e =
       let b = drop (a + c) ws in
-      let later = answered-taken φ L g b (v .own .core .own) in
       let here : taken b + word b (slot side) ≡ taken b = omega (arith, none) in
       promise
       (of side φ)
@@ -297,7 +296,7 @@ module _ {t s : List ℕ} {k left a c end : ℕ} {ws₀ ws b′ : List ℕ} (sid
       (taken b)
       (rw (turn .is-left) (operand-rows φ t k entered side e))
       never
-      (record { size = agrees .size; same = λ i ge lt. agrees .same i (omega arith) lt })
+      (agrees-later agrees (operand-from φ L g b (v .own .core .own) side))
       (rw here at (operand v side e))
 
   -- the words after the question

@@ -1,10 +1,11 @@
 -- What an entry asked for its next batch of answers promises.
-use Prim.Native.Nat.{ℕ, _+_}
+use Prim.Native.Nat.{ℕ, _+_, _-_}
 use mathlib.Core.Path.{_≡_}
 use mathlib.Core.List.{List}
 use Rattle.mtl.specs.Formula.{Formula}
 use Rattle.mtl.specs.Log.{Log, NeverFalls}
 use Rattle.mtl.specs.Progress.{progress}
+use Rattle.mtl.specs.Wanted.{depth}
 use Rattle.blocks.specs.Step.{Agrees, Batched}
 use Rattle.engine.specs.State.{State, Kept}
 use Rattle.engine.specs.Table.{Has}
@@ -20,8 +21,13 @@ Replied φ L g Open ws′ = (progress φ L ≡ g) × State φ L g ws′
 abbrev pub Keeps : List ℕ → ℕ → List ℕ → List ℕ → Type 0
 Keeps t k ws ws′ = (φ : Formula) → Has φ t k → Kept φ ws ws′
 
+-- the first record that the formula's entries may read, where g is the next position that it answers: its operands, and theirs, may
+-- have answered one position fewer for each previous on the way
+abbrev pub first-read : Formula → (g : ℕ) → ℕ
+first-read φ g = g - depth φ
+
 -- the promise of `answer` for entry k of table t, on records s, from words ws to words ws′
 abbrev pub Answers : List ℕ → List ℕ → ℕ → List ℕ → Reply → List ℕ → Type 0
 Answers t s k ws r ws′ =
     Keeps t k ws ws′ ×
-    ((φ : Formula) (L : Log) (g : ℕ) → Has φ t k → NeverFalls L → Agrees s L g → State φ L g ws → Replied φ L g r ws′)
+    ((φ : Formula) (L : Log) (g : ℕ) → Has φ t k → NeverFalls L → Agrees s L (first-read φ g) → State φ L g ws → Replied φ L g r ws′)

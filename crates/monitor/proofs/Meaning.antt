@@ -11,9 +11,10 @@ use Rattle.mtl.proofs.Lengthening.{answers-stay}
 use Rattle.bits.specs.Packed.{number}
 use Rattle.rule.specs.Entries.{count, decoded}
 use Rattle.rule.specs.Refusal.{refusal}
+use Rattle.rule.specs.Postfix.{formulas-or}
 use Rattle.rule.specs.Accepted.{Whole}
 use Rattle.rule.proofs.Acceptance.{accepted}
-use Rattle.monitor.specs.Verdicts.{formulas-or, formulas-of, byte-of, verdict}
+use Rattle.monitor.specs.Verdicts.{formulas-of, byte-of, verdict}
 
 -- an accepted rule's entries are its formulas
 pub rule-whole : (rule : List ℕ) → refusal rule ≡ 0 → Whole (decoded rule) (count rule) (formulas-of rule)

@@ -8,6 +8,7 @@ use lib.Dec.{eqb, ltb}
 use Rattle.mtl.specs.Formula.{Formula}
 use Rattle.mtl.specs.Log.{Log, NeverFalls}
 use Rattle.mtl.specs.Progress.{joint-progress}
+use Rattle.mtl.specs.Wanted.{wanted}
 use Rattle.bits.specs.Packed.{zeros, last-zero}
 use Rattle.rule.specs.declared.Entry.{Entry}
 use Rattle.rule.specs.declared.Measured.{Measured}
@@ -100,7 +101,7 @@ pub record Holds (t s : List ℕ) (n : ℕ) (ws : List ℕ) (r : Bool) (ws′ : 
   pub kept : KeptBlocks t n ws ws′
   pub some : r ≡ true → 0 < held-count ws′
   pub none : r ≡ false → held-count ws′ ≡ 0
-  pub meaning : (fs : List Formula) (L : Log) (d : ℕ) → Tops fs t n → NeverFalls L → Agrees s L d → Top fs L d ws →
+  pub meaning : (fs : List Formula) (L : Log) (d : ℕ) → Tops fs t n → NeverFalls L → Agrees s L (wanted fs d) → Top fs L d ws →
       Holding fs L d r ws′
 
 -- the copies of the first n entries, written into their blocks
@@ -131,7 +132,7 @@ pub record Gave (t s : List ℕ) (n : ℕ) (ws sheet : List ℕ) (c : ℕ) (ws�
   pub header : (i : ℕ) → i < 8 → (i ≡ 1 → ⊥) → (i ≡ 4 → ⊥) → (i ≡ 5 → ⊥) → word ws′ i ≡ word ws i
   pub noes : stored-noes ws′ ≡ laid-behind (stored-noes ws) (given ws) (noes-in sheet′ c)
   pub kept : KeptBlocks t n ws ws′
-  pub meaning : (fs : List Formula) (L : Log) (d : ℕ) → Tops fs t n → NeverFalls L → Agrees s L d → Top fs L d ws →
+  pub meaning : (fs : List Formula) (L : Log) (d : ℕ) → Tops fs t n → NeverFalls L → Agrees s L (wanted fs d) → Top fs L d ws →
       Giving fs L d c ws′ sheet′ × (c < length sheet → joint-progress fs L ≡ d + c)
 
 -- the decoded entries of an accepted rule
@@ -159,7 +160,7 @@ pub record Proceeded (t : List Entry) (n : ℕ) (s ws sheet : List ℕ) (c : ℕ
   pub noes : stored-noes ws′ ≡ laid-behind (stored-noes ws) (given ws) (noes-in sheet′ c)
   pub entries : word ws′ 6 ≡ word ws 6
   pub kept : KeptEntries t n ws ws′
-  pub meaning : (fs : List Formula) (L : Log) (d : ℕ) → Whole t n fs → NeverFalls L → Agrees s L d → Top fs L d ws →
+  pub meaning : (fs : List Formula) (L : Log) (d : ℕ) → Whole t n fs → NeverFalls L → Agrees s L (wanted fs d) → Top fs L d ws →
       Giving fs L d c ws′ sheet′ × (c ≡ min (joint-progress fs L - d) (length sheet)) ×
       (more ≡ ltb (d + c) (joint-progress fs L))
 

@@ -3,6 +3,8 @@ ghost use mathlib.Core.Path.{_≡_};
 ghost use Prim.Native.Nat.{_+_, _≤_, _<_};
 ghost use lib.ListN.{length, drop};
 ghost use Rattle.mtl.specs.Satisfaction.{any};
+ghost use Rattle.mtl.specs.Wanted.{wanted};
+ghost use Rattle.rule.specs.Postfix.{formulas, formulas-or};
 ghost use Rattle.rule.specs.Refusal.{first};
 ghost use Rattle.rule.specs.Words.{offset};
 ghost use Rattle.monitor.specs.Checkpoint.{given, seen, last, copy-head, copy-ends, copy-differs, foreign, room, block-in-range, block-outside, noes-in-range, outside};
@@ -15,7 +17,7 @@ use rule::Entry;
 use rule::Measured;
 
 // The number in a checkpoint's first word: the bytes HAVD, and the format's number.
-pub const FORMAT: u64 = 5206537494274768899;
+pub const FORMAT: u64 = 5206537494274768900;
 
 // Refusals 1 to 9, or the words that the rule needs.
 pub enum Sized {
@@ -143,7 +145,7 @@ fn block_fits(size: u64, cells: u64, point: &[u64], at: usize) -> bool
     (point[at] <= size)
         & (point[at + word::LEFT_COUNT] <= 64)
         & (point[at + word::RIGHT_COUNT] <= 64)
-        & (point[at + word::ANSWERED] <= point[at])
+        & (point[at + word::ANSWERED] <= size)
         & (point[at + word::LAST_LEFT] <= 1)
         & (point[at + word::LAST_RIGHT] <= 1)
         & (point[at + word::LAST_TIME] < 4294967296)
@@ -194,15 +196,23 @@ fn is_outside(entries: [Entry; 128], count: usize, point: &[u64]) -> bool
     !fits | blocks_outside(entries, count, point)
 }
 
+// The first record still wanted: those before it may have been overwritten.
+fn first_wanted(entries: [Entry; 128], count: usize, given: usize) -> usize
+    requires { ⌜ count ≤ 128 ⌝ }
+    ensures { λ r. ⌜ r ≡ wanted (formulas-or (formulas entries count)) given ⌝ }
+{
+    let depth = rule::depth(entries, count) as usize;
+    if depth <= given { given - depth } else { 0 }
+}
+
 // The number of the first of refusals 12 to 14 that applies, or 0.
-fn log_reason(log: &[u8], point: &[u64]) -> u32
+fn log_reason(log: &[u8], point: &[u64], from: usize) -> u32
     requires { ⌜ 16 ≤ length (now point) ⌝ }
-    ensures { λ r. ⌜ r ≡ log-refusal (now (log .entry)) (given (now (point .entry))) (seen (now (point .entry))) (last (now (point .entry))) ⌝ }
+    ensures { λ r. ⌜ r ≡ log-refusal (now (log .entry)) from (seen (now (point .entry))) (last (now (point .entry))) ⌝ }
 {
     let records = trace::records(log);
-    let given = point[header::GIVEN] as usize;
     let seen = point[header::SEEN] as usize;
-    let disordered = trace::is_disordered(records, given, seen, point[header::LAST]);
+    let disordered = trace::is_disordered(records, from, seen, point[header::LAST]);
     let fewer = trace::count(records) < seen;
     refuse(
         12,
@@ -246,5 +256,6 @@ pub fn check_point(entries: [Entry; 128], count: usize, log: &[u8], point: &[u64
     requires { ⌜ (count ≤ 128) × (16 + offset entries count ≤ length (now point)) ⌝ }
     ensures { λ r. ⌜ r ≡ checked-by (point-refusal entries count (now (log .entry)) (now (point .entry))) ⌝ }
 {
-    checked_by(words_reason(entries, count, point, log_reason(log, point)))
+    let wanted = first_wanted(entries, count, point[header::GIVEN] as usize);
+    checked_by(words_reason(entries, count, point, log_reason(log, point, wanted)))
 }

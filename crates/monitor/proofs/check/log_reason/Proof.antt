@@ -8,9 +8,6 @@ use Rattle.monitor.proofs.check.log_reason.Tie as tie
 records-requires : tie.Need-records-requires
 records-requires c κs = search needs
 
-shared-slice-read-given : tie.Need-shared-slice-read-given
-shared-slice-read-given c = search needs
-
 shared-slice-read-seen : tie.Need-shared-slice-read-seen
 shared-slice-read-seen c = search needs
 
@@ -45,7 +42,7 @@ returns c =
       c .before .before .before .is-malformed .ensures,
       c .before .before .before .before .count .ensures,
       c .before .before .before .before .before .is-disordered .ensures,
-      c .before .before .before .before .before .before .before .before .before .records .ensures,
+      c .before .before .before .before .before .before .before .before .records .ensures,
     )
 
 pub log-reason-spec : {M : Type 1} → statement M
@@ -53,7 +50,6 @@ log-reason-spec =
     tie.close
     (tie.spec
     records-requires
-    shared-slice-read-given
     shared-slice-read-seen
     shared-slice-read-is-disordered
     is-disordered-requires

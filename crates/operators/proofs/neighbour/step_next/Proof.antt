@@ -1,5 +1,5 @@
 -- `operators::neighbour::step_next` meets its contract: at position 0 one answer is passed over, else a buffer is taken whole. Assumes nothing.
-use Prim.Native.Nat.{ℕ, _+_, _-_, _≤_, _<_}
+use Prim.Native.Nat.{_+_, _≤_, _<_}
 use native.Mathlib.Nat.{pos-of-ne-zero}
 use native.Mathlib.Omega.{arith}
 use mathlib.Core.Path.{refl}
@@ -22,10 +22,6 @@ taking c =
     let a = available _ _ _ _ (rw (c .before .before .count .ensures) at (c .before .available .ensures)) in
     let some = pos-of-ne-zero (c .if2 .left) in
     (a .most, some, a .inside some)
-
--- the position before them, too
-earlier : (at n total : ℕ) → 0 < n → at + n ≤ total → at - 1 < total
-earlier at n total some inside = omega arith
 
 slice-read-at : tie.Need-slice-read-at
 slice-read-at c = search needs
@@ -65,15 +61,9 @@ returns-3 c =
       ),
       λ φ L g falls agrees ready.
           rw (c .before .before .take-right .ensures)
-          (next-pass (start .args .records .now) (start .args .block .now) (start .pre) 1 (omega arith) L g agrees (start .args .low) (start .args .high)
-          φ (omega arith) ready (c .before .before .before .before .if3 .taken) refl),
+          (next-pass (start .args .records .now) (start .args .block .now) (start .pre) 1 (omega arith) L g (start .args .low) (start .args .high)
+          φ (omega arith) (c .before .before .before .before .if3 .taken) refl ready),
     )
-
-sub-time : tie.Need-sub-time
-sub-time c = search needs
-
-time-requires : tie.Need-time-requires
-time-requires c κs = let n = taking (c .before) in earlier _ _ _ (n .1) (n .2)
 
 near-requires : tie.Need-near-requires
 near-requires c κs = search needs
@@ -89,13 +79,13 @@ same-length-2 c = search needs
 
 returns-4 : tie.Need-returns-4
 returns-4 c =
-    let start = c .before .before .before .before .before .before .before .before .before .before .before .before .before .before .before .before .before in
-    let n = taking (c .before .before .before .before .before .before .before .before) in (
-      rw (c .before .before .take-right2 .ensures) (right-keeps (c .before .before .before .before .before .before .before .before .before .available .result) (start .args .block .now)),
+    let start = c .before .before .before .before .before .before .before .before .before .before .before .before .before .before .before .before in
+    let n = taking (c .before .before .before .before .before .before .before) in (
+      rw (c .before .before .take-right2 .ensures) (right-keeps (c .before .before .before .before .before .before .before .before .available .result) (start .args .block .now)),
       λ φ L g falls agrees ready.
           rw (c .before .before .take-right2 .ensures)
-          (next-batch (start .args .records .now) (start .args .block .now) (start .pre) (c .before .before .before .before .before .before .before .before .before .available .result) (n .1) L g agrees (start .args .low) (start .args .high)
-          φ (n .0) ready (c .before .before .before .before .before .before .time .result) (c .before .before .before .before .before .near .result) (pos-of-ne-zero (c .before .before .before .before .before .before .before .if3 .left)) (n .2) (c .before .before .before .before .before .before .time .ensures .0) (c .before .before .before .before .before .near .ensures)),
+          (next-batch (start .args .records .now) (start .args .block .now) (start .pre) (c .before .before .before .before .before .before .before .before .available .result) (n .1) L g (start .args .low) (start .args .high)
+          φ (n .0) agrees (c .before .before .before .before .before .near .result) (pos-of-ne-zero (c .before .before .before .before .before .before .if3 .left)) (n .2) (c .before .before .before .before .before .near .ensures) ready),
     )
 
 pub step-next-spec : {M : Type 1} → statement M
@@ -112,8 +102,6 @@ step-next-spec =
     take-right-requires
     same-length
     returns-3
-    sub-time
-    time-requires
     near-requires
     slice-read-bits
     take-right-requires-2
