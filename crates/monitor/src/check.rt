@@ -256,6 +256,7 @@ pub fn check_point(entries: [Entry; 128], count: usize, log: &[u8], point: &[u64
     requires { ⌜ (count ≤ 128) × (16 + offset entries count ≤ length (now point)) ⌝ }
     ensures { λ r. ⌜ r ≡ checked-by (point-refusal entries count (now (log .entry)) (now (point .entry))) ⌝ }
 {
-    let wanted = first_wanted(entries, count, point[header::GIVEN] as usize);
+    let given = point[header::GIVEN] as usize;
+    let wanted = first_wanted(entries, count, given);
     checked_by(words_reason(entries, count, point, log_reason(log, point, wanted)))
 }
