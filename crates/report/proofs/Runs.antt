@@ -11,6 +11,7 @@ use lib.Seq.{take-all, length-take-le}
 use borrow.Author.Tests.{le-ltb, ltb-false, eq-eqb, ne-eqb, eqb-true}
 use Rattle.mtl.specs.Log.{Log, NeverFalls}
 use Rattle.mtl.specs.Progress.{joint-progress}
+use Rattle.mtl.specs.Wanted.{wanted}
 use Rattle.mtl.proofs.Joint.{joint-le-size}
 use Rattle.rule.specs.Refusal.{first, refusal}
 use Rattle.rule.proofs.Headers.{first-zero, before-none, or-right}
@@ -86,12 +87,14 @@ module _ (rule log : List ℕ) (short : too-long rule log ≡ false) where
     -- 9, 10, 11 and 13 are not met
     resumes-by : resume-refusal rule log p ≡ run-refusal rule log
     resumes-by =
+        let all-wanted : wanted (formulas-of rule) 0 ≡ 0 = omega arith in
         rw (
           eq-eqb (refusal rule) 0 fine,
           le-ltb (length p) (need rule) (stands .enough),
           stands .own,
           not-outside rule none-yet 0 p fine stands,
           own-given rule none-yet 0 p fine stands,
+          all-wanted,
           stands .size,
           stands .time,
         )
