@@ -1,9 +1,8 @@
 -- `bits::turned` meets its contract: a remainder by a power of two leaves the first bits, and 64 bits are all.
 -- Assumes nothing.
 use Prim.Native.Nat.{ℕ, _*_, _-_, _%_, _^_, _<_}
-use native.Mathlib.Nat.{mod-eq-of-lt}
 use native.Mathlib.Omega.{arith}
-use mathlib.Core.Path.{_≡_, sym, ap, _∙_}
+use mathlib.Core.Path.{_≡_, ap, _∙_}
 use lib.Pow.{pow-pos, shl-exact}
 use borrow.Author.Needs.{needs}
 use Rattle.bits.proofs.turned.Statement.{statement}

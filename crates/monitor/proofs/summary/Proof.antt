@@ -1,10 +1,8 @@
 -- `summary` meets its contract: refusals 1 to 11 are those of `size_of` and `check_words`, and the counts are read where none is met.
 use borrow.Author.Needs.{needs}
-use Prim.Native.Nat.{_≤_}
 use mathlib.Core.Path.{_≡_, sym, _∙_}
 use native.Mathlib.Omega.{arith}
 use lib.ListN.{length}
-use Rattle.rule.specs.Refusal.{refusal}
 use Rattle.rule.proofs.Headers.{Decoded, few-to-decode, measured-once}
 use Rattle.monitor.specs.Code.{sized-of, checked-by}
 use Rattle.monitor.specs.declared.check.Sized.the-variants.{Words}
