@@ -14,14 +14,15 @@ use Rattle.mtl.proofs.Bounded.{true-and-false}
 use Rattle.trace.specs.Format.{record-count}
 use Rattle.rule.specs.Words.{own-words}
 use Rattle.rule.proofs.Spans.{own-least}
-use Rattle.engine.specs.Block.{word, taken, Ready}
-use Rattle.engine.specs.Step.{Agrees, Batched, Moved, Stepped, Steps, Ends, empty, left-to-do}
+use Rattle.blocks.specs.Block.{word, taken, Ready}
+use Rattle.blocks.specs.Step.{Agrees, Batched, Moved, Stepped, Steps, Ends, empty, left-to-do}
 use Rattle.engine.specs.State.{State}
-use Rattle.engine.specs.Table.{Has, Row, RowOk, RowsOk, Fields, column, takes-left, takes-right}
+use Rattle.blocks.specs.Kinds.{takes-left, takes-right, Fields}
+use Rattle.engine.specs.Table.{Has, Row, RowOk, RowsOk, column}
 use Rattle.engine.specs.Answer.{Answers}
 use Rattle.engine.specs.Ask.{part, back, stored, Asks}
-use Rattle.engine.specs.declared.operator.Step.{Step}
-use Rattle.engine.specs.declared.operator.Step.the-variants.{Batch, Left, Right, Again, Open}
+use Rattle.blocks.specs.declared.Step.{Step}
+use Rattle.blocks.specs.declared.Step.the-variants.{Batch, Left, Right, Again, Open}
 use Rattle.engine.specs.declared.Reply.the-variants.{Batch as Answered, Open as Unanswered}
 use Rattle.engine.proofs.Parts.{part-end, length-part, put-back, back-from, drop-back-last, back-same, Side, other, by-side, start, stop, slot, lent, lent-own, Asked, asked, asked-stored}
 use Rattle.engine.proofs.Parts.Side.{on-left, on-right}

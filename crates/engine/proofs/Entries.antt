@@ -20,11 +20,11 @@ use Rattle.rule.specs.Postfix.{root}
 use Rattle.rule.specs.Operands.{operands, span, left, part, FormulaAt, Unary, Binary}
 use Rattle.rule.specs.Accepted.{WellFormed, One}
 use Rattle.rule.proofs.Spans.{own-least, offset-mono}
-use Rattle.engine.specs.Block.{word, taken, left-count, right-count, kind-of, letter-of, low-of, high-of, Copied, FreshBlock, cells-of, InRange, Own, Core, Buffers, Ready}
+use Rattle.blocks.specs.Block.{word, taken, left-count, right-count, kind-of, letter-of, low-of, high-of, Copied, FreshBlock, cells-of, InRange, Own, Core, Buffers, Ready}
 use Rattle.engine.specs.State.{words, Parts, Absent, State}
 use Rattle.engine.specs.Layout.{first}
 use Rattle.engine.proofs.Rows.{words-at, fields-of}
-use Rattle.engine.proofs.Words.{empty-buffer}
+use Rattle.blocks.proofs.Words.{empty-buffer}
 
 -- the words of the subformula that ends at entry k
 abbrev pub part-words : List Entry → ℕ → List ℕ → List ℕ

@@ -9,8 +9,8 @@ use lib.Seq.{getD-set-same, getD-set-other}
 use Rattle.mtl.specs.Formula.{Formula}
 use Rattle.mtl.specs.Formula.Formula.{letter, not, or, previous, next, since, until}
 use Rattle.mtl.specs.Log.{Log}
-use Rattle.engine.specs.Block.{word, taken, Own, Ready}
-use Rattle.engine.specs.Step.{Batched}
+use Rattle.blocks.specs.Block.{word, taken, Own, Ready}
+use Rattle.blocks.specs.Step.{Batched}
 use Rattle.engine.specs.Ask.{stored}
 use Rattle.engine.proofs.Parts.{Side, other, by-side, slot}
 use Rattle.engine.proofs.Parts.Side.{on-left, on-right}

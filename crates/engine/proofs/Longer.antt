@@ -12,8 +12,8 @@ use Rattle.mtl.specs.Progress.{progress}
 use Rattle.mtl.proofs.Until.{progress-le-size}
 use Rattle.mtl.proofs.Lengthening.{progress-grows, answers-stay}
 use Rattle.bits.proofs.Laws.{packed-same}
-use Rattle.engine.specs.Ring.{Witness, Witnesses}
-use Rattle.engine.specs.Block.{taken, kind-of, high-of, cells-of, InRange, Remembers, Until, Own, Buffer, Buffers, Ready}
+use Rattle.blocks.specs.Ring.{Witness, Witnesses}
+use Rattle.blocks.specs.Block.{taken, kind-of, high-of, cells-of, InRange, Remembers, Until, Own, Buffer, Buffers, Ready}
 use Rattle.engine.specs.State.{words, Parts, Absent, State}
 
 -- a witness is one by the truth values below its position

@@ -20,7 +20,8 @@ use Rattle.rule.specs.Operands.{operands, left, part, FormulaAt, Binary}
 use Rattle.rule.specs.Accepted.{WellFormed}
 use Rattle.rule.proofs.Spans.{offset-mono}
 use Rattle.engine.specs.State.{words, left-words, right-words}
-use Rattle.engine.specs.Table.{column, takes-left, takes-right, RowOk, RowsOk, Fields, Row, Has}
+use Rattle.blocks.specs.Kinds.{takes-left, takes-right, Fields}
+use Rattle.engine.specs.Table.{column, RowOk, RowsOk, Row, Has}
 use Rattle.engine.specs.Layout.{first, first-from, left-from, row-of, row, Laid}
 
 -- The values that a function's loop stored one by one.

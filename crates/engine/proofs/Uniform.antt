@@ -10,8 +10,8 @@ use Rattle.mtl.specs.Formula.Formula.{letter, not, or, previous, next, since, u
 use Rattle.mtl.specs.Log.{Log}
 use Rattle.mtl.proofs.Bounded.{true-and-false}
 use Rattle.rule.specs.Words.{own-words}
-use Rattle.engine.specs.Block.{word, taken, left-count, right-count, kind-of, high-of, Own, Ready, Buffer, Buffers}
-use Rattle.engine.specs.Step.{has-left, has-right, left-of, right-of}
+use Rattle.blocks.specs.Block.{word, taken, left-count, right-count, kind-of, high-of, Own, Ready, Buffer, Buffers}
+use Rattle.blocks.specs.Step.{has-left, has-right, left-of, right-of}
 use Rattle.engine.specs.State.{State, Parts, Absent, words, left-words, right-words}
 use Rattle.engine.specs.Table.{Has, Row, RowOk, column}
 use Rattle.engine.proofs.Parts.{Side, by-side, slot, lent, lent-left, lent-right}

@@ -7,7 +7,7 @@ use lib.ListN.{length, take, drop, set}
 use Rattle.mtl.specs.Formula.{Formula}
 use Rattle.mtl.specs.Log.{Log, NeverFalls}
 use Rattle.mtl.specs.Progress.{progress}
-use Rattle.engine.specs.Step.{Agrees, Batched}
+use Rattle.blocks.specs.Step.{Agrees, Batched}
 use Rattle.engine.specs.State.{State}
 use Rattle.engine.specs.Table.{Has}
 

@@ -8,7 +8,8 @@ use Rattle.rule.specs.declared.Entry.{Entry}
 use Rattle.rule.specs.Entries.{entry}
 use Rattle.rule.specs.Words.{own}
 use Rattle.rule.specs.Operands.{span, left, part}
-use Rattle.engine.specs.Table.{column, takes-left, takes-right}
+use Rattle.blocks.specs.Kinds.{takes-left, takes-right}
+use Rattle.engine.specs.Table.{column}
 
 -- the first entry of the subformula that ends at entry k
 abbrev pub first : List Entry → ℕ → ℕ

@@ -6,7 +6,7 @@ use Rattle.mtl.specs.Formula.{Formula}
 use Rattle.mtl.specs.Formula.Formula.{letter, not, or, previous, next, since, until}
 use Rattle.mtl.specs.Log.{Log}
 use Rattle.rule.specs.Words.{ring-words}
-use Rattle.engine.specs.Block.{taken, left-count, right-count, Ready}
+use Rattle.blocks.specs.Block.{taken, left-count, right-count, Ready}
 
 -- "16 for each entry, and for since with a finite high (high + 1), for since without upper end 1, for until 2 × (high + 1)"
 unfoldable pub words : Formula → ℕ

@@ -1,28 +1,18 @@
 -- The decoded rule as the engine reads it: a row of eight numbers for each entry.
 use Prim.Native.Nat.{ℕ, _+_, _*_, _-_, _≤_, _<_, _^_}
-use mathlib.Core.Bool.{Bool, true, _||_}
-use mathlib.Core.Bool.{not as negate}
+use mathlib.Core.Bool.{true}
 use mathlib.Core.Path.{_≡_}
 use mathlib.Core.List.{List}
 use lib.ListN.{getD}
-use lib.Dec.{eqb}
 use Rattle.mtl.specs.Formula.{Formula}
 use Rattle.mtl.specs.Formula.Formula.{letter, not, or, previous, next, since, until}
 use Rattle.rule.specs.Words.{own-words}
-use Rattle.engine.specs.Block.{kind-of, letter-of, low-of, high-of}
+use Rattle.blocks.specs.Kinds.{takes-left, takes-right, Fields}
 use Rattle.engine.specs.State.{left-words, right-words}
 
 -- the columns of row k: kind, letter, low, high, the left operand's entry, its words, the right operand's words, all words
 abbrev pub column : ℕ → List ℕ → ℕ → ℕ
 column j t k = getD t (k * 8 + j) 0
-
--- the entry takes a left operand: or, since, until
-abbrev pub takes-left : ℕ → Bool
-takes-left kind = eqb kind 2 || (eqb kind 5 || eqb kind 6)
-
--- the entry takes a right operand, or an only one: every kind but letter
-abbrev pub takes-right : ℕ → Bool
-takes-right kind = negate (eqb kind 0)
 
 -- what every row of an accepted rule keeps to
 pub record RowOk (t : List ℕ) (k : ℕ) : Type 0 where
@@ -36,13 +26,6 @@ pub record RowOk (t : List ℕ) (k : ℕ) : Type 0 where
 
 abbrev pub RowsOk : List ℕ → ℕ → Type 0
 RowsOk t k = (j : ℕ) → j ≤ k → RowOk t j
-
--- the fields of an entry are those of the formula's last operator
-pub record Fields (φ : Formula) (k c l h : ℕ) : Type 0 where
-  pub kind : k ≡ kind-of φ
-  pub letter : c ≡ letter-of φ
-  pub low : l ≡ low-of φ
-  pub high : h ≡ high-of φ
 
 -- row k is that of the formula's last operator
 pub record Row (φ : Formula) (t : List ℕ) (k : ℕ) : Type 0 where

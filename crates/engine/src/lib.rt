@@ -4,28 +4,28 @@ ghost use mathlib.Core.Bool.{true, false};
 ghost use Prim.Native.Nat.{_+_, _≤_, _<_};
 ghost use lib.ListN.{length};
 ghost use Rattle.engine.specs.Answer.{Answers};
-ghost use Rattle.engine.specs.Ask.{Asks};
+ghost use Rattle.engine.specs.Ask.{Asks, stored};
 ghost use Rattle.engine.specs.Table.{RowsOk, column};
 
-mod blocks;
-mod connective;
 pub mod layout;
-mod letter;
-mod neighbour;
-mod operator;
-mod ring;
-mod since;
 mod table;
-mod time;
-mod until;
-pub mod word;
 
-use operator::Step;
+use blocks::Step;
+use blocks::word;
 
 // What an entry answers: a word of answers for count positions from its next one on, or that it is open.
 pub enum Reply {
     Batch { bits: u64, count: u64 },
     Open,
+}
+
+// Puts a batch into the buffer at slot.
+fn store(words: &mut [u64], slot: usize, bits: u64, count: u64)
+    requires { ⌜ slot + 1 < length (now words) ⌝ }
+    ensures { λ _. ⌜ now (words .exit) ≡ stored (now (words .entry)) slot bits count ⌝ }
+{
+    words[slot] = count;
+    words[slot + 1] = bits;
 }
 
 // Asks entry k for its next batch of answers. Its words are its operands' words, left then right, and its own block.
@@ -42,7 +42,7 @@ pub fn answer(table: &[u64; 1024], records: &[u8], k: usize, words: &mut [u64]) 
     let own = middle + table::field(table, k, table::RIGHT_WORDS) as usize;
     let end = words.len();
     loop {
-        let step = operator::advance(kind, letter, low, high, records, &mut words[own..end]);
+        let step = operators::advance(kind, letter, low, high, records, &mut words[own..end]);
         match step {
             Step::Batch { bits, count } => {
                 return Reply::Batch { bits, count };
@@ -103,6 +103,6 @@ pub fn ask(
     if count == 0 {
         return false;
     }
-    blocks::store(words, slot, bits, count);
+    store(words, slot, bits, count);
     true
 }

@@ -13,7 +13,7 @@ use Rattle.rule.specs.declared.Entry.{Entry}
 use Rattle.rule.specs.Entries.{entry}
 use Rattle.rule.specs.Words.{words}
 use Rattle.rule.proofs.Spans.{offset-mono}
-use Rattle.engine.specs.Block.{word}
+use Rattle.blocks.specs.Block.{word}
 use Rattle.monitor.specs.Checkpoint.{format, block-at, copy-head, copy-ends}
 use Rattle.monitor.specs.Code.{Fresh, copies}
 use Rattle.monitor.proofs.Offsets.{block-fits}

@@ -20,7 +20,7 @@ use Rattle.trace.specs.Format.{record-count, time-at, records-of, malformed}
 use Rattle.trace.specs.Log.{log-of}
 use Rattle.trace.specs.Order.{disordered}
 use Rattle.trace.proofs.Laws.{well-formed-iff, well-formed-records, ordered-iff, agree, keeps-agreed, prefix-continues, count-prefix}
-use Rattle.engine.specs.Step.{Agrees}
+use Rattle.blocks.specs.Step.{Agrees}
 use Rattle.monitor.specs.Checkpoint.{given, seen, last, need, foreign, outside}
 use Rattle.monitor.specs.Refusal.{open-refusal, resume-refusal}
 use Rattle.monitor.specs.Verdicts.{formulas-of, verdicts, first-records, answered, all-verdicts}

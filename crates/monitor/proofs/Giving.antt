@@ -11,9 +11,9 @@ use borrow.Author.Tests.{ne-eqb}
 use Rattle.mtl.specs.Formula.{Formula}
 use Rattle.mtl.specs.Log.{Log, NeverFalls}
 use Rattle.mtl.proofs.Bounded.{le-or-lt}
-use Rattle.engine.specs.Block.{word}
-use Rattle.engine.specs.Step.{Agrees}
-use Rattle.engine.proofs.Words.{Store, put, stores, after, word-stores}
+use Rattle.blocks.specs.Block.{word}
+use Rattle.blocks.specs.Step.{Agrees}
+use Rattle.blocks.proofs.Words.{Store, put, stores, after, word-stores}
 use Rattle.monitor.specs.Checkpoint.{given, held-count, held-bits}
 use Rattle.monitor.specs.Stands.{Top}
 use Rattle.monitor.specs.Code.{Tops, Holds, Giving, Gave}

@@ -13,7 +13,7 @@ use Rattle.mtl.specs.Progress.{joint-progress}
 use Rattle.mtl.proofs.Joint.{joint-one, joint-none, joint-grows}
 use Rattle.bits.specs.Packed.{bit, number, Packed}
 use Rattle.bits.proofs.Laws.{bit-rest, packed-not}
-use Rattle.engine.specs.Block.{Buffer}
+use Rattle.blocks.specs.Block.{Buffer}
 use Rattle.engine.proofs.Longer.{state-longer}
 use Rattle.monitor.specs.Verdicts.{byte-of}
 use Rattle.monitor.specs.Stands.{Held, States}

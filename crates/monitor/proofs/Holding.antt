@@ -14,13 +14,13 @@ use Rattle.mtl.specs.Log.{Log}
 use Rattle.mtl.proofs.Bounded.{le-or-lt}
 use Rattle.mtl.proofs.Joint.{joint-one, joint-none}
 use Rattle.trace.specs.Format.{record-count}
-use Rattle.engine.specs.Block.{word}
+use Rattle.blocks.specs.Block.{word}
 use Rattle.engine.specs.State.{State}
-use Rattle.engine.specs.Step.{Agrees}
+use Rattle.blocks.specs.Step.{Agrees}
 use Rattle.engine.specs.Table.{Has}
 use Rattle.engine.specs.Ask.{part, back, stored, Asks}
 use Rattle.engine.proofs.Parts.{part-end, drop-back-last}
-use Rattle.engine.proofs.Words.{put, after, word-stores}
+use Rattle.blocks.proofs.Words.{put, after, word-stores}
 use Rattle.monitor.specs.Checkpoint.{given, held-count, held-bits}
 use Rattle.monitor.specs.Stands.{Top}
 use Rattle.monitor.specs.Code.{Tops, all-yes, Holding, Holds}

@@ -6,7 +6,7 @@ use native.Mathlib.Omega.{arith}
 use lib.ListN.{length, getD, take, drop, take-append-drop, drop-of-length-le}
 use lib.Seq.{getD-take, length-take-le, take-all}
 use Rattle.mtl.specs.Log.{Log}
-use Rattle.engine.specs.Block.{word}
+use Rattle.blocks.specs.Block.{word}
 use Rattle.monitor.specs.Checkpoint.{need}
 use Rattle.monitor.specs.Verdicts.{formulas-of}
 use Rattle.monitor.specs.Stands.{Top, Stands}

@@ -11,7 +11,7 @@ use Rattle.rule.specs.declared.Entry.{Entry}
 use Rattle.rule.specs.Entries.{entry}
 use Rattle.rule.specs.Words.{own, offset, words}
 use Rattle.rule.proofs.Spans.{own-least, offset-mono}
-use Rattle.engine.specs.Block.{cells-of}
+use Rattle.blocks.specs.Block.{cells-of}
 use Rattle.monitor.specs.Checkpoint.{block-at}
 
 -- behind the 16 words of a since stand its ring's cells

@@ -18,7 +18,7 @@ use Rattle.rule.specs.Words.{offset}
 use Rattle.rule.specs.Refusal.{refusal}
 use Rattle.rule.specs.Accepted.{Whole}
 use Rattle.rule.proofs.Acceptance.{accepted}
-use Rattle.engine.specs.Block.{word, cells-of}
+use Rattle.blocks.specs.Block.{word, cells-of}
 use Rattle.engine.specs.State.{words}
 use Rattle.engine.proofs.Entries.{Ranged, rule-size, rule-ranges}
 use Rattle.monitor.specs.Checkpoint.{format, given, seen, last, held-count, need, block-at, copy-differs, foreign, block-outside, outside}

@@ -19,7 +19,7 @@ use Rattle.rule.specs.Accepted.{WellFormed, Whole}
 use Rattle.trace.specs.Format.{record-count}
 use Rattle.trace.specs.Order.{last-time}
 use Rattle.trace.proofs.Laws.{last-time-bound}
-use Rattle.engine.specs.Block.{word}
+use Rattle.blocks.specs.Block.{word}
 use Rattle.engine.specs.Layout.{Laid}
 use Rattle.engine.proofs.Rows.{rows-ok, has-at, column-is-part}
 use Rattle.monitor.specs.Stands.{Top}

@@ -24,8 +24,8 @@ use Rattle.rule.proofs.Acceptance.{accepted}
 use Rattle.trace.specs.Format.{record-count, records-of, malformed}
 use Rattle.trace.specs.Order.{last-time}
 use Rattle.trace.proofs.Laws.{well-formed-records}
-use Rattle.engine.specs.Block.{word}
-use Rattle.engine.specs.Step.{Agrees}
+use Rattle.blocks.specs.Block.{word}
+use Rattle.blocks.specs.Step.{Agrees}
 use Rattle.engine.specs.Ask.{part}
 use Rattle.engine.proofs.Parts.{put-back}
 use Rattle.monitor.specs.Checkpoint.{given, seen, last, held-count, held-bits, need, room, foreign, block-outside, outside, header-in-range}

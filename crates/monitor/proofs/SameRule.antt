@@ -21,7 +21,7 @@ use Rattle.rule.specs.Accepted.{InRange}
 use Rattle.rule.proofs.Headers.{first-zero, before-none, or-left, or-right}
 use Rattle.rule.proofs.Decoded.{decoded-at}
 use Rattle.rule.proofs.Acceptance.{accepted}
-use Rattle.engine.specs.Block.{word}
+use Rattle.blocks.specs.Block.{word}
 use Rattle.monitor.specs.Checkpoint.{format, block-at, copy-head, copy-ends, copy-differs, foreign}
 
 -- a list of bytes; past the end it reads as 0

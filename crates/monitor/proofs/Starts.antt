@@ -14,7 +14,7 @@ use Rattle.rule.specs.Entries.{count, decoded, entry}
 use Rattle.rule.specs.Refusal.{refusal}
 use Rattle.rule.specs.Words.{offset}
 use Rattle.rule.proofs.Acceptance.{accepted}
-use Rattle.engine.specs.Block.{word, FreshBlock}
+use Rattle.blocks.specs.Block.{word, FreshBlock}
 use Rattle.engine.specs.State.{words, State}
 use Rattle.engine.proofs.Entries.{fresh-rule, rule-size}
 use Rattle.monitor.specs.Checkpoint.{held-count, held-bits, need, block-at}

@@ -9,7 +9,7 @@ use Rattle.mtl.specs.Satisfaction.{any}
 use Rattle.rule.specs.declared.Entry.{Entry}
 use Rattle.rule.specs.Entries.{count, decoded, entry}
 use Rattle.rule.specs.Words.{offset, words}
-use Rattle.engine.specs.Block.{word, cells-of}
+use Rattle.blocks.specs.Block.{word, cells-of}
 
 -- the number in a checkpoint's first word: the bytes HAVD, and the format's number
 abbrev pub format : ℕ

@@ -15,8 +15,8 @@ use Rattle.rule.specs.declared.Measured.the-variants.{Refused as Unmeasured}
 use Rattle.rule.specs.Entries.{entry}
 use Rattle.rule.specs.Refusal.{refusal}
 use Rattle.rule.specs.Accepted.{WellFormed, Whole}
-use Rattle.engine.specs.Block.{word}
-use Rattle.engine.specs.Step.{Agrees}
+use Rattle.blocks.specs.Block.{word}
+use Rattle.blocks.specs.Step.{Agrees}
 use Rattle.engine.specs.Table.{RowsOk, column, Has}
 use Rattle.trace.specs.Format.{record-count}
 use Rattle.trace.specs.Order.{last-time}

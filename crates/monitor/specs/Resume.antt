@@ -9,7 +9,7 @@ use Rattle.mtl.specs.Log.{Log, NeverFalls, Continues}
 use Rattle.mtl.specs.Progress.{joint-progress}
 use Rattle.trace.specs.Format.{record-count, records-of}
 use Rattle.trace.specs.Order.{last-time}
-use Rattle.engine.specs.Step.{Agrees}
+use Rattle.blocks.specs.Step.{Agrees}
 use Rattle.monitor.specs.Checkpoint.{given, seen, last, need}
 use Rattle.monitor.specs.Refusal.{resume-refusal}
 use Rattle.monitor.specs.Verdicts.{formulas-of, verdict}

@@ -11,7 +11,7 @@ use Rattle.mtl.specs.Log.{Log}
 use Rattle.mtl.specs.Progress.{joint-progress}
 use Rattle.bits.specs.Packed.{bit, number}
 use Rattle.rule.specs.Entries.{count}
-use Rattle.engine.specs.Block.{word}
+use Rattle.blocks.specs.Block.{word}
 use Rattle.engine.specs.State.{State}
 use Rattle.monitor.specs.Checkpoint.{format, given, seen, last, held-count, held-bits, need}
 use Rattle.monitor.specs.Verdicts.{formulas-of, verdict}

@@ -8,9 +8,9 @@ ghost use Rattle.rule.specs.Words.{offset};
 ghost use Rattle.monitor.specs.Checkpoint.{copy-head, copy-ends, copy-differs, foreign, room, block-in-range, block-outside, outside};
 ghost use Rattle.monitor.specs.Code.{sized-by, sized-number, checked-by, checked-number};
 ghost use Rattle.monitor.specs.Refusal.{point-refusal};
-ghost use Rattle.engine.specs.Block.{cells-of};
+ghost use Rattle.blocks.specs.Block.{cells-of};
 use super::header;
-use engine::word;
+use blocks::word;
 use rule::Entry;
 use rule::Measured;
 

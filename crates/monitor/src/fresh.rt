@@ -7,7 +7,7 @@ ghost use Rattle.rule.specs.Words.{words as needed};
 ghost use Rattle.monitor.specs.Code.{Fresh, copies};
 use super::check;
 use super::header;
-use engine::word;
+use blocks::word;
 use rule::Entry;
 
 // Sets every word to 0.

@@ -7,7 +7,7 @@ use native.Mathlib.Omega.{arith}
 use lib.ListN.{length, drop}
 use borrow.Fn.Kinds.{In}
 use borrow.Fn.PlainCycle.{Measures, is, falls, and}
-use Rattle.engine.specs.Step.{left-to-do}
+use Rattle.blocks.specs.Step.{left-to-do}
 use Rattle.engine.specs.Table.{column}
 use Rattle.engine.specs.Answer.{Answers}
 use Rattle.engine.specs.Ask.{part}
@@ -21,8 +21,8 @@ use Rattle.engine.proofs.+answer+ask.Lts-answer as answer-lts
 use Rattle.engine.proofs.ask.Reads as ask
 use Rattle.engine.proofs.ask.Kinds as ask-kinds
 use Rattle.engine.proofs.+answer+ask.Lts-ask as ask-lts
-use Rattle.engine.proofs.blocks.store.Reads as store-reads
-use Rattle.engine.proofs.operator.advance.Reads as advance-reads
+use Rattle.engine.proofs.store.Reads as store-reads
+use Rattle.operators.proofs.advance.Reads as advance-reads
 use Rattle.engine.proofs.table.field.Reads as field-reads
 use Rattle.engine.proofs.+answer+ask.{statement}
 use Rattle.engine.proofs.+answer+ask.Tie.{close}

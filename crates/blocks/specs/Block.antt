@@ -1,0 +1,188 @@
+-- The block of an entry in a checkpoint: 16 words, and for since the ring behind them. docs/CHECKPOINT.md has the table.
+use Prim.Native.Nat.{ℕ, _+_, _*_, _-_, _/_, _≤_, _<_, _^_}
+use mathlib.Core.Bool.{Bool, true, cond}
+use mathlib.Core.Path.{_≡_}
+use mathlib.Core.List.{List}
+use lib.ListN.{getD, set}
+use lib.Dec.{eqb}
+use Rattle.mtl.specs.Formula.{Formula}
+use Rattle.mtl.specs.Formula.Formula.{letter, not, or, previous, next, since, until}
+use Rattle.mtl.specs.Log.{Log}
+use Rattle.mtl.specs.Satisfaction.{sat}
+use Rattle.mtl.specs.Progress.{progress}
+use Rattle.bits.specs.Packed.{Packed}
+use Rattle.rule.specs.Words.{ring-words}
+use Rattle.blocks.specs.Ring.{Ring, Witnesses}
+
+abbrev pub word : List ℕ → ℕ → ℕ
+word b i = getD b i 0
+
+-- the words of a block by name
+-- taken: the next position to take from the operands (of a letter: the reading head)
+abbrev pub taken : List ℕ → ℕ
+taken b = word b 0
+
+-- what each operand has answered and is still to be taken: for how many positions from `taken` on, and the word of answers
+abbrev pub left-count : List ℕ → ℕ
+left-count b = word b 1
+
+abbrev pub left-bits : List ℕ → ℕ
+left-bits b = word b 2
+
+abbrev pub right-count : List ℕ → ℕ
+right-count b = word b 3
+
+abbrev pub right-bits : List ℕ → ℕ
+right-bits b = word b 4
+
+-- until: the next position to answer
+abbrev pub answered : List ℕ → ℕ
+answered b = word b 5
+
+-- of the last position taken: the operands' answers there (previous: its operand's, as left), and its time
+abbrev pub last-left : List ℕ → ℕ
+last-left b = word b 6
+
+abbrev pub last-right : List ℕ → ℕ
+last-right b = word b 7
+
+abbrev pub last-time : List ℕ → ℕ
+last-time b = word b 8
+
+-- the numbers of the paper's table of kinds, and the fields that an entry of the formula's last operator has
+abbrev pub kind-of : Formula → ℕ
+kind-of (letter k) = 0
+kind-of (not φ) = 1
+kind-of (or φ ψ) = 2
+kind-of (previous low high φ) = 3
+kind-of (next low high φ) = 4
+kind-of (since low high φ ψ) = 5
+kind-of (until low high φ ψ) = 6
+
+abbrev pub letter-of : Formula → ℕ
+letter-of (letter k) = k
+letter-of (not φ) = 0
+letter-of (or φ ψ) = 0
+letter-of (previous low high φ) = 0
+letter-of (next low high φ) = 0
+letter-of (since low high φ ψ) = 0
+letter-of (until low high φ ψ) = 0
+
+abbrev pub low-of : Formula → ℕ
+low-of (letter k) = 0
+low-of (not φ) = 0
+low-of (or φ ψ) = 0
+low-of (previous low high φ) = low
+low-of (next low high φ) = low
+low-of (since low high φ ψ) = low
+low-of (until low high φ ψ) = low
+
+abbrev pub high-of : Formula → ℕ
+high-of (letter k) = 0
+high-of (not φ) = 0
+high-of (or φ ψ) = 0
+high-of (previous low high φ) = high
+high-of (next low high φ) = high
+high-of (since low high φ ψ) = high
+high-of (until low high φ ψ) = high
+
+-- the copy of the entry that its block keeps, in the block's last two words
+pub record Copied (kind letter low high : ℕ) (b : List ℕ) : Type 0 where
+  pub head : word b 14 ≡ kind * 256 + letter
+  pub ends : word b 15 ≡ low * 2 ^ 32 + high
+
+-- the block of an entry that has taken nothing yet, as open writes it
+pub record FreshBlock (kind letter low high : ℕ) (b : List ℕ) : Type 0 where
+  pub zeros : (i : ℕ) → i < 14 → word b i ≡ 0
+  pub copy : Copied kind letter low high b
+
+-- the cells of an entry's ring: a since has one, the other kinds none
+abbrev pub cells-of : (kind high : ℕ) → ℕ
+cells-of kind high = cond (eqb kind 5) (ring-words high) 0
+
+-- the ranges of a block's words, for a log of so many records and a ring of so many cells (refusal 11)
+pub record InRange (size cells : ℕ) (b : List ℕ) : Type 0 where
+  pub at : taken b ≤ size
+  pub left-count : left-count b ≤ 64
+  pub right-count : right-count b ≤ 64
+  pub answered : answered b ≤ taken b
+  pub last-left : last-left b ≤ 1
+  pub last-right : last-right b ≤ 1
+  pub last-time : last-time b < 2 ^ 32
+  pub start : word b 9 ≤ cells
+  pub count : word b 10 ≤ cells
+
+-- previous: of the position before, the operand's answer and the time
+pub record Remembers (time : ℕ → ℕ) (truth : ℕ → Bool) (g : ℕ) (b : List ℕ) : Type 0 where
+  pub at : taken b ≡ g
+  pub last-answer : 0 < g → truth (g - 1) ≡ eqb (last-left b) 1
+  pub last-time : 0 < g → last-time b ≡ time (g - 1)
+
+-- since: the ring holds the times of the witnesses still alive
+pub record Since (high : ℕ) (time : ℕ → ℕ) (left right : ℕ → Bool) (g : ℕ) (b : List ℕ) : Type 0 where
+  pub at : taken b ≡ g
+  pub times : List ℕ
+  pub ring : Ring (ring-words high) b times
+  pub alive : Witnesses high time left right g times
+
+-- until: g is the next position to answer, p ≥ g the next to take, and of g up to p - 1 it is known that ..
+pub record Until (low high : ℕ) (time : ℕ → ℕ) (left right : ℕ → Bool) (g p ll lr lt : ℕ) : Type 0 where
+  pub ahead : g ≤ p
+  pub last-left : g < p → left (p - 1) ≡ eqb ll 1
+  pub last-right : g < p → right (p - 1) ≡ eqb lr 1
+  pub last-time : g < p → lt ≡ time (p - 1)
+  pub left-held : (k : ℕ) → g ≤ k → k + 1 < p → left k ≡ true
+  pub right-early : (k : ℕ) → g ≤ k → k + 1 < p → right k ≡ true → time k - time g < low
+  pub not-over : g < p → time (p - 1) - time g ≤ high
+
+-- what the words of an operator's own block say, when the next position that it answers is g
+abbrev pub Own : Formula → Log → ℕ → List ℕ → Type 0
+Own (letter k) L g b = taken b ≡ g
+Own (not φ) L g b = taken b ≡ g
+Own (or φ ψ) L g b = taken b ≡ g
+Own (previous low high φ) L g b = Remembers (L .time) (sat φ L) g b
+Own (next low high φ) L g b = g ≡ taken b - 1
+Own (since low high φ ψ) L g b = Since high (L .time) (sat φ L) (sat ψ L) g b
+Own (until low high φ ψ) L g b =
+    (answered b ≡ g) ×
+    Until low high (L .time) (sat φ L) (sat ψ L) g (taken b) (last-left b) (last-right b) (last-time b)
+
+-- an operator's own block stands at g
+pub record Core (φ : Formula) (L : Log) (g : ℕ) (b : List ℕ) : Type 0 where
+  pub reached : g ≤ progress φ L
+  pub range : InRange (L .size) (cells-of (kind-of φ) (high-of φ)) b
+  pub copy : Copied (kind-of φ) (letter-of φ) (low-of φ) (high-of φ) b
+  pub own : Own φ L g b
+
+-- a buffered operand: the word has its answers at the count positions from p on, and it has answered that far
+pub record Buffer (φ : Formula) (L : Log) (p count bits : ℕ) : Type 0 where
+  pub within : p + count ≤ progress φ L
+  pub packed : Packed (sat φ L) p count bits
+
+-- the buffers of an operator's block
+abbrev pub LeftBuffer : Formula → Log → List ℕ → Type 0
+LeftBuffer φ L b = Buffer φ L (taken b) (left-count b) (left-bits b)
+
+abbrev pub RightBuffer : Formula → Log → List ℕ → Type 0
+RightBuffer φ L b = Buffer φ L (taken b) (right-count b) (right-bits b)
+
+abbrev pub Buffers : Formula → Log → List ℕ → Type 0
+Buffers (letter k) L b = Unit {0}
+Buffers (not φ) L b = RightBuffer φ L b
+Buffers (or φ ψ) L b = LeftBuffer φ L b × RightBuffer ψ L b
+Buffers (previous low high φ) L b = RightBuffer φ L b
+Buffers (next low high φ) L b = RightBuffer φ L b
+Buffers (since low high φ ψ) L b = LeftBuffer φ L b × RightBuffer ψ L b
+Buffers (until low high φ ψ) L b = LeftBuffer φ L b × RightBuffer ψ L b
+
+-- block and buffers: all that one step of an operator looks at
+pub record Ready (φ : Formula) (L : Log) (g : ℕ) (b : List ℕ) : Type 0 where
+  pub core : Core φ L g b
+  pub buffers : Buffers φ L b
+
+-- a block after n positions were taken out of the right or only buffer, or out of both
+abbrev pub took-right : ℕ → List ℕ → List ℕ
+took-right n b = set (set (set b 0 (taken b + n)) 3 (right-count b - n)) 4 (right-bits b / 2 ^ n)
+
+abbrev pub took-both : ℕ → List ℕ → List ℕ
+took-both n b = set (set (took-right n b) 1 (left-count b - n)) 2 (left-bits b / 2 ^ n)

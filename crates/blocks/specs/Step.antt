@@ -1,0 +1,99 @@
+-- One step of one entry on its own block: what it may ask for, and what it has done then.
+use Prim.Native.Nat.{ℕ, zero, suc, _+_, _*_, _-_, _≤_, _<_}
+use mathlib.Core.Bool.{Bool, true, false}
+use mathlib.Core.Path.{_≡_}
+use mathlib.Core.List.{List}
+use Rattle.mtl.specs.Formula.{Formula}
+use Rattle.mtl.specs.Formula.Formula.{letter, not, or, previous, next, since, until}
+use Rattle.mtl.specs.Log.{Log, NeverFalls, Agree}
+use Rattle.mtl.specs.Progress.{progress}
+use Rattle.trace.specs.Format.{record-count}
+use Rattle.trace.specs.Log.{log-of}
+use Rattle.blocks.specs.Block.{taken, left-count, right-count, answered, Buffer, Ready}
+use Rattle.blocks.specs.declared.Step.{Step}
+use Rattle.blocks.specs.declared.Step.the-variants.{Batch, Left, Right, Again, Open}
+
+-- the lent records are those of the log from position g on: earlier ones may hold any bytes
+pub record Agrees (s : List ℕ) (L : Log) (g : ℕ) : Type 0 where
+  pub size : record-count s ≡ L .size
+  pub same : Agree (log-of s) L g (L .size)
+
+-- an operator's operands; a letter has none, and what stands here for a missing one is used by nothing
+abbrev pub has-left : Formula → Bool
+has-left (letter k) = false
+has-left (not φ) = false
+has-left (or φ ψ) = true
+has-left (previous low high φ) = false
+has-left (next low high φ) = false
+has-left (since low high φ ψ) = true
+has-left (until low high φ ψ) = true
+
+abbrev pub has-right : Formula → Bool
+has-right (letter k) = false
+has-right (not φ) = true
+has-right (or φ ψ) = true
+has-right (previous low high φ) = true
+has-right (next low high φ) = true
+has-right (since low high φ ψ) = true
+has-right (until low high φ ψ) = true
+
+abbrev pub left-of : Formula → Formula
+left-of (letter k) = letter k
+left-of (not φ) = φ
+left-of (or φ ψ) = φ
+left-of (previous low high φ) = φ
+left-of (next low high φ) = φ
+left-of (since low high φ ψ) = φ
+left-of (until low high φ ψ) = φ
+
+-- the right operand, or the only one: that of the entry before
+abbrev pub right-of : Formula → Formula
+right-of (letter k) = letter k
+right-of (not φ) = φ
+right-of (or φ ψ) = ψ
+right-of (previous low high φ) = φ
+right-of (next low high φ) = φ
+right-of (since low high φ ψ) = ψ
+right-of (until low high φ ψ) = ψ
+
+-- every position taken is taken out of the buffers: the operands themselves stay where they stand; and no head goes back
+pub record Moved (φ : Formula) (b b′ : List ℕ) : Type 0 where
+  pub left : has-left φ ≡ true → taken b′ + left-count b′ ≡ taken b + left-count b
+  pub right : has-right φ ≡ true → taken b′ + right-count b′ ≡ taken b + right-count b
+  pub taken : taken b ≤ taken b′
+  pub answered : answered b ≤ answered b′
+
+-- a batch: the answers at some positions from g on
+pub record Batched (φ : Formula) (L : Log) (g bits count : ℕ) : Type 0 where
+  pub some : 1 ≤ count
+  pub buffer : Buffer φ L g count bits
+
+-- one step from block b to block b′, by its outcome
+abbrev pub Stepped : Formula → Log → ℕ → List ℕ → Step → List ℕ → Type 0
+Stepped φ L g b (Batch bits count) b′ = Batched φ L g bits count × Ready φ L (g + count) b′ × Moved φ b b′
+Stepped φ L g b Again b′ = Ready φ L g b′ × Moved φ b b′
+-- an operand is wanted; if it has no more answers, neither has the operator
+Stepped φ L g b Left b′ = (has-left φ ≡ true) × (progress (left-of φ) L ≡ taken b → progress φ L ≡ g)
+Stepped φ L g b Right b′ = (has-right φ ≡ true) × (progress (right-of φ) L ≡ taken b → progress φ L ≡ g)
+Stepped φ L g b Open b′ = progress φ L ≡ g
+
+-- what a step promises where its block stands for the formula on some log
+abbrev pub Steps : Formula → List ℕ → List ℕ → Step → List ℕ → Type 0
+Steps φ s b r b′ = (L : Log) (g : ℕ) → NeverFalls L → Agrees s L g → Ready φ L g b → Stepped φ L g b r b′
+
+-- 1 for an empty buffer
+abbrev pub empty : ℕ → ℕ
+empty zero = 1
+empty (suc n) = 0
+
+-- what is left to take, and to fill: it falls with every turn, whatever the words hold
+abbrev pub left-to-do : List ℕ → List ℕ → ℕ
+left-to-do s b = 3 * (record-count s - taken b) + empty (left-count b) + empty (right-count b)
+
+-- what a step promises on any words, for an operator that has a left operand and a right one, or not
+abbrev pub Ends : (left right : Bool) → List ℕ → List ℕ → Step → List ℕ → Type 0
+Ends left right s b (Batch bits count) b′ = Unit {0}
+Ends left right s b Again b′ = left-to-do s b′ < left-to-do s b
+Ends left right s b Left b′ = (left ≡ true) × (b′ ≡ b) × (left-count b ≡ 0)
+Ends left right s b Right b′ = (right ≡ true) × (b′ ≡ b) × (right-count b ≡ 0)
+Ends left right s b Open b′ = b′ ≡ b

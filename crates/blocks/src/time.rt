@@ -1,0 +1,41 @@
+// Gaps between times. A gap that would be negative is 0, so that no words make it wrap.
+ghost use mathlib.Core.Path.{_≡_};
+ghost use Prim.Native.Nat.{_+_, _-_, _≤_, _<_, _^_};
+ghost use Rattle.mtl.specs.Satisfaction.{within as within-spec};
+ghost use Rattle.bits.specs.Packed.{Packed};
+ghost use Rattle.trace.specs.Format.{record-count};
+ghost use Rattle.blocks.specs.Near.{near-at};
+
+// A later time minus an earlier one.
+pub fn gap(earlier: u64, later: u64) -> u64
+    ensures { λ r. ⌜ r ≡ later - earlier ⌝ }
+{
+    if earlier <= later { later - earlier } else { 0 }
+}
+
+// low ≤ gap ≤ high. A gap to a 32-bit time never lies above the high that means no upper end.
+pub fn within(low: u64, high: u64, earlier: u64, later: u64) -> bool
+    requires { ⌜ later < 2 ^ 32 ⌝ }
+    ensures { λ r. ⌜ r ≡ within-spec low high earlier later ⌝ }
+{
+    let g = gap(earlier, later);
+    (low <= g) & (g <= high)
+}
+
+// Which of n positions from `from` on lie in the interval after the position before them, as a word of answers;
+// the one before the first has the time `before`.
+pub fn near(low: u64, high: u64, before: u64, records: &[u8], from: usize, n: usize) -> u64
+    requires { ⌜ (from + n ≤ record-count (now records)) × (n ≤ 64) ⌝ }
+    ensures { λ r. ⌜ Packed (near-at low high before (now (records .entry)) from) from n r ⌝ }
+{
+    let mut answers: u64 = 0;
+    let mut last = before;
+    let mut i: usize = 0;
+    while i < n {
+        let now = trace::time(records, from + i);
+        answers = bits::push(answers, i as u64, within(low, high, last, now));
+        last = now;
+        i += 1;
+    }
+    answers
+}

@@ -1,0 +1,3 @@
+-- Simple: letter, not, or, previous, next. ByKind: the choice by kind.
+pub mod Simple
+pub mod ByKind

@@ -1,0 +1,66 @@
+// previous and next: the operand's answers at the neighbouring positions, where the gap lies in the interval.
+ghost use mathlib.Core.Bool.{true, false};
+ghost use Prim.Native.Nat.{_≤_};
+ghost use lib.ListN.{length};
+ghost use Rattle.mtl.specs.Formula.{Formula};
+ghost use Rattle.mtl.specs.Formula.Formula.{previous, next};
+ghost use Rattle.blocks.specs.Step.{Steps, Ends};
+use blocks::Step;
+use blocks::time;
+use blocks::word;
+
+// Each position is answered from the one before it; of the last, the operand's answer and the time are kept.
+pub fn step_previous(low: u64, high: u64, records: &[u8], block: &mut [u64]) -> Step
+    requires { ⌜ 16 ≤ length (now block) ⌝ }
+    ensures { λ r. ⌜ Ends false true (now (records .entry)) (now (block .entry)) r (now (block .exit)) ⌝ }
+    ensures { λ r. ⌜ ((φ : Formula) → Steps (previous low high φ) (now (records .entry)) (now (block .entry)) r (now (block .exit))) ⌝ }
+{
+    let at = block[word::TAKEN];
+    if block[word::RIGHT_COUNT] == 0 {
+        return Step::Right;
+    }
+    let count = blocks::available(at, block[word::RIGHT_COUNT], trace::count(records) as u64);
+    if count == 0 {
+        return Step::Open;
+    }
+    let operand = block[word::RIGHT_BITS];
+    let kept = (0 < at) & (block[word::LAST_LEFT] == 1);
+    let near = time::near(
+        low,
+        high,
+        block[word::LAST_TIME],
+        records,
+        at as usize,
+        count as usize,
+    );
+    let bits = near & bits::move_up(operand, kept);
+    blocks::take_right(block, count);
+    block[word::LAST_LEFT] = bits::rest(operand, count - 1) % 2;
+    block[word::LAST_TIME] = trace::time(records, (at + (count - 1)) as usize);
+    Step::Batch { bits, count }
+}
+
+// The operand's answer at position 0 is passed over; from then on its answer at i + 1 answers i.
+pub fn step_next(low: u64, high: u64, records: &[u8], block: &mut [u64]) -> Step
+    requires { ⌜ 16 ≤ length (now block) ⌝ }
+    ensures { λ r. ⌜ Ends false true (now (records .entry)) (now (block .entry)) r (now (block .exit)) ⌝ }
+    ensures { λ r. ⌜ ((φ : Formula) → Steps (next low high φ) (now (records .entry)) (now (block .entry)) r (now (block .exit))) ⌝ }
+{
+    let at = block[word::TAKEN];
+    if block[word::RIGHT_COUNT] == 0 {
+        return Step::Right;
+    }
+    let count = blocks::available(at, block[word::RIGHT_COUNT], trace::count(records) as u64);
+    if count == 0 {
+        return Step::Open;
+    }
+    if at == 0 {
+        blocks::take_right(block, 1);
+        return Step::Again;
+    }
+    let before = trace::time(records, (at - 1) as usize);
+    let near = time::near(low, high, before, records, at as usize, count as usize);
+    let bits = near & block[word::RIGHT_BITS];
+    blocks::take_right(block, count);
+    Step::Batch { bits, count }
+}

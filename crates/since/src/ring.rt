@@ -1,0 +1,111 @@
+// A since's ring of times, oldest first, in the cells behind its block's 16 words. Words 9 and 10 say where the oldest
+// stands and how many there are; whatever they hold, only the ring's own cells are read and written.
+ghost use mathlib.Core.Path.{_≡_};
+ghost use mathlib.Core.List.{List};
+ghost use Prim.Native.Nat.{ℕ, _+_, _≤_, _<_, _^_};
+ghost use lib.ListN.{length};
+ghost use Rattle.rule.specs.Words.{ring-words};
+ghost use Rattle.blocks.specs.Ring.{Ring, Rings, wrap, dropped, kept, pushed, reaches, turned};
+use blocks::time;
+use blocks::word;
+
+// The number of cells that a since with this high has.
+pub fn cells_for(high: u64) -> u64
+    requires { ⌜ high < 2 ^ 32 ⌝ }
+    ensures { λ r. ⌜ (r ≡ ring-words high) × (0 < r) × (r < 2 ^ 32) ⌝ }
+{
+    if high == 4294967295 { 1 } else { high + 1 }
+}
+
+// The index in the block of the cell that is `at` cells behind the first.
+fn cell(cells: u64, at: u64) -> usize
+    requires { ⌜ (0 < cells) × (cells < 2 ^ 32) ⌝ }
+    ensures { λ r. ⌜ (16 ≤ r) × (r < 16 + cells) × (at < cells + cells → r ≡ 16 + wrap cells at) ⌝ }
+{
+    if at < cells {
+        return 16 + at as usize;
+    }
+    let over = at - cells;
+    if over < cells { 16 + over as usize } else { 16 }
+}
+
+// x, or most where x lies above it.
+fn at_most(x: u64, most: u64) -> u64
+    ensures { λ r. ⌜ (r ≤ most) × (x ≤ most → r ≡ x) ⌝ }
+{
+    if x <= most { x } else { most }
+}
+
+// Drops the times that lie more than high before `at`.
+fn drop_old(cells: u64, high: u64, at: u64, block: &mut [u64])
+    requires { ⌜ (0 < cells) × (cells < 2 ^ 32) × (16 + cells ≤ length (now block)) ⌝ }
+    ensures { λ _. ⌜ Rings cells (dropped high at) (now (block .entry)) (now (block .exit)) ⌝ }
+{
+    let mut start = at_most(block[word::RING_START], cells - 1);
+    let mut count = at_most(block[word::RING_COUNT], cells);
+    while 0 < count {
+        if time::gap(block[cell(cells, start)], at) <= high {
+            break;
+        }
+        start = cell(cells, start + 1) as u64 - 16;
+        count -= 1;
+    }
+    block[word::RING_START] = start;
+    block[word::RING_COUNT] = count;
+}
+
+// Drops all of them, unless `left` holds.
+fn keep_if(left: bool, block: &mut [u64])
+    requires { ⌜ 16 ≤ length (now block) ⌝ }
+    ensures { λ _. ⌜ ((cells : ℕ) → Rings cells (kept left) (now (block .entry)) (now (block .exit))) ⌝ }
+{
+    if !left {
+        block[word::RING_COUNT] = 0;
+    }
+}
+
+// Adds `at` as the newest where `right` holds, unless it is that already or the ring is full.
+fn push_if(cells: u64, right: bool, at: u64, block: &mut [u64])
+    requires { ⌜ (0 < cells) × (cells < 2 ^ 32) × (16 + cells ≤ length (now block)) ⌝ }
+    ensures { λ _. ⌜ Rings cells (pushed cells right at) (now (block .entry)) (now (block .exit)) ⌝ }
+{
+    let start = at_most(block[word::RING_START], cells - 1);
+    let count = at_most(block[word::RING_COUNT], cells);
+    if right & (count < cells) {
+        if (count == 0) || (block[cell(cells, start + count - 1)] != at) {
+            let end = cell(cells, start + count);
+            block[end] = at;
+            block[word::RING_COUNT] = count + 1;
+        }
+    }
+}
+
+// Whether the oldest lies at least low before `at`.
+fn reaches_back(cells: u64, low: u64, at: u64, block: &[u64]) -> bool
+    requires { ⌜ (0 < cells) × (cells < 2 ^ 32) × (16 + cells ≤ length (now block)) ⌝ }
+    ensures { λ r. ⌜ ((qs : List ℕ) → Ring cells (now (block .entry)) qs → r ≡ reaches low at qs) ⌝ }
+{
+    let start = at_most(block[word::RING_START], cells - 1);
+    (0 < block[word::RING_COUNT]) & (low <= time::gap(block[cell(cells, start)], at))
+}
+
+// One position's turn: the times more than high before it are dropped, all of them where left fails, and its own is
+// added where right holds. True if the oldest left lies at least low before it.
+pub fn turn(
+    cells: u64,
+    low: u64,
+    high: u64,
+    left: bool,
+    right: bool,
+    at: u64,
+    block: &mut [u64],
+) -> bool
+    requires { ⌜ (0 < cells) × (cells < 2 ^ 32) × (16 + cells ≤ length (now block)) ⌝ }
+    ensures { λ _. ⌜ Rings cells (turned cells high left right at) (now (block .entry)) (now (block .exit)) ⌝ }
+    ensures { λ r. ⌜ ((qs : List ℕ) → Ring cells (now (block .entry)) qs → r ≡ reaches low at (turned cells high left right at qs)) ⌝ }
+{
+    drop_old(cells, high, at, block);
+    keep_if(left, block);
+    push_if(cells, right, at, block);
+    reaches_back(cells, low, at, block)
+}

@@ -1,0 +1,359 @@
+-- until's words: what is settled, answered and taken on a block, from the laws over numbers.
+use Prim.Native.Nat.{ℕ, zero, suc, _+_, _-_, _≤_, _<_, _^_, min}
+use mathlib.Core.Bool.{Bool, true, false, cond, _&&_, _||_, true≢false}
+use mathlib.Core.Bool.{not as negate}
+use mathlib.Core.List.{List, [], _∷_}
+use mathlib.Core.Logic.{_⊎_, inl, inr, ⊎-elim}
+use mathlib.Core.Path.{_≡_, refl, sym, _∙_, ap}
+use native.Mathlib.Omega.{arith}
+use lib.Dec.{eqb, leb, ltb}
+use lib.ListN.{length, getD}
+use borrow.Author.Tests.{eqb-true, eq-eqb, leb-true, leb-false, lt-ltb, le-ltb, not-true, not-false}
+use Rattle.mtl.specs.Formula.{Formula}
+use Rattle.mtl.specs.Formula.Formula.{until}
+use Rattle.mtl.specs.Log.{Log, NeverFalls}
+use Rattle.mtl.specs.Satisfaction.{sat}
+use Rattle.mtl.specs.Progress.{progress}
+use Rattle.mtl.proofs.Bounded.{and-iff, or-iff, le-or-lt, Above, above-small}
+use Rattle.mtl.proofs.Until.{answered-operands, answered-fits, until-answered, until-yes, until-no}
+use Rattle.bits.specs.Packed.{number, with-bit}
+use Rattle.bits.proofs.Laws.{number-lt, packed-none, packed-push}
+use Rattle.trace.specs.Format.{record-count, time-at}
+use Rattle.trace.proofs.Laws.{time-bound}
+use Rattle.blocks.specs.Block.{
+  word,
+  taken,
+  left-count,
+  left-bits,
+  right-count,
+  right-bits,
+  answered,
+  last-left,
+  last-right,
+  last-time,
+  Until,
+  Buffer,
+  Ready,
+}
+use Rattle.blocks.specs.Step.{Agrees, Moved, Stepped, Ends}
+use Rattle.until.specs.Settle.{pick, is-met, is-over, next-time, look-spec, take-spec, Reached, Walks, Limits, Waiting, walked, Wants}
+use Rattle.until.specs.declared.Last.{Last}
+use Rattle.until.specs.declared.Walked.{Walked}
+use Rattle.until.specs.declared.Settled.{Settled}
+use Rattle.until.specs.declared.Settled.the-variants.{Known, Unknown}
+use Rattle.blocks.specs.declared.Step.{Step}
+use Rattle.blocks.specs.declared.Step.the-variants.{Batch, Left, Right, Again, Open}
+use Rattle.until.proofs.UntilLogic as logic
+use Rattle.blocks.proofs.Words.{Store, put, after, word-stores, fits, less-to-do, Available}
+use Rattle.blocks.proofs.Taking.{both-stores, first-of, taken-both}
+
+-- an answer as a word, and back
+is-number : (x : Bool) → eqb (number x) 1 ≡ x
+is-number true = refl
+is-number false = refl
+
+number-is : (d : ℕ) → d ≤ 1 → number (eqb d 1) ≡ d
+number-is zero h = refl
+number-is (suc zero) h = refl
+number-is (suc (suc d)) h = absurd (omega arith)
+
+neither : (x y : Bool) → x || y ≡ false → (x ≡ false) × (y ≡ false)
+neither true y e = absurd (true≢false e)
+neither false y e = (refl, e)
+
+-- what was found, by the tests of `look-spec`
+abbrev Because : (fresh met over : Bool) → Settled → Type 0
+Because fresh met over (Known true) = (fresh ≡ false) × (met ≡ true)
+Because fresh met over (Known false) = (fresh ≡ false) × (met ≡ false) × (over ≡ true)
+Because fresh met over Unknown = (fresh ≡ true) ⊎ ((fresh ≡ false) × (met ≡ false) × (over ≡ false))
+
+because : (fresh met over : Bool) → Because fresh met over (pick fresh Unknown (pick (met || over) (Known met) Unknown))
+because true met over = inl refl
+because false true over = (refl, refl)
+because false false true = (refl, refl, refl)
+because false false false = inr (refl, refl, refl)
+
+-- the tests behind a finding
+found : (low high : ℕ) (s : List ℕ) (g p : ℕ) (last : Last) (r : Settled) → look-spec low high s g p last ≡ r →
+    Because (leb p g) (is-met low (time-at s g) last) (is-over high (time-at s g) last (next-time s p last)) r
+found low high s g p last r e =
+    rw e at (because (leb p g) (is-met low (time-at s g) last) (is-over high (time-at s g) last (next-time s p last)))
+
+-- a position is known only behind those taken
+pub known-behind : (low high : ℕ) (s : List ℕ) (g p : ℕ) (last : Last) (v : Bool) → look-spec low high s g p last ≡ Known v → g < p
+known-behind low high s g p last true e = leb-false p g (found low high s g p last (Known true) e .0)
+known-behind low high s g p last false e = leb-false p g (found low high s g p last (Known false) e .0)
+
+-- the time that is tested besides
+next-is : (s : List ℕ) (p : ℕ) (last : Last) →
+    ((p < record-count s) × (next-time s p last ≡ time-at s p)) ⊎ ((record-count s ≤ p) × (next-time s p last ≡ last .time))
+next-is s p last =
+    ⊎-elim
+    (λ h. inr (h, ap (λ (t : Bool). cond t (time-at s p) (last .time)) (le-ltb p (record-count s) h)))
+    (λ h. inl (h, ap (λ (t : Bool). cond t (time-at s p) (last .time)) (lt-ltb p (record-count s) h)))
+    (le-or-lt (record-count s) p)
+
+-- the heads stand at g and p, on a log that the records are from position `first` on
+module _ (low high : ℕ) (φ ψ : Formula) (s : List ℕ) (byte : (i : ℕ) → getD s i 0 < 256) (L : Log) (first : ℕ) (falls : NeverFalls L) (agrees : Agrees s L first)
+    (g p : ℕ) (from : first ≤ g) (behind : p ≤ answered-operands φ ψ L) (last : Last)
+    (u : Until low high (L .time) (sat φ L) (sat ψ L) g p (number (last .left)) (number (last .right)) (last .time)) where
+  -- what each finding says of g
+  abbrev pub Means : Settled → Type 0
+  Means (Known v) = (g < progress (until low high φ ψ) L) × (sat (until low high φ ψ) L g ≡ v)
+  Means Unknown = logic.Waits low high (L .time) (sat φ L) (sat ψ L) (L .size) g p
+
+  module _ (some : g < p) where
+    begins : time-at s g ≡ L .time g
+    begins = agrees .same g from (omega (arith, answered-fits φ ψ L)) .time
+
+    -- if the time tested lies more than high after g, it is that of position p, since the last one's does not
+    late : is-over high (time-at s g) last (next-time s p last) ≡ true →
+        (eqb (number (last .left)) 1 ≡ false) ⊎ ((p < L .size) × Above high (L .time p - L .time g))
+    late d =
+        ⊎-elim
+        (λ f. inl (is-number (last .left) ∙ not-true (last .left) f))
+        (λ v. inr (⊎-elim (inside v) (outside v) (next-is s p last)))
+        (or-iff (negate (last .left)) (ltb high (next-time s p last - time-at s g)) .0 d)
+      where
+        inside : ltb high (next-time s p last - time-at s g) ≡ true → (p < record-count s) × (next-time s p last ≡ time-at s p) →
+            (p < L .size) × Above high (L .time p - L .time g)
+        inside v (h, e) =
+            let z = agrees .size in
+            let t = agrees .same p (omega arith) (omega arith) .time in
+            let b = begins in
+            let small = time-bound s byte p in
+            (omega arith, above-small high (L .time g) (L .time p) (omega arith) (omega (arith, leb-true)))
+
+        outside : ltb high (next-time s p last - time-at s g) ≡ true → (record-count s ≤ p) × (next-time s p last ≡ last .time) →
+            (p < L .size) × Above high (L .time p - L .time g)
+        outside v (h, e) =
+            let t = u .last-time some in
+            let n = u .not-over some in
+            let b = begins in
+            absurd (omega (arith, leb-true))
+
+    -- if not, neither does the time of a position p
+    soon : is-over high (time-at s g) last (next-time s p last) ≡ false →
+        (eqb (number (last .left)) 1 ≡ true) × (p < L .size → L .time p - L .time g ≤ high)
+    soon d =
+        let both = neither (negate (last .left)) (ltb high (next-time s p last - time-at s g)) d in
+        let v = both .1 in
+        let z = agrees .size in
+        let b = begins in (
+          is-number (last .left) ∙ not-false (last .left) (both .0),
+          λ h.
+              let t = agrees .same p (omega arith) h .time in
+              ⊎-elim (λ w. let e = w .1 in omega (arith, leb-false)) (λ w. let o = w .0 in absurd (omega arith)) (next-is s p last),
+        )
+
+    unmet : is-met low (time-at s g) last ≡ false → eqb (number (last .right)) 1 ≡ true → last .time - L .time g < low
+    unmet e r =
+        let h = rw (sym (is-number (last .right)) ∙ r) at e in
+        let b = begins in
+        omega (arith, leb-false)
+
+    yes : is-met low (time-at s g) last ≡ true → Means (Known true)
+    yes e =
+        let both = and-iff (last .right) (leb low (last .time - time-at s g)) .0 e in
+        let h = both .1 in
+        let b = begins in
+        let y = logic.met (answered-fits φ ψ L) falls behind u some (is-number (last .right) ∙ both .0) (omega (arith, leb-true)) in
+        let k : g < answered-operands φ ψ L = omega arith in
+        (until-answered low high φ ψ L falls g .1 (k, inl y), until-yes low high φ ψ L falls g k y)
+
+    no : is-met low (time-at s g) last ≡ false → is-over high (time-at s g) last (next-time s p last) ≡ true → Means (Known false)
+    no e d =
+        let y = logic.over (answered-fits φ ψ L) falls behind u some (unmet e) (late d) in
+        let k : g < answered-operands φ ψ L = omega arith in
+        (until-answered low high φ ψ L falls g .1 (k, inr y), until-no low high φ ψ L falls g k y)
+
+    waits : is-met low (time-at s g) last ≡ false → is-over high (time-at s g) last (next-time s p last) ≡ false → Means Unknown
+    waits e d = logic.waits (answered-fits φ ψ L) falls behind u some (unmet e) (soon d .0) (soon d .1)
+
+  fresh : p ≤ g → Means Unknown
+  fresh h = let a = u .ahead in logic.waits-fresh (answered-fits φ ψ L) falls behind (omega arith)
+
+  pub finds : (r : Settled) → look-spec low high s g p last ≡ r → Means r
+  finds (Known true) e = let b = found low high s g p last (Known true) e in yes (leb-false p g (b .0)) (b .1)
+  finds (Known false) e = let b = found low high s g p last (Known false) e in no (leb-false p g (b .0)) (b .1) (b .2)
+  finds Unknown e =
+      ⊎-elim
+      (λ b. fresh (leb-true p g b))
+      (λ b. waits (leb-false p g (b .0)) (b .1) (b .2))
+      (found low high s g p last Unknown e)
+
+-- one turn of a walk
+module _ (low high : ℕ) (s : List ℕ) (byte : (i : ℕ) → getD s i 0 < 256) (g at n left right : ℕ) (from : Last) (bits count took : ℕ) (last : Last)
+    (most : took ≤ n) where
+  -- all n positions lie below the operands' numbers
+  operands : {φ ψ : Formula} {L : Log} → Buffer φ L at n left → Buffer ψ L at n right → at + took ≤ answered-operands φ ψ L
+  operands a b = let x = a .within in let y = b .within in omega arith
+
+  pub walks-known : (v : Bool) → look-spec low high s (g + count) (at + took) last ≡ Known v → count < 64 → bits < 2 ^ count →
+      Walks low high s g at n left right from bits count took last →
+      Walks low high s g at n left right from (with-bit bits count v) (count + 1) took last
+  walks-known v e h small walks φ ψ L falls agrees a b start =
+      let r = walks φ ψ L falls agrees a b start in
+      let m = finds low high φ ψ s byte L g falls agrees (g + count) (at + took) (omega arith) (operands a b) last (r .heads) (Known v) e in
+      let some = known-behind low high s (g + count) (at + took) last v e in
+      let inside = m .0 in
+      record {
+        heads =
+            logic.answered-later (answered-fits φ ψ L) falls (operands a b) (r .heads) some (g + (count + 1)) (omega arith) (omega arith);
+        answers =
+            record {
+              within = omega arith;
+              packed = packed-push (sat (until low high φ ψ) L) g count bits v h small (m .1) (r .answers .packed);
+            };
+      }
+
+  pub walks-unknown : look-spec low high s (g + count) (at + took) last ≡ Unknown → took < n →
+      Walks low high s g at n left right from bits count took last →
+      Walks low high s g at n left right from bits count (took + 1) (take-spec s at took left right)
+  walks-unknown e h walks φ ψ L falls agrees a b start =
+      let r = walks φ ψ L falls agrees a b start in
+      let w = finds low high φ ψ s byte L g falls agrees (g + count) (at + took) (omega arith) (operands a b) last (r .heads) Unknown e in
+      let x = a .within in
+      let y = b .within in
+      let z = w .ahead in
+      let next : at + (took + 1) ≡ at + took + 1 = omega arith in
+      record {
+        heads =
+            rw next
+            (logic.taken-next (answered-fits φ ψ L) falls (operands a b) w (omega arith)
+            (a .packed .same took h ∙ sym (is-number _))
+            (b .packed .same took h ∙ sym (is-number _))
+            (agrees .same (at + took) (omega arith) (omega (arith, fits a)) .time));
+        answers = r .answers;
+      }
+
+-- the last position taken, as the block has it
+abbrev pub last-of : List ℕ → Last
+last-of b = record { left = eqb (last-left b) 1; right = eqb (last-right b) 1; time = last-time b }
+
+-- the stores of `walked`
+abbrev walked-stores : Walked → List ℕ → List Store
+walked-stores w b =
+    both-stores (w .took) b
+    (put 5 (answered b + w .count) ∷ put 6 (number (w .last .left)) ∷ put 7 (number (w .last .right)) ∷ put 8 (w .last .time) ∷ [])
+
+-- the tests for a walk that has answered and taken nothing
+pub none-done : (count took : ℕ) → eqb count 0 && eqb took 0 ≡ true → (count ≡ 0) × (took ≡ 0)
+none-done count took e = let both = and-iff (eqb count 0) (eqb took 0) .0 e in (eqb-true count 0 (both .0), eqb-true took 0 (both .1))
+
+pub some-done : (count took : ℕ) → eqb count 0 && eqb took 0 ≡ false → count ≡ 0 → 0 < took
+some-done count zero e z = absurd (true≢false (sym (and-iff (eqb count 0) true .1 (eq-eqb count 0 z, refl)) ∙ e))
+some-done count (suc took) e z = omega arith
+
+-- an operand is wanted, and the block is as it was
+pub wanted-ends : (s b : List ℕ) (r : Step) → Wants b r → Ends true true s b r b
+wanted-ends s b (Batch bits count) t = absurd t
+wanted-ends s b Again t = absurd t
+wanted-ends s b Left t = (refl, refl, t)
+wanted-ends s b Right t = (refl, refl, t .1)
+wanted-ends s b Open t = refl
+
+-- a step on block b that has walked over n positions
+pub record Went (low high : ℕ) (s b : List ℕ) (n : ℕ) (w : Walked) : Type 0 where
+  pub room : 16 ≤ length b
+  pub byte : (i : ℕ) → getD s i 0 < 256
+  pub some : Available (taken b) (min (left-count b) (right-count b)) (record-count s) n
+  pub within : Limits (answered b) (taken b) n (w .bits) (w .count) (w .took) (last-of b) (w .last)
+  pub waiting : w .count < 64 → Waiting low high s (answered b) (taken b) n (w .count) (w .took) (w .last)
+  pub walks : Walks low high s (answered b) (taken b) n (left-bits b) (right-bits b) (last-of b) (w .bits) (w .count) (w .took) (w .last)
+
+module _ {low high : ℕ} {s b : List ℕ} {n : ℕ} {w : Walked} (went : Went low high s b n w) where
+  abbrev b′ : List ℕ
+  b′ = walked w b
+
+  at : (k : ℕ) → word b′ k ≡ after (walked-stores w b) (word b) k
+  at = word-stores (walked-stores w b) b (omega arith) (went .room)
+
+  -- the walk's end fits the block
+  pub put-back-fits : taken b ≤ record-count s → record-count s < 2 ^ 64 → answered b < 2 ^ 64 →
+      (16 ≤ length b) × (w .took ≤ left-count b) × (w .took ≤ right-count b) × (taken b + w .took < 2 ^ 64) ×
+      (answered b + w .count < 2 ^ 64)
+  put-back-fits h fit g =
+      let inside : taken b + w .took ≤ record-count s =
+      ⊎-elim (λ z. omega arith) (λ p. let i = went .some .inside p in omega arith) (le-or-lt n 0) in
+      (went .room, omega arith, omega arith, omega arith, omega arith)
+
+  -- what is left to do falls with every position taken
+  pub took-ends : 0 < w .took → Ends true true s b Again b′
+  took-ends h = less-to-do s b b′ (w .took) h (let i = went .some .inside (omega arith) in omega arith) (at 0)
+
+  module _ (φ ψ : Formula) (L : Log) (g : ℕ) (falls : NeverFalls L) (agrees : Agrees s L g) (ready : Ready (until low high φ ψ) L g b) where
+    -- the first n positions of a buffer
+    first : {χ : Formula} {count bits : ℕ} → n ≤ count → Buffer χ L (taken b) count bits → Buffer χ L (taken b) n bits
+    first h x = let i = x .within in record { within = omega arith; packed = first-of n h x }
+
+    lefts : Buffer φ L (taken b) n (left-bits b)
+    lefts = first (omega arith) (ready .buffers .0)
+
+    rights : Buffer ψ L (taken b) n (right-bits b)
+    rights = first (omega arith) (ready .buffers .1)
+
+    start : Reached low high φ ψ L g (taken b) 0 0 0 (last-of b)
+    start =
+        let r = ready .core .range in
+        let i = ready .core .reached in
+        let e : g + 0 ≡ g = omega arith in
+        let f : taken b + 0 ≡ taken b = omega arith in
+        record {
+          heads = rw (e, f, number-is (last-left b) (r .last-left), number-is (last-right b) (r .last-right)) (ready .core .own .1);
+          answers = record { within = omega arith; packed = packed-none (sat (until low high φ ψ) L) g 0 };
+        }
+
+    reached : Reached low high φ ψ L g (taken b) (w .bits) (w .count) (w .took) (w .last)
+    reached = (rw (ready .core .own .0) at (went .walks)) φ ψ L falls agrees lefts rights start
+
+    -- the block after it
+    stands : Ready (until low high φ ψ) L (g + w .count) b′ × Moved (until low high φ ψ) b b′
+    stands =
+        let r = ready .core .range in
+        let x = reached .heads .ahead in
+        let y = reached .answers .within in
+        let i = ready .core .own .0 in
+        let k = lefts .within in
+        let l = number-lt (w .last .left) in
+        let m = number-lt (w .last .right) in
+        let t = went .within .bound (r .last-time) in
+        taken-both (until low high φ ψ) (ready .core) (w .took) (g + w .count) b′ y
+        (omega (arith, at 0, at 1, at 3, at 5, at 6, at 7, at 8, at 9, at 10, fits lefts))
+        (at 5 ∙ ap (λ (q : ℕ). q + w .count) i, rw (at 0, at 6, at 7, at 8) (reached .heads))
+        (λ q. q) (omega arith) (omega arith)
+        (record { right = record { at = at 0; count = at 3; bits = at 4; answered = omega (arith, at 5); head = at 14; ends = at 15 }; count = at 1; bits = at 2 })
+        (ready .buffers .0) (ready .buffers .1)
+
+    pub answers-some : 0 < w .count → Stepped (until low high φ ψ) L g b (Batch (w .bits) (w .count)) b′
+    answers-some h = (record { some = h; buffer = reached .answers }, stands .0, stands .1)
+
+    pub takes-some : w .count ≡ 0 → Stepped (until low high φ ψ) L g b Again b′
+    takes-some e = let f : g + w .count ≡ g = omega arith in (rw f at (stands .0), stands .1)
+
+    -- with nothing to take, g stays open
+    module _ (none : w .count ≡ 0) (nothing : w .took ≡ 0) where
+      none-left : answered-operands φ ψ L ≡ taken b → progress (until low high φ ψ) L ≡ g
+      none-left e =
+          let r = ready .core .reached in
+          let behind : taken b + w .took ≤ answered-operands φ ψ L = omega arith in
+          let waits =
+          finds low high φ ψ s (went .byte) L g falls agrees (g + w .count) (taken b + w .took) (omega arith) behind (w .last) (reached .heads) Unknown
+          (rw (ready .core .own .0) at (went .waiting (omega arith) .unknown)) in
+          let never : g + w .count < progress (until low high φ ψ) L → ⊥ =
+          λ l.
+          logic.stuck (answered-fits φ ψ L) falls behind waits (omega arith) (until-answered low high φ ψ L falls (g + w .count) .0 l .1) in
+          omega arith
+
+      pub wants : (r : Step) → Wants b r → Stepped (until low high φ ψ) L g b r b
+      wants (Batch bits count) t = absurd t
+      wants Again t = absurd t
+      wants Left t = (refl, λ e. none-left (let r = ready .buffers .1 .within in omega arith))
+      wants Right t = (refl, λ e. none-left (let r = ready .buffers .0 .within in omega arith))
+      wants Open t =
+          let l = ready .buffers .0 in
+          let r = ready .buffers .1 in
+          let z = went .waiting (omega arith) .all in
+          let f = l .packed .few in
+          let k = went .some .all (omega arith) (omega (arith, fits l, agrees .size)) in
+          absurd (omega arith)

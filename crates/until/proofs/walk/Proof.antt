@@ -1,0 +1,106 @@
+-- `until::walk` meets its contract. The loop's invariant is its promise, by the laws of UntilSteps. Assumes nothing.
+use Prim.Native.Nat.{_+_, _-_}
+use native.Mathlib.Omega.{arith}
+use mathlib.Core.Path.{sym, _∙_}
+use borrow.Author.Needs.{needs}
+use Rattle.until.specs.Settle.{Limits, Walks}
+use Rattle.until.proofs.UntilSteps.{known-behind, walks-known, walks-unknown}
+use Rattle.until.proofs.walk.Statement.{statement}
+use Rattle.until.proofs.walk.Tie as tie
+
+abbrev Inv-loop : tie.InvT-loop
+Inv-loop low high records g at n left right last₀ bits₀ count₀ took₀ last bits count took =
+    Limits g at n bits count took last₀ last × Walks low high records g at n left right last₀ bits count took last
+
+abbrev μ-loop : tie.MeasureT-loop
+μ-loop low high records g at n left right last₀ bits₀ count₀ took₀ last bits count took = (n - took) + (64 - count)
+
+loop-holds : tie.Need-loop-holds Inv-loop μ-loop
+loop-holds c = (
+  record { few = omega arith; small = omega arith; most = omega arith; behind = omega arith; bound = λ h. h },
+  λ φ ψ L falls agrees left right start. start,
+)
+
+loop-again : tie.Need-loop-again Inv-loop μ-loop
+loop-again c =
+    let k = c .before .before in
+    let q = k .before .before in
+    let l = q .before .before .loop in
+    let a = q .before .before .before .before .args in
+    let w = l .inv .0 in
+    let e = sym (q .look .ensures) ∙ k .holds .given .1 in
+    let some = known-behind (a .low) (a .high) (a .records .now) (a .g + l .count) (a .at + l .took) (l .last) (k .holds .given .0 .0) e in (
+      record {
+        few = omega arith;
+        small = c .push .ensures .1;
+        most = w .most;
+        behind = omega arith;
+        bound = w .bound;
+      },
+      rw (c .push .ensures .0)
+          (walks-known (a .low) (a .high) (a .records .now) (λ i. q .before .before .before .shared-slice-known .given i .fits) (a .g) (a .at) (a .n) (a .left) (a .right) (a .from)
+          (l .bits)
+          (l .count)
+          (l .took)
+          (l .last)
+          (w .most)
+          (k .holds .given .0 .0)
+          e
+          (omega arith)
+          (w .small)
+          (l .inv .1)),
+    )
+
+loop-again-2 : tie.Need-loop-again-2 Inv-loop μ-loop
+loop-again-2 c =
+    let k = c .before .before in
+    let q = k .before .before in
+    let l = q .before .before .loop in
+    let a = q .before .before .before .before .args in
+    let w = l .inv .0 in
+    let t = c .take .ensures in (
+      record { few = w .few; small = w .small; most = omega arith; behind = omega arith; bound = λ h. t .1 },
+      rw (t .0)
+          (walks-unknown (a .low) (a .high) (a .records .now) (λ i. q .before .before .before .shared-slice-known .given i .fits) (a .g) (a .at) (a .n) (a .left) (a .right) (a .from)
+          (l .bits)
+          (l .count)
+          (l .took)
+          (l .last)
+          (w .most)
+          (sym (q .look .ensures) ∙ k .enum-told .given .1)
+          (omega arith)
+          (l .inv .1)),
+    )
+
+returns-full : tie.Need-returns Inv-loop μ-loop
+returns-full c = let l = c .before .loop in (l .inv .0, (λ h. absurd (omega arith), l .inv .1))
+
+returns-waiting : tie.Need-returns-2 Inv-loop μ-loop
+returns-waiting c =
+    let k = c .before in
+    let q = k .before .before in
+    let l = q .before .before .loop in
+    (l .inv .0, (λ h. record { all = c .if1 .taken; unknown = sym (q .look .ensures) ∙ k .enum-told .given .1 }, l .inv .1))
+
+pub walk-spec : {M : Type 1} → statement M
+walk-spec =
+    tie.close
+    (tie.spec
+    Inv-loop
+    μ-loop
+    loop-holds
+    (λ c. search needs)
+    (λ c. search needs)
+    (λ c κs. search needs)
+    (λ c. search needs)
+    (λ c κs. search needs)
+    (λ c. search needs)
+    (λ c. search needs)
+    loop-again
+    (λ c. search needs)
+    (λ c κs. search needs)
+    (λ c. search needs)
+    (λ c. search needs)
+    loop-again-2
+    returns-full
+    returns-waiting)
