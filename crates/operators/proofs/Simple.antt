@@ -1,9 +1,9 @@
 -- One step of the letter, not, or, previous and next over their block's words, as the code leaves them. Assumes nothing.
 use Prim.Native.Nat.{ℕ, _+_, _-_, _/_, _%_, _≤_, _<_, _^_}
 use native.Mathlib.Omega.{arith}
-use mathlib.Core.Bool.{Bool, false, _&&_, false≢true, and-false}
+use mathlib.Core.Bool.{Bool, true, false, _&&_, false≢true, and-false}
 use mathlib.Core.List.{List, [], _∷_}
-use mathlib.Core.Logic.{⊎-elim}
+use mathlib.Core.Logic.{inl, inr, ⊎-elim}
 use mathlib.Core.Path.{_≡_, refl, sym, ap, _∙_}
 use lib.Bits.{bitAnd, bitOr}
 use lib.Dec.{ltb, eqb}
@@ -13,18 +13,31 @@ use Rattle.mtl.specs.Formula.{Formula}
 use Rattle.mtl.specs.Formula.Formula.{letter, not, or, previous, next}
 use Rattle.mtl.specs.Log.{Log}
 use Rattle.mtl.specs.Satisfaction.{sat, within}
-use Rattle.mtl.specs.Progress.{progress}
+use Rattle.mtl.specs.Progress.{settled-to}
 use Rattle.mtl.proofs.Bounded.{le-or-lt}
-use Rattle.mtl.proofs.Until.{progress-le-size}
+use Rattle.mtl.proofs.Closing.{
+  settled-closed,
+  by-closed,
+  settled-le-size,
+  settled-letter,
+  settled-not,
+  settled-previous,
+  settled-or,
+  settled-next,
+}
 use Rattle.bits.specs.Packed.{moved-up, Packed}
-use Rattle.bits.proofs.Laws.{packed-same, packed-moved, packed-not, packed-or, packed-and}
+use Rattle.bits.proofs.Laws.{packed-none, packed-push, packed-same, packed-moved, packed-not, packed-or, packed-and}
 use Rattle.trace.specs.Format.{record-count, time-at, has-letter}
-use Rattle.blocks.specs.Block.{taken, left-count, left-bits, right-count, right-bits, last-left, last-time, Core, Own, RightBuffer, Buffers, Ready, took-right, took-both}
+use Rattle.blocks.specs.Block.{taken, left-count, left-bits, right-count, right-bits, answered, last-left, last-time, Core, Own, RightBuffer, Buffers, Ready, took-right, took-both}
 use Rattle.blocks.specs.Near.{near-at}
 use Rattle.blocks.specs.Step.{Agrees, Stepped, Moved, has-left, left-to-do}
 use Rattle.blocks.specs.declared.Step.the-variants.{Batch, Again}
 use Rattle.blocks.proofs.Words.{Store, put, stores, word-stores, copied, less-to-do, fits}
 use Rattle.blocks.proofs.Taking.{right-stores, both-stores, first-of, taken-right, taken-both}
+
+-- the block of a next that has taken n positions
+abbrev next-stores : ℕ → List ℕ → List Store
+next-stores n b = right-stores n b (put 5 (taken b + (n - 1)) ∷ [])
 
 -- the block of a previous that has taken n positions, the last of them at this time
 abbrev previous-stores : ℕ → List ℕ → ℕ → List Store
@@ -37,11 +50,12 @@ module _ (s b : List ℕ) (room : 16 ≤ length b) (n : ℕ) (some : 0 < n) wher
   pub right-less : taken b + n ≤ record-count s → left-to-do s (took-right n b) < left-to-do s b
   right-less inside = less-to-do s b (took-right n b) n some inside right-at
 
-  module _ (L : Log) (g : ℕ) (agrees : Agrees s L g) where
+  module _ {closed : Bool} (L : Log) (g : ℕ) (agrees : Agrees closed s L g) where
     pub letter-batch : (k bits : ℕ) → taken b + n ≤ record-count s → Packed (has-letter s k) (taken b) n bits → Ready (letter k) L g b →
         Stepped (letter k) L g b (Batch bits n) (set b 0 (taken b + n))
-    unfolding sat progress
+    unfolding sat
     letter-batch k bits inside packed ready =
+        let all = settled-letter L k in
         let at = word-stores (put 0 (taken b + n) ∷ []) b (omega arith) room in
         let core = ready .core in
         let range = core .range in
@@ -66,9 +80,9 @@ module _ (s b : List ℕ) (room : 16 ≤ length b) (n : ℕ) (some : 0 < n) wher
           record { left = λ e. absurd (false≢true e); right = λ e. absurd (false≢true e); taken = omega (arith, at 0); answered = omega (arith, at 5) },
         )
 
-    -- not and next store nothing more; φ is either, and ψ its operand
+    -- not stores nothing more, nor does next at position 0; φ is either, and ψ its operand
     right-ready : (φ ψ : Formula) → has-left φ ≡ false → (RightBuffer ψ L (took-right n b) → Buffers φ L (took-right n b)) → Core φ L g b →
-        RightBuffer ψ L b → n ≤ right-count b → (g′ : ℕ) → g′ ≤ progress φ L → Own φ L g′ (took-right n b) →
+        RightBuffer ψ L b → n ≤ right-count b → (g′ : ℕ) → g′ ≤ settled-to φ L → Own φ L g′ (took-right n b) →
         Ready φ L g′ (took-right n b) × Moved φ b (took-right n b)
     right-ready φ ψ single whole core right h g′ reached own =
         let at = word-stores (right-stores n b []) b (omega arith) room in
@@ -80,8 +94,9 @@ module _ (s b : List ℕ) (room : 16 ≤ length b) (n : ℕ) (some : 0 < n) wher
 
     pub not-batch : (φ : Formula) → n ≤ right-count b → right-bits b < 2 ^ 64 → Ready (not φ) L g b →
         Stepped (not φ) L g b (Batch (2 ^ 64 - 1 - right-bits b) n) (took-right n b)
-    unfolding sat progress
+    unfolding sat
     not-batch φ h word ready =
+        let all = settled-not L φ in
         let core = ready .core in
         let head = core .own in
         let right = ready .buffers in
@@ -96,15 +111,16 @@ module _ (s b : List ℕ) (room : 16 ≤ length b) (n : ℕ) (some : 0 < n) wher
 
     pub or-batch : (φ ψ : Formula) → n ≤ left-count b → n ≤ right-count b → Ready (or φ ψ) L g b →
         Stepped (or φ ψ) L g b (Batch (bitOr (left-bits b) (right-bits b)) n) (took-both n b)
-    unfolding sat progress
+    unfolding sat
     or-batch φ ψ l r ready =
+        let all = settled-or L φ ψ in
         let at = word-stores (both-stores n b []) b (omega arith) room in
         let core = ready .core in
         let range = core .range in
         let head = core .own in
         let left = ready .buffers .0 in
         let right = ready .buffers .1 in
-        let most = progress-le-size φ L in
+        let most = settled-le-size φ L in
         let moved =
         taken-both (or φ ψ) core n (g + n) (took-both n b) (omega arith)
         (omega (arith, at 0, at 1, at 3, at 5, at 6, at 7, at 8, at 9, at 10))
@@ -183,8 +199,8 @@ module _ (s b : List ℕ) (room : 16 ≤ length b) (n : ℕ) (some : 0 < n) wher
             Packed (near-at low high (last-time b) s (taken b)) (taken b) n near → time ≡ time-at s (taken b + (n - 1)) → time < 2 ^ 32 →
             Stepped (previous low high φ) L g b (Batch (bitAnd near (moved-up (right-bits b) (ltb 0 (taken b) && eqb (last-left b) 1))) n)
             (set (set (took-right n b) 6 (right-bits b / 2 ^ (n - 1) % 2)) 8 time)
-        unfolding progress
         previous-batch near time word inside packed told fits =
+            let all = settled-previous L low high φ in
             let at = word-stores (previous-stores n b time) b (omega arith) room in
             let core = ready .core in
             let range = core .range in
@@ -218,25 +234,41 @@ module _ (s b : List ℕ) (room : 16 ≤ length b) (n : ℕ) (some : 0 < n) wher
             )
 
       module _ (ready : Ready (next low high φ) L g b) where
-        -- the operand's answer at `taken` answers the position before
-        next-ready : (to : ℕ) → to + 1 ≡ taken b + n → Ready (next low high φ) L to (took-right n b) × Moved (next low high φ) b (took-right n b)
-        unfolding progress
-        next-ready to end =
-            let right = ready .buffers in
-            right-ready (next low high φ) φ refl (λ x. x) (ready .core) right h to (omega arith) (omega (arith, right-at))
+        -- an answer of the operand at i + 1 answers i
+        next-reaches : (i : ℕ) → i + 1 ≤ settled-to φ L → i ≤ settled-to (next low high φ) L
+        next-reaches i l =
+            by-closed L
+            (λ c. omega (arith, settled-closed (next low high φ) L c, settled-le-size φ L))
+            (λ o. omega (arith, settled-next L o low high φ))
+
+        -- with positions to take, the operand's answer at `taken` answers the position before
+        trails : g ≡ taken b - 1
+        trails =
+            let inside = fits (ready .buffers) in
+            ⊎-elim (λ e. e) (λ e. let past = e .1 in absurd (omega arith)) (ready .core .own .1)
 
         -- position 0 is passed over
         pub next-pass : taken b ≡ 0 → n ≡ 1 → Stepped (next low high φ) L g b Again (took-right n b)
-        next-pass first one = let own = ready .core .own in next-ready g (omega arith)
+        next-pass first one =
+            let own = ready .core .own in
+            let still = word-stores (right-stores n b []) b (omega arith) room 5 in
+            let at = right-at in
+            right-ready (next low high φ) φ refl (λ x. x) (ready .core) (ready .buffers) h g (ready .core .reached) (still ∙ own .0, inl (omega (arith, trails)))
 
         pub next-batch : (before near : ℕ) → 0 < taken b → taken b + n ≤ record-count s → before ≡ time-at s (taken b - 1) →
-            Packed (near-at low high before s (taken b)) (taken b) n near → Stepped (next low high φ) L g b (Batch (bitAnd near (right-bits b)) n) (took-right n b)
-        unfolding sat progress
+            Packed (near-at low high before s (taken b)) (taken b) n near →
+            Stepped (next low high φ) L g b (Batch (bitAnd near (right-bits b)) n) (set (took-right n b) 5 (taken b + (n - 1)))
+        unfolding sat
         next-batch before near past inside told packed =
-            let own = ready .core .own in
+            let own = trails in
+            let core = ready .core in
+            let range = core .range in
+            let head = core .own .0 in
             let right = ready .buffers in
             let size = agrees .size in
             let p = taken b in
+            let at = word-stores (next-stores n b) b (omega arith) room in
+            let to = next-reaches (g + n) (omega (arith, right .within)) in
             let is-near = near-at low high before s p in
             let both = packed-and is-near (sat φ L) p n near (right-bits b) packed (first-of n h right) in
             let earlier : before ≡ L .time (p - 1) = told ∙ agrees .same (p - 1) (omega arith) (omega arith) .time in
@@ -246,11 +278,69 @@ module _ (s b : List ℕ) (room : 16 ≤ length b) (n : ℕ) (some : 0 < n) wher
             let back : p + i - 1 ≡ g + i = omega arith in
             rw (here, lt-ltb (p + i) (L .size) (omega arith), near-is before p (p + i) (λ e. earlier) (omega arith) (omega arith) (omega arith), back)
             in
-            let moved = next-ready (g + n) (omega arith) in (
-              record {
-                some = some;
-                buffer = record { within = omega arith; packed = packed-same (λ i. is-near i && sat φ L i) (sat (next low high φ) L) p g n _ same both };
-              },
+            let moved =
+            taken-right (next low high φ) core n (g + n) (stores (next-stores n b) b) to
+            (omega (arith, at 0, at 1, at 3, at 5, at 6, at 7, at 8, at 9, at 10))
+            (omega (arith, at 5), inl (omega (arith, at 0)))
+            refl (λ x. x) h
+            (record { at = at 0; count = at 3; bits = at 4; answered = omega (arith, at 5); head = at 14; ends = at 15 })
+            right
+            in (
+              record { some = some; buffer = record { within = to; packed = packed-same (λ i. is-near i && sat φ L i) (sat (next low high φ) L) p g n _ same both } },
               moved .0,
               moved .1,
             )
+
+-- next at the end of a closed log
+module _ (s b : List ℕ) (room : 16 ≤ length b) {closed : Bool} (low high : ℕ) (φ : Formula) (L : Log) (g : ℕ) (agrees : Agrees closed s L g)
+    (ready : Ready (next low high φ) L g b) where
+  -- no position is left
+  pub next-none : record-count s ≤ answered b → settled-to (next low high φ) L ≡ g
+  next-none h =
+      let size = agrees .size in
+      let head = ready .core .own .0 in
+      let reached = ready .core .reached in
+      omega (arith, settled-le-size (next low high φ) L)
+
+  module _ (c : L .closed ≡ true) where
+    pub next-end : answered b < record-count s → taken b ≡ record-count s → Stepped (next low high φ) L g b (Batch 0 1) (set b 5 (record-count s))
+    unfolding sat
+    next-end left all =
+        let size = agrees .size in
+        let core = ready .core in
+        let range = core .range in
+        let head = core .own .0 in
+        let right = ready .buffers in
+        let at = word-stores (put 5 (record-count s) ∷ []) b (omega arith) room in
+        let last : g + 1 ≡ L .size = ⊎-elim (λ e. omega arith) (λ e. let past = e .2 in absurd (omega arith)) (core .own .1) in
+        let whole = settled-closed (next low high φ) L c in
+        let here : g + 0 ≡ g = omega arith in
+        let none : sat (next low high φ) L (g + 0) ≡ false = rw (here, le-ltb (g + 1) (L .size) (omega arith)) in (
+          record {
+            some = omega arith;
+            buffer = record { within = omega arith; packed = packed-push (sat (next low high φ) L) g 0 0 false (omega arith) (omega arith) none (packed-none (sat (next low high φ) L) g 0) };
+          },
+          record {
+            core = record {
+              reached = omega arith;
+              range = omega (arith, at 0, at 1, at 3, at 5, at 6, at 7, at 8, at 9, at 10);
+              copy = copied (at 14) (at 15) (core .copy);
+              own = (omega (arith, at 5), inr (c, omega (arith, at 0), last));
+            };
+            buffers = rw (at 0, at 3, at 4) right;
+          },
+          record {
+            left = λ e. absurd (false≢true e);
+            right = λ e. omega (arith, at 0, at 3);
+            taken = omega (arith, at 0);
+            answered = omega (arith, at 5);
+          },
+        )
+
+  -- the operand is asked before the end alone: if it has no more answers, next has none
+  pub next-right : (L .closed ≡ true → taken b ≡ record-count s → ⊥) → settled-to φ L ≡ taken b → settled-to (next low high φ) L ≡ g
+  next-right before e =
+      let size = agrees .size in
+      by-closed L
+      (λ c. absurd (before c (omega (arith, settled-closed φ L c))))
+      (λ o. ⊎-elim (λ t. omega (arith, settled-next L o low high φ)) (λ t. absurd (false≢true (sym o ∙ t .0))) (ready .core .own .1))

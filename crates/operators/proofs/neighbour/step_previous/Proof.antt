@@ -3,7 +3,7 @@ use native.Mathlib.Omega.{arith}
 use mathlib.Core.Path.{refl, _∙_}
 use lib.ListN.{length-set}
 use borrow.Author.Needs.{needs}
-use Rattle.mtl.specs.Progress.{progress}
+use Rattle.mtl.proofs.Closing.{settled-previous}
 use Rattle.operators.proofs.Simple.{previous-batch}
 use Rattle.blocks.proofs.Taking.{all-of}
 use Rattle.operators.proofs.neighbour.step_previous.Statement.{statement}
@@ -16,8 +16,7 @@ slice-read-if1 : tie.Need-slice-read-if1
 slice-read-if1 c = search needs
 
 returns : tie.Need-returns
-unfolding progress
-returns c = ((refl, refl, c .if1 .taken), λ φ L g falls agrees ready. (refl, λ e. e ∙ ready .core .own .at))
+returns c = ((refl, refl, c .if1 .taken), λ closed φ L g falls agrees ready. (refl, λ e. settled-previous L _ _ φ ∙ e ∙ ready .core .own .at))
 
 slice-read-available : tie.Need-slice-read-available
 slice-read-available c = search needs
@@ -29,7 +28,7 @@ available-requires : tie.Need-available-requires
 available-requires c κs = search needs
 
 returns-2 : tie.Need-returns-2
-returns-2 c = (refl, λ φ L g falls agrees ready. absurd (omega (arith, all-of agrees (ready .buffers) (c .before .available .result) (rw (c .before .before .count .ensures) at (c .before .available .ensures)))))
+returns-2 c = (refl, λ closed φ L g falls agrees ready. absurd (omega (arith, all-of agrees (ready .buffers) (c .before .available .result) (rw (c .before .before .count .ensures) at (c .before .available .ensures)))))
 
 slice-read-operand : tie.Need-slice-read-operand
 slice-read-operand c = search needs
@@ -77,7 +76,7 @@ returns-3 : tie.Need-returns-3
 returns-3 c =
     let start = c .before .before .before .before .before .before .before .before .before .before .before .before .before .before .before .before .before .before .before .before in (
       tt,
-      λ φ L g falls agrees ready.
+      λ closed φ L g falls agrees ready.
           rw (c .before .before .before .before .take-right .ensures, c .before .rest .ensures, c .before .before .before .before .before .before .move-up .ensures)
           (previous-batch (start .args .records .now) (start .args .block .now) (start .pre) (c .before .before .before .before .before .before .before .before .before .before .before .before .available .result) (omega arith) L g agrees (start .args .low) (start .args .high)
           φ (omega arith) ready (c .before .before .before .before .before .before .before .near .result) (c .time .result) (c .before .before .before .before .before .before .before .before .before .before .slice-known5 .given 4 .fits) (omega arith) (c .before .before .before .before .before .before .before .near .ensures) (c .time .ensures .0) (c .time .ensures .1)),
