@@ -32,7 +32,7 @@ own-kept (previous low high φ) L g b b′ e o =
       last-answer = λ pos. o .last-answer pos ∙ ap (λ (n : ℕ). eqb n 1) (sym (e .rest 6 (lit≤ tt)));
       last-time = λ pos. e .rest 8 (lit≤ tt) ∙ o .last-time pos;
     }
-own-kept (next low high φ) L g b b′ e o = o ∙ ap (λ (n : ℕ). n - 1) (sym (e .at))
+own-kept (next low high φ) L g b b′ e o = (e .rest 5 (lit≤ tt) ∙ o .0, rw (e .at) (o .1))
 own-kept (since low high φ ψ) L g b b′ e o =
     record {
       at = e .at ∙ o .at;

@@ -1,6 +1,7 @@
 -- The seven kinds seen alike: the state of a formula, its buffers, and its rows in the table.
 use Prim.Native.Nat.{ℕ, _+_, _-_, _≤_}
 use mathlib.Core.Bool.{Bool, true, false}
+use mathlib.Core.Logic.{⊎-elim}
 use mathlib.Core.Path.{_≡_, refl, sym, _∙_}
 use mathlib.Core.List.{List}
 use native.Mathlib.Omega.{arith}
@@ -139,7 +140,7 @@ answered-taken (letter k) L g b o = omega arith
 answered-taken (not φ) L g b o = omega arith
 answered-taken (or φ ψ) L g b o = omega arith
 answered-taken (previous low high φ) L g b o = omega arith
-answered-taken (next low high φ) L g b o = omega arith
+answered-taken (next low high φ) L g b o = ⊎-elim (λ e. omega arith) (λ e. let all = e .1 in let end = e .2 in omega arith) (o .1)
 answered-taken (since low high φ ψ) L g b o = omega arith
 answered-taken (until low high φ ψ) L g b o = o .1 .ahead
 

@@ -1,22 +1,23 @@
 -- What an entry asked for its next batch of answers promises.
 use Prim.Native.Nat.{ℕ, _+_}
+use mathlib.Core.Bool.{Bool}
 use mathlib.Core.Path.{_≡_}
 use mathlib.Core.List.{List}
 use Rattle.mtl.specs.Formula.{Formula}
 use Rattle.mtl.specs.Log.{Log, NeverFalls}
-use Rattle.mtl.specs.Progress.{progress}
+use Rattle.mtl.specs.Progress.{settled-to}
 use Rattle.blocks.specs.Step.{Agrees, Batched}
 use Rattle.engine.specs.State.{State}
 use Rattle.engine.specs.Table.{Has}
 use Rattle.engine.specs.declared.Reply.{Reply}
 use Rattle.engine.specs.declared.Reply.the-variants.{Batch, Open}
 
--- the reply at g, and what the words stand for after it: a batch below progress; open, where progress is g
+-- the reply at g, and what the words stand for after it: a batch below the answered number; open, where that is g
 abbrev pub Replied : Formula → Log → ℕ → Reply → List ℕ → Type 0
 Replied φ L g (Batch bits count) ws′ = Batched φ L g bits count × State φ L (g + count) ws′
-Replied φ L g Open ws′ = (progress φ L ≡ g) × State φ L g ws′
+Replied φ L g Open ws′ = (settled-to φ L ≡ g) × State φ L g ws′
 
--- the promise of `answer` for entry k of table t, on records s, from words ws to words ws′
-abbrev pub Answers : List ℕ → List ℕ → ℕ → List ℕ → Reply → List ℕ → Type 0
-Answers t s k ws r ws′ =
-    (φ : Formula) (L : Log) (g : ℕ) → Has φ t k → NeverFalls L → Agrees s L g → State φ L g ws → Replied φ L g r ws′
+-- the promise of `answer` for entry k of table t, on records s, closed or open, from words ws to words ws′
+abbrev pub Answers : List ℕ → List ℕ → Bool → ℕ → List ℕ → Reply → List ℕ → Type 0
+Answers t s closed k ws r ws′ =
+    (φ : Formula) (L : Log) (g : ℕ) → Has φ t k → NeverFalls L → Agrees closed s L g → State φ L g ws → Replied φ L g r ws′
