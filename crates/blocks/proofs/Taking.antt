@@ -2,7 +2,7 @@
 use Prim.Native.Nat.{ℕ, _+_, _-_, _/_, _≤_, _<_, _^_, min}
 use native.Mathlib.Omega.{arith}
 use mathlib.Core.Bool.{Bool, false, false≢true}
-use mathlib.Core.List.{List, _∷_}
+use mathlib.Core.List.{List, [], _∷_}
 use mathlib.Core.Path.{_≡_, sym, _∙_}
 use Rattle.mtl.specs.Formula.{Formula}
 use Rattle.mtl.specs.Log.{Log}
@@ -11,9 +11,9 @@ use Rattle.mtl.specs.Progress.{settled-to}
 use Rattle.bits.specs.Packed.{Packed}
 use Rattle.bits.proofs.Laws.{packed-first}
 use Rattle.trace.specs.Format.{record-count}
-use Rattle.blocks.specs.Block.{word, taken, left-count, left-bits, right-count, right-bits, answered, kind-of, high-of, cells-of, InRange, Own, Core, Buffer, LeftBuffer, RightBuffer, Buffers, Ready}
+use Rattle.blocks.specs.Block.{taken, left-count, left-bits, right-count, right-bits, answered, kind-of, high-of, cells-of, KeptBlock, InRange, Own, Buffer, LeftBuffer, RightBuffer, Buffers, Ready, took-right, took-both}
 use Rattle.blocks.specs.Step.{Agrees, Moved, has-left}
-use Rattle.blocks.proofs.Words.{Store, put, available, copied, later, fits}
+use Rattle.blocks.proofs.Words.{Store, put, stores-keep, available, later, fits}
 
 -- the stores of take_right and take_both, and more
 abbrev pub right-stores : ℕ → List ℕ → List Store → List Store
@@ -21,6 +21,13 @@ right-stores n b more = put 0 (taken b + n) ∷ put 3 (right-count b - n) ∷ pu
 
 abbrev pub both-stores : ℕ → List ℕ → List Store → List Store
 both-stores n b more = right-stores n b (put 1 (left-count b - n) ∷ put 2 (left-bits b / 2 ^ n) ∷ more)
+
+-- they keep words 12 to 15
+pub right-keeps : (n : ℕ) (b : List ℕ) → KeptBlock b (took-right n b)
+right-keeps n b = stores-keep (right-stores n b []) b (omega arith)
+
+pub both-keeps : (n : ℕ) (b : List ℕ) → KeptBlock b (took-both n b)
+both-keeps n b = stores-keep (both-stores n b []) b (omega arith)
 
 -- `available` gives all of a buffer
 pub all-of : {closed : Bool} {s : List ℕ} {φ : Formula} {L : Log} {g p count bits : ℕ} → Agrees closed s L g → Buffer φ L p count bits →
@@ -54,8 +61,6 @@ pub record TookRight (n : ℕ) (b b′ : List ℕ) : Type 0 where
   pub count : right-count b′ ≡ right-count b - n
   pub bits : right-bits b′ ≡ right-bits b / 2 ^ n
   pub answered : answered b ≤ answered b′
-  pub head : word b′ 14 ≡ word b 14
-  pub ends : word b′ 15 ≡ word b 15
 
 pub record TookBoth (n : ℕ) (b b′ : List ℕ) : Type 0 where
   pub right : TookRight n b b′
@@ -63,14 +68,14 @@ pub record TookBoth (n : ℕ) (b b′ : List ℕ) : Type 0 where
   pub bits : left-bits b′ ≡ left-bits b / 2 ^ n
 
 -- φ stands at g′ then, if what is its own says so
-module _ (φ : Formula) {L : Log} {g : ℕ} {b : List ℕ} (core : Core φ L g b) (n g′ : ℕ) (b′ : List ℕ) (reached : g′ ≤ settled-to φ L)
+module _ (φ : Formula) {L : Log} (b : List ℕ) (n g′ : ℕ) (b′ : List ℕ) (reached : g′ ≤ settled-to φ L)
     (range : InRange (L .size) (cells-of (kind-of φ) (high-of φ)) b′) (own : Own φ L g′ b′) where
   -- ψ is the only operand
   pub taken-right : {ψ : Formula} → has-left φ ≡ false → (RightBuffer ψ L b′ → Buffers φ L b′) → n ≤ right-count b → TookRight n b b′ → RightBuffer ψ L b →
       Ready φ L g′ b′ × Moved φ b b′
   taken-right single whole h took right = (
     record {
-      core = record { reached = reached; range = range; copy = copied (took .head) (took .ends) (core .copy); own = own };
+      core = record { reached = reached; range = range; own = own };
       buffers = whole (later n h (took .at) (took .count) (took .bits) right);
     },
     record { left = λ e. absurd (false≢true (sym single ∙ e)); right = λ e. omega arith; taken = omega arith; answered = took .answered },
@@ -82,7 +87,7 @@ module _ (φ : Formula) {L : Log} {g : ℕ} {b : List ℕ} (core : Core φ L g b
   taken-both whole l r took left right =
       let both = took .right in (
         record {
-          core = record { reached = reached; range = range; copy = copied (both .head) (both .ends) (core .copy); own = own };
+          core = record { reached = reached; range = range; own = own };
           buffers = whole (
             later n l (both .at) (took .count) (took .bits) left,
             later n r (both .at) (both .count) (both .bits) right,

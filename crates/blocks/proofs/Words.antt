@@ -15,7 +15,7 @@ use Rattle.mtl.specs.Progress.{settled-to}
 use Rattle.mtl.proofs.Closing.{settled-le-size}
 use Rattle.bits.proofs.Laws.{packed-none, packed-rest}
 use Rattle.trace.specs.Format.{record-count}
-use Rattle.blocks.specs.Block.{word, taken, left-count, right-count, Copied, Buffer}
+use Rattle.blocks.specs.Block.{word, taken, left-count, right-count, KeptBlock, Buffer}
 use Rattle.blocks.specs.Step.{empty, left-to-do}
 
 -- a store: an index and the word put there
@@ -58,9 +58,17 @@ word-stores (w ∷ ws) b i l k =
     word-stores ws (set b (w .index) (w .value)) (i .1) (simp length-set l) k ∙
     after-same ws _ _ (λ j. word-set b (w .index) (w .value) j (omega (arith, i .0))) k
 
--- a block whose last two words are kept still has its entry's copy
-pub copied : {kind letter low high : ℕ} {b b′ : List ℕ} → word b′ 14 ≡ word b 14 → word b′ 15 ≡ word b 15 → Copied kind letter low high b → Copied kind letter low high b′
-copied e f copy = record { head = e ∙ copy .head; ends = f ∙ copy .ends }
+-- every index lies before word 12
+abbrev Low : List Store → Type 0
+Low [] = Unit {0}
+Low (w ∷ ws) = (w .index < 12) × Low ws
+
+-- such stores keep the words from there on
+pub stores-keep : (ws : List Store) (b : List ℕ) → Low ws → KeptBlock b (stores ws b)
+stores-keep [] b low i h l = refl
+stores-keep (w ∷ ws) b low i h l =
+    stores-keep ws (set b (w .index) (w .value)) (low .1) i h l ∙
+    getD-set-other b (w .index) i (w .value) 0 (λ e. omega (arith, low .0))
 
 -- what is left of a buffer after n of its positions are taken
 pub later : {φ : Formula} {L : Log} {p count bits p′ count′ bits′ : ℕ} (n : ℕ) → n ≤ count → p′ ≡ p + n → count′ ≡ count - n → bits′ ≡ bits / 2 ^ n →

@@ -1,5 +1,5 @@
 -- The block of an entry in a checkpoint: 16 words, and for since the ring behind them. docs/CHECKPOINT.md has the table.
-use Prim.Native.Nat.{ℕ, _+_, _*_, _-_, _/_, _≤_, _<_, _^_}
+use Prim.Native.Nat.{ℕ, _+_, _-_, _/_, _≤_, _<_, _^_}
 use mathlib.Core.Bool.{Bool, true, cond}
 use mathlib.Core.Path.{_≡_}
 use mathlib.Core.List.{List}
@@ -87,15 +87,13 @@ high-of (next low high φ) = high
 high-of (since low high φ ψ) = high
 high-of (until low high φ ψ) = high
 
--- the copy of the entry that its block keeps, in the block's last two words
-pub record Copied (kind letter low high : ℕ) (b : List ℕ) : Type 0 where
-  pub head : word b 14 ≡ kind * 256 + letter
-  pub ends : word b 15 ≡ low * 2 ^ 32 + high
+-- the block of an entry that has taken nothing yet
+abbrev pub FreshBlock : List ℕ → Type 0
+FreshBlock b = (i : ℕ) → i < 12 → word b i ≡ 0
 
--- the block of an entry that has taken nothing yet, as open writes it
-pub record FreshBlock (kind letter low high : ℕ) (b : List ℕ) : Type 0 where
-  pub zeros : (i : ℕ) → i < 14 → word b i ≡ 0
-  pub copy : Copied kind letter low high b
+-- words 12 to 15 are no operator's: they are as they were, whatever they hold
+abbrev pub KeptBlock : List ℕ → List ℕ → Type 0
+KeptBlock b b′ = (i : ℕ) → 12 ≤ i → i < 16 → word b′ i ≡ word b i
 
 -- the cells of an entry's ring: a since has one, the other kinds none
 abbrev pub cells-of : (kind high : ℕ) → ℕ
@@ -156,7 +154,6 @@ Own (until low high φ ψ) L g b =
 pub record Core (φ : Formula) (L : Log) (g : ℕ) (b : List ℕ) : Type 0 where
   pub reached : g ≤ settled-to φ L
   pub range : InRange (L .size) (cells-of (kind-of φ) (high-of φ)) b
-  pub copy : Copied (kind-of φ) (letter-of φ) (low-of φ) (high-of φ) b
   pub own : Own φ L g b
 
 -- a buffered operand: the word has its answers at the count positions from p on, and it has answered that far

@@ -9,7 +9,7 @@ use Rattle.mtl.specs.Log.{Log, NeverFalls, Agree}
 use Rattle.mtl.specs.Progress.{settled-to}
 use Rattle.trace.specs.Format.{record-count}
 use Rattle.trace.specs.Log.{log-of}
-use Rattle.blocks.specs.Block.{taken, left-count, right-count, answered, Buffer, Ready}
+use Rattle.blocks.specs.Block.{taken, left-count, right-count, answered, KeptBlock, Buffer, Ready}
 use Rattle.blocks.specs.declared.Step.{Step}
 use Rattle.blocks.specs.declared.Step.the-variants.{Batch, Left, Right, Again, Open}
 
@@ -92,10 +92,11 @@ empty (suc n) = 0
 abbrev pub left-to-do : List ℕ → List ℕ → ℕ
 left-to-do s b = 3 * (record-count s - taken b) + empty (left-count b) + empty (right-count b)
 
--- what a step promises on any words, for an operator that has a left operand and a right one, or not
+-- what a step promises on any words, for an operator that has a left operand and a right one, or not: where it writes, it keeps
+-- words 12 to 15
 abbrev pub Ends : (left right : Bool) → List ℕ → List ℕ → Step → List ℕ → Type 0
-Ends left right s b (Batch bits count) b′ = Unit {0}
-Ends left right s b Again b′ = left-to-do s b′ < left-to-do s b
+Ends left right s b (Batch bits count) b′ = KeptBlock b b′
+Ends left right s b Again b′ = (left-to-do s b′ < left-to-do s b) × KeptBlock b b′
 Ends left right s b Left b′ = (left ≡ true) × (b′ ≡ b) × (left-count b ≡ 0)
 Ends left right s b Right b′ = (right ≡ true) × (b′ ≡ b) × (right-count b ≡ 0)
 Ends left right s b Open b′ = b′ ≡ b

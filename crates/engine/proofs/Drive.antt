@@ -14,12 +14,12 @@ use Rattle.mtl.proofs.Bounded.{true-and-false}
 use Rattle.trace.specs.Format.{record-count}
 use Rattle.rule.specs.Words.{own-words}
 use Rattle.rule.proofs.Spans.{own-least}
-use Rattle.blocks.specs.Block.{word, taken, Ready}
+use Rattle.blocks.specs.Block.{word, taken, KeptBlock, Ready}
 use Rattle.blocks.specs.Step.{Agrees, Batched, Moved, Stepped, Steps, Ends, empty, left-to-do}
 use Rattle.engine.specs.State.{State}
 use Rattle.blocks.specs.Kinds.{takes-left, takes-right, Fields}
 use Rattle.engine.specs.Table.{Has, Row, RowOk, RowsOk, column}
-use Rattle.engine.specs.Answer.{Answers}
+use Rattle.engine.specs.Answer.{Keeps, Answers}
 use Rattle.engine.specs.Ask.{part, back, stored, Asks}
 use Rattle.blocks.specs.declared.Step.{Step}
 use Rattle.blocks.specs.declared.Step.the-variants.{Batch, Left, Right, Again, Open}
@@ -27,12 +27,17 @@ use Rattle.engine.specs.declared.Reply.the-variants.{Batch as Answered, 
 use Rattle.engine.proofs.Parts.{part-end, length-part, put-back, back-from, drop-back-last, back-same, Side, other, by-side, start, stop, slot, lent, lent-own, Asked, asked, asked-stored}
 use Rattle.engine.proofs.Parts.Side.{on-left, on-right}
 use Rattle.engine.proofs.Uniform.{View, view, unview, has, of, entry, Stands-at, operand, view-of, answered-taken, row, operand-rows}
-use Rattle.engine.proofs.Fill.{stored-at, stored-count, stored-count-other, ready-filled}
+use Rattle.engine.proofs.Kept.{kept-refl, kept-trans, KeptAt, kept-of}
+use Rattle.engine.proofs.Fill.{stored-at, stored-keeps, stored-count, stored-count-other, ready-filled}
 
--- the words stand for whatever formula they stood for at the loop's start
+-- the blocks' words 12 to 15 are those of the loop's start, and the words stand for whatever formula they stood for then
 abbrev pub Stands : (t s : List ℕ) → Bool → ℕ → (ws₀ ws : List ℕ) → Type 0
 Stands t s closed k ws₀ ws =
-    (φ : Formula) (L : Log) (g : ℕ) → Has φ t k → NeverFalls L → Agrees closed s L g → State φ L g ws₀ → State φ L g ws
+    Keeps t k ws₀ ws ×
+    ((φ : Formula) (L : Log) (g : ℕ) → Has φ t k → NeverFalls L → Agrees closed s L g → State φ L g ws₀ → State φ L g ws)
+
+pub stands-first : (t s : List ℕ) (closed : Bool) (k : ℕ) (ws : List ℕ) → Stands t s closed k ws ws
+stands-first t s closed k ws = (λ φ entered. kept-refl φ ws, λ φ L g entered never agrees state. state)
 
 -- the row of entry k as it is read: its operands have a and c words, and it has `end` in all
 pub record Reading (t : List ℕ) (k kind letter low high left a c end : ℕ) : Type 0 where
@@ -160,11 +165,27 @@ module _ {t s : List ℕ} {closed : Bool} {k left a c end : ℕ} {ws₀ ws b′ 
         ap (λ (l : List ℕ). drop (a + c) l) (back-from (a + c) end b′ ws inside) ∙
         drop-back-last (a + c) end b′ ws inside (turn .last)
 
+    stay : (x : Side) → lent x a c (put-back (a + c) end b′ ws) ≡ lent x a c ws
+    stay x = lent-own x a c end ws b′ (turn .last) (omega (arith, turn .room)) (turn .size)
+
+    -- words ws′ whose blocks are kept from words ws
+    keeps-from : (ws′ : List ℕ) → KeptBlock (drop (a + c) ws) (drop (a + c) ws′) →
+        ((φ : Formula) → Has φ t k → (x : Side) → KeptAt x a c φ ws ws′) → Keeps t k ws₀ ws′
+    keeps-from ws′ own parts φ entered =
+        let e = row φ t k entered in
+        kept-trans φ ws₀ ws ws′ (turn .stands .0 φ entered)
+        (kept-of φ ws ws′ (turn .is-a ∙ e .left-words) (turn .is-c ∙ e .right-words) own (parts φ entered))
+
+    -- a step keeps its own block's, and its operands' blocks are as they were
+    keeps-on : KeptBlock (drop (a + c) ws) b′ → Keeps t k ws₀ (put-back (a + c) end b′ ws)
+    keeps-on own =
+        keeps-from (put-back (a + c) end b′ ws) (rw own-put own) (λ φ entered x e. rw (stay x) (kept-refl (of x φ) (lent x a c ws)))
+
     module _ (φ : Formula) (L : Log) (g : ℕ) (entered : Has φ t k) where
       viewed : NeverFalls L → Agrees closed s L g → State φ L g ws₀ → View a c φ L g ws
       viewed never agrees state =
           let e = row φ t k entered in
-          view φ L g ws (turn .is-a ∙ e .left-words) (turn .is-c ∙ e .right-words) (turn .stands φ L g entered never agrees state)
+          view φ L g ws (turn .is-a ∙ e .left-words) (turn .is-c ∙ e .right-words) (turn .stands .1 φ L g entered never agrees state)
 
       state-of : (p : ℕ) (ws′ b : List ℕ) → drop (a + c) ws′ ≡ b → Ready φ L p b →
           ((side : Side) → Stands-at side a c φ L b ws′) → State φ L p ws′
@@ -190,32 +211,37 @@ module _ {t s : List ℕ} {closed : Bool} {k left a c end : ℕ} {ws₀ ws b′ 
           on-left
           (λ e. rw (stay on-left, moved .left e) (operand v on-left e))
           (λ e. rw (stay on-right, moved .right e) (operand v on-right e)))
-        where
-          stay : (x : Side) → lent x a c (put-back (a + c) end b′ ws) ≡ lent x a c ws
-          stay x = lent-own x a c end ws b′ (turn .last) (omega (arith, turn .room)) (turn .size)
 
   pub batch-turn : {bits n : ℕ} → Turn t s closed k left a c end ws₀ ws (Batch bits n) b′ →
       Answers t s closed k ws₀ (Answered bits n) (put-back (a + c) end b′ ws)
-  batch-turn {bits} {n} turn φ L g entered never agrees state =
-      let v = viewed turn φ L g entered never agrees state in
-      let st = stepped turn φ L g entered never agrees v in
-      (st .0, moved-on turn φ L g entered (g + n) v (st .1) (st .2))
+  batch-turn {bits} {n} turn = (
+    keeps-on turn (turn .ends),
+    λ φ L g entered never agrees state.
+        let v = viewed turn φ L g entered never agrees state in
+        let st = stepped turn φ L g entered never agrees v in
+        (st .0, moved-on turn φ L g entered (g + n) v (st .1) (st .2)),
+  )
 
   pub again-turn : Turn t s closed k left a c end ws₀ ws Again b′ → Stands t s closed k ws₀ (put-back (a + c) end b′ ws)
-  again-turn turn φ L g entered never agrees state =
-      let v = viewed turn φ L g entered never agrees state in
-      let st = stepped turn φ L g entered never agrees v in
-      moved-on turn φ L g entered g v (st .0) (st .1)
+  again-turn turn = (
+    keeps-on turn (turn .ends .1),
+    λ φ L g entered never agrees state.
+        let v = viewed turn φ L g entered never agrees state in
+        let st = stepped turn φ L g entered never agrees v in
+        moved-on turn φ L g entered g v (st .0) (st .1),
+  )
 
   pub again-less : Turn t s closed k left a c end ws₀ ws Again b′ →
       left-to-do s (drop (a + c) (put-back (a + c) end b′ ws)) < left-to-do s (drop (a + c) ws)
-  again-less turn = rw (own-put turn) (turn .ends)
+  again-less turn = rw (own-put turn) (turn .ends .0)
 
   pub open-turn : Turn t s closed k left a c end ws₀ ws Open b′ → Answers t s closed k ws₀ Unanswered (put-back (a + c) end b′ ws)
-  open-turn turn φ L g entered never agrees state =
-      let v = viewed turn φ L g entered never agrees state in (
-        stepped turn φ L g entered never agrees v,
-        rw (same-words a c end ws b′ (turn .room) (turn .last) (turn .ends)) (turn .stands φ L g entered never agrees state),
+  open-turn turn =
+      let same = same-words a c end ws b′ (turn .room) (turn .last) (turn .ends) in (
+        rw same (turn .stands .0),
+        λ φ L g entered never agrees state.
+            let v = viewed turn φ L g entered never agrees state in
+            (stepped turn φ L g entered never agrees v, rw same (turn .stands .1 φ L g entered never agrees state)),
       )
 
 to-do : (side : Side) (s b : List ℕ) →
@@ -306,22 +332,74 @@ module _ {t s : List ℕ} {closed : Bool} {k left a c end : ℕ} {ws₀ ws b′ 
       n
       (asked side a c ws ys inside kept)
 
+  -- the operand keeps its own blocks
+  keeps-asked : (ws′ ys b : List ℕ) → Asked side a c ws ys ws′ b → KeptBlock (drop (a + c) ws) b →
+      Keeps t (entry side left k) (lent side a c ws) ys → Keeps t k ws₀ ws′
+  keeps-asked ws′ ys b frame own keeps =
+      keeps-from turn ws′ (rw (frame .own) own)
+      (λ φ entered.
+      by-side
+      (λ x. KeptAt x a c φ ws ws′)
+      side
+      (λ e. rw (frame .here) (keeps (of side φ) (rw (turn .is-left) (operand-rows φ t k entered side e))))
+      (λ e. rw (frame .there) (kept-refl (of (other side) φ) (lent (other side) a c ws))))
+
   pub open-asked : (x : Bool) (ws′ : List ℕ) → negate x ≡ true →
       Asks t s closed (entry side left k) (start side a) (stop side a c) (a + c + slot side) (put-back (a + c) end b′ ws) x ws′ →
       Answers t s closed k ws₀ Unanswered ws′
-  open-asked true ws′ e asks φ L g entered never agrees state = absurd (true-and-false e refl)
-  open-asked false ws′ e asks φ L g entered never agrees state =
+  open-asked true ws′ e asks = absurd (true-and-false e refl)
+  open-asked false ws′ e asks =
       let got = asks-same false ws′ asks in
       let ys = got .0 in
       let b = drop (a + c) ws in
       let after = back (start side a) (stop side a c) ys ws in
       let here : taken b + word b (slot side) ≡ taken b = omega (arith, none) in
-      let frame = asked side a c ws ys inside (got .1) in
-      let v = viewed turn φ L g entered never agrees state in
-      let st = wanting side φ L g b (stepped turn φ L g entered never agrees v) in
-      let it = ask-at (λ φ L q. (settled-to φ L ≡ q) × State φ L q ys) (got .2 .1) φ L g entered never agrees v (st .0) in (
-        st .1 (it .0),
-        rw (got .2 .0)
+      let frame = asked side a c ws ys inside (got .1) in (
+        rw (got .3 .0) (keeps-asked after ys b frame (λ i h l. refl) (got .2)),
+        λ φ L g entered never agrees state.
+            let v = viewed turn φ L g entered never agrees state in
+            let st = wanting side φ L g b (stepped turn φ L g entered never agrees v) in
+            let it = ask-at (λ φ L q. (settled-to φ L ≡ q) × State φ L q ys) (got .3 .1) φ L g entered never agrees v (st .0) in (
+              st .1 (it .0),
+              rw (got .3 .0)
+                  (state-of
+                  turn
+                  φ
+                  L
+                  g
+                  entered
+                  g
+                  after
+                  b
+                  (frame .own)
+                  (v .own)
+                  (by-side
+                  (λ x. Stands-at x a c φ L b after)
+                  side
+                  (λ e. rw (frame .here, here) (it .1))
+                  (λ e. rw (frame .there) (operand v (other side) e)))),
+            ),
+      )
+
+  pub filled : (x : Bool) (ws′ : List ℕ) → negate x ≡ false →
+      Asks t s closed (entry side left k) (start side a) (stop side a c) (a + c + slot side) (put-back (a + c) end b′ ws) x ws′ →
+      Stands t s closed k ws₀ ws′
+  filled false ws′ e asks = absurd (true-and-false refl e)
+  filled true ws′ e asks =
+      let got = asks-same true ws′ asks in
+      let ys = got .0 in
+      let bits = got .3 .0 in
+      let n = got .3 .1 in
+      let b = drop (a + c) ws in
+      let new = stored b (slot side) bits n in
+      let after = stored (back (start side a) (stop side a c) ys ws) (a + c + slot side) bits n in
+      let frame = framed ys bits n (got .1) in (
+        rw (got .3 .3) (keeps-asked after ys new frame (stored-keeps side b long bits n) (got .2)),
+        λ φ L g entered never agrees state.
+            let v = viewed turn φ L g entered never agrees state in
+            let st = wanting side φ L g b (stepped turn φ L g entered never agrees v) in
+            let it = ask-at (λ φ L q. Batched φ L q bits n × State φ L (q + n) ys) (got .3 .4) φ L g entered never agrees v (st .0) in
+            rw (got .3 .3)
             (state-of
             turn
             φ
@@ -330,50 +408,16 @@ module _ {t s : List ℕ} {closed : Bool} {k left a c end : ℕ} {ws₀ ws b′ 
             entered
             g
             after
-            b
+            new
             (frame .own)
-            (v .own)
+            (ready-filled side b long bits n φ L g (v .own) (it .0))
             (by-side
-            (λ x. Stands-at x a c φ L b after)
+            (λ x. Stands-at x a c φ L new after)
             side
-            (λ e. rw (frame .here, here) (it .1))
-            (λ e. rw (frame .there) (operand v (other side) e)))),
+            (λ e. rw (frame .here, stored-at side b long bits n, stored-count side b long bits n) (it .1))
+            (λ e.
+            rw (frame .there, stored-at side b long bits n, stored-count-other side b long bits n) (operand v (other side) e)))),
       )
-
-  pub filled : (x : Bool) (ws′ : List ℕ) → negate x ≡ false →
-      Asks t s closed (entry side left k) (start side a) (stop side a c) (a + c + slot side) (put-back (a + c) end b′ ws) x ws′ →
-      Stands t s closed k ws₀ ws′
-  filled false ws′ e asks φ L g entered never agrees state = absurd (true-and-false refl e)
-  filled true ws′ e asks φ L g entered never agrees state =
-      let got = asks-same true ws′ asks in
-      let ys = got .0 in
-      let bits = got .2 .0 in
-      let n = got .2 .1 in
-      let b = drop (a + c) ws in
-      let new = stored b (slot side) bits n in
-      let after = stored (back (start side a) (stop side a c) ys ws) (a + c + slot side) bits n in
-      let frame = framed ys bits n (got .1) in
-      let v = viewed turn φ L g entered never agrees state in
-      let st = wanting side φ L g b (stepped turn φ L g entered never agrees v) in
-      let it = ask-at (λ φ L q. Batched φ L q bits n × State φ L (q + n) ys) (got .2 .4) φ L g entered never agrees v (st .0) in
-      rw (got .2 .3)
-      (state-of
-      turn
-      φ
-      L
-      g
-      entered
-      g
-      after
-      new
-      (frame .own)
-      (ready-filled side b long bits n φ L g (v .own) (it .0))
-      (by-side
-      (λ x. Stands-at x a c φ L new after)
-      side
-      (λ e. rw (frame .here, stored-at side b long bits n, stored-count side b long bits n) (it .1))
-      (λ e.
-      rw (frame .there, stored-at side b long bits n, stored-count-other side b long bits n) (operand v (other side) e))))
 
   pub filled-less : (x : Bool) (ws′ : List ℕ) → negate x ≡ false →
       Asks t s closed (entry side left k) (start side a) (stop side a c) (a + c + slot side) (put-back (a + c) end b′ ws) x ws′ →
@@ -381,11 +425,11 @@ module _ {t s : List ℕ} {closed : Bool} {k left a c end : ℕ} {ws₀ ws b′ 
   filled-less false ws′ e asks = absurd (true-and-false refl e)
   filled-less true ws′ e asks =
       let got = asks-same true ws′ asks in
-      let bits = got .2 .0 in
-      let n = got .2 .1 in
+      let bits = got .3 .0 in
+      let n = got .3 .1 in
       let b = drop (a + c) ws in
       rw (
-        got .2 .3,
+        got .3 .3,
         framed (got .0) bits n (got .1) .own,
         to-do side s (stored b (slot side) bits n),
         to-do side s b,
@@ -393,24 +437,25 @@ module _ {t s : List ℕ} {closed : Bool} {k left a c end : ℕ} {ws₀ ws b′ 
         stored-count side b long bits n,
         stored-count-other side b long bits n,
         none,
-        empty-some n (got .2 .2),
+        empty-some n (got .3 .2),
       )
       (omega arith)
 
 -- an operand's answer, as what was asked for: its words are ys now
 module _ (t s : List ℕ) (closed : Bool) (o from to slot : ℕ) (ws ys : List ℕ) (ordered : from ≤ to) (inside : to ≤ length ws) (kept : length ys ≡ length (part from to ws)) where
   pub asked-open : Answers t s closed o (part from to ws) Unanswered ys → Asks t s closed o from to slot ws false (put-back from to ys ws)
-  asked-open answers = (ys, kept ∙ length-part from to ws inside, (back-from from to ys ws ordered, answers))
+  asked-open answers = (ys, kept ∙ length-part from to ws inside, answers .0, (back-from from to ys ws ordered, answers .1))
 
   pub asked-none : (bits n : ℕ) → n ≡ 0 → Answers t s closed o (part from to ws) (Answered bits n) ys →
       Asks t s closed o from to slot ws false (put-back from to ys ws)
   asked-none bits n e answers = (
     ys,
     kept ∙ length-part from to ws inside,
+    answers .0,
     (
       back-from from to ys ws ordered,
       λ φ L q entered never agrees state.
-          let none : ⊥ = omega (arith, answers φ L q entered never agrees state .0 .some) in
+          let none : ⊥ = omega (arith, answers .1 φ L q entered never agrees state .0 .some) in
           absurd none,
     ),
   )
@@ -420,11 +465,12 @@ module _ (t s : List ℕ) (closed : Bool) (o from to slot : ℕ) (ws ys : List �
   asked-batch bits n some answers ws′ e = (
     ys,
     kept ∙ length-part from to ws inside,
+    answers .0,
     (
       bits,
       n,
       pos-of-ne-zero some,
       e ∙ ap (λ (l : List ℕ). stored l slot bits n) (back-from from to ys ws ordered),
-      answers,
+      answers .1,
     ),
   )

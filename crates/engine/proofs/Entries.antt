@@ -20,8 +20,8 @@ use Rattle.rule.specs.Postfix.{root}
 use Rattle.rule.specs.Operands.{operands, span, left, part, FormulaAt, Unary, Binary}
 use Rattle.rule.specs.Accepted.{WellFormed, One}
 use Rattle.rule.proofs.Spans.{own-least, offset-mono}
-use Rattle.blocks.specs.Block.{word, taken, left-count, right-count, kind-of, letter-of, low-of, high-of, Copied, FreshBlock, cells-of, InRange, Own, Core, Buffers, Ready}
-use Rattle.engine.specs.State.{words, Parts, Absent, State}
+use Rattle.blocks.specs.Block.{word, taken, left-count, right-count, kind-of, high-of, FreshBlock, KeptBlock, cells-of, InRange, Own, Core, Buffers, Ready}
+use Rattle.engine.specs.State.{words, Parts, Absent, State, KeptParts, KeptNone, Kept}
 use Rattle.engine.specs.Layout.{first}
 use Rattle.engine.proofs.Rows.{words-at, fields-of}
 use Rattle.blocks.proofs.Words.{empty-buffer}
@@ -50,14 +50,6 @@ take-drop-take (suc a) c (suc w) (x ∷ l) h = take-drop-take a c w l (omega ari
 -- a part of a part
 part-of-part : (W : List ℕ) (o w a c p : ℕ) → o + a ≡ p → a + c ≤ w → take c (drop a (take w (drop o W))) ≡ take c (drop p W)
 part-of-part W o w a c p e h = take-drop-take a c w (drop o W) h ∙ ap (take c) (drop-drop a o W ∙ ap (λ x. drop x W) e)
-
-copied-same : {kind letter low high : ℕ} (b b′ : List ℕ) → Same b b′ → Copied kind letter low high b → Copied kind letter low high b′
-copied-same b b′ same c =
-    record { head = sym (same 14 (omega arith)) ∙ c .head; ends = sym (same 15 (omega arith)) ∙ c .ends }
-
-fresh-same : {kind letter low high : ℕ} (b b′ : List ℕ) → Same b b′ → FreshBlock kind letter low high b → FreshBlock kind letter low high b′
-fresh-same b b′ same f =
-    record { zeros = λ i h. sym (same i (omega arith)) ∙ f .zeros i h; copy = copied-same b b′ same (f .copy) }
 
 range-same : {size cells : ℕ} (b b′ : List ℕ) → Same b b′ → InRange size cells b → InRange size cells b′
 range-same b b′ same r =
@@ -100,7 +92,7 @@ module _ (t : List Entry) (W : List ℕ) where
 
 -- A FRESH BLOCK
 
-module _ (φ : Formula) (L : Log) (b : List ℕ) (fresh : FreshBlock (kind-of φ) (letter-of φ) (low-of φ) (high-of φ) b) where
+module _ (φ : Formula) (L : Log) (b : List ℕ) (zeros : FreshBlock b) where
   fresh-core : Own φ L 0 b → Core φ L 0 b
   fresh-core is =
       record {
@@ -108,17 +100,16 @@ module _ (φ : Formula) (L : Log) (b : List ℕ) (fresh : FreshBlock (kind-of φ
         range =
             omega (
               arith,
-              fresh .zeros 0 (omega arith),
-              fresh .zeros 1 (omega arith),
-              fresh .zeros 3 (omega arith),
-              fresh .zeros 5 (omega arith),
-              fresh .zeros 6 (omega arith),
-              fresh .zeros 7 (omega arith),
-              fresh .zeros 8 (omega arith),
-              fresh .zeros 9 (omega arith),
-              fresh .zeros 10 (omega arith),
+              zeros 0 (omega arith),
+              zeros 1 (omega arith),
+              zeros 3 (omega arith),
+              zeros 5 (omega arith),
+              zeros 6 (omega arith),
+              zeros 7 (omega arith),
+              zeros 8 (omega arith),
+              zeros 9 (omega arith),
+              zeros 10 (omega arith),
             );
-        copy = fresh .copy;
         own = is;
       }
 
@@ -129,7 +120,7 @@ ring-least high = least (eqb high unbounded)
     least true = omega arith
     least false = omega arith
 
-fresh-own : (φ : Formula) (L : Log) (b : List ℕ) → ((i : ℕ) → i < 14 → word b i ≡ 0) → own-words (kind-of φ) (high-of φ) ≤ length b → Own φ L 0 b
+fresh-own : (φ : Formula) (L : Log) (b : List ℕ) → FreshBlock b → own-words (kind-of φ) (high-of φ) ≤ length b → Own φ L 0 b
 fresh-own (letter k) L b zeros room = zeros 0 (omega arith)
 fresh-own (not φ) L b zeros room = zeros 0 (omega arith)
 fresh-own (or φ ψ) L b zeros room = zeros 0 (omega arith)
@@ -179,35 +170,32 @@ fresh-buffers (since low high φ ψ) L b z l r = (empty-buffer φ L _ _ _ (omega
 fresh-buffers (until low high φ ψ) L b z l r = (empty-buffer φ L _ _ _ (omega arith) l, empty-buffer ψ L _ _ _ (omega arith) r)
 
 -- the entry's fields in a formula's names
-entry-fields : (P : (kind letter low high : ℕ) → Type 0) (φ : Formula) (e : Entry) → e ≡ root φ →
-    P (e .kind) (e .letter) (e .low) (e .high) → P (kind-of φ) (letter-of φ) (low-of φ) (high-of φ)
+entry-fields : (P : (kind high : ℕ) → Type 0) (φ : Formula) (e : Entry) → e ≡ root φ → P (e .kind) (e .high) → P (kind-of φ) (high-of φ)
 entry-fields P φ e is p =
     let f = fields-of φ in
-    rw (← (f .kind), ← (f .letter), ← (f .low), ← (f .high)) (subst (λ x. P (x .kind) (x .letter) (x .low) (x .high)) is p)
+    rw (← (f .kind), ← (f .high)) (subst (λ x. P (x .kind) (x .high)) is p)
 
 module _ (t : List Entry) (n : ℕ) (W : List ℕ) (room : offset t n ≤ length W) (φ : Formula) (k a c : ℕ) (h : k < n) (is : entry t k ≡ root φ)
     (all : part t k ≡ a + c + own (entry t k))
-    (block : FreshBlock (entry t k .kind) (entry t k .letter) (entry t k .low) (entry t k .high) (drop (offset t k) W)) (L : Log) where
-  fresh-block : FreshBlock (kind-of φ) (letter-of φ) (low-of φ) (high-of φ) (drop (a + c) (part-words t k W))
-  fresh-block =
-      entry-fields (λ kind letter low high. FreshBlock kind letter low high (drop (a + c) (part-words t k W))) φ (entry t k) is
-      (fresh-same (drop (offset t k) W) (drop (a + c) (part-words t k W)) (λ i l. sym (own-same t W k a c all i l)) block)
+    (block : FreshBlock (drop (offset t k) W)) (L : Log) where
+  fresh-block : FreshBlock (drop (a + c) (part-words t k W))
+  fresh-block i l = own-same t W k a c all i (omega arith) ∙ block i l
 
   fresh-ready : Ready φ L 0 (drop (a + c) (part-words t k W))
   fresh-ready =
-      let f = fresh-block in
-      let r = entry-fields (λ kind letter low high. own-words kind high ≤ length (drop (a + c) (part-words t k W))) φ (entry t k) is
+      let zeros = fresh-block in
+      let r = entry-fields (λ kind high. own-words kind high ≤ length (drop (a + c) (part-words t k W))) φ (entry t k) is
       (own-room t W k a c all n h room) in
       record {
-        core = fresh-core φ L (drop (a + c) (part-words t k W)) f (fresh-own φ L (drop (a + c) (part-words t k W)) (f .zeros) r);
-        buffers = fresh-buffers φ L (drop (a + c) (part-words t k W)) (f .zeros 0 (omega arith)) (f .zeros 1 (omega arith)) (f .zeros 3 (omega arith));
+        core = fresh-core φ L (drop (a + c) (part-words t k W)) zeros (fresh-own φ L (drop (a + c) (part-words t k W)) zeros r);
+        buffers = fresh-buffers φ L (drop (a + c) (part-words t k W)) (zeros 0 (omega arith)) (zeros 1 (omega arith)) (zeros 3 (omega arith));
       }
 
   fresh-parts : (Left Right : ℕ → List ℕ → Type 0) (us vs : List ℕ) →
       take a (part-words t k W) ≡ us → take c (drop a (part-words t k W)) ≡ vs → Left 0 us → Right 0 vs →
       Parts (Ready φ L 0) Left Right a c (part-words t k W)
   fresh-parts Left Right us vs e f l r =
-      let zeros = fresh-block .zeros in
+      let zeros = fresh-block in
       let z = zeros 0 (omega arith) in
       let z′ = zeros 1 (omega arith) in
       let z″ = zeros 3 (omega arith) in
@@ -219,46 +207,51 @@ module _ (t : List Entry) (n : ℕ) (W : List ℕ) (room : offset t n ≤ length
 
 -- A BLOCK IN ITS RANGES
 
--- the block of entry j is in its ranges, and holds the entry's copy
-pub record Ranged (t : List Entry) (W : List ℕ) (size j : ℕ) : Type 0 where
-  pub range : InRange size (cells-of (entry t j .kind) (entry t j .high)) (drop (offset t j) W)
-  pub copy : Copied (entry t j .kind) (entry t j .letter) (entry t j .low) (entry t j .high) (drop (offset t j) W)
+-- the block of entry j is in its ranges
+abbrev pub Ranged : List Entry → List ℕ → (size j : ℕ) → Type 0
+Ranged t W size j = InRange size (cells-of (entry t j .kind) (entry t j .high)) (drop (offset t j) W)
 
 -- a formula's names in the entry's fields
-fields-entry : (P : (kind letter low high : ℕ) → Type 0) (φ : Formula) (e : Entry) → e ≡ root φ →
-    P (kind-of φ) (letter-of φ) (low-of φ) (high-of φ) → P (e .kind) (e .letter) (e .low) (e .high)
+fields-entry : (P : (kind high : ℕ) → Type 0) (φ : Formula) (e : Entry) → e ≡ root φ → P (kind-of φ) (high-of φ) → P (e .kind) (e .high)
 fields-entry P φ e is p =
     let f = fields-of φ in
-    subst (λ x. P (x .kind) (x .letter) (x .low) (x .high)) (sym is) (rw (f .kind, f .letter, f .low, f .high) p)
+    subst (λ x. P (x .kind) (x .high)) (sym is) (rw (f .kind, f .high) p)
 
 own-ranged : (t : List Entry) (W : List ℕ) (φ : Formula) (L : Log) (g k a c : ℕ) → entry t k ≡ root φ → part t k ≡ a + c + own (entry t k) →
     Ready φ L g (drop (a + c) (part-words t k W)) → (j : ℕ) → k ≤ j → j ≤ k → Ranged t W (L .size) j
 own-ranged t W φ L g k a c is all ready j l l′ =
     let same = own-same t W k a c all in
-    let core = ready .core in
     subst (Ranged t W (L .size)) (omega arith)
-    (record {
-      range =
-          fields-entry (λ kind letter low high. InRange (L .size) (cells-of kind high) (drop (offset t k) W)) φ (entry t k) is
-          (range-same (drop (a + c) (part-words t k W)) (drop (offset t k) W) same (core .range));
-      copy =
-          fields-entry (λ kind letter low high. Copied kind letter low high (drop (offset t k) W)) φ (entry t k) is
-          (copied-same (drop (a + c) (part-words t k W)) (drop (offset t k) W) same (core .copy));
-    })
+    (fields-entry (λ kind high. InRange (L .size) (cells-of kind high) (drop (offset t k) W)) φ (entry t k) is
+    (range-same (drop (a + c) (part-words t k W)) (drop (offset t k) W) same (ready .core .range)))
+
+-- A BLOCK WITH WORDS 12 TO 15 AS BEFORE
+
+-- the block of entry j in W and in W′
+abbrev pub KeptEntry : List Entry → (W W′ : List ℕ) → ℕ → Type 0
+KeptEntry t W W′ j = KeptBlock (drop (offset t j) W) (drop (offset t j) W′)
+
+own-kept : (t : List Entry) (W W′ : List ℕ) (k a c : ℕ) → part t k ≡ a + c + own (entry t k) →
+    KeptBlock (drop (a + c) (part-words t k W)) (drop (a + c) (part-words t k W′)) → (j : ℕ) → k ≤ j → j ≤ k → KeptEntry t W W′ j
+own-kept t W W′ k a c all kept j l l′ =
+    subst (KeptEntry t W W′) (omega arith)
+    (λ i h m. sym (own-same t W′ k a c all i m) ∙ kept i h m ∙ own-same t W k a c all i m)
 
 -- BLOCK BY BLOCK
 
--- every block of the entries from f to k is fresh, or in its ranges
+-- every block of the entries from f to k is fresh, in its ranges, or kept
 abbrev pub FreshFrom : List Entry → List ℕ → ℕ → ℕ → Type 0
-FreshFrom t W f k =
-    (j : ℕ) → f ≤ j → j ≤ k → FreshBlock (entry t j .kind) (entry t j .letter) (entry t j .low) (entry t j .high) (drop (offset t j) W)
+FreshFrom t W f k = (j : ℕ) → f ≤ j → j ≤ k → FreshBlock (drop (offset t j) W)
 
 abbrev pub RangedFrom : List Entry → List ℕ → (size : ℕ) → ℕ → ℕ → Type 0
 RangedFrom t W size f k = (j : ℕ) → f ≤ j → j ≤ k → Ranged t W size j
 
+abbrev pub KeptFrom : List Entry → (W W′ : List ℕ) → ℕ → ℕ → Type 0
+KeptFrom t W W′ f k = (j : ℕ) → f ≤ j → j ≤ k → KeptEntry t W W′ j
+
 -- an entry of χ with one operand φ
-module _ (t : List Entry) (n : ℕ) (ok : WellFormed t n) (W : List ℕ) (χ φ : Formula) (k : ℕ) (h : k < n) (is : entry t k ≡ root χ)
-    (one : operands (root χ .kind) ≡ 1) (at : FormulaAt t (k - 1) φ) (L : Log) where
+module _ (t : List Entry) (n : ℕ) (ok : WellFormed t n) (χ φ : Formula) (k : ℕ) (h : k < n) (is : entry t k ≡ root χ)
+    (one : operands (root χ .kind) ≡ 1) (at : FormulaAt t (k - 1) φ) where
   unary : Unary t k
   unary = ok .unary k h (ap (λ x. operands (x .kind)) is ∙ one)
 
@@ -271,30 +264,40 @@ module _ (t : List Entry) (n : ℕ) (ok : WellFormed t n) (W : List ℕ) (χ φ 
   one-part : part t k ≡ 0 + words φ + own (entry t k)
   one-part = omega (arith, unary .part-is, one-words)
 
-  one-right : take (words φ) (drop 0 (part-words t k W)) ≡ part-words t (k - 1) W
-  one-right =
+  one-right : (W : List ℕ) → take (words φ) (drop 0 (part-words t k W)) ≡ part-words t (k - 1) W
+  one-right W =
       part-of-part W (offset t (first t k)) (part t k) 0 (words φ) (offset t (first t (k - 1))) (rw one-first (omega arith)) (omega (arith, one-part)) ∙
       ap (λ x. take x (drop (offset t (first t (k - 1))) W)) one-words
 
-  fresh-one : offset t n ≤ length W → FreshFrom t W (first t k) k →
-      (FreshFrom t W (first t (k - 1)) (k - 1) → State φ L 0 (part-words t (k - 1) W)) →
-      Parts (Ready χ L 0) Absent (State φ L) 0 (words φ) (part-words t k W)
-  fresh-one room fresh right =
-      fresh-parts t n W room χ k 0 (words φ) h is one-part (fresh k (omega (arith, unary .span-is)) (omega arith)) L Absent (State φ L) _ _ refl one-right tt
-      (right (λ j l l′. fresh j (omega (arith, one-first)) (omega arith)))
+  -- entry k itself, and the entries of its operand
+  from-one : (P : ℕ → Type 0) → ((j : ℕ) → k ≤ j → j ≤ k → P j) → ((j : ℕ) → first t (k - 1) ≤ j → j ≤ k - 1 → P j) →
+      (j : ℕ) → first t k ≤ j → j ≤ k → P j
+  from-one P here right j from to =
+      ⊎-elim (λ (l : k ≤ j). here j l to) (λ (l : j < k). right j (omega (arith, one-first)) (omega arith)) (le-or-lt k j)
 
-  ranged-one : (g : ℕ) → Parts (Ready χ L g) Absent (State φ L) 0 (words φ) (part-words t k W) →
-      ((p : ℕ) → State φ L p (part-words t (k - 1) W) → RangedFrom t W (L .size) (first t (k - 1)) (k - 1)) →
-      RangedFrom t W (L .size) (first t k) k
-  ranged-one g s right j from to =
-      ⊎-elim
-      (λ (l : k ≤ j). own-ranged t W χ L g k 0 (words φ) is one-part (s .own) j l to)
-      (λ (l : j < k). right _ (subst (State φ L _) one-right (s .right)) j (omega (arith, one-first)) (omega arith))
-      (le-or-lt k j)
+  kept-one : (W W′ : List ℕ) → KeptParts KeptNone (Kept φ) 0 (words φ) (part-words t k W) (part-words t k W′) →
+      (Kept φ (part-words t (k - 1) W) (part-words t (k - 1) W′) → KeptFrom t W W′ (first t (k - 1)) (k - 1)) → KeptFrom t W W′ (first t k) k
+  kept-one W W′ s right =
+      from-one (KeptEntry t W W′) (own-kept t W W′ k 0 (words φ) one-part (s .own)) (right (rw (one-right W, one-right W′) at (s .right)))
+
+  module _ (W : List ℕ) (L : Log) where
+    fresh-one : offset t n ≤ length W → FreshFrom t W (first t k) k →
+        (FreshFrom t W (first t (k - 1)) (k - 1) → State φ L 0 (part-words t (k - 1) W)) →
+        Parts (Ready χ L 0) Absent (State φ L) 0 (words φ) (part-words t k W)
+    fresh-one room fresh right =
+        fresh-parts t n W room χ k 0 (words φ) h is one-part (fresh k (omega (arith, unary .span-is)) (omega arith)) L Absent (State φ L) _ _ refl (one-right W) tt
+        (right (λ j l l′. fresh j (omega (arith, one-first)) (omega arith)))
+
+    ranged-one : (g : ℕ) → Parts (Ready χ L g) Absent (State φ L) 0 (words φ) (part-words t k W) →
+        ((p : ℕ) → State φ L p (part-words t (k - 1) W) → RangedFrom t W (L .size) (first t (k - 1)) (k - 1)) →
+        RangedFrom t W (L .size) (first t k) k
+    ranged-one g s right =
+        from-one (Ranged t W (L .size)) (own-ranged t W χ L g k 0 (words φ) is one-part (s .own))
+        (right _ (subst (State φ L _) (one-right W) (s .right)))
 
 -- an entry of χ with two operands φ and ψ
-module _ (t : List Entry) (n : ℕ) (ok : WellFormed t n) (W : List ℕ) (χ φ ψ : Formula) (k : ℕ) (h : k < n) (is : entry t k ≡ root χ)
-    (two : operands (root χ .kind) ≡ 2) (at-left : FormulaAt t (left t k) φ) (at-right : FormulaAt t (k - 1) ψ) (L : Log) where
+module _ (t : List Entry) (n : ℕ) (ok : WellFormed t n) (χ φ ψ : Formula) (k : ℕ) (h : k < n) (is : entry t k ≡ root χ)
+    (two : operands (root χ .kind) ≡ 2) (at-left : FormulaAt t (left t k) φ) (at-right : FormulaAt t (k - 1) ψ) where
   binary : Binary t k
   binary = ok .binary k h (ap (λ x. operands (x .kind)) is ∙ two)
 
@@ -313,39 +316,56 @@ module _ (t : List Entry) (n : ℕ) (ok : WellFormed t n) (W : List ℕ) (χ φ 
   two-part : part t k ≡ words φ + words ψ + own (entry t k)
   two-part = omega (arith, binary .part-is, two-lefts, two-rights)
 
-  two-left : take (words φ) (part-words t k W) ≡ part-words t (left t k) W
-  two-left =
+  two-left : (W : List ℕ) → take (words φ) (part-words t k W) ≡ part-words t (left t k) W
+  two-left W =
       part-of-part W (offset t (first t k)) (part t k) 0 (words φ) (offset t (first t (left t k))) (rw two-first (omega arith)) (omega (arith, two-part)) ∙
       ap (λ x. take x (drop (offset t (first t (left t k))) W)) two-lefts
 
-  two-right : take (words ψ) (drop (words φ) (part-words t k W)) ≡ part-words t (k - 1) W
-  two-right =
+  two-right : (W : List ℕ) → take (words ψ) (drop (words φ) (part-words t k W)) ≡ part-words t (k - 1) W
+  two-right W =
       let e : offset t (first t k) + words φ ≡ offset t (first t (k - 1)) = rw (two-next, ← two-first, two-lefts) (part-ends t W (left t k)) in
       part-of-part W (offset t (first t k)) (part t k) (words φ) (words ψ) (offset t (first t (k - 1))) e (omega (arith, two-part)) ∙
       ap (λ x. take x (drop (offset t (first t (k - 1))) W)) two-rights
 
-  fresh-two : offset t n ≤ length W → FreshFrom t W (first t k) k →
-      (FreshFrom t W (first t (left t k)) (left t k) → State φ L 0 (part-words t (left t k) W)) →
-      (FreshFrom t W (first t (k - 1)) (k - 1) → State ψ L 0 (part-words t (k - 1) W)) →
-      Parts (Ready χ L 0) (State φ L) (State ψ L) (words φ) (words ψ) (part-words t k W)
-  fresh-two room fresh lefts rights =
-      fresh-parts t n W room χ k (words φ) (words ψ) h is two-part (fresh k (omega (arith, binary .span-is)) (omega arith)) L (State φ L) (State ψ L) _ _ two-left two-right
-      (lefts (λ j l l′. fresh j (omega (arith, two-first)) (omega arith)))
-      (rights (λ j l l′. fresh j (omega (arith, two-first, two-next)) (omega arith)))
-
-  ranged-two : (g : ℕ) → Parts (Ready χ L g) (State φ L) (State ψ L) (words φ) (words ψ) (part-words t k W) →
-      ((p : ℕ) → State φ L p (part-words t (left t k) W) → RangedFrom t W (L .size) (first t (left t k)) (left t k)) →
-      ((p : ℕ) → State ψ L p (part-words t (k - 1) W) → RangedFrom t W (L .size) (first t (k - 1)) (k - 1)) →
-      RangedFrom t W (L .size) (first t k) k
-  ranged-two g s lefts rights j from to =
+  -- entry k itself, and the entries of its operands
+  from-two : (P : ℕ → Type 0) → ((j : ℕ) → k ≤ j → j ≤ k → P j) → ((j : ℕ) → first t (left t k) ≤ j → j ≤ left t k → P j) →
+      ((j : ℕ) → first t (k - 1) ≤ j → j ≤ k - 1 → P j) → (j : ℕ) → first t k ≤ j → j ≤ k → P j
+  from-two P here lefts rights j from to =
       ⊎-elim
-      (λ (l : k ≤ j). own-ranged t W χ L g k (words φ) (words ψ) is two-part (s .own) j l to)
+      (λ (l : k ≤ j). here j l to)
       (λ (l : j < k).
       ⊎-elim
-      (λ (m : j ≤ left t k). lefts _ (subst (State φ L _) two-left (s .left)) j (omega (arith, two-first)) m)
-      (λ (m : left t k < j). rights _ (subst (State ψ L _) two-right (s .right)) j (omega (arith, two-next)) (omega arith))
+      (λ (m : j ≤ left t k). lefts j (omega (arith, two-first)) m)
+      (λ (m : left t k < j). rights j (omega (arith, two-next)) (omega arith))
       (le-or-lt j (left t k)))
       (le-or-lt k j)
+
+  kept-two : (W W′ : List ℕ) → KeptParts (Kept φ) (Kept ψ) (words φ) (words ψ) (part-words t k W) (part-words t k W′) →
+      (Kept φ (part-words t (left t k) W) (part-words t (left t k) W′) → KeptFrom t W W′ (first t (left t k)) (left t k)) →
+      (Kept ψ (part-words t (k - 1) W) (part-words t (k - 1) W′) → KeptFrom t W W′ (first t (k - 1)) (k - 1)) → KeptFrom t W W′ (first t k) k
+  kept-two W W′ s lefts rights =
+      from-two (KeptEntry t W W′) (own-kept t W W′ k (words φ) (words ψ) two-part (s .own))
+      (lefts (rw (two-left W, two-left W′) at (s .left)))
+      (rights (rw (two-right W, two-right W′) at (s .right)))
+
+  module _ (W : List ℕ) (L : Log) where
+    fresh-two : offset t n ≤ length W → FreshFrom t W (first t k) k →
+        (FreshFrom t W (first t (left t k)) (left t k) → State φ L 0 (part-words t (left t k) W)) →
+        (FreshFrom t W (first t (k - 1)) (k - 1) → State ψ L 0 (part-words t (k - 1) W)) →
+        Parts (Ready χ L 0) (State φ L) (State ψ L) (words φ) (words ψ) (part-words t k W)
+    fresh-two room fresh lefts rights =
+        fresh-parts t n W room χ k (words φ) (words ψ) h is two-part (fresh k (omega (arith, binary .span-is)) (omega arith)) L (State φ L) (State ψ L) _ _ (two-left W) (two-right W)
+        (lefts (λ j l l′. fresh j (omega (arith, two-first)) (omega arith)))
+        (rights (λ j l l′. fresh j (omega (arith, two-first, two-next)) (omega arith)))
+
+    ranged-two : (g : ℕ) → Parts (Ready χ L g) (State φ L) (State ψ L) (words φ) (words ψ) (part-words t k W) →
+        ((p : ℕ) → State φ L p (part-words t (left t k) W) → RangedFrom t W (L .size) (first t (left t k)) (left t k)) →
+        ((p : ℕ) → State ψ L p (part-words t (k - 1) W) → RangedFrom t W (L .size) (first t (k - 1)) (k - 1)) →
+        RangedFrom t W (L .size) (first t k) k
+    ranged-two g s lefts rights =
+        from-two (Ranged t W (L .size)) (own-ranged t W χ L g k (words φ) (words ψ) is two-part (s .own))
+        (lefts _ (subst (State φ L _) (two-left W) (s .left)))
+        (rights _ (subst (State ψ L _) (two-right W) (s .right)))
 
 -- THEOREM: the words that open writes have the state at 0, on every log.
 pub fresh-state : (t : List Entry) (n : ℕ) → WellFormed t n → (W : List ℕ) → offset t n ≤ length W → (φ : Formula) (k : ℕ) → k < n →
@@ -357,22 +377,22 @@ fresh-state t n ok W room (letter l) k h e L fresh =
     let q = p .part-is in
     fresh-parts t n W room (letter l) k 0 0 h e (omega arith) (fresh k (omega arith) (omega arith)) L Absent Absent _ _ refl refl tt tt
 fresh-state t n ok W room (not φ) k h (e, b, f) L fresh =
-    fresh-one t n ok W (not φ) φ k h e refl f L room fresh (fresh-state t n ok W room φ (k - 1) (omega arith) f L)
+    fresh-one t n ok (not φ) φ k h e refl f W L room fresh (fresh-state t n ok W room φ (k - 1) (omega arith) f L)
 fresh-state t n ok W room (or φ ψ) k h (e, b, f, f′) L fresh =
-    fresh-two t n ok W (or φ ψ) φ ψ k h e refl f f′ L room fresh (fresh-state t n ok W room φ (left t k) (omega arith) f L)
+    fresh-two t n ok (or φ ψ) φ ψ k h e refl f f′ W L room fresh (fresh-state t n ok W room φ (left t k) (omega arith) f L)
     (fresh-state t n ok W room ψ (k - 1) (omega arith) f′ L)
 fresh-state t n ok W room (previous low high φ) k h (e, b, f) L fresh =
-    fresh-one t n ok W (previous low high φ) φ k h e refl f L room fresh (fresh-state t n ok W room φ (k - 1) (omega arith) f L)
+    fresh-one t n ok (previous low high φ) φ k h e refl f W L room fresh (fresh-state t n ok W room φ (k - 1) (omega arith) f L)
 fresh-state t n ok W room (next low high φ) k h (e, b, f) L fresh =
-    fresh-one t n ok W (next low high φ) φ k h e refl f L room fresh (fresh-state t n ok W room φ (k - 1) (omega arith) f L)
+    fresh-one t n ok (next low high φ) φ k h e refl f W L room fresh (fresh-state t n ok W room φ (k - 1) (omega arith) f L)
 fresh-state t n ok W room (since low high φ ψ) k h (e, b, f, f′) L fresh =
-    fresh-two t n ok W (since low high φ ψ) φ ψ k h e refl f f′ L room fresh (fresh-state t n ok W room φ (left t k) (omega arith) f L)
+    fresh-two t n ok (since low high φ ψ) φ ψ k h e refl f f′ W L room fresh (fresh-state t n ok W room φ (left t k) (omega arith) f L)
     (fresh-state t n ok W room ψ (k - 1) (omega arith) f′ L)
 fresh-state t n ok W room (until low high φ ψ) k h (e, b, f, f′) L fresh =
-    fresh-two t n ok W (until low high φ ψ) φ ψ k h e refl f f′ L room fresh (fresh-state t n ok W room φ (left t k) (omega arith) f L)
+    fresh-two t n ok (until low high φ ψ) φ ψ k h e refl f f′ W L room fresh (fresh-state t n ok W room φ (left t k) (omega arith) f L)
     (fresh-state t n ok W room ψ (k - 1) (omega arith) f′ L)
 
--- THEOREM: where the words have the state, every block is in its ranges and holds its entry's copy.
+-- THEOREM: where the words have the state, every block is in its ranges.
 pub state-ranges : (t : List Entry) (n : ℕ) → WellFormed t n → (W : List ℕ) (φ : Formula) (k : ℕ) → k < n → FormulaAt t k φ →
     (L : Log) (g : ℕ) → State φ L g (part-words t k W) → RangedFrom t W (L .size) (first t k) k
 unfolding FormulaAt State
@@ -382,32 +402,57 @@ state-ranges t n ok W (letter l) k h e L g s =
     let q′ = p .part-is in
     λ j from to. own-ranged t W (letter l) L g k 0 0 e (omega arith) (s .own) j (omega arith) to
 state-ranges t n ok W (not φ) k h (e, b, f) L g s =
-    ranged-one t n ok W (not φ) φ k h e refl f L g s (state-ranges t n ok W φ (k - 1) (omega arith) f L)
+    ranged-one t n ok (not φ) φ k h e refl f W L g s (state-ranges t n ok W φ (k - 1) (omega arith) f L)
 state-ranges t n ok W (or φ ψ) k h (e, b, f, f′) L g s =
-    ranged-two t n ok W (or φ ψ) φ ψ k h e refl f f′ L g s (state-ranges t n ok W φ (left t k) (omega arith) f L)
+    ranged-two t n ok (or φ ψ) φ ψ k h e refl f f′ W L g s (state-ranges t n ok W φ (left t k) (omega arith) f L)
     (state-ranges t n ok W ψ (k - 1) (omega arith) f′ L)
 state-ranges t n ok W (previous low high φ) k h (e, b, f) L g s =
-    ranged-one t n ok W (previous low high φ) φ k h e refl f L g s (state-ranges t n ok W φ (k - 1) (omega arith) f L)
+    ranged-one t n ok (previous low high φ) φ k h e refl f W L g s (state-ranges t n ok W φ (k - 1) (omega arith) f L)
 state-ranges t n ok W (next low high φ) k h (e, b, f) L g s =
-    ranged-one t n ok W (next low high φ) φ k h e refl f L g s (state-ranges t n ok W φ (k - 1) (omega arith) f L)
+    ranged-one t n ok (next low high φ) φ k h e refl f W L g s (state-ranges t n ok W φ (k - 1) (omega arith) f L)
 state-ranges t n ok W (since low high φ ψ) k h (e, b, f, f′) L g s =
-    ranged-two t n ok W (since low high φ ψ) φ ψ k h e refl f f′ L g s (state-ranges t n ok W φ (left t k) (omega arith) f L)
+    ranged-two t n ok (since low high φ ψ) φ ψ k h e refl f f′ W L g s (state-ranges t n ok W φ (left t k) (omega arith) f L)
     (state-ranges t n ok W ψ (k - 1) (omega arith) f′ L)
 state-ranges t n ok W (until low high φ ψ) k h (e, b, f, f′) L g s =
-    ranged-two t n ok W (until low high φ ψ) φ ψ k h e refl f f′ L g s (state-ranges t n ok W φ (left t k) (omega arith) f L)
+    ranged-two t n ok (until low high φ ψ) φ ψ k h e refl f f′ W L g s (state-ranges t n ok W φ (left t k) (omega arith) f L)
     (state-ranges t n ok W ψ (k - 1) (omega arith) f′ L)
 
+-- THEOREM: where words 12 to 15 of a subformula's blocks are kept, they are kept in each of its entries' blocks.
+pub entries-kept : (t : List Entry) (n : ℕ) → WellFormed t n → (W W′ : List ℕ) (φ : Formula) (k : ℕ) → k < n → FormulaAt t k φ →
+    Kept φ (part-words t k W) (part-words t k W′) → KeptFrom t W W′ (first t k) k
+unfolding FormulaAt Kept
+entries-kept t n ok W W′ (letter l) k h e s =
+    let p = ok .leaf k h (ap (λ x. operands (x .kind)) e) in
+    let q = p .span-is in
+    let q′ = p .part-is in
+    λ j from to. own-kept t W W′ k 0 0 (omega arith) (s .own) j (omega arith) to
+entries-kept t n ok W W′ (not φ) k h (e, b, f) s =
+    kept-one t n ok (not φ) φ k h e refl f W W′ s (entries-kept t n ok W W′ φ (k - 1) (omega arith) f)
+entries-kept t n ok W W′ (or φ ψ) k h (e, b, f, f′) s =
+    kept-two t n ok (or φ ψ) φ ψ k h e refl f f′ W W′ s (entries-kept t n ok W W′ φ (left t k) (omega arith) f)
+    (entries-kept t n ok W W′ ψ (k - 1) (omega arith) f′)
+entries-kept t n ok W W′ (previous low high φ) k h (e, b, f) s =
+    kept-one t n ok (previous low high φ) φ k h e refl f W W′ s (entries-kept t n ok W W′ φ (k - 1) (omega arith) f)
+entries-kept t n ok W W′ (next low high φ) k h (e, b, f) s =
+    kept-one t n ok (next low high φ) φ k h e refl f W W′ s (entries-kept t n ok W W′ φ (k - 1) (omega arith) f)
+entries-kept t n ok W W′ (since low high φ ψ) k h (e, b, f, f′) s =
+    kept-two t n ok (since low high φ ψ) φ ψ k h e refl f f′ W W′ s (entries-kept t n ok W W′ φ (left t k) (omega arith) f)
+    (entries-kept t n ok W W′ ψ (k - 1) (omega arith) f′)
+entries-kept t n ok W W′ (until low high φ ψ) k h (e, b, f, f′) s =
+    kept-two t n ok (until low high φ ψ) φ ψ k h e refl f f′ W W′ s (entries-kept t n ok W W′ φ (left t k) (omega arith) f)
+    (entries-kept t n ok W W′ ψ (k - 1) (omega arith) f′)
+
 -- THEOREMS, of a whole rule whose entries are one formula.
-module _ (t : List Entry) (n : ℕ) (ok : WellFormed t n) (φ : Formula) (one : One t n φ) (W : List ℕ) where
+module _ (t : List Entry) (n : ℕ) (ok : WellFormed t n) (φ : Formula) (one : One t n φ) where
   rule-last : n - 1 < n
   rule-last = let some = one .some-entries in omega arith
 
   rule-first : first t (n - 1) ≡ 0
   rule-first = let some = one .some-entries in let whole = one .spans-all in omega arith
 
-  rule-words : part-words t (n - 1) W ≡ take (words φ) W
+  rule-words : (W : List ℕ) → part-words t (n - 1) W ≡ take (words φ) W
   unfolding offset
-  rule-words =
+  rule-words W =
       ap₂ (λ w x. take w (drop (offset t x) W)) (words-at t n ok φ (n - 1) rule-last (one .at-last)) rule-first
 
   -- the words behind the header are those of the formula
@@ -417,13 +462,17 @@ module _ (t : List Entry) (n : ℕ) (ok : WellFormed t n) (φ : Formula) (one : 
       let r = one .words-are in
       omega arith
 
-  pub fresh-rule : offset t n ≤ length W →
-      ((j : ℕ) → j < n → FreshBlock (entry t j .kind) (entry t j .letter) (entry t j .low) (entry t j .high) (drop (offset t j) W)) →
+  pub fresh-rule : (W : List ℕ) → offset t n ≤ length W →
+      ((j : ℕ) → j < n → FreshBlock (drop (offset t j) W)) →
       (L : Log) → State φ L 0 (take (words φ) W)
-  fresh-rule room fresh L =
+  fresh-rule W room fresh L =
       let last = rule-last in
-      rw rule-words at (fresh-state t n ok W room φ (n - 1) last (one .at-last) L (λ j l l′. fresh j (omega arith)))
+      rw (rule-words W) at (fresh-state t n ok W room φ (n - 1) last (one .at-last) L (λ j l l′. fresh j (omega arith)))
 
-  pub rule-ranges : (L : Log) (g : ℕ) → State φ L g (take (words φ) W) → (j : ℕ) → j < n → Ranged t W (L .size) j
-  rule-ranges L g s j h =
-      state-ranges t n ok W φ (n - 1) rule-last (one .at-last) L g (rw rule-words s) j (omega (arith, rule-first)) (omega arith)
+  pub rule-ranges : (W : List ℕ) (L : Log) (g : ℕ) → State φ L g (take (words φ) W) → (j : ℕ) → j < n → Ranged t W (L .size) j
+  rule-ranges W L g s j h =
+      state-ranges t n ok W φ (n - 1) rule-last (one .at-last) L g (rw (rule-words W) s) j (omega (arith, rule-first)) (omega arith)
+
+  pub rule-kept : (W W′ : List ℕ) → Kept φ (take (words φ) W) (take (words φ) W′) → (j : ℕ) → j < n → KeptEntry t W W′ j
+  rule-kept W W′ s j h =
+      entries-kept t n ok W W′ φ (n - 1) rule-last (one .at-last) (rw (rule-words W, rule-words W′) s) j (omega (arith, rule-first)) (omega arith)

@@ -9,7 +9,7 @@ use lib.Seq.{getD-set-same, getD-set-other}
 use Rattle.mtl.specs.Formula.{Formula}
 use Rattle.mtl.specs.Formula.Formula.{letter, not, or, previous, next, since, until}
 use Rattle.mtl.specs.Log.{Log}
-use Rattle.blocks.specs.Block.{word, taken, Own, Ready}
+use Rattle.blocks.specs.Block.{word, taken, KeptBlock, Own, Ready}
 use Rattle.blocks.specs.Step.{Batched}
 use Rattle.engine.specs.Ask.{stored}
 use Rattle.engine.proofs.Parts.{Side, other, by-side, slot}
@@ -80,11 +80,6 @@ rebuffered φ L g b b′ e r counts buffers =
                   start = rw (e .rest 9 (lit≤ tt)) (range .start);
                   count = rw (e .rest 10 (lit≤ tt)) (range .count);
                 };
-            copy =
-                record {
-                  head = e .rest 14 (lit≤ tt) ∙ r .core .copy .head;
-                  ends = e .rest 15 (lit≤ tt) ∙ r .core .copy .ends;
-                };
             own = own-kept φ L g b b′ e (r .core .own);
           };
       buffers = all-buffered φ L b′ buffers;
@@ -114,6 +109,11 @@ module _ (side : Side) (b : List ℕ) (room : 16 ≤ length b) (bits n : ℕ) wh
   stored-at =
       let s = slots side in
       stored-other 0 (λ e. omega arith) (λ e. omega arith)
+
+  pub stored-keeps : KeptBlock b (stored b (slot side) bits n)
+  stored-keeps i h l =
+      let s = slots side in
+      stored-other i (λ e. omega arith) (λ e. omega arith)
 
   pub stored-count : word (stored b (slot side) bits n) (slot side) ≡ n
   stored-count =

@@ -1,8 +1,9 @@
 -- The laws behind the proofs of the engine's functions, and those that the layer above relies on.
--- Parts, Uniform, Fill, Drive: the driver `answer`. Longer: the state survives a longer log.
+-- Parts, Uniform, Kept, Fill, Drive: the driver `answer`. Longer: the state survives a longer log.
 -- Rows: the table of an accepted rule. Entries: a rule's words entry by entry, fresh words, ranges.
 pub mod Parts
 pub mod Uniform
+pub mod Kept
 pub mod Fill
 pub mod Drive
 pub mod Longer

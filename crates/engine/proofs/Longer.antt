@@ -145,7 +145,6 @@ module _ (K L : Log) (longer : Continues K L) (falls : NeverFalls L) where
         core = record {
           reached = omega arith;
           range = range-longer (cells-of (kind-of φ) (high-of φ)) b (c .range);
-          copy = c .copy;
           own = own-longer φ g b h (r .buffers) (c .own);
         };
         buffers = buffers-longer φ b (r .buffers);

@@ -10,6 +10,7 @@ use Rattle.mtl.specs.Progress.{settled-to}
 use Rattle.blocks.specs.Step.{Agrees, Batched}
 use Rattle.engine.specs.State.{State}
 use Rattle.engine.specs.Table.{Has}
+use Rattle.engine.specs.Answer.{Keeps}
 
 -- a part that was lent, and the whole with the part put back
 abbrev pub part : (from to : ℕ) → List ℕ → List ℕ
@@ -34,4 +35,5 @@ Filled t s closed o from to slot ws false ws′ ys =
     (settled-to φ L ≡ q) × State φ L q ys)
 
 abbrev pub Asks : List ℕ → List ℕ → Bool → ℕ → (from to slot : ℕ) → List ℕ → Bool → List ℕ → Type 0
-Asks t s closed o from to slot ws r ws′ = (ys : List ℕ) × (length ys ≡ to - from) × Filled t s closed o from to slot ws r ws′ ys
+Asks t s closed o from to slot ws r ws′ =
+    (ys : List ℕ) × (length ys ≡ to - from) × Keeps t o (part from to ws) ys × Filled t s closed o from to slot ws r ws′ ys

@@ -6,7 +6,7 @@ use Rattle.mtl.specs.Formula.{Formula}
 use Rattle.mtl.specs.Formula.Formula.{letter, not, or, previous, next, since, until}
 use Rattle.mtl.specs.Log.{Log}
 use Rattle.rule.specs.Words.{ring-words}
-use Rattle.blocks.specs.Block.{taken, left-count, right-count, Ready}
+use Rattle.blocks.specs.Block.{taken, left-count, right-count, KeptBlock, Ready}
 
 -- "16 for each entry, and for since with a finite high (high + 1), for since without upper end 1, for until 2 × (high + 1)"
 unfoldable pub words : Formula → ℕ
@@ -57,3 +57,22 @@ State (previous low high φ) L g = Parts (Ready (previous low high φ) L g) Abse
 State (next low high φ) L g = Parts (Ready (next low high φ) L g) Absent (State φ L) 0 (words φ)
 State (since low high φ ψ) L g = Parts (Ready (since low high φ ψ) L g) (State φ L) (State ψ L) (words φ) (words ψ)
 State (until low high φ ψ) L g = Parts (Ready (until low high φ ψ) L g) (State φ L) (State ψ L) (words φ) (words ψ)
+
+-- such parts before and after: the operator's own block has words 12 to 15 as before, and so have its operands' blocks
+pub record KeptParts (Left Right : List ℕ → List ℕ → Type 0) (a c : ℕ) (ws ws′ : List ℕ) : Type 0 where
+  pub own : KeptBlock (drop (a + c) ws) (drop (a + c) ws′)
+  pub left : Left (take a ws) (take a ws′)
+  pub right : Right (take c (drop a ws)) (take c (drop a ws′))
+
+abbrev pub KeptNone : List ℕ → List ℕ → Type 0
+KeptNone ws ws′ = Unit {0}
+
+-- every block of the subformula has words 12 to 15 as before, whatever they hold
+unfoldable pub Kept : Formula → List ℕ → List ℕ → Type 0
+Kept (letter k) = KeptParts KeptNone KeptNone 0 0
+Kept (not φ) = KeptParts KeptNone (Kept φ) 0 (words φ)
+Kept (or φ ψ) = KeptParts (Kept φ) (Kept ψ) (words φ) (words ψ)
+Kept (previous low high φ) = KeptParts KeptNone (Kept φ) 0 (words φ)
+Kept (next low high φ) = KeptParts KeptNone (Kept φ) 0 (words φ)
+Kept (since low high φ ψ) = KeptParts (Kept φ) (Kept ψ) (words φ) (words ψ)
+Kept (until low high φ ψ) = KeptParts (Kept φ) (Kept ψ) (words φ) (words ψ)

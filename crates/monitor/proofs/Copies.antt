@@ -1,20 +1,22 @@
--- The words of a fresh checkpoint, once the entries' copies are written.
+-- The words of a fresh checkpoint, once the entries' copies are written, and the words that refusal 10 looks at.
 use Prim.Native.Nat.{ℕ, zero, suc, _+_, _≤_, _<_}
 use native.Mathlib.Nat.{not-suc-le-zero}
 use native.Mathlib.Numerals.{add-one}
 use native.Mathlib.Omega.{arith}
+use mathlib.Core.Bool.{false}
 use mathlib.Core.Logic.{⊎-elim}
 use mathlib.Core.Path.{_≡_, refl, ap, subst, _∙_}
 use mathlib.Core.List.{List}
 use lib.ListN.{length, set, replicate, length-set, length-replicate, getD-replicate}
 use lib.Seq.{getD-set-same, getD-set-other}
-use Rattle.mtl.proofs.Bounded.{le-or-lt}
+use borrow.Author.Tests.{eq-eqb}
+use Rattle.mtl.proofs.Bounded.{le-or-lt, any-congr, any-false-iff}
 use Rattle.rule.specs.declared.Entry.{Entry}
 use Rattle.rule.specs.Entries.{entry}
 use Rattle.rule.specs.Words.{words}
 use Rattle.rule.proofs.Spans.{offset-mono}
 use Rattle.blocks.specs.Block.{word}
-use Rattle.monitor.specs.Checkpoint.{format, block-at, copy-head, copy-ends}
+use Rattle.monitor.specs.Checkpoint.{format, block-at, copy-head, copy-ends, copy-differs, foreign}
 use Rattle.monitor.specs.Code.{Fresh, copies}
 use Rattle.monitor.proofs.Offsets.{block-fits}
 
@@ -119,3 +121,32 @@ module _ (t : List Entry) (n m : ℕ) (room : words t n ≤ m) where
         heads = λ k h. copies-has t headed 14 (omega arith) copy-head stored-head n k h (omega arith);
         ends = λ k h. copies-has t headed 15 (omega arith) copy-ends stored-ends n k h (omega arith);
       }
+
+-- REFUSAL 10
+
+-- a fresh checkpoint has its rule's copy
+pub fresh-own : (t : List Entry) (n : ℕ) (ws : List ℕ) → Fresh t n ws → foreign t n ws ≡ false
+fresh-own t n ws f =
+    rw (
+      eq-eqb (word ws 0) format (f .first-word),
+      eq-eqb (word ws 6) n (f .entries),
+      any-false-iff n (copy-differs t ws) .1 (λ k h. rw (eq-eqb _ _ (f .heads k h), eq-eqb _ _ (f .ends k h))),
+    )
+
+module _ (t : List Entry) (n : ℕ) (p q : List ℕ) where
+  -- the number in the first word, the number of entries, and their copies
+  pub foreign-same : word p 0 ≡ word q 0 → word p 6 ≡ word q 6 →
+      ((k i : ℕ) → k < n → 12 ≤ i → i < 16 → word p (block-at t k + i) ≡ word q (block-at t k + i)) → foreign t n p ≡ foreign t n q
+  foreign-same first entries copies =
+      rw (
+        first,
+        entries,
+        any-congr n (copy-differs t p) (copy-differs t q)
+            (λ k h. rw (copies k 14 h (omega arith) (omega arith), copies k 15 h (omega arith) (omega arith))),
+      )
+
+  -- they all lie in the words that the entries need
+  pub foreign-within : ((i : ℕ) → i < words t n → word p i ≡ word q i) → foreign t n p ≡ foreign t n q
+  foreign-within same =
+      foreign-same (same 0 (omega arith)) (same 6 (omega arith))
+      (λ k i h l m. same (block-at t k + i) (omega (arith, block-fits t n k h)))

@@ -35,7 +35,7 @@ use Rattle.monitor.specs.declared.Opened.the-variants.{Done}
 use Rattle.monitor.specs.declared.Opened.the-variants.{Refused as OpenRefused}
 use Rattle.monitor.specs.declared.Resumed.{Resumed}
 use Rattle.monitor.specs.declared.Resumed.the-variants.{Given, Refused}
-use Rattle.monitor.proofs.OwnCheckpoint.{own-given, own-within, not-foreign, not-outside}
+use Rattle.monitor.proofs.OwnCheckpoint.{own-given, own-within, not-outside}
 use Rattle.monitor.proofs.Lending.{after-unchanged, after-whole, stands-alone, stands-lent}
 use Rattle.monitor.proofs.VerdictBytes.{length-verdicts, verdicts-more, take-verdicts, verdicts-stay}
 
@@ -182,7 +182,7 @@ module _ (rule log : List ℕ) (untouched : Untouched log) where
           let longer = first-longer m n more .longer in
           rw (
             open-enough rule (length p) fine (stands .enough),
-            not-foreign rule old d p fine stands,
+            stands .own,
             not-outside rule old d p fine stands,
             brought-well-formed,
             le-ltb (record-count (records-of log′)) (seen p) (omega arith),
@@ -384,4 +384,4 @@ own-checkpoint rule log untouched h point calls p lends whole =
     let i = invariant rule log untouched calls in
     let L = first-records log (brought-by h) in
     let stands = stands-lent rule L (given-by h) point p (i .size) lends whole (i .stands) in
-    (not-foreign rule L (given-by h) p (i .fine) stands, not-outside rule L (given-by h) p (i .fine) stands)
+    (stands .own, not-outside rule L (given-by h) p (i .fine) stands)

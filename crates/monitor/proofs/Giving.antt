@@ -16,8 +16,9 @@ use Rattle.blocks.specs.Step.{Agrees}
 use Rattle.blocks.proofs.Words.{Store, put, stores, after, word-stores}
 use Rattle.monitor.specs.Checkpoint.{given, held-count, held-bits}
 use Rattle.monitor.specs.Stands.{Top}
-use Rattle.monitor.specs.Code.{Tops, Holds, Giving, Gave}
+use Rattle.monitor.specs.Code.{Tops, KeptBlocks, Holds, Giving, Gave}
 use Rattle.monitor.proofs.Held.{held-rest}
+use Rattle.monitor.proofs.Holding.{kept-same, kept-then}
 use Rattle.monitor.proofs.Written.{written, length-written, drop-written, written-before, written-at}
 
 -- records that are a log's own from d on are its own from later on
@@ -32,6 +33,7 @@ pub record Going (t s : List ℕ) (k : ℕ) (ws sheet : List ℕ) (done : ℕ) (
   pub words-length : length ws′ ≡ length ws
   pub count : given ws′ ≡ given ws + done
   pub header : (i : ℕ) → i < 16 → (i ≡ 1 → ⊥) → (i ≡ 4 → ⊥) → (i ≡ 5 → ⊥) → word ws′ i ≡ word ws i
+  pub kept : KeptBlocks t k ws ws′
   pub meaning : (fs : List Formula) (L : Log) (d : ℕ) → Tops fs t k → NeverFalls L → Agrees s L d → Top fs L d ws →
       Giving fs L d done ws′ sheet′
 
@@ -44,6 +46,7 @@ going-none t s k ws sheet =
       words-length = refl;
       count = omega arith;
       header = λ i low ne ne′ ne″. refl;
+      kept = kept-same t k ws ws refl;
       meaning = λ fs L d tops never agrees top.
           let still : d + 0 ≡ d = omega arith in
           record { top = rw still top; bytes = λ i below. absurd (omega arith) };
@@ -109,6 +112,9 @@ module _ {t s : List ℕ} {k : ℕ} {ws sheet : List ℕ} {done : ℕ} {ws₁ sh
             );
         header = λ i low ne ne′ ne″.
             header-spent n ws₂ wide i ne ne′ ne″ ∙ held .header i low ne′ ne″ ∙ going .header i low ne ne′ ne″;
+        kept =
+            kept-then t k ws ws₁ (spent n ws₂) (going .kept)
+            (kept-then t k ws₁ ws₂ (spent n ws₂) (held .kept) (kept-same t k ws₂ (spent n ws₂) (drop-spent n ws₂ wide)));
         meaning = λ fs L d tops never agrees top.
             let so-far = going .meaning fs L d tops never agrees top in
             let next =
@@ -138,6 +144,7 @@ module _ {t s : List ℕ} {k : ℕ} {ws sheet : List ℕ} {done : ℕ} {ws₁ sh
         words-length = held .words-length ∙ going .words-length;
         count = held .header 1 (omega arith) (λ e. omega arith) (λ e. omega arith) ∙ going .count;
         header = λ i low ne ne′ ne″. held .header i low ne′ ne″ ∙ going .header i low ne ne′ ne″;
+        kept = kept-then t k ws ws₁ ws₂ (going .kept) (held .kept);
         meaning = λ fs L d tops never agrees top.
             let so-far = going .meaning fs L d tops never agrees top in
             let (next, is-open) =
@@ -156,5 +163,6 @@ gave-full going full =
       words-length = going .words-length;
       count = going .count;
       header = going .header;
+      kept = going .kept;
       meaning = λ fs L d tops never agrees top. (going .meaning fs L d tops never agrees top, λ below. absurd (omega arith));
     }

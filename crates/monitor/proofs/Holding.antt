@@ -20,11 +20,21 @@ use Rattle.blocks.specs.Step.{Agrees}
 use Rattle.engine.specs.Table.{Has}
 use Rattle.engine.specs.Ask.{part, back, stored, Asks}
 use Rattle.engine.proofs.Parts.{part-end, drop-back-last}
+use Rattle.engine.proofs.Kept.{kept-refl, kept-trans}
 use Rattle.blocks.proofs.Words.{put, after, word-stores}
 use Rattle.monitor.specs.Checkpoint.{given, held-count, held-bits}
 use Rattle.monitor.specs.Stands.{Top}
-use Rattle.monitor.specs.Code.{Tops, all-yes, Holding, Holds}
+use Rattle.monitor.specs.Code.{Tops, all-yes, KeptBlocks, Holding, Holds}
 use Rattle.monitor.proofs.Held.{held-none, held-one, held-yes}
+
+-- the blocks behind a header: untouched, and after two things done
+module _ (t : List ℕ) (n : ℕ) where
+  pub kept-same : (ws ws′ : List ℕ) → drop 16 ws′ ≡ drop 16 ws → KeptBlocks t n ws ws′
+  kept-same ws ws′ e some φ has = rw e (kept-refl φ (drop 16 ws))
+
+  pub kept-then : (ws ws′ ws″ : List ℕ) → KeptBlocks t n ws ws′ → KeptBlocks t n ws′ ws″ → KeptBlocks t n ws ws″
+  kept-then ws ws′ ws″ a b some φ has =
+      kept-trans φ (drop 16 ws) (drop 16 ws′) (drop 16 ws″) (a some φ has) (b some φ has)
 
 -- nothing to do where something is held
 pub already-held : (t s : List ℕ) (n : ℕ) (ws : List ℕ) → 0 < held-count ws → Holds t s n ws true ws
@@ -32,6 +42,7 @@ already-held t s n ws held =
     record {
       words-length = refl;
       header = λ i low ne ne′. refl;
+      kept = kept-same t n ws ws refl;
       some = λ e. held;
       none = λ e. let z : _≡_ {A = ℕ} 0 1 = cc in absurd (omega arith);
       meaning = λ fs L d tops never agrees top. top;
@@ -92,11 +103,12 @@ one-top P t n some (φ ∷ (ψ ∷ fs)) several f = absurd several
 -- what asking the last entry does to the header
 pub asked-holds : (t s : List ℕ) (n : ℕ) (ws : List ℕ) (r : Bool) (ws′ : List ℕ) → 16 ≤ length ws → 0 < n → held-count ws ≡ 0 →
     Asks t s (n - 1) 16 (length ws) 4 ws r ws′ → Holds t s n ws r ws′
-asked-holds t s n ws true ws′ room entries empty (ys, kept, (bits, count, some, is, means)) =
+asked-holds t s n ws true ws′ room entries empty (ys, kept, keeps, (bits, count, some, is, means)) =
     rw is
     (record {
       words-length = length-filled ws ys room kept bits count;
       header = header-filled ws ys room kept bits count;
+      kept = λ there. rw (drop-filled ws ys room kept bits count, ← part-end 16 (length ws) ws refl) keeps;
       some = λ e. omega (arith, count-filled ws ys room kept bits count);
       none = λ e. let z : _≡_ {A = ℕ} 0 1 = cc in absurd (omega arith);
       meaning = λ fs L d tops never agrees.
@@ -111,11 +123,12 @@ asked-holds t s n ws true ws′ room entries empty (ys, kept, (bits, count, some
             state = rw (count-filled ws ys room kept bits count, drop-filled ws ys room kept bits count) next;
           });
     })
-asked-holds t s n ws false ws′ room entries empty (ys, kept, (is, means)) =
+asked-holds t s n ws false ws′ room entries empty (ys, kept, keeps, (is, means)) =
     rw is
     (record {
       words-length = length-asked ws ys room kept;
       header = λ i low ne ne′. header-asked ws ys room kept i low;
+      kept = λ there. rw (drop-asked ws ys room kept, ← part-end 16 (length ws) ws refl) keeps;
       some = λ e. let z : _≡_ {A = ℕ} 0 1 = cc in absurd (omega arith);
       none = λ e. header-asked ws ys room kept 4 (omega arith) ∙ empty;
       meaning = λ fs L d tops never agrees.
@@ -175,6 +188,7 @@ yes-holds t s n ws r room none is =
     record {
       words-length = simp length-set;
       header = λ i low ne ne′. word-yes s ws room i ∙ rw (ne-eqb i 4 ne, ne-eqb i 5 ne′) refl;
+      kept = λ there. absurd (omega arith);
       some = λ e. omega (arith, word-yes s ws room 4, ltb-true (given ws) (record-count s) (sym is ∙ e));
       none = λ e. omega (arith, word-yes s ws room 4, ltb-false (given ws) (record-count s) (sym is ∙ e));
       meaning = λ fs L d tops never agrees.

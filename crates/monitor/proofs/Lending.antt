@@ -6,11 +6,13 @@ use native.Mathlib.Omega.{arith}
 use lib.ListN.{length, getD, take, drop, take-append-drop, drop-of-length-le}
 use lib.Seq.{getD-take, length-take-le, take-all}
 use Rattle.mtl.specs.Log.{Log}
+use Rattle.rule.specs.Entries.{count, decoded}
 use Rattle.blocks.specs.Block.{word}
 use Rattle.monitor.specs.Checkpoint.{need}
 use Rattle.monitor.specs.Verdicts.{formulas-of}
 use Rattle.monitor.specs.Stands.{Top, Stands}
 use Rattle.monitor.specs.Calls.{Lends, point-after}
+use Rattle.monitor.proofs.Copies.{foreign-within}
 
 -- words that hold the point whole begin with it
 pub lent-whole : (point p : List ℕ) → Lends point p → length point ≤ length p → take (length point) p ≡ point
@@ -31,8 +33,7 @@ module _ (rule : List ℕ) (K : Log) (d : ℕ) where
   stands-on p q e enough stands =
       record {
         enough = enough;
-        first-word = same 0 (omega arith) ∙ stands .first-word;
-        entries = same 6 (omega arith) ∙ stands .entries;
+        own = foreign-within (decoded rule) (count rule) q p same ∙ stands .own;
         size = same 2 (omega arith) ∙ stands .size;
         few = stands .few;
         time = same 3 (omega arith) ∙ stands .time;
@@ -40,9 +41,8 @@ module _ (rule : List ℕ) (K : Log) (d : ℕ) where
         top = subst (Top (formulas-of rule) K d) e (stands .top);
       }
     where
-      same : (i : ℕ) → i < 16 → word q i ≡ word p i
-      same i l =
-          sym (getD-take (need rule) q i 0 (omega arith)) ∙ ap (λ ws. getD ws i 0) (sym e) ∙ getD-take (need rule) p i 0 (omega arith)
+      same : (i : ℕ) → i < need rule → word q i ≡ word p i
+      same i l = sym (getD-take (need rule) q i 0 l) ∙ ap (λ ws. getD ws i 0) (sym e) ∙ getD-take (need rule) p i 0 l
 
   -- the point alone, out of the words that it stands in
   pub stands-alone : (p : List ℕ) → Stands rule K d p → Stands rule K d (take (need rule) p)

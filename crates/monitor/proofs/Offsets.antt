@@ -3,20 +3,27 @@ use Prim.Native.Nat.{ℕ, zero-le, _+_, _-_, _≤_, _<_}
 use native.Mathlib.Numerals.{add-one}
 use native.Mathlib.Omega.{arith}
 use mathlib.Core.Bool.{Bool, _||_}
-use mathlib.Core.Path.{_≡_, refl, ap}
+use mathlib.Core.Path.{_≡_, refl, ap, _∙_}
 use mathlib.Core.List.{List}
+use lib.ListN.{drop}
+use lib.Seq.{getD-drop}
 use borrow.Author.Tests.{eq-eqb}
 use Rattle.mtl.specs.Satisfaction.{any}
 use Rattle.rule.specs.declared.Entry.{Entry}
 use Rattle.rule.specs.Entries.{entry}
 use Rattle.rule.specs.Words.{own, offset, words}
 use Rattle.rule.proofs.Spans.{own-least, offset-mono}
-use Rattle.blocks.specs.Block.{cells-of}
+use Rattle.blocks.specs.Block.{word, cells-of}
 use Rattle.monitor.specs.Checkpoint.{block-at}
 
 -- behind the 16 words of a since stand its ring's cells
 pub since-cells : (e : Entry) → e .kind ≡ 5 → own e - 16 ≡ cells-of (e .kind) (e .high)
 since-cells e h = rw (eq-eqb (e .kind) 5 h) (omega arith)
+
+-- a word of the block of entry k
+pub in-block : (t : List Entry) (ws : List ℕ) (k i : ℕ) → word (drop (offset t k) (drop 16 ws)) i ≡ word ws (block-at t k + i)
+in-block t ws k i =
+    getD-drop (offset t k) (drop 16 ws) i 0 ∙ getD-drop 16 ws (offset t k + i) 0 ∙ ap (word ws) (omega arith)
 
 module _ (t : List Entry) where
   offset-more : (k : ℕ) → offset t (k + 1) ≡ offset t k + own (entry t k)

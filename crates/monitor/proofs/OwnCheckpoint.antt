@@ -1,14 +1,14 @@
--- A checkpoint that stands for its rule and a log never meets refusal 10 or 11 with that rule. Assumes nothing.
+-- A checkpoint that stands for its rule and a log never meets refusal 11 with that rule. Assumes nothing.
 -- (Examples is named first so that the table of worked examples is checked before any theorem.)
 use Rattle.monitor.specs.Examples
 use Prim.Native.Nat.{ℕ, _+_, _-_, _≤_, _<_, _^_}
 use mathlib.Core.Bool.{false}
-use mathlib.Core.Path.{_≡_, sym, _∙_, ap}
+use mathlib.Core.Path.{_≡_, sym, _∙_}
 use mathlib.Core.List.{List, [], _∷_}
 use native.Mathlib.Omega.{arith}
 use lib.ListN.{take, drop, length-drop}
 use lib.Seq.{getD-take, getD-drop, length-take-le, take-all}
-use borrow.Author.Tests.{le-leb, lt-ltb, eq-eqb}
+use borrow.Author.Tests.{le-leb, lt-ltb}
 use Rattle.mtl.specs.Formula.{Formula}
 use Rattle.mtl.specs.Log.{Log}
 use Rattle.mtl.proofs.Bounded.{any-false-iff}
@@ -21,10 +21,10 @@ use Rattle.rule.proofs.Acceptance.{accepted}
 use Rattle.blocks.specs.Block.{word, cells-of}
 use Rattle.engine.specs.State.{words}
 use Rattle.engine.proofs.Entries.{Ranged, rule-size, rule-ranges}
-use Rattle.monitor.specs.Checkpoint.{format, given, seen, last, held-count, need, block-at, copy-differs, foreign, block-outside, outside}
+use Rattle.monitor.specs.Checkpoint.{given, seen, last, held-count, need, block-at, block-outside, outside}
 use Rattle.monitor.specs.Verdicts.{formulas-of}
 use Rattle.monitor.specs.Stands.{States, Stands}
-use Rattle.monitor.proofs.Offsets.{block-fits}
+use Rattle.monitor.proofs.Offsets.{in-block, block-fits}
 use Rattle.monitor.proofs.Meaning.{rule-whole}
 
 module _ (rule : List ℕ) (K : Log) (d : ℕ) (p : List ℕ) (fine : refusal rule ≡ 0) (stands : Stands rule K d p) where
@@ -52,7 +52,7 @@ module _ (rule : List ℕ) (K : Log) (d : ℕ) (p : List ℕ) (fine : refusal ru
   ranged-by (φ ∷ []) one s j h =
       let a = accepted rule fine in
       let enough = stands .enough in
-      let size = rule-size (decoded rule) (count rule) (a .well-formed) φ one behind in
+      let size = rule-size (decoded rule) (count rule) (a .well-formed) φ one in
       let short = length-take-le (need rule) p enough in
       let length-behind = length-drop 16 own-part in
       rule-ranges (decoded rule) (count rule) (a .well-formed) φ one behind K (d + held-count own-part)
@@ -65,25 +65,7 @@ module _ (rule : List ℕ) (K : Log) (d : ℕ) (p : List ℕ) (fine : refusal ru
   block-word : (j i : ℕ) → j < count rule → i < 16 → word (drop (offset (decoded rule) j) behind) i ≡ word p (block-at (decoded rule) j + i)
   block-word j i h l =
       let r = block-fits (decoded rule) (count rule) j h in
-      getD-drop (offset (decoded rule) j) behind i 0 ∙ getD-drop 16 own-part (offset (decoded rule) j + i) 0 ∙
-      ap (word own-part) (omega arith) ∙ own-word (block-at (decoded rule) j + i) (omega arith)
-
-  same-copy : (j : ℕ) → j < count rule → copy-differs (decoded rule) p j ≡ false
-  same-copy j h =
-      let c = ranged j h .copy in
-      rw (
-        eq-eqb _ _ (sym (block-word j 14 h (omega arith)) ∙ c .head),
-        eq-eqb _ _ (sym (block-word j 15 h (omega arith)) ∙ c .ends),
-      )
-
-  -- refusal 10 is not met
-  pub not-foreign : foreign (decoded rule) (count rule) p ≡ false
-  not-foreign =
-      rw (
-        eq-eqb (word p 0) format (stands .first-word),
-        eq-eqb (word p 6) (count rule) (stands .entries),
-        any-false-iff (count rule) (copy-differs (decoded rule) p) .1 same-copy,
-      )
+      in-block (decoded rule) own-part j i ∙ own-word (block-at (decoded rule) j + i) (omega arith)
 
   -- the block in the checkpoint has the words of the block behind the header
   same-word : (j i : ℕ) → j < count rule → i < 16 → word (drop (block-at (decoded rule) j) p) i ≡ word (drop (offset (decoded rule) j) behind) i
@@ -95,7 +77,7 @@ module _ (rule : List ℕ) (K : Log) (d : ℕ) (p : List ℕ) (fine : refusal ru
       let b = drop (block-at (decoded rule) j) p in
       let cells = cells-of (e .kind) (e .high) in
       let size = stands .size in
-      let r = ranged j h .range in
+      let r = ranged j h in
       rw (
         le-leb (word b 0) (seen p) (omega (arith, same-word j 0 h (omega arith))),
         le-leb (word b 1) 64 (omega (arith, same-word j 1 h (omega arith))),

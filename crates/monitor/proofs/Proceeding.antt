@@ -7,8 +7,8 @@ use mathlib.Core.Logic.{⊎-elim}
 use native.Mathlib.Omega.{arith}
 use borrow.Author.Tests.{lt-ltb, le-ltb}
 use lib.Dec.{ltb}
-use lib.ListN.{length, getD, drop, set, length-set}
-use lib.Seq.{drop-set-lt, getD-set-same, getD-set-other}
+use lib.ListN.{length, getD, drop, set, length-set, length-drop}
+use lib.Seq.{take-all, drop-set-lt, getD-set-same, getD-set-other}
 use Rattle.mtl.specs.Formula.{Formula}
 use Rattle.mtl.specs.Log.{Log}
 use Rattle.mtl.specs.Progress.{joint-progress}
@@ -21,15 +21,20 @@ use Rattle.trace.specs.Order.{last-time}
 use Rattle.trace.proofs.Laws.{last-time-bound}
 use Rattle.blocks.specs.Block.{word}
 use Rattle.engine.specs.Layout.{Laid}
+use Rattle.engine.specs.State.{words as words-of}
 use Rattle.engine.proofs.Rows.{rows-ok, has-at, column-is-part}
+use Rattle.engine.proofs.Entries.{rule-size, rule-kept}
 use Rattle.monitor.specs.Stands.{Top}
-use Rattle.monitor.specs.Code.{Fits, Tops, Holding, Holds, Gave, Ready, Proceeded}
+use Rattle.monitor.specs.Code.{Fits, Tops, KeptBlocks, Holding, Holds, Gave, Ready, KeptEntries, Proceeded}
+use Rattle.monitor.proofs.Offsets.{in-block}
+use Rattle.monitor.proofs.Holding.{kept-same, kept-then}
 use Rattle.monitor.proofs.Giving.{agrees-later}
 
 -- the table of an accepted rule's entries
 pub record Tabled (t : List Entry) (table : List ℕ) (n : ℕ) : Type 0 where
   pub fits : Fits table n (words t n)
   pub tops : (fs : List Formula) → Whole t n fs → Tops fs table n
+  pub kept : (ws ws′ : List ℕ) → length ws ≡ words t n → length ws′ ≡ words t n → KeptBlocks table n ws ws′ → KeptEntries t n ws ws′
 
 module _ (t : List Entry) (n : ℕ) (ok : WellFormed t n) (table : List ℕ) (laid : Laid t n table) (few : n ≤ 128) where
   -- its entries are its formulas
@@ -51,11 +56,28 @@ module _ (t : List Entry) (n : ℕ) (ok : WellFormed t n) (table : List ℕ) (la
       }
   fits-of (φ ∷ (ψ ∷ fs)) several = absurd several
 
+  -- the blocks behind the header, entry by entry
+  kept-of : (fs : List Formula) → Whole t n fs → (ws ws′ : List ℕ) → length ws ≡ words t n → length ws′ ≡ words t n →
+      KeptBlocks table n ws ws′ → KeptEntries t n ws ws′
+  kept-of [] none ws ws′ l l′ kept k i h low high = absurd (omega arith)
+  kept-of (φ ∷ []) one ws ws′ l l′ kept k i h low high =
+      let size = rule-size t n ok φ one in
+      let behind = length-drop 16 ws in
+      let behind′ = length-drop 16 ws′ in
+      let (some, has) = tops-of (φ ∷ []) one in
+      let whole = take-all (words-of φ) (drop 16 ws) (omega arith) in
+      let whole′ = take-all (words-of φ) (drop 16 ws′) (omega arith) in
+      sym (in-block t ws′ k i) ∙
+      rule-kept t n ok φ one (drop 16 ws) (drop 16 ws′) (rw (whole, whole′) (kept some φ has)) k h i low high ∙
+      in-block t ws k i
+  kept-of (φ ∷ (ψ ∷ fs)) several ws ws′ l l′ kept k i h low high = absurd several
+
 pub tabled : (t : List Entry) (n : ℕ) (table : List ℕ) → Ready t n → Laid t n table → Tabled t table n
 tabled t n table ready laid =
     record {
       fits = fits-of t n (ready .well-formed) table laid (ready .few) (ready .the-formulas) (ready .whole);
       tops = tops-of t n (ready .well-formed) table laid (ready .few);
+      kept = kept-of t n (ready .well-formed) table laid (ready .few) (ready .the-formulas) (ready .whole);
     }
 
 -- the header once the last time and the number of records are noted
@@ -105,12 +127,13 @@ counted fs L d c room false ws′ fits short some (top, is-open) =
     record { top = top; count = omega arith; more = sym (le-ltb (d + c) (joint-progress fs L) (omega arith)) }
 
 pub proceeded : (t : List Entry) (table s : List ℕ) (k : ℕ) (ws sheet : List ℕ) (c : ℕ) (ws₁ sheet₁ : List ℕ) (more : Bool) (ws₂ : List ℕ)
-    (time size : ℕ) → Tabled t table k → 16 ≤ length ws → ((i : ℕ) → getD s i 0 < 256) →
+    (time size : ℕ) → Tabled t table k → length ws ≡ words t k → ((i : ℕ) → getD s i 0 < 256) →
     Gave table s k ws sheet c ws₁ sheet₁ → Holds table s k ws₁ more ws₂ →
     time ≡ last-time s (word ws₂ 2) (word ws₂ 3) → size ≡ record-count s →
     Proceeded t k s ws sheet c more (noted time size ws₂) sheet₁
 proceeded t table s k ws sheet c ws₁ sheet₁ more ws₂ time size tab room byte gave held timed sized =
-    let wide : 16 ≤ length ws₂ = omega (arith, held .words-length, gave .words-length) in
+    let long : length ws₂ ≡ words t k = held .words-length ∙ gave .words-length ∙ room in
+    let wide : 16 ≤ length ws₂ = omega arith in
     let seen-same = kept 2 (omega arith) (λ e. omega arith) (λ e. omega arith) (λ e. omega arith) in
     let last-same = kept 3 (omega arith) (λ e. omega arith) (λ e. omega arith) (λ e. omega arith) in
     let now : time ≡ last-time s (word ws 2) (word ws 3) = rw (seen-same, last-same) at timed in
@@ -133,6 +156,10 @@ proceeded t table s k ws sheet c ws₁ sheet₁ more ws₂ time size tab room by
       entries =
           noted-other time size ws₂ wide 6 (λ e. omega arith) (λ e. omega arith) ∙
           kept 6 (omega arith) (λ e. omega arith) (λ e. omega arith) (λ e. omega arith);
+      kept =
+          tab .kept ws (noted time size ws₂) room (length-noted time size ws₂ wide ∙ long)
+          (kept-then table k ws ws₁ (noted time size ws₂) (gave .kept)
+          (kept-then table k ws₁ ws₂ (noted time size ws₂) (held .kept) (kept-same table k ws₂ (noted time size ws₂) (drop-noted time size ws₂ wide))));
       meaning = λ fs L d whole never agrees top.
           let tops = tab .tops fs whole in
           let (giving, short) = gave .meaning fs L d tops never agrees top in

@@ -41,6 +41,7 @@ use Rattle.monitor.specs.declared.check.Checked.the-variants.{Passed, Fa
 use Rattle.monitor.specs.declared.Resumed.{Resumed}
 use Rattle.monitor.specs.declared.Resumed.the-variants.{Given, Refused}
 use Rattle.monitor.proofs.Meaning.{rule-whole}
+use Rattle.monitor.proofs.Copies.{foreign-same, foreign-within}
 use Rattle.monitor.proofs.Sizes.{sized-refusal, enough, stops}
 use Rattle.monitor.proofs.Held.{held-longer, states-longer}
 
@@ -168,12 +169,21 @@ module _ (rule log p sheet : List ℕ) (ok : refusal rule ≡ 0) (room : need ru
   size : length ws′ ≡ need rule
   size = done .words-length ∙ length-take-le (need rule) p room
 
-  -- a header word, before and after
-  was : (i : ℕ) → i < 16 → word (take (need rule) p) i ≡ word p i
-  was i low = getD-take (need rule) p i 0 (omega arith)
+  -- a word that the rule needs, before and after
+  was : (i : ℕ) → i < need rule → word (take (need rule) p) i ≡ word p i
+  was i low = getD-take (need rule) p i 0 low
 
-  now : (i : ℕ) → i < 16 → word (ws′ ++ drop (need rule) p) i ≡ word ws′ i
+  now : (i : ℕ) → i < need rule → word (ws′ ++ drop (need rule) p) i ≡ word ws′ i
   now i low = List·getD-append ws′ (drop (need rule) p) 0 i (omega (arith, size))
+
+  -- the rule's copy is what it was
+  foreign-now : foreign (decoded rule) (count rule) (ws′ ++ drop (need rule) p) ≡ foreign (decoded rule) (count rule) p
+  foreign-now =
+      let t = decoded rule in
+      let n = count rule in
+      foreign-within t n (ws′ ++ drop (need rule) p) ws′ now ∙
+      foreign-same t n ws′ (take (need rule) p) (done .first-word) (done .entries) (done .kept) ∙
+      foreign-within t n (take (need rule) p) p was
 
   length-now : length (ws′ ++ drop (need rule) p) ≡ length p
   length-now = simp (length-append, size, length-drop) (omega arith)
@@ -188,8 +198,7 @@ module _ (rule log p sheet : List ℕ) (ok : refusal rule ≡ 0) (room : need ru
       (time-seen (records-of log) K L d longer agrees reached) in
       record {
         enough = omega (arith, length-now);
-        first-word = now 0 (omega arith) ∙ done .first-word ∙ was 0 (omega arith) ∙ stands .first-word;
-        entries = now 6 (omega arith) ∙ done .entries ∙ was 6 (omega arith) ∙ stands .entries;
+        own = foreign-now ∙ stands .own;
         size = now 2 (omega arith) ∙ done .size ∙ agrees .size;
         few = omega (arith, passes rule log p none .records, agrees .size);
         time = now 3 (omega arith) ∙ done .time ∙ before;

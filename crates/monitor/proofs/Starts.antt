@@ -4,51 +4,41 @@ use native.Mathlib.Omega.{arith}
 use mathlib.Core.Path.{_≡_, sym, ap, subst, _∙_}
 use mathlib.Core.List.{List, [], _∷_, _++_}
 use lib.ListN.{length, take, drop, length-drop}
-use lib.Seq.{getD-drop, getD-take, take-all, take-at, drop-at, length-front, length-take-le}
+use lib.Seq.{getD-take, take-all, take-at, drop-at, length-front, length-take-le}
 use borrow.Author.Tests.{eq-eqb}
 use Rattle.mtl.specs.Formula.{Formula}
 use Rattle.mtl.specs.Log.{Log}
-use Rattle.rule.specs.declared.Entry.{Entry}
 use Rattle.rule.specs.Accepted.{Whole, Accepted}
-use Rattle.rule.specs.Entries.{count, decoded, entry}
+use Rattle.rule.specs.Entries.{count, decoded}
 use Rattle.rule.specs.Refusal.{refusal}
 use Rattle.rule.specs.Words.{offset}
 use Rattle.rule.proofs.Acceptance.{accepted}
 use Rattle.blocks.specs.Block.{word, FreshBlock}
 use Rattle.engine.specs.State.{words, State}
 use Rattle.engine.proofs.Entries.{fresh-rule, rule-size}
-use Rattle.monitor.specs.Checkpoint.{held-count, held-bits, need, block-at}
+use Rattle.monitor.specs.Checkpoint.{held-count, held-bits, need}
 use Rattle.monitor.specs.Code.{Fresh, sized-of, sized-number}
 use Rattle.monitor.specs.Open.{Opens}
 use Rattle.monitor.specs.Stands.{States, Top, Stands}
 use Rattle.monitor.specs.Verdicts.{formulas-of}
 use Rattle.monitor.specs.declared.Opened.the-variants.{Done}
 use Rattle.monitor.specs.declared.check.Sized.the-variants.{Words}
+use Rattle.monitor.proofs.Offsets.{in-block}
+use Rattle.monitor.proofs.Copies.{fresh-own, foreign-within}
 use Rattle.monitor.proofs.Sizes.{enough, sized-refusal}
 use Rattle.monitor.proofs.Meaning.{rule-whole}
 use Rattle.monitor.proofs.Held.{held-none}
 
--- a word of the block of entry j
-in-block : (t : List Entry) (ws : List ℕ) (j i : ℕ) → word (drop (offset t j) (drop 16 ws)) i ≡ word ws (block-at t j + i)
-in-block t ws j i =
-    getD-drop (offset t j) (drop 16 ws) i 0 ∙ getD-drop 16 ws (offset t j + i) 0 ∙ ap (word ws) (omega arith)
-
 module _ (rule ws : List ℕ) (a : Accepted rule) (size : length ws ≡ need rule) (f : Fresh (decoded rule) (count rule) ws) (L : Log) where
-  fresh-block : (j : ℕ) → j < count rule →
-      (let e = entry (decoded rule) j in FreshBlock (e .kind) (e .letter) (e .low) (e .high) (drop (offset (decoded rule) j) (drop 16 ws)))
-  fresh-block j h =
-      let t = decoded rule in
-      record {
-        zeros = λ i l. in-block t ws j i ∙ f .blocks j h i l;
-        copy = record { head = in-block t ws j 14 ∙ f .heads j h; ends = in-block t ws j 15 ∙ f .ends j h };
-      }
+  fresh-block : (j : ℕ) → j < count rule → FreshBlock (drop (offset (decoded rule) j) (drop 16 ws))
+  fresh-block j h i l = in-block (decoded rule) ws j i ∙ f .blocks j h i (omega arith)
 
   fresh-states : (fs : List Formula) → Whole (decoded rule) (count rule) fs → States fs L 0 (drop 16 ws)
   fresh-states [] none = tt
   fresh-states (φ ∷ []) one =
       let t = decoded rule in
       let l = length-drop 16 ws in
-      let z = rule-size t (count rule) (a .well-formed) φ one (drop 16 ws) in
+      let z = rule-size t (count rule) (a .well-formed) φ one in
       let s = fresh-rule t (count rule) (a .well-formed) φ one (drop 16 ws) (omega arith) fresh-block L in
       subst (State φ L 0) (take-all (words φ) (drop 16 ws) (omega arith)) s
   fresh-states (φ ∷ (ψ ∷ fs)) several = several
@@ -65,15 +55,14 @@ module _ (rule ws : List ℕ) (a : Accepted rule) (size : length ws ≡ need rul
 pub fresh-stands : (rule p : List ℕ) → refusal rule ≡ 0 → need rule ≤ length p →
     Fresh (decoded rule) (count rule) (take (need rule) p) → (L : Log) → L .size ≡ 0 → Stands rule L 0 p
 fresh-stands rule p ok room f L none =
-    let at : (i : ℕ) → i < 16 → word p i ≡ word (take (need rule) p) i =
-    λ i h. sym (getD-take (need rule) p i 0 (omega arith))
-    in
+    let at : (i : ℕ) → i < need rule → word p i ≡ word (take (need rule) p) i = λ i h. sym (getD-take (need rule) p i 0 h) in
     let two = at 2 (omega arith) ∙ f .header 2 (omega arith) (omega arith) in
     let three = at 3 (omega arith) ∙ f .header 3 (omega arith) (omega arith) in
     record {
       enough = room;
-      first-word = at 0 (omega arith) ∙ f .first-word;
-      entries = at 6 (omega arith) ∙ f .entries;
+      own =
+          foreign-within (decoded rule) (count rule) p (take (need rule) p) at ∙
+          fresh-own (decoded rule) (count rule) (take (need rule) p) f;
       size = omega arith;
       few = omega arith;
       time = rw (eq-eqb (L .size) 0 none) three;

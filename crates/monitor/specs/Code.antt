@@ -18,6 +18,7 @@ use Rattle.rule.specs.Accepted.{WellFormed, Whole}
 use Rattle.blocks.specs.Block.{word}
 use Rattle.blocks.specs.Step.{Agrees}
 use Rattle.engine.specs.Table.{RowsOk, column, Has}
+use Rattle.engine.specs.Answer.{Keeps}
 use Rattle.trace.specs.Format.{record-count}
 use Rattle.trace.specs.Order.{last-time}
 use Rattle.monitor.specs.Checkpoint.{format, given, seen, last, held-count, need, block-at, copy-head, copy-ends}
@@ -78,6 +79,10 @@ Tops (φ ∷ (ψ ∷ fs)) t n = ⊥
 abbrev pub all-yes : List ℕ → List ℕ → List ℕ
 all-yes s ws = set (set ws 4 (min (record-count s - given ws) 64)) 5 (2 ^ 64 - 1)
 
+-- words 12 to 15 of the blocks behind the header are as they were, for the formula that the table has
+abbrev pub KeptBlocks : List ℕ → ℕ → List ℕ → List ℕ → Type 0
+KeptBlocks t n ws ws′ = 0 < n → Keeps t (n - 1) (drop 16 ws) (drop 16 ws′)
+
 -- `hold` fills the header's buffer where it is empty: false where nothing more is settled
 abbrev pub Holding : List Formula → Log → ℕ → Bool → List ℕ → Type 0
 Holding fs L d true ws′ = Top fs L d ws′
@@ -86,6 +91,7 @@ Holding fs L d false ws′ = Top fs L d ws′ × (joint-progress fs L ≡ d)
 pub record Holds (t s : List ℕ) (n : ℕ) (ws : List ℕ) (r : Bool) (ws′ : List ℕ) : Type 0 where
   pub words-length : length ws′ ≡ length ws
   pub header : (i : ℕ) → i < 16 → (i ≡ 4 → ⊥) → (i ≡ 5 → ⊥) → word ws′ i ≡ word ws i
+  pub kept : KeptBlocks t n ws ws′
   pub some : r ≡ true → 0 < held-count ws′
   pub none : r ≡ false → held-count ws′ ≡ 0
   pub meaning : (fs : List Formula) (L : Log) (d : ℕ) → Tops fs t n → NeverFalls L → Agrees s L d → Top fs L d ws →
@@ -110,6 +116,7 @@ pub record Gave (t s : List ℕ) (n : ℕ) (ws sheet : List ℕ) (c : ℕ) (ws�
   pub words-length : length ws′ ≡ length ws
   pub count : given ws′ ≡ given ws + c
   pub header : (i : ℕ) → i < 16 → (i ≡ 1 → ⊥) → (i ≡ 4 → ⊥) → (i ≡ 5 → ⊥) → word ws′ i ≡ word ws i
+  pub kept : KeptBlocks t n ws ws′
   pub meaning : (fs : List Formula) (L : Log) (d : ℕ) → Tops fs t n → NeverFalls L → Agrees s L d → Top fs L d ws →
       Giving fs L d c ws′ sheet′ × (c < length sheet → joint-progress fs L ≡ d + c)
 
@@ -119,6 +126,10 @@ pub record Ready (t : List Entry) (n : ℕ) : Type 0 where
   pub well-formed : WellFormed t n
   pub the-formulas : List Formula
   pub whole : Whole t n the-formulas
+
+-- words 12 to 15 of each entry's block are as they were
+abbrev pub KeptEntries : List Entry → (n : ℕ) → List ℕ → List ℕ → Type 0
+KeptEntries t n ws ws′ = (k i : ℕ) → k < n → 12 ≤ i → i < 16 → word ws′ (block-at t k + i) ≡ word ws (block-at t k + i)
 
 -- an accepted call on exactly the words that the n entries of t need
 pub record Proceeded (t : List Entry) (n : ℕ) (s ws sheet : List ℕ) (c : ℕ) (more : Bool) (ws′ sheet′ : List ℕ) : Type 0 where
@@ -132,6 +143,7 @@ pub record Proceeded (t : List Entry) (n : ℕ) (s ws sheet : List ℕ) (c : ℕ
   pub time : last ws′ ≡ last-time s (seen ws) (last ws)
   pub fits : last ws < 2 ^ 32 → last ws′ < 2 ^ 32
   pub entries : word ws′ 6 ≡ word ws 6
+  pub kept : KeptEntries t n ws ws′
   pub meaning : (fs : List Formula) (L : Log) (d : ℕ) → Whole t n fs → NeverFalls L → Agrees s L d → Top fs L d ws →
       Giving fs L d c ws′ sheet′ × (c ≡ min (joint-progress fs L - d) (length sheet)) ×
       (more ≡ ltb (d + c) (joint-progress fs L))

@@ -1,7 +1,7 @@
 -- A checkpoint stands for a rule, the log that it has seen, and the number of verdicts given. What the inside of a checkpoint means
 -- is said here and in the engine alone.
 use Prim.Native.Nat.{ℕ, _+_, _-_, _≤_, _<_, _^_}
-use mathlib.Core.Bool.{cond}
+use mathlib.Core.Bool.{false, cond}
 use mathlib.Core.Path.{_≡_}
 use mathlib.Core.List.{List, [], _∷_}
 use lib.ListN.{length, take, drop}
@@ -10,10 +10,9 @@ use Rattle.mtl.specs.Formula.{Formula}
 use Rattle.mtl.specs.Log.{Log}
 use Rattle.mtl.specs.Progress.{joint-progress}
 use Rattle.bits.specs.Packed.{bit, number}
-use Rattle.rule.specs.Entries.{count}
-use Rattle.blocks.specs.Block.{word}
+use Rattle.rule.specs.Entries.{count, decoded}
 use Rattle.engine.specs.State.{State}
-use Rattle.monitor.specs.Checkpoint.{format, given, seen, last, held-count, held-bits, need}
+use Rattle.monitor.specs.Checkpoint.{given, seen, last, held-count, held-bits, need, foreign}
 use Rattle.monitor.specs.Verdicts.{formulas-of, verdict}
 
 -- what was answered and not given yet: a word with the verdicts at the count positions from d on, all of them settled
@@ -38,11 +37,10 @@ pub record Top (fs : List Formula) (L : Log) (d : ℕ) (ws : List ℕ) : Type 0 
 abbrev pub last-of : Log → ℕ
 last-of L = cond (eqb (L .size) 0) 0 (L .time (L .size - 1))
 
--- the checkpoint's words stand for the rule, the log as it was last seen, and d verdicts given
+-- the checkpoint's words stand for the rule, which they have a copy of, the log as it was last seen, and d verdicts given
 pub record Stands (rule : List ℕ) (L : Log) (d : ℕ) (p : List ℕ) : Type 0 where
   pub enough : need rule ≤ length p
-  pub first-word : word p 0 ≡ format
-  pub entries : word p 6 ≡ count rule
+  pub own : foreign (decoded rule) (count rule) p ≡ false
   pub size : seen p ≡ L .size
   pub few : L .size ≤ 1000000
   pub time : last p ≡ last-of L

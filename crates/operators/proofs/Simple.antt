@@ -28,20 +28,27 @@ use Rattle.mtl.proofs.Closing.{
 use Rattle.bits.specs.Packed.{moved-up, Packed}
 use Rattle.bits.proofs.Laws.{packed-none, packed-push, packed-same, packed-moved, packed-not, packed-or, packed-and}
 use Rattle.trace.specs.Format.{record-count, time-at, has-letter}
-use Rattle.blocks.specs.Block.{taken, left-count, left-bits, right-count, right-bits, answered, last-left, last-time, Core, Own, RightBuffer, Buffers, Ready, took-right, took-both}
+use Rattle.blocks.specs.Block.{taken, left-count, left-bits, right-count, right-bits, answered, last-left, last-time, KeptBlock, Core, Own, RightBuffer, Buffers, Ready, took-right, took-both}
 use Rattle.blocks.specs.Near.{near-at}
 use Rattle.blocks.specs.Step.{Agrees, Stepped, Moved, has-left, left-to-do}
 use Rattle.blocks.specs.declared.Step.the-variants.{Batch, Again}
-use Rattle.blocks.proofs.Words.{Store, put, stores, word-stores, copied, less-to-do, fits}
+use Rattle.blocks.proofs.Words.{Store, put, stores, word-stores, stores-keep, less-to-do, fits}
 use Rattle.blocks.proofs.Taking.{right-stores, both-stores, first-of, taken-right, taken-both}
 
--- the block of a next that has taken n positions
+-- the block of a next that has taken n positions; words 12 to 15 are kept
 abbrev next-stores : ℕ → List ℕ → List Store
 next-stores n b = right-stores n b (put 5 (taken b + (n - 1)) ∷ [])
+
+pub next-keeps : (n : ℕ) (b : List ℕ) → KeptBlock b (set (took-right n b) 5 (taken b + (n - 1)))
+next-keeps n b = stores-keep (next-stores n b) b (omega arith)
 
 -- the block of a previous that has taken n positions, the last of them at this time
 abbrev previous-stores : ℕ → List ℕ → ℕ → List Store
 previous-stores n b time = right-stores n b (put 6 (right-bits b / 2 ^ (n - 1) % 2) ∷ put 8 time ∷ [])
+
+-- what a previous stores keeps words 12 to 15
+pub previous-keeps : (n : ℕ) (b : List ℕ) (last time : ℕ) → KeptBlock b (set (set (took-right n b) 6 last) 8 time)
+previous-keeps n b last time = stores-keep (right-stores n b (put 6 last ∷ put 8 time ∷ [])) b (omega arith)
 
 module _ (s b : List ℕ) (room : 16 ≤ length b) (n : ℕ) (some : 0 < n) where
   right-at : taken (took-right n b) ≡ taken b + n
@@ -72,7 +79,6 @@ module _ (s b : List ℕ) (room : 16 ≤ length b) (n : ℕ) (some : 0 < n) wher
             core = record {
               reached = omega arith;
               range = omega (arith, at 0, at 1, at 3, at 5, at 6, at 7, at 8, at 9, at 10);
-              copy = copied (at 14) (at 15) (core .copy);
               own = omega (arith, at 0);
             };
             buffers = tt;
@@ -88,8 +94,8 @@ module _ (s b : List ℕ) (room : 16 ≤ length b) (n : ℕ) (some : 0 < n) wher
         let at = word-stores (right-stores n b []) b (omega arith) room in
         let range = core .range in
         let most = fits right in
-        taken-right φ core n g′ (took-right n b) reached (omega (arith, at 0, at 1, at 3, at 5, at 6, at 7, at 8, at 9, at 10)) own single whole h
-        (record { at = at 0; count = at 3; bits = at 4; answered = omega (arith, at 5); head = at 14; ends = at 15 })
+        taken-right φ b n g′ (took-right n b) reached (omega (arith, at 0, at 1, at 3, at 5, at 6, at 7, at 8, at 9, at 10)) own single whole h
+        (record { at = at 0; count = at 3; bits = at 4; answered = omega (arith, at 5) })
         right
 
     pub not-batch : (φ : Formula) → n ≤ right-count b → right-bits b < 2 ^ 64 → Ready (not φ) L g b →
@@ -122,11 +128,11 @@ module _ (s b : List ℕ) (room : 16 ≤ length b) (n : ℕ) (some : 0 < n) wher
         let right = ready .buffers .1 in
         let most = settled-le-size φ L in
         let moved =
-        taken-both (or φ ψ) core n (g + n) (took-both n b) (omega arith)
+        taken-both (or φ ψ) b n (g + n) (took-both n b) (omega arith)
         (omega (arith, at 0, at 1, at 3, at 5, at 6, at 7, at 8, at 9, at 10))
         (omega (arith, at 0))
         (λ x. x) l r
-        (record { right = record { at = at 0; count = at 3; bits = at 4; answered = omega (arith, at 5); head = at 14; ends = at 15 }; count = at 1; bits = at 2 })
+        (record { right = record { at = at 0; count = at 3; bits = at 4; answered = omega (arith, at 5) }; count = at 1; bits = at 2 })
         left right
         in (
           record {
@@ -211,7 +217,7 @@ module _ (s b : List ℕ) (room : 16 ≤ length b) (n : ℕ) (some : 0 < n) wher
             let moved =
             taken-right
             (previous low high φ)
-            core
+            b
             n
             (g + n)
             (stores (previous-stores n b time) b)
@@ -225,7 +231,7 @@ module _ (s b : List ℕ) (room : 16 ≤ length b) (n : ℕ) (some : 0 < n) wher
             refl
             (λ x. x)
             h
-            (record { at = at 0; count = at 3; bits = at 4; answered = omega (arith, at 5); head = at 14; ends = at 15 })
+            (record { at = at 0; count = at 3; bits = at 4; answered = omega (arith, at 5) })
             right
             in (
               record { some = some; buffer = record { within = omega arith; packed = previous-packed near word inside packed } },
@@ -279,11 +285,11 @@ module _ (s b : List ℕ) (room : 16 ≤ length b) (n : ℕ) (some : 0 < n) wher
             rw (here, lt-ltb (p + i) (L .size) (omega arith), near-is before p (p + i) (λ e. earlier) (omega arith) (omega arith) (omega arith), back)
             in
             let moved =
-            taken-right (next low high φ) core n (g + n) (stores (next-stores n b) b) to
+            taken-right (next low high φ) b n (g + n) (stores (next-stores n b) b) to
             (omega (arith, at 0, at 1, at 3, at 5, at 6, at 7, at 8, at 9, at 10))
             (omega (arith, at 5), inl (omega (arith, at 0)))
             refl (λ x. x) h
-            (record { at = at 0; count = at 3; bits = at 4; answered = omega (arith, at 5); head = at 14; ends = at 15 })
+            (record { at = at 0; count = at 3; bits = at 4; answered = omega (arith, at 5) })
             right
             in (
               record { some = some; buffer = record { within = to; packed = packed-same (λ i. is-near i && sat φ L i) (sat (next low high φ) L) p g n _ same both } },
@@ -324,7 +330,6 @@ module _ (s b : List ℕ) (room : 16 ≤ length b) {closed : Bool} (low high : �
             core = record {
               reached = omega arith;
               range = omega (arith, at 0, at 1, at 3, at 5, at 6, at 7, at 8, at 9, at 10);
-              copy = copied (at 14) (at 15) (core .copy);
               own = (omega (arith, at 5), inr (c, omega (arith, at 0), last));
             };
             buffers = rw (at 0, at 3, at 4) right;

@@ -31,7 +31,7 @@ use Rattle.monitor.specs.declared.Opened.the-variants.{Refused as NotOpened}
 use Rattle.monitor.specs.declared.Resumed.{Resumed}
 use Rattle.monitor.specs.declared.Resumed.the-variants.{Given}
 use Rattle.monitor.specs.declared.Resumed.the-variants.{Refused as NotResumed}
-use Rattle.monitor.proofs.OwnCheckpoint.{own-given, not-foreign, not-outside}
+use Rattle.monitor.proofs.OwnCheckpoint.{own-given, not-outside}
 use Rattle.monitor.proofs.VerdictBytes.{verdicts-more}
 use Rattle.report.specs.Report.{refused-text, first-line, lines, verdicts-text, run-refusal, too-long, report}
 
@@ -89,7 +89,7 @@ module _ (rule log : List ℕ) (short : too-long rule log ≡ false) where
         rw (
           eq-eqb (refusal rule) 0 fine,
           le-ltb (length p) (need rule) (stands .enough),
-          not-foreign rule none-yet 0 p fine stands,
+          stands .own,
           not-outside rule none-yet 0 p fine stands,
           own-given rule none-yet 0 p fine stands,
           stands .size,

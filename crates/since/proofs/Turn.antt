@@ -19,12 +19,12 @@ use Rattle.bits.proofs.Laws.{with-bit-lt, packed-none, packed-push, packed-same
 use Rattle.rule.specs.Words.{ring-words}
 use Rattle.trace.specs.Format.{record-count, time-at}
 use Rattle.trace.proofs.Laws.{time-bound}
-use Rattle.blocks.specs.Block.{word, taken, left-count, left-bits, right-count, right-bits, Ready, took-both}
+use Rattle.blocks.specs.Block.{word, taken, left-count, left-bits, right-count, right-bits, KeptBlock, Ready, took-both}
 use Rattle.blocks.specs.Ring.{Ring, Rings, Witnesses, turned, turns, reaches, reached}
 use Rattle.blocks.specs.Step.{Agrees, Stepped, Steps}
 use Rattle.blocks.specs.declared.Step.the-variants.{Batch, Left, Right, Open}
 use Rattle.blocks.proofs.Words.{word-stores, after, fits, Available}
-use Rattle.blocks.proofs.Taking.{both-stores, first-of, taken-both}
+use Rattle.blocks.proofs.Taking.{both-stores, both-keeps, first-of, taken-both}
 use Rattle.since.proofs.Witnesses.{turn-keeps, oldest-decides}
 use Rattle.since.proofs.Cells.{ring-kept, followed}
 
@@ -107,6 +107,10 @@ module _ (low high : ℕ) (time : ℕ → ℕ) (left right : ℕ → Bool) (g n 
             (λ i h. decides i h (keep (suc i) h) ∙ ap answer (sym (zero-add i)))
             packed,
       )
+
+-- the turns and the taking keep words 12 to 15
+pub since-keeps : {cells : ℕ} {f : List ℕ → List ℕ} {b d : List ℕ} (n : ℕ) → Rings cells f b d → KeptBlock b (took-both n d)
+since-keeps {d = d} n turn i h l = both-keeps n d i h l ∙ turn .others i l (λ e. omega arith) (λ e. omega arith)
 
 module _ (low high : ℕ) (s b : List ℕ) where
   pub since-left : (closed : Bool) (φ ψ : Formula) → Steps closed (since low high φ ψ) s b Left b
@@ -197,7 +201,7 @@ module _ (low high : ℕ) (s b : List ℕ) where
               let count = ring .count in
               let cells = ring .fits in
               let moved =
-              taken-both (since low high φ ψ) core n (taken b + n) (took-both n d) within-settled
+              taken-both (since low high φ ψ) b n (taken b + n) (took-both n d) within-settled
               (omega (arith, kept 5 (omega arith), kept 6 (omega arith), kept 7 (omega arith), kept 8 (omega arith)))
               (record { at = at; times = _; ring = ring; alive = alive })
               (λ x. x) (omega arith) (omega arith)
@@ -207,8 +211,6 @@ module _ (low high : ℕ) (s b : List ℕ) where
                   count = count-right;
                   bits = words 4 ∙ ap (λ (x : ℕ). x / 2 ^ n) (turned-word 4 (omega arith));
                   answered = omega (arith, kept 5 (omega arith));
-                  head = kept 14 (omega arith);
-                  ends = kept 15 (omega arith);
                 };
                 count = count-left;
                 bits = words 2 ∙ ap (λ (x : ℕ). x / 2 ^ n) (turned-word 2 (omega arith));

@@ -41,6 +41,7 @@ use Rattle.blocks.specs.Block.{
   last-left,
   last-right,
   last-time,
+  KeptBlock,
   Until,
   Buffer,
   Ready,
@@ -54,7 +55,7 @@ use Rattle.until.specs.declared.Settled.the-variants.{Known, Unknown}
 use Rattle.blocks.specs.declared.Step.{Step}
 use Rattle.blocks.specs.declared.Step.the-variants.{Batch, Left, Right, Again, Open}
 use Rattle.until.proofs.UntilLogic as logic
-use Rattle.blocks.proofs.Words.{Store, put, after, word-stores, fits, less-to-do, Available}
+use Rattle.blocks.proofs.Words.{Store, put, after, word-stores, stores-keep, fits, less-to-do, Available}
 use Rattle.blocks.proofs.Taking.{both-stores, first-of, taken-both}
 
 -- an answer as a word, and back
@@ -314,6 +315,10 @@ module _ {low high : ℕ} {s : List ℕ} {closed : Bool} {b : List ℕ} {n : ℕ
   at : (k : ℕ) → word b′ k ≡ after (walked-stores w b) (word b) k
   at = word-stores (walked-stores w b) b (omega arith) (went .room)
 
+  -- words 12 to 15 are kept
+  pub walked-keeps : KeptBlock b b′
+  walked-keeps = stores-keep (walked-stores w b) b (omega arith)
+
   -- the walk's end fits the block
   pub put-back-fits : taken b ≤ record-count s → record-count s < 2 ^ 64 → answered b < 2 ^ 64 →
       (16 ≤ length b) × (w .took ≤ left-count b) × (w .took ≤ right-count b) × (taken b + w .took < 2 ^ 64) ×
@@ -325,7 +330,7 @@ module _ {low high : ℕ} {s : List ℕ} {closed : Bool} {b : List ℕ} {n : ℕ
 
   -- what is left to do falls with every position taken
   pub took-ends : 0 < w .took → Ends true true s b Again b′
-  took-ends h = less-to-do s b b′ (w .took) h (let i = went .some .inside (omega arith) in omega arith) (at 0)
+  took-ends h = (less-to-do s b b′ (w .took) h (let i = went .some .inside (omega arith) in omega arith) (at 0), walked-keeps)
 
   module _ (φ ψ : Formula) (L : Log) (g : ℕ) (falls : NeverFalls L) (agrees : Agrees closed s L g) (ready : Ready (until low high φ ψ) L g b) where
     -- the first n positions of a buffer
@@ -363,11 +368,11 @@ module _ {low high : ℕ} {s : List ℕ} {closed : Bool} {b : List ℕ} {n : ℕ
         let l = number-lt (w .last .left) in
         let m = number-lt (w .last .right) in
         let t = went .within .bound (r .last-time) in
-        taken-both (until low high φ ψ) (ready .core) (w .took) (g + w .count) b′ y
+        taken-both (until low high φ ψ) b (w .took) (g + w .count) b′ y
         (omega (arith, at 0, at 1, at 3, at 5, at 6, at 7, at 8, at 9, at 10, fits lefts))
         (at 5 ∙ ap (λ (q : ℕ). q + w .count) i, rw (at 0, at 6, at 7, at 8) (reached .heads))
         (λ q. q) (omega arith) (omega arith)
-        (record { right = record { at = at 0; count = at 3; bits = at 4; answered = omega (arith, at 5); head = at 14; ends = at 15 }; count = at 1; bits = at 2 })
+        (record { right = record { at = at 0; count = at 3; bits = at 4; answered = omega (arith, at 5) }; count = at 1; bits = at 2 })
         (ready .buffers .0) (ready .buffers .1)
 
     pub answers-some : 0 < w .count → Stepped (until low high φ ψ) L g b (Batch (w .bits) (w .count)) b′

@@ -14,7 +14,7 @@ use Rattle.engine.specs.Ask.{part}
 use Rattle.engine.specs.declared.Reply.{Reply}
 use Rattle.engine.proofs.Parts.{length-part}
 use Rattle.engine.proofs.Parts.Side.{on-left, on-right}
-use Rattle.engine.proofs.Drive.{Stands, Reading, Turn, bound, room, may-step, may-ask, turn-of, told, batch-turn, again-turn, again-less, open-turn, taking, open-asked, filled, filled-less, asked-open, asked-none, asked-batch}
+use Rattle.engine.proofs.Drive.{Stands, stands-first, Reading, Turn, bound, room, may-step, may-ask, turn-of, told, batch-turn, again-turn, again-less, open-turn, taking, open-asked, filled, filled-less, asked-open, asked-none, asked-batch}
 use Rattle.engine.proofs.answer.Reads as answer
 use Rattle.engine.proofs.answer.Kinds as answer-kinds
 use Rattle.engine.proofs.+answer+ask.Lts-answer as answer-lts
@@ -138,7 +138,7 @@ pub +answer+ask-spec : {M : Type 1} → statement M
     (λ c κs. search needs)
     (λ c κs. search needs)
     (λ c. omega (arith, bound (answer-reading t c), room (answer-reading t c)))
-    (λ c. (refl, λ φ L g entered never agrees state. state))
+    (λ c. (refl, stands-first _ _ _ _ _))
     -- a step
     (λ c. omega (arith, bound (answer-reading t (c .before)), room (answer-reading t (c .before))))
     (λ c. omega (arith, bound (answer-reading t (c .before)), room (answer-reading t (c .before))))

@@ -8,6 +8,7 @@ use Rattle.until.proofs.UntilSteps.{
   none-done,
   some-done,
   put-back-fits,
+  walked-keeps,
   wanted-ends,
   took-ends,
   wants,
@@ -66,7 +67,7 @@ returns-answers c =
     let p = c .before .before .before .before in
     let k = p .before .before .before .before .before in
     rw (p .put-back .ensures) (
-      tt,
+      walked-keeps (went k),
       λ φ ψ L g falls agrees ready. answers-some (went k) φ ψ L g falls agrees ready (omega arith),
     )
 

@@ -80,7 +80,7 @@ returns c =
     (c .before .last-time .result)
     (c .count .result)
     (table-of d)
-    (omega (arith, s .pre .1))
+    (s .pre .1)
     (λ i. c .before .before .before .before .before .before .before .before .before .before .before .before .before .before .before .before .before .before .before .before .shared-slice-known .given i .fits)
     (g .ensures)
     (h .ensures)

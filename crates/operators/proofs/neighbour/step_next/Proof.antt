@@ -4,6 +4,7 @@ use Prim.Native.Nat.{ℕ, _+_, _-_, _≤_, _<_, _^_}
 use native.Mathlib.Nat.{pos-of-ne-zero}
 use native.Mathlib.Omega.{arith}
 use mathlib.Core.Bool.{Bool, true, false, _&&_, true≢false}
+use mathlib.Core.List.{[], _∷_}
 use mathlib.Core.Path.{_≡_, refl, sym, _∙_}
 use lib.Dec.{eqb}
 use borrow.Author.Needs.{needs}
@@ -11,9 +12,9 @@ use borrow.Author.Tests.{eqb-true, eq-eqb}
 use Rattle.mtl.proofs.Bounded.{and-iff}
 use Rattle.trace.specs.Format.{record-count}
 use Rattle.blocks.specs.Block.{taken, right-count}
-use Rattle.blocks.proofs.Words.{available}
-use Rattle.blocks.proofs.Taking.{all-of}
-use Rattle.operators.proofs.Simple.{right-less, next-pass, next-batch, next-none, next-end, next-right}
+use Rattle.blocks.proofs.Words.{put, stores-keep, available}
+use Rattle.blocks.proofs.Taking.{right-keeps, all-of}
+use Rattle.operators.proofs.Simple.{next-keeps, right-less, next-pass, next-batch, next-none, next-end, next-right}
 use Rattle.operators.proofs.neighbour.step_next.Statement.{statement}
 use Rattle.operators.proofs.neighbour.step_next.Tie as tie
 
@@ -59,7 +60,7 @@ returns-end c =
     let start = c .before .before .before .before .before .before .before in
     let (closed, all) = at-end _ _ _ (c .if2 .taken) in
     let count = c .before .before .before .count .ensures in (
-      tt,
+      stores-keep (put 5 _ ∷ []) (start .args .block .now) (omega arith),
       λ φ L g falls agrees ready.
           rw count
           (next-end (start .args .records .now) (start .args .block .now) (start .pre) (start .args .low) (start .args .high) φ L g agrees ready
@@ -87,7 +88,10 @@ returns-open c = (
 returns-pass : tie.Need-returns-5
 returns-pass c =
     let start = c .before .before .before .before .before .before .before .before .before .before .before .before .before .before .before .before .before in (
-      rw (c .before .before .take-right .ensures) (right-less (start .args .records .now) (start .args .block .now) (start .pre) 1 (omega arith) (omega arith)),
+      rw (c .before .before .take-right .ensures) (
+        right-less (start .args .records .now) (start .args .block .now) (start .pre) 1 (omega arith) (omega arith),
+        right-keeps 1 (start .args .block .now),
+      ),
       λ φ L g falls agrees ready.
           rw (c .before .before .take-right .ensures)
           (next-pass (start .args .records .now) (start .args .block .now) (start .pre) 1 (omega arith) L g agrees (start .args .low) (start .args .high)
@@ -106,7 +110,7 @@ returns-batch : tie.Need-returns-6
 returns-batch c =
     let start = c .before .before .before .before .before .before .before .before .before .before .before .before .before .before .before .before .before .before .before .before in
     let n = taking (c .before .before .before .before .before .before .before .before) in (
-      tt,
+      rw (c .before .before .take-right2 .ensures) (next-keeps (c .before .before .before .before .before .before .before .before .before .available .result) (start .args .block .now)),
       λ φ L g falls agrees ready.
           rw (c .before .before .take-right2 .ensures)
           (next-batch (start .args .records .now) (start .args .block .now) (start .pre) (c .before .before .before .before .before .before .before .before .before .available .result) (n .1) L g agrees (start .args .low) (start .args .high)

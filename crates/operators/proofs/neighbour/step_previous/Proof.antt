@@ -4,7 +4,7 @@ use mathlib.Core.Path.{refl, _∙_}
 use lib.ListN.{length-set}
 use borrow.Author.Needs.{needs}
 use Rattle.mtl.proofs.Closing.{settled-previous}
-use Rattle.operators.proofs.Simple.{previous-batch}
+use Rattle.operators.proofs.Simple.{previous-keeps, previous-batch}
 use Rattle.blocks.proofs.Taking.{all-of}
 use Rattle.operators.proofs.neighbour.step_previous.Statement.{statement}
 use Rattle.operators.proofs.neighbour.step_previous.Tie as tie
@@ -75,7 +75,7 @@ same-length c = search needs
 returns-3 : tie.Need-returns-3
 returns-3 c =
     let start = c .before .before .before .before .before .before .before .before .before .before .before .before .before .before .before .before .before .before .before .before in (
-      tt,
+      rw (c .before .before .before .before .take-right .ensures) (previous-keeps (c .before .before .before .before .before .before .before .before .before .before .before .before .available .result) (start .args .block .now) _ _),
       λ closed φ L g falls agrees ready.
           rw (c .before .before .before .before .take-right .ensures, c .before .rest .ensures, c .before .before .before .before .before .before .move-up .ensures)
           (previous-batch (start .args .records .now) (start .args .block .now) (start .pre) (c .before .before .before .before .before .before .before .before .before .before .before .before .available .result) (omega arith) L g agrees (start .args .low) (start .args .high)
