@@ -12,7 +12,7 @@ use lib.Bits.{bitAnd, bitOr, and-high, and-shr, and-mod, or-shr, or-mod}
 use lib.Arith.{digits-lt}
 use lib.Dec.{eqb, leb}
 use lib.Pow.{field, mod-mod-pow, pow-add, pow-pos, shr-shr}
-use Rattle.bits.specs.Packed.{bit, number, with-bit, moved-up, Packed}
+use Rattle.bits.specs.Packed.{bit, number, with-bit, Packed}
 
 pub number-lt : (x : Bool) → number x < 2
 number-lt true = omega arith
@@ -159,24 +159,6 @@ mask-bit w s =
 -- answers that agree, position by position
 pub packed-same : (f g : ℕ → Bool) (p q n w : ℕ) → ((i : ℕ) → i < n → g (q + i) ≡ f (p + i)) → Packed f p n w → Packed g q n w
 packed-same f g p q n w e k = record { few = k .few; same = λ i l. e i l ∙ k .same i l }
-
-moved-mod : (w : ℕ) (x : Bool) → moved-up w x ≡ (w * 2 + number x) % 2 ^ 64
-moved-mod w true = omega arith
-moved-mod w false = omega arith
-
--- g is x at p, and from there on what f is one position before
-pub packed-moved : (f g : ℕ → Bool) (p n w : ℕ) (x : Bool) → w < 2 ^ 64 → g p ≡ x → ((i : ℕ) → i + 1 < n → g (p + (i + 1)) ≡ f (p + i)) →
-    Packed f p n w → Packed g p n (moved-up w x)
-packed-moved f g p n w x h e moved k = record { few = k .few; same = λ i l. at i l ∙ sym (kept i (omega arith)) }
-  where
-    kept : (i : ℕ) → i < 64 → bit (moved-up w x) i ≡ bit (w * 2 + number x) i
-    kept i l = ap (λ (v : ℕ). bit v i) (moved-mod w x) ∙ bit-mod (w * 2 + number x) 64 i l
-
-    at : (i : ℕ) → i < n → g (p + i) ≡ bit (w * 2 + number x) i
-    at zero l = ap g (omega arith) ∙ e ∙ sym (bit-first w x)
-    at (suc i) l =
-        ap g (omega arith) ∙ moved i (omega arith) ∙ k .same i (omega arith) ∙ sym (bit-next w x i)
-        ∙ ap (bit (w * 2 + number x)) (add-one i)
 
 -- the connectives, bit by bit
 

@@ -17,10 +17,6 @@ number false = 0
 abbrev pub with-bit : (word n : ℕ) (x : Bool) → ℕ
 with-bit word n x = word + number x * 2 ^ n
 
--- a word's 64 bits moved up by one, with x below them; the last is lost
-abbrev pub moved-up : (word : ℕ) (x : Bool) → ℕ
-moved-up word x = word * 2 % 2 ^ 64 + number x
-
 -- the first n bits are what f says of the n positions from p on
 pub record Packed (f : ℕ → Bool) (p n word : ℕ) : Type 0 where
   pub few : n ≤ 64

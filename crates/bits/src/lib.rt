@@ -1,7 +1,7 @@
 // Words of answers: bit i of a word, the one worth 2 to the i, answers the i-th of up to 64 positions.
 ghost use mathlib.Core.Path.{_≡_};
 ghost use Prim.Native.Nat.{_+_, _/_, _<_, _^_};
-ghost use Rattle.bits.specs.Packed.{bit, number, with-bit, moved-up};
+ghost use Rattle.bits.specs.Packed.{bit, number, with-bit};
 
 // 1 for true.
 pub fn flag(x: bool) -> u64
@@ -31,11 +31,4 @@ pub fn push(word: u64, n: u64, x: bool) -> u64
     ensures { λ r. ⌜ (r ≡ with-bit word n x) × (r < 2 ^ (n + 1)) ⌝ }
 {
     word + (flag(x) << n)
-}
-
-// The bits moved up by one, with x below them. The last of 64 is lost.
-pub fn move_up(word: u64, x: bool) -> u64
-    ensures { λ r. ⌜ r ≡ moved-up word x ⌝ }
-{
-    (word << 1) + flag(x)
 }

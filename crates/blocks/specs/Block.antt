@@ -36,11 +36,11 @@ right-count b = word b 3
 abbrev pub right-bits : List ℕ → ℕ
 right-bits b = word b 4
 
--- next, until: the next position to answer
+-- previous, next and until: the next position to answer
 abbrev pub answered : List ℕ → ℕ
 answered b = word b 5
 
--- of the last position taken: the operands' answers there (previous: its operand's, as left), and its time
+-- until, of the last position taken: the operands' answers there, and its time
 abbrev pub last-left : List ℕ → ℕ
 last-left b = word b 6
 
@@ -104,18 +104,12 @@ pub record InRange (size cells : ℕ) (b : List ℕ) : Type 0 where
   pub at : taken b ≤ size
   pub left-count : left-count b ≤ 64
   pub right-count : right-count b ≤ 64
-  pub answered : answered b ≤ taken b
+  pub answered : answered b ≤ size
   pub last-left : last-left b ≤ 1
   pub last-right : last-right b ≤ 1
   pub last-time : last-time b < 2 ^ 32
   pub start : word b 9 ≤ cells
   pub count : word b 10 ≤ cells
-
--- previous: of the position before, the operand's answer and the time
-pub record Remembers (time : ℕ → ℕ) (truth : ℕ → Bool) (g : ℕ) (b : List ℕ) : Type 0 where
-  pub at : taken b ≡ g
-  pub last-answer : 0 < g → truth (g - 1) ≡ eqb (last-left b) 1
-  pub last-time : 0 < g → last-time b ≡ time (g - 1)
 
 -- next: g is the position before the next to take, p; the last position of a closed log is answered without the operand
 abbrev pub Trails : Log → (g p : ℕ) → Type 0
@@ -138,12 +132,13 @@ pub record Until (low high : ℕ) (time : ℕ → ℕ) (left right : ℕ → Boo
   pub right-early : (k : ℕ) → g ≤ k → k + 1 < p → right k ≡ true → time k - time g < low
   pub not-over : g < p → time (p - 1) - time g ≤ high
 
--- what the words of an operator's own block say, when the next position that it answers is g
+-- what the words of an operator's own block say, when the next position that it answers is g; position 0 of a previous is answered
+-- without its operand
 abbrev pub Own : Formula → Log → ℕ → List ℕ → Type 0
 Own (letter k) L g b = taken b ≡ g
 Own (not φ) L g b = taken b ≡ g
 Own (or φ ψ) L g b = taken b ≡ g
-Own (previous low high φ) L g b = Remembers (L .time) (sat φ L) g b
+Own (previous low high φ) L g b = (answered b ≡ g) × (taken b ≡ g - 1)
 Own (next low high φ) L g b = (answered b ≡ g) × Trails L g (taken b)
 Own (since low high φ ψ) L g b = Since high (L .time) (sat φ L) (sat ψ L) g b
 Own (until low high φ ψ) L g b =

@@ -79,9 +79,20 @@ Stepped φ L g b Left b′ = (has-left φ ≡ true) × (settled-to (left-of φ) 
 Stepped φ L g b Right b′ = (has-right φ ≡ true) × (settled-to (right-of φ) L ≡ taken b → settled-to φ L ≡ g)
 Stepped φ L g b Open b′ = settled-to φ L ≡ g
 
+-- the first record that a step at g may read: previous looks at the time of the position before
+abbrev pub reads-from : Formula → ℕ → ℕ
+reads-from (letter k) g = g
+reads-from (not φ) g = g
+reads-from (or φ ψ) g = g
+reads-from (previous low high φ) g = g - 1
+reads-from (next low high φ) g = g
+reads-from (since low high φ ψ) g = g
+reads-from (until low high φ ψ) g = g
+
 -- what a step promises where its block stands for the formula on some log
 abbrev pub Steps : Bool → Formula → List ℕ → List ℕ → Step → List ℕ → Type 0
-Steps closed φ s b r b′ = (L : Log) (g : ℕ) → NeverFalls L → Agrees closed s L g → Ready φ L g b → Stepped φ L g b r b′
+Steps closed φ s b r b′ =
+    (L : Log) (g : ℕ) → NeverFalls L → Agrees closed s L (reads-from φ g) → Ready φ L g b → Stepped φ L g b r b′
 
 -- 1 for an empty buffer
 abbrev pub empty : ℕ → ℕ

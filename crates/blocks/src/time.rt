@@ -22,14 +22,14 @@ pub fn within(low: u64, high: u64, earlier: u64, later: u64) -> bool
     (low <= g) & (g <= high)
 }
 
-// Which of n positions from `from` on lie in the interval after the position before them, as a word of answers;
-// the one before the first has the time `before`.
-pub fn near(low: u64, high: u64, before: u64, records: &[u8], from: usize, n: usize) -> u64
-    requires { ⌜ (from + n ≤ record-count (now records)) × (n ≤ 64) ⌝ }
-    ensures { λ r. ⌜ Packed (near-at low high before (now (records .entry)) from) from n r ⌝ }
+// Which of n positions from `from` on, none of them the first, lie in the interval after the position before them, as a
+// word of answers.
+pub fn near(low: u64, high: u64, records: &[u8], from: usize, n: usize) -> u64
+    requires { ⌜ (0 < from) × (from + n ≤ record-count (now records)) × (n ≤ 64) ⌝ }
+    ensures { λ r. ⌜ Packed (near-at low high (now (records .entry))) from n r ⌝ }
 {
     let mut answers: u64 = 0;
-    let mut last = before;
+    let mut last = trace::time(records, from - 1);
     let mut i: usize = 0;
     while i < n {
         let now = trace::time(records, from + i);

@@ -124,8 +124,7 @@ fresh-own : (φ : Formula) (L : Log) (b : List ℕ) → FreshBlock b → own-wor
 fresh-own (letter k) L b zeros room = zeros 0 (omega arith)
 fresh-own (not φ) L b zeros room = zeros 0 (omega arith)
 fresh-own (or φ ψ) L b zeros room = zeros 0 (omega arith)
-fresh-own (previous low high φ) L b zeros room =
-    record { at = zeros 0 (omega arith); last-answer = λ h. absurd (not-suc-le-zero h); last-time = λ h. absurd (not-suc-le-zero h) }
+fresh-own (previous low high φ) L b zeros room = (zeros 5 (omega arith), zeros 0 (omega arith))
 fresh-own (next low high φ) L b zeros room = let z = zeros 0 (omega arith) in (zeros 5 (omega arith), inl (omega arith))
 fresh-own (since low high φ ψ) L b zeros room =
     let z = zeros 9 (omega arith) in

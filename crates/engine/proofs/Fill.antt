@@ -3,7 +3,7 @@ use Prim.Native.Nat.{ℕ, _+_, _-_, _≤_}
 use mathlib.Core.Path.{_≡_, sym, ap, _∙_}
 use mathlib.Core.List.{List}
 use native.Mathlib.Omega.{arith}
-use lib.Dec.{eqb, lit≤}
+use lib.Dec.{lit≤}
 use lib.ListN.{length, set, length-set}
 use lib.Seq.{getD-set-same, getD-set-other}
 use Rattle.mtl.specs.Formula.{Formula}
@@ -26,12 +26,7 @@ own-kept : (φ : Formula) (L : Log) (g : ℕ) (b b′ : List ℕ) → Rebuffered
 own-kept (letter k) L g b b′ e o = e .at ∙ o
 own-kept (not φ) L g b b′ e o = e .at ∙ o
 own-kept (or φ ψ) L g b b′ e o = e .at ∙ o
-own-kept (previous low high φ) L g b b′ e o =
-    record {
-      at = e .at ∙ o .at;
-      last-answer = λ pos. o .last-answer pos ∙ ap (λ (n : ℕ). eqb n 1) (sym (e .rest 6 (lit≤ tt)));
-      last-time = λ pos. e .rest 8 (lit≤ tt) ∙ o .last-time pos;
-    }
+own-kept (previous low high φ) L g b b′ e o = (e .rest 5 (lit≤ tt) ∙ o .0, e .at ∙ o .1)
 own-kept (next low high φ) L g b b′ e o = (e .rest 5 (lit≤ tt) ∙ o .0, rw (e .at) (o .1))
 own-kept (since low high φ ψ) L g b b′ e o =
     record {
@@ -73,7 +68,7 @@ rebuffered φ L g b b′ e r counts buffers =
                   at = rw (e .at) (range .at);
                   left-count = counts on-left;
                   right-count = counts on-right;
-                  answered = rw (e .rest 5 (lit≤ tt), e .at) (range .answered);
+                  answered = rw (e .rest 5 (lit≤ tt)) (range .answered);
                   last-left = rw (e .rest 6 (lit≤ tt)) (range .last-left);
                   last-right = rw (e .rest 7 (lit≤ tt)) (range .last-right);
                   last-time = rw (e .rest 8 (lit≤ tt)) (range .last-time);

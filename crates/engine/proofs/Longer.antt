@@ -10,10 +10,10 @@ use Rattle.mtl.specs.Formula.Formula.{letter, not, or, previous, next, since, u
 use Rattle.mtl.specs.Log.{Log, NeverFalls, Continues}
 use Rattle.mtl.specs.Satisfaction.{sat}
 use Rattle.mtl.specs.Progress.{settled-to}
-use Rattle.mtl.proofs.Closing.{settled-le-size, settled-previous, settled-since, settled-grows, settled-stays}
+use Rattle.mtl.proofs.Closing.{settled-le-size, settled-since, settled-grows, settled-stays}
 use Rattle.bits.proofs.Laws.{packed-same}
 use Rattle.blocks.specs.Ring.{Witness, Witnesses}
-use Rattle.blocks.specs.Block.{taken, kind-of, high-of, cells-of, InRange, Remembers, Until, Own, Buffer, Buffers, Ready}
+use Rattle.blocks.specs.Block.{taken, kind-of, high-of, cells-of, InRange, Until, Own, Buffer, Buffers, Ready}
 use Rattle.engine.specs.State.{words, Parts, Absent, State}
 
 -- a witness is one by the truth values below its position
@@ -29,53 +29,44 @@ witness-same n left right left′ right′ lefts rights j w =
     }
 
 -- What a block says of the operands depends only on the times and truth values below the positions that it speaks of.
-module _ (time time′ : ℕ → ℕ) (n : ℕ) (times : (k : ℕ) → k < n → time k ≡ time′ k) where
-  remembers-same : (truth truth′ : ℕ → Bool) → ((k : ℕ) → k < n → truth k ≡ truth′ k) →
-      (b : List ℕ) → Remembers time truth n b → Remembers time′ truth′ n b
-  remembers-same truth truth′ truths b r =
+module _ (time time′ : ℕ → ℕ) (n : ℕ) (times : (k : ℕ) → k < n → time k ≡ time′ k)
+    (left right left′ right′ : ℕ → Bool)
+    (lefts : (k : ℕ) → k < n → left k ≡ left′ k)
+    (rights : (k : ℕ) → k < n → right k ≡ right′ k) where
+  witnesses-same : (high : ℕ) (qs : List ℕ) → Witnesses high time left right n qs → Witnesses high time′ left′ right′ n qs
+  witnesses-same high qs w =
       record {
-        at = r .at;
-        last-answer = λ h. sym (truths (n - 1) (omega arith)) ∙ r .last-answer h;
-        last-time = λ h. r .last-time h ∙ times (n - 1) (omega arith);
+        rising = w .rising;
+        sound = λ i h.
+            let (j, is, at, near) = w .sound i h in
+            let below = is .before in (
+              j,
+              witness-same n left right left′ right′ lefts rights j is,
+              sym (times j below) ∙ at,
+              rw (← (times (n - 1) (omega arith))) near,
+            );
+        complete = λ j is near.
+            let below = is .before in
+            let was = witness-same n left′ right′ left right (λ k l. sym (lefts k l)) (λ k l. sym (rights k l)) j is in
+            let (i, h, e) = w .complete j was (rw (times (n - 1) (omega arith), times j below) near) in
+            (i, h, rw (← (times j below)) e);
       }
 
-  module _ (left right left′ right′ : ℕ → Bool)
-      (lefts : (k : ℕ) → k < n → left k ≡ left′ k)
-      (rights : (k : ℕ) → k < n → right k ≡ right′ k) where
-    witnesses-same : (high : ℕ) (qs : List ℕ) → Witnesses high time left right n qs → Witnesses high time′ left′ right′ n qs
-    witnesses-same high qs w =
-        record {
-          rising = w .rising;
-          sound = λ i h.
-              let (j, is, at, near) = w .sound i h in
-              let below = is .before in (
-                j,
-                witness-same n left right left′ right′ lefts rights j is,
-                sym (times j below) ∙ at,
-                rw (← (times (n - 1) (omega arith))) near,
-              );
-          complete = λ j is near.
-              let below = is .before in
-              let was = witness-same n left′ right′ left right (λ k l. sym (lefts k l)) (λ k l. sym (rights k l)) j is in
-              let (i, h, e) = w .complete j was (rw (times (n - 1) (omega arith), times j below) near) in
-              (i, h, rw (← (times j below)) e);
-        }
-
-    until-same : (low high g ll lr lt : ℕ) → Until low high time left right g n ll lr lt → Until low high time′ left′ right′ g n ll lr lt
-    until-same low high g ll lr lt u =
-        record {
-          ahead = u .ahead;
-          last-left = λ h. sym (lefts (n - 1) (omega arith)) ∙ u .last-left h;
-          last-right = λ h. sym (rights (n - 1) (omega arith)) ∙ u .last-right h;
-          last-time = λ h. u .last-time h ∙ times (n - 1) (omega arith);
-          left-held = λ k l h. sym (lefts k (omega arith)) ∙ u .left-held k l h;
-          right-early = λ k l h e.
-              let early = u .right-early k l h (rights k (omega arith) ∙ e) in
-              rw (← (times k (omega arith)), ← (times g (omega arith))) early;
-          not-over = λ h.
-              let over = u .not-over h in
-              rw (← (times (n - 1) (omega arith)), ← (times g (omega arith))) over;
-        }
+  until-same : (low high g ll lr lt : ℕ) → Until low high time left right g n ll lr lt → Until low high time′ left′ right′ g n ll lr lt
+  until-same low high g ll lr lt u =
+      record {
+        ahead = u .ahead;
+        last-left = λ h. sym (lefts (n - 1) (omega arith)) ∙ u .last-left h;
+        last-right = λ h. sym (rights (n - 1) (omega arith)) ∙ u .last-right h;
+        last-time = λ h. u .last-time h ∙ times (n - 1) (omega arith);
+        left-held = λ k l h. sym (lefts k (omega arith)) ∙ u .left-held k l h;
+        right-early = λ k l h e.
+            let early = u .right-early k l h (rights k (omega arith) ∙ e) in
+            rw (← (times k (omega arith)), ← (times g (omega arith))) early;
+        not-over = λ h.
+            let over = u .not-over h in
+            rw (← (times (n - 1) (omega arith)), ← (times g (omega arith))) over;
+      }
 
 module _ (K L : Log) (longer : Continues K L) (falls : NeverFalls L) where
   time-stays : (φ : Formula) (n : ℕ) → n ≤ settled-to φ K → (k : ℕ) → k < n → K .time k ≡ L .time k
@@ -111,9 +102,7 @@ module _ (K L : Log) (longer : Continues K L) (falls : NeverFalls L) where
   own-longer (letter k) g b h x o = o
   own-longer (not φ) g b h x o = o
   own-longer (or φ ψ) g b h x o = o
-  own-longer (previous low high φ) g b h x o =
-      let l : g ≤ settled-to φ K = rw (settled-previous K low high φ) at h in
-      remembers-same (K .time) (L .time) g (time-stays φ g l) (sat φ K) (sat φ L) (sat-stays φ g l) b o
+  own-longer (previous low high φ) g b h x o = o
   own-longer (next low high φ) g b h x o = (
     o .0,
     ⊎-elim inl (λ e. let kept = longer .ended (e .0) in inr (kept .0, e .1 ∙ sym (kept .1), e .2 ∙ sym (kept .1))) (o .1),

@@ -9,10 +9,11 @@ use lib.ListN.{take, drop}
 use Rattle.mtl.specs.Formula.{Formula}
 use Rattle.mtl.specs.Formula.Formula.{letter, not, or, previous, next, since, until}
 use Rattle.mtl.specs.Log.{Log}
+use Rattle.mtl.specs.Wanted.{depth}
 use Rattle.mtl.proofs.Bounded.{true-and-false}
 use Rattle.rule.specs.Words.{own-words}
 use Rattle.blocks.specs.Block.{word, taken, left-count, right-count, kind-of, high-of, Own, Ready, Buffer, Buffers}
-use Rattle.blocks.specs.Step.{has-left, has-right, left-of, right-of}
+use Rattle.blocks.specs.Step.{Agrees, has-left, has-right, left-of, right-of, reads-from}
 use Rattle.engine.specs.State.{State, Parts, Absent, words, left-words, right-words}
 use Rattle.engine.specs.Table.{Has, Row, RowOk, column}
 use Rattle.engine.proofs.Parts.{Side, by-side, slot, lent, lent-left, lent-right}
@@ -134,15 +135,38 @@ all-buffered (next low high φ) L b s = s on-right refl
 all-buffered (since low high φ ψ) L b s = (s on-left refl, s on-right refl)
 all-buffered (until low high φ ψ) L b s = (s on-left refl, s on-right refl)
 
--- what is answered lies behind what is taken
-pub answered-taken : (φ : Formula) (L : Log) (g : ℕ) (b : List ℕ) → Own φ L g b → g ≤ taken b
-answered-taken (letter k) L g b o = omega arith
-answered-taken (not φ) L g b o = omega arith
-answered-taken (or φ ψ) L g b o = omega arith
-answered-taken (previous low high φ) L g b o = omega arith
-answered-taken (next low high φ) L g b o = ⊎-elim (λ e. omega arith) (λ e. let all = e .1 in let end = e .2 in omega arith) (o .1)
-answered-taken (since low high φ ψ) L g b o = omega arith
-answered-taken (until low high φ ψ) L g b o = o .1 .ahead
+-- records that are a log's own from one position on are its own from a later one on
+pub agrees-later : {closed : Bool} {s : List ℕ} {L : Log} {a b : ℕ} → Agrees closed s L a → a ≤ b → Agrees closed s L b
+agrees-later agrees later = record { ends = agrees .ends; size = agrees .size; same = λ i low high. agrees .same i (omega arith) high }
+
+-- no step reads before g less the formula's depth
+pub step-from : (φ : Formula) (g : ℕ) → g - depth φ ≤ reads-from φ g
+unfolding depth
+step-from (letter k) g = omega arith
+step-from (not φ) g = omega arith
+step-from (or φ ψ) g = omega arith
+step-from (previous low high φ) g = omega arith
+step-from (next low high φ) g = omega arith
+step-from (since low high φ ψ) g = omega arith
+step-from (until low high φ ψ) g = omega arith
+
+-- and no operand, from the next position to take: the operand of a previous stands one position behind, and its depth is one smaller
+abbrev pub FromOperand : Formula → ℕ → List ℕ → Side → Type 0
+FromOperand φ g b side = g - depth φ ≤ taken b - depth (of side φ)
+
+pub operand-from : (φ : Formula) (L : Log) (g : ℕ) (b : List ℕ) → Own φ L g b → (side : Side) → FromOperand φ g b side
+unfolding depth
+operand-from (letter k) L g b o = by-side (FromOperand (letter k) g b) on-left (omega arith) (omega arith)
+operand-from (not φ) L g b o = by-side (FromOperand (not φ) g b) on-left (omega arith) (omega arith)
+operand-from (or φ ψ) L g b o = by-side (FromOperand (or φ ψ) g b) on-left (omega arith) (omega arith)
+operand-from (previous low high φ) L g b o = by-side (FromOperand (previous low high φ) g b) on-left (omega arith) (omega arith)
+operand-from (next low high φ) L g b o =
+    let behind : g ≤ taken b = ⊎-elim (λ e. omega arith) (λ e. let all = e .1 in let end = e .2 in omega arith) (o .1) in
+    by-side (FromOperand (next low high φ) g b) on-left (omega arith) (omega arith)
+operand-from (since low high φ ψ) L g b o =
+    let at = o .at in by-side (FromOperand (since low high φ ψ) g b) on-left (omega arith) (omega arith)
+operand-from (until low high φ ψ) L g b o =
+    let ahead = o .1 .ahead in by-side (FromOperand (until low high φ ψ) g b) on-left (omega arith) (omega arith)
 
 -- a formula's row, and its operands'
 pub row : (φ : Formula) (t : List ℕ) (k : ℕ) → Has φ t k → Row φ t k

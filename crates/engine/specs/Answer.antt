@@ -1,11 +1,12 @@
 -- What an entry asked for its next batch of answers promises.
-use Prim.Native.Nat.{ℕ, _+_}
+use Prim.Native.Nat.{ℕ, _+_, _-_}
 use mathlib.Core.Bool.{Bool}
 use mathlib.Core.Path.{_≡_}
 use mathlib.Core.List.{List}
 use Rattle.mtl.specs.Formula.{Formula}
 use Rattle.mtl.specs.Log.{Log, NeverFalls}
 use Rattle.mtl.specs.Progress.{settled-to}
+use Rattle.mtl.specs.Wanted.{depth}
 use Rattle.blocks.specs.Step.{Agrees, Batched}
 use Rattle.engine.specs.State.{State, Kept}
 use Rattle.engine.specs.Table.{Has}
@@ -21,8 +22,9 @@ Replied φ L g Open ws′ = (settled-to φ L ≡ g) × State φ L g ws′
 abbrev pub Keeps : List ℕ → ℕ → List ℕ → List ℕ → Type 0
 Keeps t k ws ws′ = (φ : Formula) → Has φ t k → Kept φ ws ws′
 
--- the promise of `answer` for entry k of table t, on records s, closed or open, from words ws to words ws′
+-- the promise of `answer` for entry k of table t, on records s, closed or open, from words ws to words ws′. Its operands, and theirs, may have answered
+-- one position fewer than g for each previous on the way: no head reads before g less the formula's depth.
 abbrev pub Answers : List ℕ → List ℕ → Bool → ℕ → List ℕ → Reply → List ℕ → Type 0
 Answers t s closed k ws r ws′ =
     Keeps t k ws ws′ ×
-    ((φ : Formula) (L : Log) (g : ℕ) → Has φ t k → NeverFalls L → Agrees closed s L g → State φ L g ws → Replied φ L g r ws′)
+    ((φ : Formula) (L : Log) (g : ℕ) → Has φ t k → NeverFalls L → Agrees closed s L (g - depth φ) → State φ L g ws → Replied φ L g r ws′)

@@ -1,6 +1,6 @@
 -- The answered number of a formula on a log that may be closed: within the log, by operator, and on a log that continues it.
 -- Assumes nothing.
-use Prim.Native.Nat.{ℕ, _-_, _≤_, _<_, min}
+use Prim.Native.Nat.{ℕ, suc, _-_, _≤_, _<_, min}
 use mathlib.Core.Bool.{true, false}
 use mathlib.Core.Logic.{_⊎_, inl, inr, ⊎-elim}
 use mathlib.Core.Path.{_≡_, refl, sym, _∙_, ap₂}
@@ -59,9 +59,12 @@ module _ (L : Log) where
   unfolding progress settled-to
   settled-not φ = refl
 
-  pub settled-previous : (low high : ℕ) (φ : Formula) → settled-to (previous low high φ) L ≡ settled-to φ L
-  unfolding progress settled-to
-  settled-previous low high φ = refl
+  pub settled-previous : (low high : ℕ) (φ : Formula) → settled-to (previous low high φ) L ≡ min (L .size) (suc (settled-to φ L))
+  unfolding progress
+  settled-previous low high φ =
+      by-closed L
+      (λ c. omega (arith, settled-closed (previous low high φ) L c, settled-closed φ L c))
+      (λ o. omega (arith, settled-open (previous low high φ) L o, settled-open φ L o))
 
   module _ (φ ψ : Formula) where
     pub settled-or : settled-to (or φ ψ) L ≡ min (settled-to φ L) (settled-to ψ L)

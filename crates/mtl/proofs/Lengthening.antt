@@ -131,7 +131,10 @@ progress-grows (or φ ψ) K L longer falls =
     let a = progress-grows φ K L longer falls in
     let b = progress-grows ψ K L longer falls in
     omega arith
-progress-grows (previous low high φ) K L longer falls = progress-grows φ K L longer falls
+progress-grows (previous low high φ) K L longer falls =
+    let a = progress-grows φ K L longer falls in
+    let b = longer .longer in
+    omega arith
 progress-grows (next low high φ) K L longer falls = let a = progress-grows φ K L longer falls in omega arith
 progress-grows (since low high φ ψ) K L longer falls =
     let a = progress-grows φ K L longer falls in
@@ -191,7 +194,7 @@ unfolding progress
 same-progress (letter k) K L sizes same = sizes
 same-progress (not φ) K L sizes same = same-progress φ K L sizes same
 same-progress (or φ ψ) K L sizes same = ap₂ min (same-progress φ K L sizes same) (same-progress ψ K L sizes same)
-same-progress (previous low high φ) K L sizes same = same-progress φ K L sizes same
+same-progress (previous low high φ) K L sizes same = ap₂ min sizes (ap suc (same-progress φ K L sizes same))
 same-progress (next low high φ) K L sizes same = ap (λ n. n - 1) (same-progress φ K L sizes same)
 same-progress (since low high φ ψ) K L sizes same = ap₂ min (same-progress φ K L sizes same) (same-progress ψ K L sizes same)
 same-progress (until low high φ ψ) K L sizes same =

@@ -26,15 +26,18 @@ module _ (low high : ℕ) (time time′ : ℕ → ℕ) where
   within-agrees i j p q = rw (p, q) (within-iff low high (time′ i) (time′ j))
 
   pub previous-agrees : (operand : ℕ → Bool) (Operand : ℕ → Type 0) (i : ℕ) →
-      ((k : ℕ) → k ≤ i → time k ≡ time′ k) → ((k : ℕ) → k ≤ i → (operand k ≡ true) ↔ Operand k) →
+      ((k : ℕ) → k ≤ i → time k ≡ time′ k) → (0 < i → (operand (i - 1) ≡ true) ↔ Operand (i - 1)) →
       (previous-at low high time operand i ≡ true) ↔ ((0 < i) × Within low high (time′ (i - 1)) (time′ i) × Operand (i - 1))
   previous-agrees operand Operand i times operands =
       let outer = and-iff (ltb 0 i) (within low high (time (i - 1)) (time i) && operand (i - 1)) in
       let inner = and-iff (within low high (time (i - 1)) (time i)) (operand (i - 1)) in
-      let gap = within-agrees (i - 1) i (times (i - 1) (omega arith)) (times i (omega arith)) in
-      let held = operands (i - 1) (omega arith) in (
-        λ e. let o = outer .0 e in let n = inner .0 (o .1) in (ltb-true 0 i (o .0), gap .0 (n .0), held .0 (n .1)),
-        λ w. outer .1 (lt-ltb 0 i (w .0), inner .1 (gap .1 (w .1), held .1 (w .2))),
+      let gap = within-agrees (i - 1) i (times (i - 1) (omega arith)) (times i (omega arith)) in (
+        λ e.
+            let o = outer .0 e in
+            let h = ltb-true 0 i (o .0) in
+            let n = inner .0 (o .1) in
+            (h, gap .0 (n .0), operands h .0 (n .1)),
+        λ w. outer .1 (lt-ltb 0 i (w .0), inner .1 (gap .1 (w .1), operands (w .0) .1 (w .2))),
       )
 
   pub next-agrees : (operand : ℕ → Bool) (Operand Position : ℕ → Type 0) (size i : ℕ) →
@@ -113,7 +116,7 @@ sat-iff (letter k) L i = Iff·rfl
 sat-iff (not φ) L i = Iff·trans (not-iff (sat φ L i)) (Iff·not (sat-iff φ L i))
 sat-iff (or φ ψ) L i = or-agrees (sat φ L i) (sat ψ L i) (sat-iff φ L i) (sat-iff ψ L i)
 sat-iff (previous low high φ) L i =
-    previous-agrees low high (L .time) (L .time) (sat φ L) (HoldsIn L φ) i (λ k h. refl) (λ k h. sat-iff φ L k)
+    previous-agrees low high (L .time) (L .time) (sat φ L) (HoldsIn L φ) i (λ k h. refl) (λ h. sat-iff φ L (i - 1))
 sat-iff (next low high φ) L i =
     next-agrees low high (L .time) (L .time) (sat φ L) (HoldsIn L φ) (λ j. j < L .size) (L .size) i
     (λ k h. refl) (λ h. sat-iff φ L (i + 1)) Iff·rfl

@@ -50,7 +50,7 @@ reach-answered (or φ ψ) L free ends falls i b far =
     let p = reach-answered φ L f e falls i b (omega arith) in
     let q = reach-answered ψ L g d falls i b (omega arith) in
     omega arith
-reach-answered (previous low high φ) L free ends falls i b far = reach-answered φ L free ends falls i b far
+reach-answered (previous low high φ) L free ends falls i b far = let p = reach-answered φ L free ends falls i b far in omega arith
 reach-answered (next low high φ) L free ends falls i b far = absurd (true≢false free)
 reach-answered (since low high φ ψ) L free ends falls i b far =
     let (f, g) = neither (has-next φ) (has-next ψ) free in

@@ -1,5 +1,5 @@
 -- A settled verdict is the formula's truth value on every stream that begins with the log.
-use Prim.Native.Nat.{ℕ, _+_, _<_}
+use Prim.Native.Nat.{ℕ, _+_, _-_, _<_}
 use mathlib.Core.Bool.{true}
 use mathlib.Core.Logic.{_↔_, Iff·trans, Iff·not}
 use mathlib.Core.Path.{_≡_, sym, _∙_}
@@ -33,10 +33,9 @@ stream-iff (not φ) σ L falls begins i h = Iff·trans (not-iff (sat φ L i)) (I
 stream-iff (or φ ψ) σ L falls begins i h =
     or-agrees (sat φ L i) (sat ψ L i) (stream-iff φ σ L falls begins i (omega arith)) (stream-iff ψ σ L falls begins i (omega arith))
 stream-iff (previous low high φ) σ L falls begins i h =
-    let p = progress-le-size φ L in
     previous-agrees low high (L .time) (σ .time) (sat φ L) (HoldsOn σ φ) i
     (λ k g. sym (begins .time k (omega arith)))
-    (λ k g. stream-iff φ σ L falls begins k (omega arith))
+    (λ l. stream-iff φ σ L falls begins (i - 1) (omega arith))
 stream-iff (next low high φ) σ L falls begins i h =
     let p = progress-le-size φ L in
     next-agrees low high (L .time) (σ .time) (sat φ L) (HoldsOn σ φ) (λ j. Unit {0}) (L .size) i

@@ -38,7 +38,7 @@ unfolding progress
 progress-le-size (letter k) L = omega arith
 progress-le-size (not φ) L = progress-le-size φ L
 progress-le-size (or φ ψ) L = let p = progress-le-size φ L in omega arith
-progress-le-size (previous low high φ) L = progress-le-size φ L
+progress-le-size (previous low high φ) L = omega arith
 progress-le-size (next low high φ) L = let p = progress-le-size φ L in omega arith
 progress-le-size (since low high φ ψ) L = let p = progress-le-size φ L in omega arith
 progress-le-size (until low high φ ψ) L =
@@ -263,12 +263,13 @@ module _ (L : Log) where
   unfolding progress
   progress-letter k = refl
 
-  -- "Not and previous: as many as the operand."
+  -- "Not .. : as many as the operand."
   pub progress-not : (φ : Formula) → progress (not φ) L ≡ progress φ L
   unfolding progress
   progress-not φ = refl
 
-  pub progress-previous : (low high : ℕ) (φ : Formula) → progress (previous low high φ) L ≡ progress φ L
+  -- "Previous now answers one position more than its operand, never more than N."
+  pub progress-previous : (low high : ℕ) (φ : Formula) → progress (previous low high φ) L ≡ min (L .size) (suc (progress φ L))
   unfolding progress
   progress-previous low high φ = refl
 

@@ -10,6 +10,7 @@ use Rattle.mtl.specs.Formula.Formula.{letter, not, or, previous, next, s
 use Rattle.mtl.specs.Log.{Log, closing}
 use Rattle.mtl.specs.Satisfaction.{any, all, sat}
 use Rattle.mtl.specs.Progress.{run, progress, settled-to}
+use Rattle.mtl.specs.Wanted.{depth, deepest, wanted}
 
 -- "time in seconds (32 bits), event set (32 bits, letter k is the bit worth 2 to the k)", from position 0 on
 abbrev pub Records : Type 0
@@ -106,11 +107,20 @@ rows =
     ∷ record { formula = since 0 4 (until 0 2 c d) a; records = (0, 5) ∷ (3, 5) ∷ []; answered = 1; verdicts = true ∷ [] }
     -- 14: next answers one position fewer than there are records
     ∷ record { formula = next 1 1 a; records = (5, 0) ∷ (6, 1) ∷ (8, 1) ∷ []; answered = 2; verdicts = true ∷ false ∷ [] }
-    -- 15: previous answers every position, 0 with no
+    -- 15: P4, previous answers every position, 0 with no, and no more positions than there are
     ∷ record { formula = previous 0 0 a; records = (5, 1) ∷ (5, 0) ∷ (6, 1) ∷ []; answered = 3; verdicts = false ∷ true ∷ false ∷ [] }
     -- 16 and 17: no upper end is no number: the gap lies above 4,294,967,295, and the since is yes and the until is open
     ∷ record { formula = since 0 unbounded a b; records = (0, 2) ∷ (5_000_000_000, 1) ∷ []; answered = 2; verdicts = true ∷ true ∷ [] }
     ∷ record { formula = until 0 unbounded a b; records = (0, 1) ∷ (5_000_000_000, 1) ∷ []; answered = 0; verdicts = [] }
+    -- 18: the until is open, and previous answers one position more than it
+    ∷ record { formula = previous 0 9 (until 0 2 a b); records = (10, 1) ∷ (12, 1) ∷ []; answered = 1; verdicts = false ∷ [] }
+    -- 19: the inner until answers two positions; previous does not hold the outer one up at 2
+    ∷ record {
+      formula = until 0 9 a (previous 0 9 (until 0 5 c d));
+      records = (0, 5) ∷ (3, 9) ∷ (4, 5) ∷ [];
+      answered = 3;
+      verdicts = true ∷ true ∷ true ∷ [];
+    }
     ∷ []
 
 -- the logs as they end: document 02, paper 9
@@ -134,3 +144,16 @@ closed-rows =
 pub every-row : (wrong false 1 rows ≡ []) × (wrong true 1 closed-rows ≡ [])
 unfolding wrong rows closed-rows computes matches progress settled-to run sat any all
 every-row = (refl, refl)
+
+-- the first record still wanted for a formula, with 1, 2, 3 and 4 verdicts given
+abbrev wanted-after : Formula → List ℕ
+wanted-after φ = wanted (φ ∷ []) 1 ∷ wanted (φ ∷ []) 2 ∷ wanted (φ ∷ []) 3 ∷ wanted (φ ∷ []) 4 ∷ []
+
+-- three previous over a letter; two on one path of an or and one on the other; none
+pub every-wanted :
+    wanted-after (previous 0 9 (previous 0 9 (previous 0 9 a))) ∷
+    wanted-after (or (until 0 9 a (previous 0 9 (previous 0 9 b))) (previous 0 9 c)) ∷
+    wanted-after (next 0 9 a) ∷ [] ≡
+    (0 ∷ 0 ∷ 0 ∷ 1 ∷ []) ∷ (0 ∷ 0 ∷ 1 ∷ 2 ∷ []) ∷ (1 ∷ 2 ∷ 3 ∷ 4 ∷ []) ∷ []
+unfolding depth deepest
+every-wanted = refl

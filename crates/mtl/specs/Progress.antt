@@ -39,13 +39,13 @@ run (suc m) p = cond (eqb (run m p) m && p m) (suc m) (run m p)
 abbrev pub until-progress : (low high : ℕ) (time : ℕ → ℕ) (left right : ℕ → Bool) (size m : ℕ) → ℕ
 until-progress low high time left right size m = run m (settled low high time left right size m)
 
--- "Letter: all N. Not and previous: as many as the operand. Or and since: the smaller of the two operands' numbers.
--- Next: one fewer than the operand, never below 0."
+-- "Letter: all N. Not .. : as many as the operand. Or and since: the smaller of the two operands' numbers. Next: one fewer
+-- than the operand, never below 0." Document 02, paper 2: "Previous now answers one position more than its operand, never more than N."
 unfoldable pub progress : Formula → Log → ℕ
 progress (letter k) L = L .size
 progress (not φ) L = progress φ L
 progress (or φ ψ) L = min (progress φ L) (progress ψ L)
-progress (previous low high φ) L = progress φ L
+progress (previous low high φ) L = min (L .size) (suc (progress φ L))
 progress (next low high φ) L = progress φ L - 1
 progress (since low high φ ψ) L = min (progress φ L) (progress ψ L)
 progress (until low high φ ψ) L = until-progress low high (L .time) (sat φ L) (sat ψ L) (L .size) (min (progress φ L) (progress ψ L))

@@ -9,34 +9,30 @@ use blocks::Step;
 use blocks::time;
 use blocks::word;
 
-// Each position is answered from the one before it; of the last, the operand's answer and the time are kept.
+// Position 0 is no, without the operand; from then on the operand's answer at i - 1 answers i. Where more is taken than is
+// answered, which only forged words bring about, nothing is said.
 pub fn step_previous(low: u64, high: u64, records: &[u8], block: &mut [u64]) -> Step
     requires { ⌜ 16 ≤ length (now block) ⌝ }
     ensures { λ r. ⌜ Ends false true (now (records .entry)) (now (block .entry)) r (now (block .exit)) ⌝ }
     ensures { λ r. ⌜ ((closed : Bool) (φ : Formula) → Steps closed (previous low high φ) (now (records .entry)) (now (block .entry)) r (now (block .exit))) ⌝ }
 {
-    let at = block[word::TAKEN];
+    let g = block[word::ANSWERED];
+    let total = trace::count(records) as u64;
+    if (total <= g) | (g < block[word::TAKEN]) {
+        return Step::Open;
+    }
+    if g == 0 {
+        block[word::ANSWERED] = 1;
+        return Step::Batch { bits: 0, count: 1 };
+    }
     if block[word::RIGHT_COUNT] == 0 {
         return Step::Right;
     }
-    let count = blocks::available(at, block[word::RIGHT_COUNT], trace::count(records) as u64);
-    if count == 0 {
-        return Step::Open;
-    }
-    let operand = block[word::RIGHT_BITS];
-    let kept = (0 < at) & (block[word::LAST_LEFT] == 1);
-    let near = time::near(
-        low,
-        high,
-        block[word::LAST_TIME],
-        records,
-        at as usize,
-        count as usize,
-    );
-    let bits = near & bits::move_up(operand, kept);
+    let count = blocks::available(g, block[word::RIGHT_COUNT], total);
+    let near = time::near(low, high, records, g as usize, count as usize);
+    let bits = near & block[word::RIGHT_BITS];
     blocks::take_right(block, count);
-    block[word::LAST_LEFT] = bits::rest(operand, count - 1) % 2;
-    block[word::LAST_TIME] = trace::time(records, (at + (count - 1)) as usize);
+    block[word::ANSWERED] = g + count;
     Step::Batch { bits, count }
 }
 
@@ -47,13 +43,14 @@ pub fn step_next(low: u64, high: u64, records: &[u8], closed: bool, block: &mut 
     ensures { λ r. ⌜ Ends false true (now (records .entry)) (now (block .entry)) r (now (block .exit)) ⌝ }
     ensures { λ r. ⌜ ((φ : Formula) → Steps closed (next low high φ) (now (records .entry)) (now (block .entry)) r (now (block .exit))) ⌝ }
 {
+    let g = block[word::ANSWERED];
     let at = block[word::TAKEN];
     let total = trace::count(records) as u64;
-    if total <= block[word::ANSWERED] {
+    if total <= g {
         return Step::Open;
     }
     if closed & (at == total) {
-        block[word::ANSWERED] = total;
+        block[word::ANSWERED] = g + 1;
         return Step::Batch { bits: 0, count: 1 };
     }
     if block[word::RIGHT_COUNT] == 0 {
@@ -67,10 +64,9 @@ pub fn step_next(low: u64, high: u64, records: &[u8], closed: bool, block: &mut 
         blocks::take_right(block, 1);
         return Step::Again;
     }
-    let before = trace::time(records, (at - 1) as usize);
-    let near = time::near(low, high, before, records, at as usize, count as usize);
+    let near = time::near(low, high, records, at as usize, count as usize);
     let bits = near & block[word::RIGHT_BITS];
     blocks::take_right(block, count);
-    block[word::ANSWERED] = at + (count - 1);
+    block[word::ANSWERED] = g + count;
     Step::Batch { bits, count }
 }

@@ -44,7 +44,7 @@ returns-3 c =
       rw (c .before .before .take-right .ensures) (right-keeps (c .before .before .before .before .before .before .available .result) (start .args .block .now)),
       λ closed φ L g falls agrees ready.
           rw (c .before .before .take-right .ensures)
-          (not-batch (start .args .records .now) (start .args .block .now) (start .pre) (c .before .before .before .before .before .before .available .result) (omega arith) L g agrees
+          (not-batch (start .args .records .now) (start .args .block .now) (start .pre) (c .before .before .before .before .before .before .available .result) (omega arith) L g
           φ (omega arith) (c .before .before .before .before .slice-known5 .given 4 .fits) ready),
     )
 

@@ -85,7 +85,7 @@ returns-4 c =
       rw (c .before .before .take-both .ensures) (both-keeps (c .before .before .before .before .before .before .before .available .result) (start .args .block .now)),
       λ closed φ ψ L g falls agrees ready.
           rw (c .before .before .take-both .ensures)
-          (or-batch (start .args .records .now) (start .args .block .now) (start .pre) (c .before .before .before .before .before .before .before .available .result) (n .some) L g agrees
+          (or-batch (start .args .records .now) (start .args .block .now) (start .pre) (c .before .before .before .before .before .before .before .available .result) (n .some) L g
           φ ψ (n .left) (n .right) ready),
     )
 

@@ -1,6 +1,6 @@
--- `neighbour::step_next` meets its contract: at the end of a closed log the last position is no; at position 0 one answer is passed
--- over; else a buffer is taken whole. Assumes nothing.
-use Prim.Native.Nat.{ℕ, _+_, _-_, _≤_, _<_, _^_}
+-- `operators::neighbour::step_next` meets its contract: at the end of a closed log the last position is no; at position 0 one answer is
+-- passed over; else a buffer is taken whole. Assumes nothing.
+use Prim.Native.Nat.{ℕ, _+_, _≤_, _<_, _^_}
 use native.Mathlib.Nat.{pos-of-ne-zero}
 use native.Mathlib.Omega.{arith}
 use mathlib.Core.Bool.{Bool, true, false, _&&_, true≢false}
@@ -11,33 +11,30 @@ use borrow.Author.Needs.{needs}
 use borrow.Author.Tests.{eqb-true, eq-eqb}
 use Rattle.mtl.proofs.Bounded.{and-iff}
 use Rattle.trace.specs.Format.{record-count}
-use Rattle.blocks.specs.Block.{taken, right-count}
+use Rattle.blocks.specs.Block.{taken, right-count, answered}
 use Rattle.blocks.proofs.Words.{put, stores-keep, available}
 use Rattle.blocks.proofs.Taking.{right-keeps, all-of}
-use Rattle.operators.proofs.Simple.{next-keeps, right-less, next-pass, next-batch, next-none, next-end, next-right}
+use Rattle.operators.proofs.Simple.{answered-keeps, right-less, next-pass, next-batch, next-none, next-end, next-right}
 use Rattle.operators.proofs.neighbour.step_next.Statement.{statement}
 use Rattle.operators.proofs.neighbour.step_next.Tie as tie
+
+-- a position is left
+left : (c : tie.Else1) → let a = c .before .before .before .before .before .before .args in answered (a .block .now) < record-count (a .records .now)
+left c = omega (arith, c .if1 .left, c .before .count .ensures)
 
 -- some positions are taken: they are buffered and lie within the log
 taking : (c : tie.Else4) →
     let a = c .before .before .before .before .before .before .before .before .before .before .before .before .args in
     let n = c .before .available .result in
-    (n ≤ right-count (a .block .now)) × (0 < n) × (taken (a .block .now) + n ≤ record-count (a .records .now))
+    (n ≤ right-count (a .block .now)) × (n ≤ 64) × (0 < n) × (taken (a .block .now) + n ≤ record-count (a .records .now))
 taking c =
-    let a = available _ _ _ _ (rw (c .before .before .before .before .before .before .before .before .count .ensures) at (c .before .available .ensures)) in
+    let a = available _ _ _ _ (rw (c .before .before .before .before .before .before .before .count .ensures) at (c .before .available .ensures)) in
     let some = pos-of-ne-zero (c .if4 .left) in
-    (a .most, some, a .inside some)
+    (a .most, a .few, some, a .inside some)
 
--- the position before them, too
-earlier : (at n total : ℕ) → 0 < n → at + n ≤ total → at - 1 < total
-earlier at n total some inside = omega arith
-
--- and what is answered then fits a word
-counted : (c : tie.After-count) → record-count (c .before .before .before .before .args .records .now) < 2 ^ 64
+-- what is answered then fits a word
+counted : (c : tie.After-count) → record-count (c .before .before .before .before .before .args .records .now) < 2 ^ 61
 counted c = omega arith
-
-answered-fits : (at n total : ℕ) → at + n ≤ total → total < 2 ^ 64 → at + (n - 1) < 2 ^ 64
-answered-fits at n total inside small = omega arith
 
 -- the test for the end of a closed log
 at-end : (closed : Bool) (at total : ℕ) → closed && eqb at total ≡ true → (closed ≡ true) × (at ≡ total)
@@ -52,19 +49,24 @@ returns-none c =
       refl,
       λ φ L g falls agrees ready.
           next-none (start .args .records .now) (start .args .block .now) (start .pre) (start .args .low) (start .args .high) φ L g agrees ready
-          (rw (c .before .before .count .ensures) at (c .if1 .taken)),
+          (rw (c .before .count .ensures) at (c .if1 .taken)),
     )
+
+add-block : tie.Need-add-block
+add-block c =
+    let some = left (c .before) in
+    let small = counted (c .before .before) in
+    omega arith
 
 returns-end : tie.Need-returns-2
 returns-end c =
     let start = c .before .before .before .before .before .before .before in
-    let (closed, all) = at-end _ _ _ (c .if2 .taken) in
-    let count = c .before .before .before .count .ensures in (
-      stores-keep (put 5 _ ∷ []) (start .args .block .now) (omega arith),
+    let b = start .args .block .now in
+    let end = at-end (start .args .closed) (taken b) (c .before .before .count .result) (c .if2 .taken) in (
+      stores-keep (put 5 (answered b + 1) ∷ []) b (omega arith),
       λ φ L g falls agrees ready.
-          rw count
-          (next-end (start .args .records .now) (start .args .block .now) (start .pre) (start .args .low) (start .args .high) φ L g agrees ready
-          (agrees .ends ∙ closed) (omega (arith, c .before .if1 .left)) (all ∙ count)),
+          next-end (start .args .records .now) b (start .pre) (start .args .low) (start .args .high) φ L g agrees ready
+          (agrees .ends ∙ end .0) (left (c .before)) (end .1 ∙ c .before .before .count .ensures),
     )
 
 returns-right : tie.Need-returns-3
@@ -74,7 +76,7 @@ returns-right c =
       λ φ L g falls agrees ready. (
         refl,
         next-right (start .args .records .now) (start .args .block .now) (start .pre) (start .args .low) (start .args .high) φ L g agrees ready
-            (λ closed all. before-end _ _ _ (c .before .before .if2 .left) (sym (agrees .ends) ∙ closed) (all ∙ sym (c .before .before .before .before .before .count .ensures))),
+            (λ closed all. before-end _ _ _ (c .before .before .if2 .left) (sym (agrees .ends) ∙ closed) (all ∙ sym (c .before .before .before .before .count .ensures))),
       ),
     )
 
@@ -82,39 +84,40 @@ returns-open : tie.Need-returns-4
 returns-open c = (
   refl,
   λ φ L g falls agrees ready.
-      absurd (omega (arith, all-of agrees (ready .buffers) (c .before .available .result) (rw (c .before .before .before .before .before .before .before .before .count .ensures) at (c .before .available .ensures)))),
+      absurd (omega (arith, all-of agrees (ready .buffers) (c .before .available .result) (rw (c .before .before .before .before .before .before .before .count .ensures) at (c .before .available .ensures)))),
 )
 
 returns-pass : tie.Need-returns-5
 returns-pass c =
-    let start = c .before .before .before .before .before .before .before .before .before .before .before .before .before .before .before .before .before in (
+    let start = c .before .before .before .before .before .before .before .before .before .before .before .before .before .before .before .before .before in
+    let n = taking (c .before .before .before .before .before) in (
       rw (c .before .before .take-right .ensures) (
         right-less (start .args .records .now) (start .args .block .now) (start .pre) 1 (omega arith) (omega arith),
         right-keeps 1 (start .args .block .now),
       ),
       λ φ L g falls agrees ready.
           rw (c .before .before .take-right .ensures)
-          (next-pass (start .args .records .now) (start .args .block .now) (start .pre) 1 (omega arith) L g agrees (start .args .low) (start .args .high)
-          φ (omega arith) ready (c .before .before .before .before .if5 .taken) refl),
+          (next-pass (start .args .records .now) (start .args .block .now) (start .pre) 1 (omega arith) L g (start .args .low) (start .args .high)
+          φ (omega arith) (c .before .before .before .before .if5 .taken) refl ready),
     )
 
-time-requires : tie.Need-time-requires
-time-requires c κs = let n = taking (c .before) in earlier _ _ _ (n .1) (n .2)
-
-add-block : tie.Need-add-block
-add-block c =
-    let small = answered-fits _ _ _ (taking (c .before .before .before .before .before .before .before .before) .2) (counted (c .before .before .before .before .before .before .before .before .before .before .before .before .before .before .before .before)) in
-    search needs
+add-block-2 : tie.Need-add-block-2
+add-block-2 c =
+    let some = left (c .before .before .before .before .before .before .before .before .before .before .before .before .before) in
+    let few = taking (c .before .before .before .before .before .before .before) .1 in
+    let small = counted (c .before .before .before .before .before .before .before .before .before .before .before .before .before .before) in
+    omega arith
 
 returns-batch : tie.Need-returns-6
 returns-batch c =
-    let start = c .before .before .before .before .before .before .before .before .before .before .before .before .before .before .before .before .before .before .before .before in
-    let n = taking (c .before .before .before .before .before .before .before .before) in (
-      rw (c .before .before .take-right2 .ensures) (next-keeps (c .before .before .before .before .before .before .before .before .before .available .result) (start .args .block .now)),
+    let start = c .before .before .before .before .before .before .before .before .before .before .before .before .before .before .before .before .before .before .before in
+    let n = taking (c .before .before .before .before .before .before .before) in
+    let near = c .before .before .before .before .before .near in (
+      rw (c .before .before .take-right2 .ensures) (answered-keeps (c .before .before .before .before .before .before .before .before .available .result) (start .args .block .now)),
       λ φ L g falls agrees ready.
           rw (c .before .before .take-right2 .ensures)
-          (next-batch (start .args .records .now) (start .args .block .now) (start .pre) (c .before .before .before .before .before .before .before .before .before .available .result) (n .1) L g agrees (start .args .low) (start .args .high)
-          φ (n .0) ready (c .before .before .before .before .before .before .time .result) (c .before .before .before .before .before .near .result) (pos-of-ne-zero (c .before .before .before .before .before .before .before .if5 .left)) (n .2) (c .before .before .before .before .before .before .time .ensures .0) (c .before .before .before .before .before .near .ensures)),
+          (next-batch (start .args .records .now) (start .args .block .now) (start .pre) (c .before .before .before .before .before .before .before .before .available .result) (n .2) L g (start .args .low) (start .args .high)
+          φ (n .0) agrees (near .result) (pos-of-ne-zero (c .before .before .before .before .before .before .if5 .left)) (n .3) (near .ensures) ready),
     )
 
 pub step-next-spec : {M : Type 1} → statement M
@@ -122,9 +125,10 @@ step-next-spec =
     tie.close
     (tie.spec
     (λ c. search needs)
-    (λ c κs. search needs)
     (λ c. search needs)
+    (λ c κs. search needs)
     returns-none
+    add-block
     (λ c. search needs)
     (λ c. search needs)
     returns-end
@@ -136,13 +140,10 @@ step-next-spec =
     (λ c κs. search needs)
     (λ c. search needs)
     returns-pass
-    (λ c. search needs)
-    time-requires
     (λ c κs. search needs)
     (λ c. search needs)
     (λ c κs. search needs)
-    (λ c. search needs)
-    add-block
+    add-block-2
     (λ c. search needs)
     (λ c. search needs)
     returns-batch)

@@ -1,0 +1,25 @@
+-- The first record still wanted, document 02, paper 2: "d less k (0 when d is below k), k being the largest number of previous
+-- entries on a path from the last entry to a letter". Records before it may hold any bytes.
+use Prim.Native.Nat.{ℕ, suc, _-_, max}
+use mathlib.Core.List.{List, [], _∷_}
+use Rattle.mtl.specs.Formula.{Formula}
+use Rattle.mtl.specs.Formula.Formula.{letter, not, or, previous, next, since, until}
+
+-- the paper's k: the most previous operators on a path from the formula's last operator to a letter
+unfoldable pub depth : Formula → ℕ
+depth (letter k) = 0
+depth (not φ) = depth φ
+depth (or φ ψ) = max (depth φ) (depth ψ)
+depth (previous low high φ) = suc (depth φ)
+depth (next low high φ) = depth φ
+depth (since low high φ ψ) = max (depth φ) (depth ψ)
+depth (until low high φ ψ) = max (depth φ) (depth ψ)
+
+-- of a rule's formulas the largest; of none 0
+unfoldable pub deepest : List Formula → ℕ
+deepest [] = 0
+deepest (φ ∷ fs) = max (depth φ) (deepest fs)
+
+-- "d less k (0 when d is below k)"
+abbrev pub wanted : List Formula → (given : ℕ) → ℕ
+wanted fs given = given - deepest fs
