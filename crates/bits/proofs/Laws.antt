@@ -166,7 +166,7 @@ not-digits : (x y : ℕ) → x + y ≡ 1 → eqb x 1 ≡ negate (eqb y 1)
 not-digits zero y e = sym (ap negate (eq-eqb y 1 (omega arith)))
 not-digits (suc x) y e = eq-eqb (suc x) 1 (omega arith) ∙ sym (ap negate (ne-eqb y 1 (omega arith)))
 
-bit-not : (k w i : ℕ) → w < 2 ^ k → i < k → bit (2 ^ k - 1 - w) i ≡ negate (bit w i)
+pub bit-not : (k w i : ℕ) → w < 2 ^ k → i < k → bit (2 ^ k - 1 - w) i ≡ negate (bit w i)
 bit-not zero w i h l = absurd (omega arith)
 bit-not (suc k) w zero h l = not-digits ((2 ^ suc k - 1 - w) / 2 ^ 0 % 2) (w / 2 ^ 0 % 2) (omega (arith, pow-suc 2 k))
 bit-not (suc k) w (suc i) h l =

@@ -1,7 +1,7 @@
 // Words of answers: bit i of a word, the one worth 2 to the i, answers the i-th of up to 64 positions.
 ghost use mathlib.Core.Path.{_≡_};
-ghost use Prim.Native.Nat.{_+_, _/_, _<_, _^_};
-ghost use Rattle.bits.specs.Packed.{bit, number, with-bit};
+ghost use Prim.Native.Nat.{_+_, _-_, _/_, _%_, _≤_, _<_, _^_};
+ghost use Rattle.bits.specs.Packed.{bit, number, with-bit, zeros, last-zero};
 
 // 1 for true.
 pub fn flag(x: bool) -> u64
@@ -31,4 +31,28 @@ pub fn push(word: u64, n: u64, x: bool) -> u64
     ensures { λ r. ⌜ (r ≡ with-bit word n x) × (r < 2 ^ (n + 1)) ⌝ }
 {
     word + (flag(x) << n)
+}
+
+// The first n bits turned, without those behind them.
+fn turned(word: u64, n: u64) -> u64
+    requires { ⌜ n ≤ 64 ⌝ }
+    ensures { λ r. ⌜ r ≡ (2 ^ 64 - 1 - word) % 2 ^ n ⌝ }
+{
+    if n < 64 { !word % (1 << n) } else { !word }
+}
+
+// How many of the first n bits are 0.
+pub fn count_zeros(word: u64, n: u64) -> u64
+    requires { ⌜ n ≤ 64 ⌝ }
+    ensures { λ r. ⌜ (r ≡ zeros n word) × (r ≤ n) ⌝ }
+{
+    u64::count_ones(turned(word, n)) as u64
+}
+
+// One more than the place of the last of the first n bits that is 0; 0 where none is.
+pub fn find_last_zero(word: u64, n: u64) -> u64
+    requires { ⌜ n ≤ 64 ⌝ }
+    ensures { λ r. ⌜ (r ≡ last-zero n word) × (r ≤ n) ⌝ }
+{
+    64 - u64::leading_zeros(turned(word, n)) as u64
 }

@@ -112,7 +112,7 @@ module _ (t : List Entry) (n m : ℕ) (room : words t n ≤ m) where
         first-word =
             outside 0 (omega arith) ∙ getD-set-other (set (replicate m 0) 0 format) 6 0 n 0 (omega arith) ∙ getD-set-same (replicate m 0) 0 format 0 (omega arith);
         entries = outside 6 (omega arith) ∙ getD-set-same (set (replicate m 0) 0 format) 6 n 0 (omega arith);
-        header = λ i h h′. outside i (omega arith) ∙ zeros i (omega arith) (omega arith) (omega arith);
+        header = λ i h h′ ne. outside i (omega arith) ∙ zeros i (omega arith) ne (omega arith);
         blocks =
             λ k h i h′.
             let b = block-fits t n k h in

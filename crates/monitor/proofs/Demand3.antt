@@ -27,6 +27,7 @@ use Rattle.monitor.specs.Verdicts.{formulas-of, verdicts, first-records,
 use Rattle.monitor.specs.Stands.{Stands}
 use Rattle.monitor.specs.Open.{Opens}
 use Rattle.monitor.specs.Resume.{resumed-number, Gives, Resumes}
+use Rattle.monitor.specs.Summary.{noes-in, told, summarized}
 use Rattle.monitor.specs.Calls.{Untouched, Call, given-by, brought-by, laid, the-call, Brings, BringsAfter, Lends, point-after, OneCall, Calls, Each, AllWhenCaughtUp, OneRun, Keeps, Demand3}
 use Rattle.monitor.specs.Calls.OneCall.{refused, accepted}
 use Rattle.monitor.specs.Calls.Calls.{opened, and-then}
@@ -333,6 +334,16 @@ module _ (rule log : List ℕ) (untouched : Untouched log) where
         sym (take-all c sheet′ (omega arith)) ∙ bytes ∙ ap (verdicts fs (first-records log n)) sum,
       )
 
+-- the count of no and the latest of them, as a checkpoint has them
+own-summary : (rule : List ℕ) (K : Log) (d : ℕ) (p : List ℕ) → refusal rule ≡ 0 → Stands rule K d p →
+    summarized rule p ≡ told (noes-in (verdicts (formulas-of rule) K d) d)
+own-summary rule K d p fine stands =
+    rw (
+      open-enough rule (length p) fine (stands .enough),
+      not-foreign rule K d p fine stands,
+      not-outside rule K d p fine stands,
+    ) (ap told (stands .noes))
+
 -- WORDS BEHIND THE POINT
 
 open-keeps : (rule words : List ℕ) (r : Opened) (fresh : List ℕ) → refusal rule ≡ 0 → Opens rule words r fresh → Keeps rule words fresh
@@ -367,6 +378,11 @@ demand-3 rule log untouched h point calls =
       open-keeps = λ words r fresh. open-keeps rule words r fresh (i .fine);
       call-keeps = λ p p′ h′. call-keeps rule log p (i .fine);
       one-run = one-run-writes rule log untouched;
+      summary = λ p lends whole r is.
+          let d = given-by h in
+          let laid-length : length (laid h) ≡ d = ap length (i .bytes) ∙ length-verdicts fs L d in
+          is ∙ own-summary rule L d p (i .fine) (stands-lent rule L d point p size lends whole (i .stands)) ∙
+          ap told (rw (laid-length, i .bytes));
     }
 
 -- the bytes of every list are the first bytes of one run

@@ -39,6 +39,7 @@ module _ (rule : List ℕ) (K : Log) (d : ℕ) where
         time = same 3 (omega arith) ∙ stands .time;
         fits = omega (arith, same 3 (omega arith), stands .fits);
         top = subst (Top (formulas-of rule) K d) e (stands .top);
+        noes = rw (same 8 (omega arith), same 9 (omega arith)) (stands .noes);
       }
     where
       same : (i : ℕ) → i < need rule → word q i ≡ word p i

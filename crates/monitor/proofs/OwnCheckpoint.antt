@@ -2,7 +2,7 @@
 -- (Examples is named first so that the table of worked examples is checked before any theorem.)
 use Rattle.monitor.specs.Examples
 use Prim.Native.Nat.{ℕ, _+_, _-_, _≤_, _<_, _^_}
-use mathlib.Core.Bool.{false}
+use mathlib.Core.Bool.{true, false}
 use mathlib.Core.Path.{_≡_, sym, _∙_}
 use mathlib.Core.List.{List, [], _∷_}
 use native.Mathlib.Omega.{arith}
@@ -21,9 +21,10 @@ use Rattle.rule.proofs.Acceptance.{accepted}
 use Rattle.blocks.specs.Block.{word, cells-of}
 use Rattle.engine.specs.State.{words}
 use Rattle.engine.proofs.Entries.{Ranged, rule-size, rule-ranges}
-use Rattle.monitor.specs.Checkpoint.{given, seen, last, held-count, need, block-at, block-outside, outside}
-use Rattle.monitor.specs.Verdicts.{formulas-of}
+use Rattle.monitor.specs.Checkpoint.{given, seen, last, held-count, no-count, after-latest, need, block-at, block-outside, noes-in-range, outside}
+use Rattle.monitor.specs.Verdicts.{formulas-of, verdicts}
 use Rattle.monitor.specs.Stands.{States, Stands}
+use Rattle.monitor.proofs.Noes.{noes-ranged}
 use Rattle.monitor.proofs.Offsets.{in-block, block-fits}
 use Rattle.monitor.proofs.Meaning.{rule-whole}
 
@@ -90,6 +91,10 @@ module _ (rule : List ℕ) (K : Log) (d : ℕ) (p : List ℕ) (fine : refusal ru
         le-leb (word b 10) cells (omega (arith, same-word j 10 h (omega arith))),
       )
 
+  -- the no are among the verdicts given
+  own-noes : noes-in-range (given p) (no-count p) (after-latest p) ≡ true
+  own-noes = rw own-given (noes-ranged (verdicts (formulas-of rule) K d) d (no-count p) (after-latest p) (stands .noes))
+
   -- refusal 11 is not met
   pub not-outside : outside (decoded rule) (count rule) p ≡ false
   not-outside =
@@ -105,5 +110,6 @@ module _ (rule : List ℕ) (K : Log) (d : ℕ) (p : List ℕ) (fine : refusal ru
         le-leb (held-count p) (seen p) (omega (arith, own-word 4 (omega arith))),
         le-leb (given p) (seen p - held-count p) (omega (arith, own-word 1 (omega arith), own-word 4 (omega arith))),
         lt-ltb (last p) (2 ^ 32) (stands .fits),
+        own-noes,
         any-false-iff (count rule) (block-outside (decoded rule) p) .1 in-range,
       )

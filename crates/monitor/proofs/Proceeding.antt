@@ -25,10 +25,11 @@ use Rattle.engine.specs.State.{words as words-of}
 use Rattle.engine.proofs.Rows.{rows-ok, has-at, column-is-part}
 use Rattle.engine.proofs.Entries.{rule-size, rule-kept}
 use Rattle.monitor.specs.Stands.{Top}
+use Rattle.monitor.specs.Summary.{stored-noes}
 use Rattle.monitor.specs.Code.{Fits, Tops, KeptBlocks, Holding, Holds, Gave, Ready, KeptEntries, Proceeded}
 use Rattle.monitor.proofs.Offsets.{in-block}
 use Rattle.monitor.proofs.Holding.{kept-same, kept-then}
-use Rattle.monitor.proofs.Giving.{agrees-later}
+use Rattle.monitor.proofs.Giving.{agrees-later, noes-held}
 
 -- the table of an accepted rule's entries
 pub record Tabled (t : List Entry) (table : List ℕ) (n : ℕ) : Type 0 where
@@ -98,6 +99,9 @@ module _ (time size : ℕ) (ws : List ℕ) (room : 16 ≤ length ws) where
   noted-time =
       getD-set-other (set ws 3 time) 2 3 size 0 (λ e. omega arith) ∙ getD-set-same ws 3 time 0 (omega arith)
 
+  noted-noes : stored-noes (noted time size ws) ≡ stored-noes ws
+  noted-noes = rw (noted-other 8 (λ e. omega arith) (λ e. omega arith), noted-other 9 (λ e. omega arith) (λ e. omega arith))
+
   drop-noted : drop 16 (noted time size ws) ≡ drop 16 ws
   drop-noted = drop-set-lt 16 (set ws 3 time) 2 size (omega arith) ∙ drop-set-lt 16 ws 3 time (omega arith)
 
@@ -153,6 +157,7 @@ proceeded t table s k ws sheet c ws₁ sheet₁ more ws₂ time size tab room by
       time = noted-time time size ws₂ wide ∙ now;
       fits = λ small.
           rw (noted-time time size ws₂ wide, now) (last-time-bound s (word ws 2) (word ws 3) byte small);
+      noes = noted-noes time size ws₂ wide ∙ noes-held held ∙ gave .noes;
       entries =
           noted-other time size ws₂ wide 6 (λ e. omega arith) (λ e. omega arith) ∙
           kept 6 (omega arith) (λ e. omega arith) (λ e. omega arith) (λ e. omega arith);
@@ -172,5 +177,5 @@ proceeded t table s k ws sheet c ws₁ sheet₁ more ws₂ time size tab room by
           );
     }
   where
-    kept : (i : ℕ) → i < 16 → (i ≡ 1 → ⊥) → (i ≡ 4 → ⊥) → (i ≡ 5 → ⊥) → word ws₂ i ≡ word ws i
-    kept i low ne ne′ ne″ = held .header i low ne′ ne″ ∙ gave .header i low ne ne′ ne″
+    kept : (i : ℕ) → i < 8 → (i ≡ 1 → ⊥) → (i ≡ 4 → ⊥) → (i ≡ 5 → ⊥) → word ws₂ i ≡ word ws i
+    kept i low ne ne′ ne″ = held .header i (omega arith) ne′ ne″ ∙ gave .header i low ne ne′ ne″

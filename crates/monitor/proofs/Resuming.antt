@@ -1,14 +1,14 @@
 -- From an accepted call on the words that the rule needs to what `resume` promises of the whole checkpoint.
-use Prim.Native.Nat.{ℕ, _+_, _-_, _≤_, _<_, zero-le}
+use Prim.Native.Nat.{ℕ, _+_, _-_, _≤_, _<_, _^_, zero-le}
 use mathlib.Core.Bool.{Bool, true, false, cond, _&&_}
 use mathlib.Core.Bool.{not as negate}
-use mathlib.Core.Path.{_≡_, refl, sym, ap, _∙_}
+use mathlib.Core.Path.{_≡_, refl, sym, ap, ap₂, _∙_}
 use mathlib.Core.List.{List, _++_}
 use mathlib.Core.Logic.{⊎-elim}
 use native.Mathlib.Omega.{arith}
 use native.Mathlib.Nat.{sub-zero}
 use borrow.Author.Tests.{le-ltb, lt-ltb, ne-eqb, eqb-true, eqb-false, not-false}
-use lib.Dec.{eqb, leb}
+use lib.Dec.{eqb, leb, ltb}
 use lib.ListN.{length, take, drop, length-append, length-drop, List·getD-append}
 use lib.Seq.{length-take-le, take-at, drop-at, getD-take}
 use Rattle.mtl.specs.Formula.{Formula}
@@ -28,12 +28,13 @@ use Rattle.blocks.specs.Block.{word}
 use Rattle.blocks.specs.Step.{Agrees}
 use Rattle.engine.specs.Ask.{part}
 use Rattle.engine.proofs.Parts.{put-back}
-use Rattle.monitor.specs.Checkpoint.{given, seen, last, held-count, held-bits, need, room, foreign, block-outside, outside, header-in-range}
-use Rattle.monitor.specs.Refusal.{open-refusal, point-refusal, resume-refusal}
+use Rattle.monitor.specs.Checkpoint.{given, seen, last, held-count, held-bits, no-count, after-latest, need, room, foreign, block-outside, noes-in-range, outside, header-in-range}
+use Rattle.monitor.specs.Refusal.{open-refusal, point-refusal}
 use Rattle.monitor.specs.Verdicts.{formulas-of}
 use Rattle.monitor.specs.Stands.{Top, last-of, Stands}
 use Rattle.monitor.specs.Resume.{Resumes}
-use Rattle.monitor.specs.Code.{sized-of, sized-number, checked-by, checked-number, Ready, Proceeded, Proceeds}
+use Rattle.monitor.specs.Summary.{Noes, noes-in, laid-behind, stored-noes}
+use Rattle.monitor.specs.Code.{sized-of, sized-number, checked-by, checked-number, Ready, Giving, Proceeded, Proceeds}
 use Rattle.monitor.specs.declared.check.Sized.{Sized}
 use Rattle.monitor.specs.declared.check.Sized.the-variants.{Words, Stopped}
 use Rattle.monitor.specs.declared.check.Checked.{Checked}
@@ -44,31 +45,29 @@ use Rattle.monitor.proofs.Meaning.{rule-whole}
 use Rattle.monitor.proofs.Copies.{foreign-same, foreign-within}
 use Rattle.monitor.proofs.Sizes.{sized-refusal, enough, stops}
 use Rattle.monitor.proofs.Held.{held-longer, states-longer}
+use Rattle.monitor.proofs.VerdictBytes.{noes-more, verdicts-stay}
+
+-- n is the number of a refusal: of 1 to 9 where one applies, else `other`
+pub record Met (rule p : List ℕ) (other n : ℕ) : Type 0 where
+  pub number : n ≡ before (open-refusal rule (length p)) other
+  pub some : 0 < n
 
 -- refusals 1 to 9
-pub resume-stopped : (rule log p sheet : List ℕ) (r : Sized) (m n : ℕ) → r ≡ sized-of rule (length p) → r ≡ Stopped m →
-    n ≡ sized-number r → Resumes rule log p sheet (Refused n) p sheet
-resume-stopped rule log p sheet r m n sized stopped numbered =
+pub stopped : (rule p : List ℕ) (other : ℕ) (r : Sized) (m n : ℕ) → r ≡ sized-of rule (length p) → r ≡ Stopped m → n ≡ sized-number r →
+    Met rule p other n
+stopped rule p other r m n sized stops-at numbered =
     let met : 0 < m =
-    stops rule (length p) m (sym stopped ∙ sized) in
-    let is : n ≡ m = numbered ∙ ap sized-number stopped in
-    let some : 0 < n = omega arith in
+    stops rule (length p) m (sym stops-at ∙ sized) in
+    let is : n ≡ m = numbered ∙ ap sized-number stops-at in
     let number : open-refusal rule (length p) ≡ n =
     sym (sized-refusal rule (length p)) ∙ ap sized-number (sym sized) ∙ sym numbered in
-    record {
-      number =
-          let met-first : before n (point-refusal (decoded rule) (count rule) log p) ≡ n = rw (ne-eqb n 0 (λ e. omega arith)) in
-          sym (ap (λ (k : ℕ). before k (point-refusal (decoded rule) (count rule) log p)) number ∙ met-first);
-      point-length = refl;
-      sheet-length = refl;
-      words = (some, refl, refl);
-    }
+    let met-first : before n other ≡ n = rw (ne-eqb n 0 (λ e. omega arith)) in
+    record { number = sym (ap (λ (k : ℕ). before k other) number ∙ met-first); some = omega arith }
 
-not-stopped : (rule log p : List ℕ) (w : ℕ) → Words w ≡ sized-of rule (length p) →
-    resume-refusal rule log p ≡ point-refusal (decoded rule) (count rule) log p
-not-stopped rule log p w sized =
+pub not-stopped : (rule p : List ℕ) (other w : ℕ) → Words w ≡ sized-of rule (length p) → before (open-refusal rule (length p)) other ≡ other
+not-stopped rule p other w sized =
     let none : open-refusal rule (length p) ≡ 0 = sym (sized-refusal rule (length p)) ∙ ap sized-number (sym sized) in
-    ap (λ (k : ℕ). before k (point-refusal (decoded rule) (count rule) log p)) none
+    ap (λ (k : ℕ). before k other) none
 
 -- the number that the check's answer stands for is the refusal's
 checked-is : (number : ℕ) → checked-number (checked-by number) ≡ number
@@ -85,33 +84,35 @@ failed-by : (b : Bool) (number m : ℕ) → eqb number 0 ≡ b → Failed m ≡ 
 failed-by true number m t e = let z : _≡_ {A = ℕ} 0 1 = cc in absurd (omega arith)
 failed-by false number m t e = let z : m ≡ number = cc in let h = eqb-false number 0 t in omega arith
 
--- refusals 10 to 14
-pub resume-refused : (rule log p sheet : List ℕ) (w : ℕ) (r : Checked) (m n : ℕ) → Words w ≡ sized-of rule (length p) →
-    r ≡ checked-by (point-refusal (decoded rule) (count rule) log p) → r ≡ Failed m → n ≡ checked-number r →
+-- refusals from 10 on
+pub failed : (rule p : List ℕ) (number w : ℕ) (r : Checked) (m n : ℕ) → Words w ≡ sized-of rule (length p) → r ≡ checked-by number →
+    r ≡ Failed m → n ≡ checked-number r → Met rule p number n
+failed rule p number w r m n sized checked fails numbered =
+    let met : 0 < m = failed-by (eqb number 0) number m refl (sym fails ∙ checked) in
+    let is : n ≡ m = numbered ∙ ap checked-number fails in
+    record { number = numbered ∙ ap checked-number checked ∙ checked-is number ∙ sym (not-stopped rule p number w sized); some = omega arith }
+
+-- nothing is written then
+pub resume-refused : (rule log p sheet : List ℕ) (n : ℕ) → Met rule p (point-refusal (decoded rule) (count rule) log p) n →
     Resumes rule log p sheet (Refused n) p sheet
-resume-refused rule log p sheet w r m n sized checked failed numbered =
-    let number = point-refusal (decoded rule) (count rule) log p in
-    let met : 0 < m = failed-by (eqb number 0) number m refl (sym failed ∙ checked) in
-    let is : n ≡ m = numbered ∙ ap checked-number failed in
-    record {
-      number = numbered ∙ ap checked-number checked ∙ checked-is number ∙ sym (not-stopped rule log p w sized);
-      point-length = refl;
-      sheet-length = refl;
-      words = (omega arith, refl, refl);
-    }
+resume-refused rule log p sheet n met =
+    record { number = met .number; point-length = refl; sheet-length = refl; words = (met .some, refl, refl) }
 
 -- what the refusals that are not met tell
 pub record Passes (log p : List ℕ) : Type 0 where
   pub given : given p ≤ 1000000
+  pub counted : no-count p ≤ 1000000
   pub records : record-count (records-of log) ≤ 1000000
 
-header-given : (p : List ℕ) → header-in-range p ≡ true → given p ≤ 1000000
+header-given : (p : List ℕ) → header-in-range p ≡ true → (no-count p ≤ given p) × (given p ≤ 1000000)
 header-given p fits =
-    let halves = and-iff (leb (seen p) 1000000 && leb (held-count p) 64) (room (given p) (held-count p) (seen p)) .0 (and-iff _ _ .0 fits .0) in
+    let ends = and-iff _ (noes-in-range (given p) (no-count p) (after-latest p)) .0 fits in
+    let halves = and-iff (leb (seen p) 1000000 && leb (held-count p) 64) (room (given p) (held-count p) (seen p)) .0 (and-iff _ (ltb (last p) (2 ^ 32)) .0 (ends .0) .0) in
     let rooms = and-iff (leb (held-count p) (seen p)) (leb (given p) (seen p - held-count p)) .0 (halves .1) in
     let few = leb-iff (seen p) 1000000 .0 (and-iff (leb (seen p) 1000000) (leb (held-count p) 64) .0 (halves .0) .0) in
     let low = leb-iff (given p) (seen p - held-count p) .0 (rooms .1) in
-    omega arith
+    let noes = leb-iff (no-count p) (given p) .0 (and-iff (leb (no-count p) (given p)) (leb (after-latest p) (given p)) .0 (and-iff _ _ .0 (ends .1) .0) .0) in
+    (noes, omega arith)
 
 pub passes : (rule log p : List ℕ) → point-refusal (decoded rule) (count rule) log p ≡ 0 → Passes log p
 passes rule log p none =
@@ -120,8 +121,10 @@ passes rule log p none =
     let tenth = first-zero 9 (foreign t n p) _ none in
     let eleventh = first-zero 10 (outside t n p) _ (tenth .1) in
     let twelfth = first-zero 11 (malformed log) _ (eleventh .1) in
+    let (noes, few) = header-given p (not-false (header-in-range p) (or-left (negate (header-in-range p)) (any n (block-outside t p)) (eleventh .0))) in
     record {
-      given = header-given p (not-false (header-in-range p) (or-left (negate (header-in-range p)) (any n (block-outside t p)) (eleventh .0)));
+      given = few;
+      counted = omega arith;
       records = well-formed-records log (twelfth .0) .1 .few;
     }
 
@@ -188,11 +191,18 @@ module _ (rule log p sheet : List ℕ) (ok : refusal rule ≡ 0) (room : need ru
   length-now : length (ws′ ++ drop (need rule) p) ≡ length p
   length-now = simp (length-append, size, length-drop) (omega arith)
 
+  -- the no among the bytes written are counted behind those from before
+  noes-now : stored-noes (ws′ ++ drop (need rule) p) ≡ laid-behind (stored-noes p) (given p) (noes-in sheet′ c)
+  noes-now = rw (now 8 (omega arith), now 9 (omega arith), ← was 1 (omega arith), ← was 8 (omega arith), ← was 9 (omega arith)) (done .noes)
+
   stands-now : (K L : Log) (d : ℕ) → Stands rule K d p → Continues K L → NeverFalls L → Agrees (records-of log) L d →
-      Top (formulas-of rule) L (d + c) ws′ → Stands rule L (d + c) (ws′ ++ drop (need rule) p)
-  stands-now K L d stands longer never agrees top =
-      let reached : d ≤ K .size =
-      omega (arith, stands .top .held .within, joint-le-size (formulas-of rule) K) in
+      Giving (formulas-of rule) L d c ws′ sheet′ → Stands rule L (d + c) (ws′ ++ drop (need rule) p)
+  stands-now K L d stands longer never agrees giving =
+      let fs = formulas-of rule in
+      let within = stands .top .held .within in
+      let reached : d ≤ K .size = omega (arith, joint-le-size fs K) in
+      let at-d : given p ≡ d = sym (was 1 (omega arith)) ∙ stands .top .at in
+      let stay = ap (λ (vs : List ℕ). noes-in vs d) (verdicts-stay fs K L longer never d (omega arith)) in
       let before : last-time (records-of log) (seen (take (need rule) p)) (last (take (need rule) p)) ≡ last-of L =
       rw (was 2 (omega arith), was 3 (omega arith), stands .size, stands .time)
       (time-seen (records-of log) K L d longer agrees reached) in
@@ -203,7 +213,11 @@ module _ (rule log p sheet : List ℕ) (ok : refusal rule ≡ 0) (room : need ru
         few = omega (arith, passes rule log p none .records, agrees .size);
         time = now 3 (omega arith) ∙ done .time ∙ before;
         fits = rw (now 3 (omega arith)) (done .fits (rw (was 3 (omega arith)) (stands .fits)));
-        top = rw (take-at ws′ (drop (need rule) p) (need rule) size) top;
+        top = rw (take-at ws′ (drop (need rule) p) (need rule) size) (giving .top);
+        noes =
+            noes-now ∙
+            ap₂ (λ (x : Noes) (n : ℕ). laid-behind x n (noes-in sheet′ c)) (stands .noes ∙ stay) at-d ∙
+            noes-more fs L d c sheet′ (giving .bytes);
       }
 
   pub resumed : Resumes rule log p sheet (Given c more) (ws′ ++ drop (need rule) p) sheet′
@@ -223,6 +237,7 @@ module _ (rule log p sheet : List ℕ) (ok : refusal rule ≡ 0) (room : need ru
                   now 3 (omega arith) ∙
                   done .time ∙
                   rw (was 2 (omega arith), was 3 (omega arith));
+              noes = noes-now;
               meaning = λ K L d stands longer never agrees.
                   let top = top-longer (formulas-of rule) K L d (take (need rule) p) longer never (stands .top) in
                   let (giving, count, further) = done .meaning (formulas-of rule) L d (rule-whole rule ok) never agrees top in
@@ -230,7 +245,7 @@ module _ (rule log p sheet : List ℕ) (ok : refusal rule ≡ 0) (room : need ru
                     count = count;
                     bytes = giving .bytes;
                     more = further;
-                    stands = stands-now K L d stands longer never agrees (giving .top);
+                    stands = stands-now K L d stands longer never agrees giving;
                   };
             };
       }

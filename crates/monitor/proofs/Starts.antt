@@ -20,6 +20,7 @@ use Rattle.monitor.specs.Checkpoint.{held-count, held-bits, need}
 use Rattle.monitor.specs.Code.{Fresh, sized-of, sized-number}
 use Rattle.monitor.specs.Open.{Opens}
 use Rattle.monitor.specs.Stands.{States, Top, Stands}
+use Rattle.monitor.specs.Tally.{count-of, latest-no}
 use Rattle.monitor.specs.Verdicts.{formulas-of}
 use Rattle.monitor.specs.declared.Opened.the-variants.{Done}
 use Rattle.monitor.specs.declared.check.Sized.the-variants.{Words}
@@ -45,19 +46,21 @@ module _ (rule ws : List ℕ) (a : Accepted rule) (size : length ws ≡ need rul
 
   fresh-top : (fs : List Formula) → Whole (decoded rule) (count rule) fs → Top fs L 0 ws
   fresh-top fs whole =
-      let held = f .header 4 (omega arith) (omega arith) in
+      let held = f .header 4 (omega arith) (omega arith) (omega arith) in
       record {
-        at = f .header 1 (omega arith) (omega arith);
+        at = f .header 1 (omega arith) (omega arith) (omega arith);
         held = held-none fs L 0 (held-count ws) (held-bits ws) zero-le held;
         state = rw held (fresh-states fs whole);
       }
 
 pub fresh-stands : (rule p : List ℕ) → refusal rule ≡ 0 → need rule ≤ length p →
     Fresh (decoded rule) (count rule) (take (need rule) p) → (L : Log) → L .size ≡ 0 → Stands rule L 0 p
+unfolding count-of latest-no
 fresh-stands rule p ok room f L none =
     let at : (i : ℕ) → i < need rule → word p i ≡ word (take (need rule) p) i = λ i h. sym (getD-take (need rule) p i 0 h) in
-    let two = at 2 (omega arith) ∙ f .header 2 (omega arith) (omega arith) in
-    let three = at 3 (omega arith) ∙ f .header 3 (omega arith) (omega arith) in
+    let clear : (i : ℕ) → 0 < i → i < 16 → (i ≡ 6 → ⊥) → word p i ≡ 0 = λ i h l ne. at i (omega arith) ∙ f .header i h l ne in
+    let two = clear 2 (omega arith) (omega arith) (omega arith) in
+    let three = clear 3 (omega arith) (omega arith) (omega arith) in
     record {
       enough = room;
       own =
@@ -68,6 +71,7 @@ fresh-stands rule p ok room f L none =
       time = rw (eq-eqb (L .size) 0 none) three;
       fits = omega arith;
       top = fresh-top rule (take (need rule) p) (accepted rule ok) (length-take-le (need rule) p room) f L (formulas-of rule) (rule-whole rule ok);
+      noes = rw (clear 8 (omega arith) (omega arith) (omega arith), clear 9 (omega arith) (omega arith) (omega arith));
     }
 
 -- `open`, once a fresh checkpoint stands in the first k words

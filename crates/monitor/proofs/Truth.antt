@@ -7,10 +7,12 @@ use mathlib.Core.Path.{_≡_, refl, sym, _∙_, ap, subst}
 use mathlib.Core.List.{List, [], _∷_}
 use native.Mathlib.Omega.{arith}
 use lib.ListN.{length, getD}
+use borrow.Author.Tests.{le-ltb}
 use Rattle.mtl.specs.Formula.{Formula}
 use Rattle.mtl.specs.Log.{Log}
 use Rattle.mtl.specs.Progress.{progress, joint-progress}
-use Rattle.mtl.specs.Satisfaction.{sat}
+use Rattle.mtl.specs.Satisfaction.{any, sat}
+use Rattle.mtl.proofs.Bounded.{any-false-iff}
 use Rattle.mtl.proofs.Printed.{sat-iff}
 use Rattle.mtl.proofs.Streams.{stream-iff}
 use Rattle.mtl.proofs.Lengthening.{answers-stay}
@@ -20,6 +22,8 @@ use Rattle.rule.specs.Entries.{count, decoded}
 use Rattle.rule.specs.Accepted.{Whole}
 use Rattle.rule.proofs.Acceptance.{accepted}
 use Rattle.monitor.specs.Verdicts.{formulas-of, byte-of, verdict, first-records, answered}
+use Rattle.monitor.specs.Summary.{noes-in}
+use Rattle.monitor.specs.Tally.{above-one, tallied}
 use Rattle.monitor.specs.Calls.{Untouched, Call, given-by, brought-by, laid, Calls, Says, Demand2}
 use Rattle.monitor.proofs.Meaning.{rule-whole}
 use Rattle.monitor.proofs.VerdictBytes.{length-verdicts, verdict-at}
@@ -82,3 +86,11 @@ module _ (rule log : List ℕ) (untouched : Untouched log) (h : List Call) (poin
             byte-says _ i l (λ φ there. rw (answers-stay φ K L longer falls i there) (sat-iff φ L i));
         on-stream = λ σ begins falls i l. byte-says _ i l (λ φ there. stream-iff φ σ K falls begins i there);
       }
+
+  -- `tally` takes these bytes, and its count of no is the one that `summary` gives (Demand3 .summary)
+  pub tally-agrees : (tallied (laid h) .refused ≡ false) × (tallied (laid h) .no-count ≡ noes-in (laid h) (length (laid h)) .count)
+  tally-agrees =
+      let bytes = laid h in
+      let none : any (length bytes) (above-one bytes) ≡ false =
+      any-false-iff (length bytes) (above-one bytes) .1 (λ i l. le-ltb 1 (getD bytes i 0) (demand-2 .binary i l)) in
+      rw none (refl, refl)

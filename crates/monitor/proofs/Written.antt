@@ -20,7 +20,7 @@ length-bytes (suc n) bits =
     let sum = length-append (bytes-of n bits) (number (bit bits n) ∷ []) in
     omega arith
 
-byte-at : (n bits i : ℕ) → i < n → getD (bytes-of n bits) i 0 ≡ number (bit bits i)
+pub byte-at : (n bits i : ℕ) → i < n → getD (bytes-of n bits) i 0 ≡ number (bit bits i)
 unfolding bytes-of
 byte-at zero bits i h = absurd (not-suc-le-zero h)
 byte-at (suc n) bits i h =

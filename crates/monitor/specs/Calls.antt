@@ -19,10 +19,12 @@ use Rattle.rule.specs.Measure.{measured}
 use Rattle.monitor.specs.Verdicts.{formulas-of, first-records, answered, all-verdicts}
 use Rattle.monitor.specs.Open.{Opens}
 use Rattle.monitor.specs.Resume.{Resumes}
+use Rattle.monitor.specs.Summary.{noes-in, told, answer, summarized}
 use Rattle.monitor.specs.declared.Opened.{Opened}
 use Rattle.monitor.specs.declared.Opened.the-variants.{Done}
 use Rattle.monitor.specs.declared.Resumed.{Resumed}
 use Rattle.monitor.specs.declared.Resumed.the-variants.{Given, Refused}
+use Rattle.monitor.specs.declared.Summarized.{Summarized}
 
 -- "One untouched log belongs to the list: a header without fault, then at most 1,000,000 records whose times never fall"
 pub record Untouched (log : List ℕ) : Type 0 where
@@ -175,3 +177,7 @@ pub record Demand3 (rule log : List ℕ) (h : List Call) (point : List ℕ) : Ty
   -- 6. one run "writes just these", and so the bytes of 1 are its first bytes
   pub one-run : (n : ℕ) (r : Resumed) (sheet′ : List ℕ) → OneRun rule log n r sheet′ →
       (r ≡ Given (answered rule log n) false) × (sheet′ ≡ all-verdicts rule log n)
+  -- 7. of document 02, paper 7: `summary` of the point, whole in the words lent, is not refused, and gives "what tally and a scan give
+  -- over all verdict bytes written from that point, laid end to end"
+  pub summary : (p : List ℕ) → Lends point p → length point ≤ length p →
+      (r : Summarized) → answer r ≡ summarized rule p → answer r ≡ told (noes-in (laid h) (length (laid h)))

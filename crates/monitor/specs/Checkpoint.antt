@@ -1,6 +1,6 @@
 -- The words of a checkpoint (document 01's point): 16 of its own, then each entry's block in entry order. docs/CHECKPOINT.md has the table.
 use Prim.Native.Nat.{ℕ, _+_, _*_, _-_, _^_}
-use mathlib.Core.Bool.{Bool, _&&_, _||_}
+use mathlib.Core.Bool.{Bool, Bool·beq, _&&_, _||_}
 use mathlib.Core.Bool.{not as negate}
 use mathlib.Core.List.{List}
 use lib.ListN.{drop}
@@ -13,7 +13,7 @@ use Rattle.blocks.specs.Block.{word, cells-of}
 
 -- the number in a checkpoint's first word: the bytes HAVD, and the format's number
 abbrev pub format : ℕ
-format = 0x4841564400000002
+format = 0x4841564400000003
 
 -- "the verdicts given d, the records seen, and the last time seen"
 abbrev pub given : List ℕ → ℕ
@@ -31,6 +31,13 @@ held-count p = word p 4
 
 abbrev pub held-bits : List ℕ → ℕ
 held-bits p = word p 5
+
+-- how many of the verdicts given are no, and one more than the position of the latest of them: 0 where none is
+abbrev pub no-count : List ℕ → ℕ
+no-count p = word p 8
+
+abbrev pub after-latest : List ℕ → ℕ
+after-latest p = word p 9
 
 -- "Words needed": those that `measure` gives
 abbrev pub need : List ℕ → ℕ
@@ -72,10 +79,15 @@ abbrev pub block-outside : List Entry → List ℕ → ℕ → Bool
 block-outside t p k =
     negate (block-in-range (seen p) (cells-of (entry t k .kind) (entry t k .high)) (drop (block-at t k) p))
 
+-- of the d verdicts given no more are no than there are, the latest is one of them, and there is none exactly where none is counted
+abbrev pub noes-in-range : (d count after : ℕ) → Bool
+noes-in-range d count after = leb count d && leb after d && Bool·beq (eqb count 0) (eqb after 0)
+
 -- "at most 1,000,000 records", "d above the records seen"
 abbrev pub header-in-range : List ℕ → Bool
 header-in-range p =
     leb (seen p) 1000000 && leb (held-count p) 64 && room (given p) (held-count p) (seen p) && ltb (last p) (2 ^ 32)
+    && noes-in-range (given p) (no-count p) (after-latest p)
 
 -- refusal 11: "A word of the point is outside its range"
 abbrev pub outside : List Entry → ℕ → List ℕ → Bool

@@ -1,5 +1,5 @@
 -- What the crate's own functions answer, between the calls and the definitions that their promises name.
-use Prim.Native.Nat.{ℕ, zero, suc, _+_, _-_, _≤_, _<_, _^_, min}
+use Prim.Native.Nat.{ℕ, zero, suc, _+_, _-_, _/_, _≤_, _<_, _^_, min}
 use mathlib.Core.Bool.{Bool, true, false, cond}
 use mathlib.Core.Path.{_≡_}
 use mathlib.Core.List.{List, [], _∷_}
@@ -8,6 +8,7 @@ use lib.Dec.{eqb, ltb}
 use Rattle.mtl.specs.Formula.{Formula}
 use Rattle.mtl.specs.Log.{Log, NeverFalls}
 use Rattle.mtl.specs.Progress.{joint-progress}
+use Rattle.bits.specs.Packed.{zeros, last-zero}
 use Rattle.rule.specs.declared.Entry.{Entry}
 use Rattle.rule.specs.declared.Measured.{Measured}
 use Rattle.rule.specs.declared.Measured.the-variants.{Words as Weighed}
@@ -21,9 +22,10 @@ use Rattle.engine.specs.Table.{RowsOk, column, Has}
 use Rattle.engine.specs.Answer.{Keeps}
 use Rattle.trace.specs.Format.{record-count}
 use Rattle.trace.specs.Order.{last-time}
-use Rattle.monitor.specs.Checkpoint.{format, given, seen, last, held-count, need, block-at, copy-head, copy-ends}
+use Rattle.monitor.specs.Checkpoint.{format, given, seen, last, held-count, held-bits, no-count, after-latest, need, block-at, copy-head, copy-ends}
 use Rattle.monitor.specs.Verdicts.{verdict}
 use Rattle.monitor.specs.Stands.{Top}
+use Rattle.monitor.specs.Summary.{noes-in, laid-behind, stored-noes}
 use Rattle.monitor.specs.declared.check.Sized.{Sized}
 use Rattle.monitor.specs.declared.check.Sized.the-variants.{Words, Stopped}
 use Rattle.monitor.specs.declared.check.Checked.{Checked}
@@ -57,7 +59,7 @@ checked-by number = cond (eqb number 0) Passed (Failed number)
 pub record Fresh (t : List Entry) (n : ℕ) (ws : List ℕ) : Type 0 where
   pub first-word : word ws 0 ≡ format
   pub entries : word ws 6 ≡ n
-  pub header : (i : ℕ) → 0 < i → i < 6 → word ws i ≡ 0
+  pub header : (i : ℕ) → 0 < i → i < 16 → (i ≡ 6 → ⊥) → word ws i ≡ 0
   pub blocks : (k : ℕ) → k < n → (i : ℕ) → i < 14 → word ws (block-at t k + i) ≡ 0
   pub heads : (k : ℕ) → k < n → word ws (block-at t k + 14) ≡ copy-head (entry t k)
   pub ends : (k : ℕ) → k < n → word ws (block-at t k + 15) ≡ copy-ends (entry t k)
@@ -78,6 +80,10 @@ Tops (φ ∷ (ψ ∷ fs)) t n = ⊥
 -- of an empty rule: a yes for each record without a verdict, as far as one word goes
 abbrev pub all-yes : List ℕ → List ℕ → List ℕ
 all-yes s ws = set (set ws 4 (min (record-count s - given ws) 64)) 5 (2 ^ 64 - 1)
+
+-- one more than the position of the latest no, once `last` is one more than the place of the latest among the verdicts from d on
+abbrev pub later-end : (old d last : ℕ) → ℕ
+later-end old d last = cond (eqb last 0) old (d + last)
 
 -- words 12 to 15 of the blocks behind the header are as they were, for the formula that the table has
 abbrev pub KeptBlocks : List ℕ → ℕ → List ℕ → List ℕ → Type 0
@@ -103,6 +109,13 @@ copies t zero ws = ws
 copies t (suc n) ws =
     set (set (copies t n ws) (block-at t n + 14) (copy-head (entry t n))) (block-at t n + 15) (copy-ends (entry t n))
 
+-- the header once n of the verdicts held are given, and the no among them counted
+abbrev pub spent : ℕ → List ℕ → List ℕ
+spent n ws =
+    let noes = no-count ws + zeros n (held-bits ws) in
+    let after = later-end (after-latest ws) (given ws) (last-zero n (held-bits ws)) in
+    set (set (set (set (set ws 8 noes) 9 after) 1 (given ws + n)) 4 (held-count ws - n)) 5 (held-bits ws / 2 ^ n)
+
 -- c verdicts from d on: the bytes, and what the words stand for then
 pub record Giving (fs : List Formula) (L : Log) (d c : ℕ) (ws′ sheet′ : List ℕ) : Type 0 where
   pub top : Top fs L (d + c) ws′
@@ -115,7 +128,8 @@ pub record Gave (t s : List ℕ) (n : ℕ) (ws sheet : List ℕ) (c : ℕ) (ws�
   pub sheet-length : length sheet′ ≡ length sheet
   pub words-length : length ws′ ≡ length ws
   pub count : given ws′ ≡ given ws + c
-  pub header : (i : ℕ) → i < 16 → (i ≡ 1 → ⊥) → (i ≡ 4 → ⊥) → (i ≡ 5 → ⊥) → word ws′ i ≡ word ws i
+  pub header : (i : ℕ) → i < 8 → (i ≡ 1 → ⊥) → (i ≡ 4 → ⊥) → (i ≡ 5 → ⊥) → word ws′ i ≡ word ws i
+  pub noes : stored-noes ws′ ≡ laid-behind (stored-noes ws) (given ws) (noes-in sheet′ c)
   pub kept : KeptBlocks t n ws ws′
   pub meaning : (fs : List Formula) (L : Log) (d : ℕ) → Tops fs t n → NeverFalls L → Agrees s L d → Top fs L d ws →
       Giving fs L d c ws′ sheet′ × (c < length sheet → joint-progress fs L ≡ d + c)
@@ -142,6 +156,7 @@ pub record Proceeded (t : List Entry) (n : ℕ) (s ws sheet : List ℕ) (c : ℕ
   pub size : seen ws′ ≡ record-count s
   pub time : last ws′ ≡ last-time s (seen ws) (last ws)
   pub fits : last ws < 2 ^ 32 → last ws′ < 2 ^ 32
+  pub noes : stored-noes ws′ ≡ laid-behind (stored-noes ws) (given ws) (noes-in sheet′ c)
   pub entries : word ws′ 6 ≡ word ws 6
   pub kept : KeptEntries t n ws ws′
   pub meaning : (fs : List Formula) (L : Log) (d : ℕ) → Whole t n fs → NeverFalls L → Agrees s L d → Top fs L d ws →

@@ -1,8 +1,10 @@
--- Document 01's "Worked by hand", and an empty rule's cases: one table, from the bytes of rules and logs to numbers, verdicts and refusals, proved by computation.
+-- Document 01's "Worked by hand", and an empty rule's cases: one table, from the bytes of rules and logs to numbers, verdicts and refusals, proved by computation;
+-- and the count of no after calls of that table.
 use Prim.Native.Nat.{ℕ, suc, _+_, _/_, _%_, _^_}
 use mathlib.Core.Bool.{Bool, true, false, cond, _&&_}
 use mathlib.Core.Bool.{not as negate}
 use mathlib.Core.List.{List, [], _∷_, _++_}
+use mathlib.Core.Option.{Option, none, some}
 use mathlib.Core.Path.{_≡_, refl}
 use lib.Dec.{eqb, ltb}
 use lib.ListN.{length, take, drop, replicate}
@@ -17,6 +19,8 @@ use Rattle.rule.specs.Measure.{farthest, measured}
 use Rattle.trace.specs.Format.{record-count, records-of}
 use Rattle.trace.specs.Order.{last-time}
 use Rattle.monitor.specs.Refusal.{log-refusal}
+use Rattle.monitor.specs.Summary.{Noes, noes-in, laid-behind}
+use Rattle.monitor.specs.Tally.{count-of, latest-no}
 use Rattle.monitor.specs.Verdicts.{byte-of, verdicts, answered, all-verdicts}
 
 -- BYTES
@@ -220,6 +224,11 @@ records-1 =
 abbrev call-1 : Row
 call-1 = on-fresh rule-1 (log records-1) 70 2 5 (no ∷ no ∷ no ∷ yes ∷ yes ∷ [])
 
+-- P2: the next call, with records 0 to 4 set to all ones and (21, 1) added
+abbrev call-2 : Row
+call-2 =
+    after call-1 (log (records-1 ++ at 21 (1 ∷ []))) (log (replicate 40 255 ++ at 20 (0 ∷ []) ++ at 21 (1 ∷ []))) 7 (yes ∷ yes ∷ [])
+
 -- two untils over three letters
 abbrev rule-10 : ℕ → List ℕ
 rule-10 high = rule 1 5 (letter 0 ++ letter 1 ++ until 0 3600 ++ letter 2 ++ until 0 high)
@@ -236,7 +245,7 @@ rows =
     -- 1: P1 The run above.
     call-1
     -- 2: P2 Carry on after P1 with records 0 to 4 set to all ones and (21, 1) added: yes, yes, caught up.
-    ∷ after call-1 (log (records-1 ++ at 21 (1 ∷ []))) (log (replicate 40 255 ++ at 20 (0 ∷ []) ++ at 21 (1 ∷ []))) 7 (yes ∷ yes ∷ [])
+    ∷ call-2
     -- 3: P3 Letter 0 since, 1 to no end, letter 1, over (5, 1) (5, 0) (6, 0) (7, none): no, no, yes, no.
     ∷ on-fresh (rule 1 3 (letter 0 ++ letter 1 ++ since 1 no-end))
     (log (at 5 (1 ∷ []) ++ at 5 (0 ∷ []) ++ at 6 (0 ∷ []) ++ at 7 [])) 65 0 4 (no ∷ no ∷ yes ∷ no ∷ [])
@@ -281,3 +290,40 @@ rows =
 pub every-row : Right 1 rows
 unfolding Right wrong rows computes computes-refusal computes-verdicts same event-set first-entries offset push-kind read header-refusal entries-refusal has-next reach any all sat run progress farthest joint-progress byte-of verdicts
 every-row = (refl, (refl, (refl, (refl, (refl, (refl, (refl, (refl, (refl, (refl, (refl, (refl, (refl, (refl, (refl, (refl, (refl, (refl, (refl, (refl, (refl, (refl, tt))))))))))))))))))))))
+
+-- THE COUNT OF NO
+
+-- a call of the table, and the count of no and the latest of them before it and after it
+pub record SummaryRow : Type 0 where
+  pub call : Row
+  pub before : Noes
+  pub after : Noes
+
+abbrev noes : ℕ → Option ℕ → Noes
+noes count latest = record { count = count; latest = latest }
+
+-- laid behind those from before, the bytes of the call have these, and so have all verdicts given then
+unfoldable pub Counts : SummaryRow → Type 0
+Counts s =
+    let c = length (s .call .verdicts) in
+    let d = s .call .given in
+    let all = all-verdicts (s .call .rule) (s .call .untouched) (record-count (records-of (s .call .brought))) in
+    (laid-behind (s .before) d (noes-in (s .call .verdicts) c) ≡ s .after) × (noes-in all (d + c) ≡ s .after)
+
+unfoldable pub AllCount : List SummaryRow → Type 0
+AllCount [] = Unit {0}
+AllCount (s ∷ rest) = Counts s × AllCount rest
+
+unfoldable pub summary-rows : List SummaryRow
+summary-rows =
+    -- a fresh point, and a log without a record: 0, none
+    record { call = on-fresh rule-1 (log []) 70 2 0 []; before = noes 0 none; after = noes 0 none }
+    -- after P1: 3 no, the latest at position 2
+    ∷ record { call = call-1; before = noes 0 none; after = noes 3 (some 2) }
+    -- after P2 the same
+    ∷ record { call = call-2; before = noes 3 (some 2); after = noes 3 (some 2) }
+    ∷ []
+
+pub every-summary : AllCount summary-rows
+unfolding AllCount Counts summary-rows count-of latest-no event-set first-entries offset push-kind read any all sat run progress joint-progress byte-of verdicts
+every-summary = ((refl, refl), ((refl, refl), ((refl, refl), tt)))

@@ -1,6 +1,6 @@
--- What the product's calls promise. Read Checkpoint, Refusal, Verdicts and Stands, then Open, Resume and Tally, which the calls'
--- `ensures` name, and Calls, the statements about lists of calls (demands 2 and 3). Examples has the cases worked by hand, Code the
--- promises of inner functions.
+-- What the product's calls promise. Read Checkpoint, Refusal, Verdicts and Stands, then Open, Resume, Tally and Summary, which the
+-- calls' `ensures` name, and Calls, the statements about lists of calls (demands 2 and 3). Examples has the cases worked by hand, Code
+-- the promises of inner functions.
 pub mod Checkpoint
 pub mod Refusal
 pub mod Verdicts
@@ -8,6 +8,7 @@ pub mod Stands
 pub mod Open
 pub mod Resume
 pub mod Tally
+pub mod Summary
 pub mod Calls
 pub mod Examples
 pub mod Code

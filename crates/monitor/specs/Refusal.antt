@@ -20,12 +20,20 @@ log-refusal log given seen last =
     first 12 (malformed log)
     (first 13 (ltb (record-count (records-of log)) seen) (first 14 (disordered (records-of log) given seen last) 0))
 
+-- refusals 10 and 11, of a rule's n entries and a checkpoint's words, or what comes after them
+abbrev pub words-refusal : List Entry → ℕ → List ℕ → ℕ → ℕ
+words-refusal t n p other = first 10 (foreign t n p) (first 11 (outside t n p) other)
+
 -- refusals 10 to 14, of a rule's n entries, a log's bytes and a checkpoint's words
 abbrev pub point-refusal : List Entry → ℕ → List ℕ → List ℕ → ℕ
-point-refusal t n log p =
-    first 10 (foreign t n p) (first 11 (outside t n p) (log-refusal log (given p) (seen p) (last p)))
+point-refusal t n log p = words-refusal t n p (log-refusal log (given p) (seen p) (last p))
 
 -- resume: refusals 1 to 14, for every rule, log and checkpoint, forged ones included
 abbrev pub resume-refusal : (rule log point : List ℕ) → ℕ
 resume-refusal rule log point =
     before (open-refusal rule (length point)) (point-refusal (decoded rule) (count rule) log point)
+
+-- summary: "checks 1 to 11", for every rule and checkpoint
+abbrev pub summary-refusal : (rule point : List ℕ) → ℕ
+summary-refusal rule point =
+    before (open-refusal rule (length point)) (words-refusal (decoded rule) (count rule) point 0)

@@ -14,6 +14,7 @@ use Rattle.monitor.specs.Checkpoint.{given, seen, last, need}
 use Rattle.monitor.specs.Refusal.{resume-refusal}
 use Rattle.monitor.specs.Verdicts.{formulas-of, verdict}
 use Rattle.monitor.specs.Stands.{Stands}
+use Rattle.monitor.specs.Summary.{noes-in, laid-behind, stored-noes}
 use Rattle.monitor.specs.declared.Resumed.{Resumed}
 use Rattle.monitor.specs.declared.Resumed.the-variants.{Given, Refused}
 
@@ -46,6 +47,8 @@ pub record Accepted (rule log p sheet : List ℕ) (c : ℕ) (more : Bool) (p′ 
   pub count : given p′ ≡ given p + c
   pub size : seen p′ ≡ record-count (records-of log)
   pub time : last p′ ≡ last-time (records-of log) (seen p) (last p)
+  -- the no among the bytes written, behind those from before
+  pub noes : stored-noes p′ ≡ laid-behind (stored-noes p) (given p) (noes-in sheet′ c)
   pub meaning : (K L : Log) (d : ℕ) → Stands rule K d p → Continues K L → NeverFalls L → Agrees (records-of log) L d →
       Gives rule L d sheet c more p′ sheet′
 

@@ -13,7 +13,8 @@ use Rattle.bits.specs.Packed.{bit, number}
 use Rattle.rule.specs.Entries.{count, decoded}
 use Rattle.engine.specs.State.{State}
 use Rattle.monitor.specs.Checkpoint.{given, seen, last, held-count, held-bits, need, foreign}
-use Rattle.monitor.specs.Verdicts.{formulas-of, verdict}
+use Rattle.monitor.specs.Verdicts.{formulas-of, verdict, verdicts}
+use Rattle.monitor.specs.Summary.{noes-in, stored-noes}
 
 -- what was answered and not given yet: a word with the verdicts at the count positions from d on, all of them settled
 pub record Held (fs : List Formula) (L : Log) (d count bits : ℕ) : Type 0 where
@@ -46,3 +47,5 @@ pub record Stands (rule : List ℕ) (L : Log) (d : ℕ) (p : List ℕ) : Type 0 
   pub time : last p ≡ last-of L
   pub fits : last p < 2 ^ 32
   pub top : Top (formulas-of rule) L d (take (need rule) p)
+  -- of the verdicts given
+  pub noes : stored-noes p ≡ noes-in (verdicts (formulas-of rule) L d) d

@@ -2,6 +2,7 @@
 use Prim.Native.Nat.{ℕ, zero, suc, _+_}
 use mathlib.Core.Bool.{Bool, true, false, cond}
 use mathlib.Core.List.{List}
+use mathlib.Core.Option.{Option, none, some}
 use lib.ListN.{length, getD}
 use lib.Dec.{ltb, eqb}
 use Rattle.mtl.specs.Satisfaction.{any}
@@ -12,6 +13,11 @@ use Rattle.monitor.specs.declared.Tallied.the-variants.{Counts, Refused}
 unfoldable pub count-of : ℕ → List ℕ → ℕ → ℕ
 count-of x s zero = 0
 count-of x s (suc n) = count-of x s n + cond (eqb (getD s n 0) x) 1 0
+
+-- the position of the latest no among the first n bytes, by a scan
+unfoldable pub latest-no : List ℕ → ℕ → Option ℕ
+latest-no s zero = none
+latest-no s (suc n) = cond (eqb (getD s n 0) 0) (some n) (latest-no s n)
 
 -- "A sheet given to tally has a byte above 1."
 abbrev pub above-one : List ℕ → ℕ → Bool

@@ -5,9 +5,9 @@ ghost use lib.ListN.{length, drop};
 ghost use Rattle.mtl.specs.Satisfaction.{any};
 ghost use Rattle.rule.specs.Refusal.{first};
 ghost use Rattle.rule.specs.Words.{offset};
-ghost use Rattle.monitor.specs.Checkpoint.{copy-head, copy-ends, copy-differs, foreign, room, block-in-range, block-outside, outside};
+ghost use Rattle.monitor.specs.Checkpoint.{given, seen, last, copy-head, copy-ends, copy-differs, foreign, room, block-in-range, block-outside, noes-in-range, outside};
 ghost use Rattle.monitor.specs.Code.{sized-by, sized-number, checked-by, checked-number};
-ghost use Rattle.monitor.specs.Refusal.{point-refusal};
+ghost use Rattle.monitor.specs.Refusal.{log-refusal, words-refusal, point-refusal};
 ghost use Rattle.blocks.specs.Block.{cells-of};
 use super::header;
 use blocks::word;
@@ -15,7 +15,7 @@ use rule::Entry;
 use rule::Measured;
 
 // The number in a checkpoint's first word: the bytes HAVD, and the format's number.
-pub const FORMAT: u64 = 5206537494274768898;
+pub const FORMAT: u64 = 5206537494274768899;
 
 // Refusals 1 to 9, or the words that the rule needs.
 pub enum Sized {
@@ -169,6 +169,13 @@ fn blocks_outside(entries: [Entry; 128], count: usize, point: &[u64]) -> bool
     outside
 }
 
+// The count of no and the end of the latest are among so many verdicts, and both are 0 or neither is.
+fn noes_fit(given: u64, count: u64, after: u64) -> bool
+    ensures { λ r. ⌜ r ≡ noes-in-range given count after ⌝ }
+{
+    (count <= given) & (after <= given) & ((count == 0) == (after == 0))
+}
+
 // Refusal 11.
 fn is_outside(entries: [Entry; 128], count: usize, point: &[u64]) -> bool
     requires { ⌜ (count ≤ 128) × (16 + offset entries count ≤ length (now point)) ⌝ }
@@ -178,40 +185,66 @@ fn is_outside(entries: [Entry; 128], count: usize, point: &[u64]) -> bool
     let fits = (seen <= 1000000)
         & (point[header::HELD_COUNT] <= 64)
         & has_room(point[header::GIVEN], point[header::HELD_COUNT], seen)
-        & (point[header::LAST] < 4294967296);
+        & (point[header::LAST] < 4294967296)
+        & noes_fit(
+            point[header::GIVEN],
+            point[header::NO_COUNT],
+            point[header::AFTER_LATEST],
+        );
     !fits | blocks_outside(entries, count, point)
 }
 
-// The number of the first of refusals 10 to 14 that applies, or 0.
-fn reason(entries: [Entry; 128], count: usize, log: &[u8], point: &[u64]) -> u32
-    requires { ⌜ (count ≤ 128) × (16 + offset entries count ≤ length (now point)) ⌝ }
-    ensures { λ r. ⌜ r ≡ point-refusal entries count (now (log .entry)) (now (point .entry)) ⌝ }
+// The number of the first of refusals 12 to 14 that applies, or 0.
+fn log_reason(log: &[u8], point: &[u64]) -> u32
+    requires { ⌜ 16 ≤ length (now point) ⌝ }
+    ensures { λ r. ⌜ r ≡ log-refusal (now (log .entry)) (given (now (point .entry))) (seen (now (point .entry))) (last (now (point .entry))) ⌝ }
 {
     let records = trace::records(log);
     let given = point[header::GIVEN] as usize;
     let seen = point[header::SEEN] as usize;
     let disordered = trace::is_disordered(records, given, seen, point[header::LAST]);
     let fewer = trace::count(records) < seen;
-    let after = refuse(
+    refuse(
         12,
         trace::is_malformed(log),
         refuse(13, fewer, refuse(14, disordered, 0)),
-    );
-    refuse(
-        10,
-        is_foreign(entries, count, point),
-        refuse(11, is_outside(entries, count, point), after),
     )
 }
 
-pub fn check_point(entries: [Entry; 128], count: usize, log: &[u8], point: &[u64]) -> Checked
+// 10 or 11 where it applies, else what comes after them.
+fn words_reason(entries: [Entry; 128], count: usize, point: &[u64], other: u32) -> u32
     requires { ⌜ (count ≤ 128) × (16 + offset entries count ≤ length (now point)) ⌝ }
-    ensures { λ r. ⌜ r ≡ checked-by (point-refusal entries count (now (log .entry)) (now (point .entry))) ⌝ }
+    ensures { λ r. ⌜ r ≡ words-refusal entries count (now (point .entry)) other ⌝ }
 {
-    let number = reason(entries, count, log, point);
+    refuse(
+        10,
+        is_foreign(entries, count, point),
+        refuse(11, is_outside(entries, count, point), other),
+    )
+}
+
+fn checked_by(number: u32) -> Checked
+    ensures { λ r. ⌜ r ≡ checked-by number ⌝ }
+{
     if number == 0 {
         Checked::Passed
     } else {
         Checked::Failed(number)
     }
+}
+
+// Refusals 10 and 11.
+pub fn check_words(entries: [Entry; 128], count: usize, point: &[u64]) -> Checked
+    requires { ⌜ (count ≤ 128) × (16 + offset entries count ≤ length (now point)) ⌝ }
+    ensures { λ r. ⌜ r ≡ checked-by (words-refusal entries count (now (point .entry)) 0) ⌝ }
+{
+    checked_by(words_reason(entries, count, point, 0))
+}
+
+// Refusals 10 to 14.
+pub fn check_point(entries: [Entry; 128], count: usize, log: &[u8], point: &[u64]) -> Checked
+    requires { ⌜ (count ≤ 128) × (16 + offset entries count ≤ length (now point)) ⌝ }
+    ensures { λ r. ⌜ r ≡ checked-by (point-refusal entries count (now (log .entry)) (now (point .entry))) ⌝ }
+{
+    checked_by(words_reason(entries, count, point, log_reason(log, point)))
 }

@@ -2,13 +2,13 @@
 // has no entry nothing is asked, and every record is a yes.
 ghost use mathlib.Core.Path.{_≡_};
 ghost use mathlib.Core.Bool.{true};
-ghost use Prim.Native.Nat.{_+_, _-_, _≤_, _<_, _^_, min};
+ghost use Prim.Native.Nat.{_+_, _-_, _/_, _≤_, _<_, _^_, min};
 ghost use lib.ListN.{length};
 ghost use lib.Dec.{ltb};
 ghost use Rattle.rule.specs.Words.{words as needed};
 ghost use Rattle.trace.specs.Format.{record-count};
-ghost use Rattle.monitor.specs.Checkpoint.{given};
-ghost use Rattle.monitor.specs.Code.{Fits, Holds, all-yes, Gave, Ready, Proceeds};
+ghost use Rattle.monitor.specs.Checkpoint.{given, held-count, held-bits, no-count};
+ghost use Rattle.monitor.specs.Code.{Fits, Holds, all-yes, later-end, spent, Gave, Ready, Proceeds};
 use super::Resumed;
 use super::header;
 use super::sheet;
@@ -63,15 +63,31 @@ fn hold(table: &[u64; 1024], count: usize, records: &[u8], words: &mut [u64]) ->
     )
 }
 
-// How many of the verdicts that are held go into a sheet with so much room left.
-fn portion(held: u64, room: usize) -> usize
-    ensures { λ r. ⌜ (r ≤ held) × (r ≤ room) × (0 < held → 0 < room → 0 < r) × (r < room → r ≡ held) ⌝ }
+// One more than the position of the latest no, where `last` is one more than the place of the latest among the verdicts from `given`
+// on, and 0 for none.
+fn later_end(old: u64, given: u64, last: u64) -> u64
+    requires { ⌜ given + last < 2 ^ 64 ⌝ }
+    ensures { λ r. ⌜ r ≡ later-end old given last ⌝ }
 {
-    if held < room as u64 {
-        held as usize
-    } else {
-        room
-    }
+    if last == 0 { old } else { given + last }
+}
+
+// Takes n of the verdicts that are held out of the header's buffer, of which `rest` is left, and counts the no among them.
+fn spend(words: &mut [u64], n: u64, rest: u64)
+    requires { ⌜ (16 ≤ length (now words)) × (n ≤ 64) × (n ≤ held-count (now words)) × (given (now words) + n < 2 ^ 64) × (no-count (now words) + n < 2 ^ 64) × (rest ≡ held-bits (now words) / 2 ^ n) ⌝ }
+    ensures { λ _. ⌜ now (words .exit) ≡ spent n (now (words .entry)) ⌝ }
+{
+    let given = words[header::GIVEN];
+    let held = words[header::HELD_COUNT];
+    let bits = words[header::HELD_BITS];
+    let noes = words[header::NO_COUNT] + bits::count_zeros(bits, n);
+    let last = bits::find_last_zero(bits, n);
+    let after = later_end(words[header::AFTER_LATEST], given, last);
+    words[header::NO_COUNT] = noes;
+    words[header::AFTER_LATEST] = after;
+    words[header::GIVEN] = given + n;
+    words[header::HELD_COUNT] = held - n;
+    words[header::HELD_BITS] = rest;
 }
 
 // Writes verdicts until the sheet is full or nothing more is settled.
@@ -82,7 +98,7 @@ fn give(
     words: &mut [u64],
     sheet: &mut [u8],
 ) -> usize
-    requires { ⌜ Fits (now table) entries (length (now words)) × (given (now words) ≤ 1000000) ⌝ }
+    requires { ⌜ Fits (now table) entries (length (now words)) × (given (now words) ≤ 1000000) × (no-count (now words) ≤ 1000000) ⌝ }
     ensures { λ r. ⌜ Gave (now (table .entry)) (now (records .entry)) entries (now (words .entry)) (now (sheet .entry)) r (now (words .exit)) (now (sheet .exit)) ⌝ }
 {
     let mut done: usize = 0;
@@ -90,14 +106,11 @@ fn give(
         if !hold(table, entries, records, words) {
             return done;
         }
-        let given = words[header::GIVEN];
-        let held = words[header::HELD_COUNT];
-        let count = portion(held, sheet.len() - done);
-        let rest = sheet::write_bits(sheet, done, count, words[header::HELD_BITS]);
-        words[header::GIVEN] = given + count as u64;
-        words[header::HELD_COUNT] = held - count as u64;
-        words[header::HELD_BITS] = rest;
-        done += count;
+        let room = sheet.len() as u64;
+        let count = blocks::available(done as u64, words[header::HELD_COUNT], room);
+        let rest = sheet::write_bits(sheet, done, count as usize, words[header::HELD_BITS]);
+        spend(words, count, rest);
+        done += count as usize;
     }
     done
 }
@@ -110,7 +123,7 @@ pub fn proceed(
     words: &mut [u64],
     sheet: &mut [u8],
 ) -> Resumed
-    requires { ⌜ Ready entries count × (length (now words) ≡ needed entries count) × (given (now words) ≤ 1000000) ⌝ }
+    requires { ⌜ Ready entries count × (length (now words) ≡ needed entries count) × (given (now words) ≤ 1000000) × (no-count (now words) ≤ 1000000) ⌝ }
     ensures { λ r. ⌜ Proceeds entries count (now (records .entry)) (now (words .entry)) (now (sheet .entry)) r (now (words .exit)) (now (sheet .exit)) ⌝ }
 {
     let table = engine::layout::lay_out(entries, count);

@@ -12,3 +12,7 @@ pub const HELD_COUNT: usize = 4;
 pub const HELD_BITS: usize = 5;
 
 pub const ENTRIES: usize = 6;
+
+pub const NO_COUNT: usize = 8;
+
+pub const AFTER_LATEST: usize = 9;

@@ -1,8 +1,10 @@
-// Checkpoints over a growing log: open one for a rule, resume from it with the records at hand, and tally the verdicts.
+// Checkpoints over a growing log: open one for a rule, resume from it with the records at hand, and count the verdicts.
 ghost use mathlib.Core.Path.{_≡_};
 ghost use Rattle.monitor.specs.Open.{Opens, opened-number};
 ghost use Rattle.monitor.specs.Resume.{Resumes, resumed-number};
 ghost use Rattle.monitor.specs.Tally.{answer, tallied};
+ghost use Rattle.monitor.specs.Summary.{latest-of, position, position-or, summarized};
+ghost use Rattle.monitor.specs.Summary.{answer as summary-of};
 
 mod check;
 mod fresh;
@@ -64,6 +66,41 @@ impl Tallied {
     }
 }
 
+// The position of the latest no among the verdicts given.
+pub enum Latest {
+    At(u64),
+    Never,
+}
+
+impl Latest {
+    // The position, or another number where there is none.
+    pub fn or(self, other: u64) -> u64
+        ensures { λ r. ⌜ r ≡ position-or (position self) other ⌝ }
+    {
+        match self {
+            Latest::At(i) => i,
+            Latest::Never => other,
+        }
+    }
+}
+
+// What `summary` answers.
+pub enum Summarized {
+    Counted { no: u64, latest: Latest },
+    Refused(u32),
+}
+
+impl Summarized {
+    pub fn number(self) -> u32
+        ensures { λ r. ⌜ r ≡ summary-of self .number ⌝ }
+    {
+        match self {
+            Summarized::Counted { no: _, latest: _ } => 0,
+            Summarized::Refused(n) => n,
+        }
+    }
+}
+
 // Writes a fresh checkpoint for the rule into the first words of those lent.
 pub fn open(rule: &[u8], point: &mut [u64]) -> Opened
     ensures { λ r. ⌜ Opens (now (rule .entry)) (now (point .entry)) r (now (point .exit)) ⌝ }
@@ -108,4 +145,36 @@ pub fn tally(sheet: &[u8]) -> Tallied
     ensures { λ r. ⌜ answer r ≡ tallied (now (sheet .entry)) ⌝ }
 {
     sheet::count(sheet)
+}
+
+// The latest no, by one more than its position, and 0 for none.
+fn latest_of(after: u64) -> Latest
+    ensures { λ r. ⌜ position r ≡ latest-of after ⌝ }
+{
+    if after == 0 {
+        Latest::Never
+    } else {
+        Latest::At(after - 1)
+    }
+}
+
+// The count of no among the verdicts given, and the latest of them, as the checkpoint has them.
+pub fn summary(rule: &[u8], point: &[u64]) -> Summarized
+    ensures { λ r. ⌜ summary-of r ≡ summarized (now (rule .entry)) (now (point .entry)) ⌝ }
+{
+    let header = rule::check_header(rule);
+    let count = header.count();
+    let entries = rule::decode(rule, count);
+    let sized = check::size_of(rule::measure_decoded(header, entries), point.len());
+    let Sized::Words(_) = sized else {
+        return Summarized::Refused(sized.number());
+    };
+    let checked = check::check_words(entries, count, point);
+    let Checked::Passed = checked else {
+        return Summarized::Refused(checked.number());
+    };
+    Summarized::Counted {
+        no: point[header::NO_COUNT],
+        latest: latest_of(point[header::AFTER_LATEST]),
+    }
 }

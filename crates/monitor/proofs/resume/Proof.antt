@@ -12,7 +12,7 @@ use Rattle.rule.proofs.Headers.{Decoded, few-to-decode, measured-once}
 use Rattle.monitor.specs.Code.{sized-of, checked-by}
 use Rattle.monitor.specs.declared.check.Sized.the-variants.{Words}
 use Rattle.monitor.proofs.Sizes.{Enough, enough, sized-is, is-decoded, fits-in}
-use Rattle.monitor.proofs.Resuming.{resume-stopped, resume-refused, resume-given, passed, passes, ready-of}
+use Rattle.monitor.proofs.Resuming.{stopped, failed, resume-refused, resume-given, passed, passes, ready-of}
 use Rattle.monitor.proofs.resume.Statement.{statement}
 use Rattle.monitor.proofs.resume.Tie as tie
 
@@ -88,17 +88,17 @@ number-requires c κs = search needs
 returns : tie.Need-returns
 returns c =
     let a = c .before .before .before .before .before .before .before .before .before .before .before .before .args in
-    resume-stopped
+    resume-refused (a .rule .now) (a .log .now) (a .point .now) (a .sheet .now) (c .number .result)
+    (stopped
     (a .rule .now)
-    (a .log .now)
     (a .point .now)
-    (a .sheet .now)
+    _
     (c .before .before .before .size-of .result)
     (c .before .enum-told .given .0 .0)
     (c .number .result)
     (sized-for (c .before .before .before))
     (c .before .enum-told .given .1)
-    (c .number .ensures)
+    (c .number .ensures))
 
 check-point-requires : tie.Need-check-point-requires
 check-point-requires c κs =
@@ -120,11 +120,11 @@ same-length c = search needs
 returns-2 : tie.Need-returns-2
 returns-2 c =
     let a = c .before .before .before .before .before .before .before .before .before .before .before .before .before .before .before .before .before .args in
-    resume-refused
+    resume-refused (a .rule .now) (a .log .now) (a .point .now) (a .sheet .now) (c .number2 .result)
+    (failed
     (a .rule .now)
-    (a .log .now)
     (a .point .now)
-    (a .sheet .now)
+    _
     (c .before .before .before .before .before .before .sized .given .0 .0)
     (c .before .before .before .check-point .result)
     (c .before .enum-told3 .given .0 .0)
@@ -132,7 +132,7 @@ returns-2 c =
     (words-of (c .before .before .before .before .before .before))
     (checked-for (c .before .before .before))
     (c .before .enum-told3 .given .1)
-    (c .number2 .ensures)
+    (c .number2 .ensures))
 
 records-requires : tie.Need-records-requires
 records-requires c κs = search needs
@@ -158,6 +158,7 @@ proceed-requires c κs =
       ready-of _ _ _ (e .accepted) d,
       rw (d .entries-are, d .count-is) (omega (arith, length-take-le (w - 0) (a .point .now) (omega arith))),
       omega (arith, getD-take (w - 0) (a .point .now) 1 0 (omega arith)),
+      omega (arith, getD-take (w - 0) (a .point .now) 8 0 (omega arith)),
     )
 
 same-length-2 : tie.Need-same-length-2

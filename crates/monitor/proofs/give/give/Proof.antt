@@ -1,14 +1,14 @@
 -- `monitor::give::give` meets its contract. The invariant: `done` verdicts are given, and the rest of the sheet is as it was.
 use borrow.Author.Needs.{needs}
-use Prim.Native.Nat.{_-_, _/_, _≤_, _^_}
+use Prim.Native.Nat.{_+_, _-_, _≤_, _<_}
 use mathlib.Core.Bool.{true}
-use mathlib.Core.Path.{_≡_, refl}
+use mathlib.Core.Path.{refl}
 use native.Mathlib.Omega.{arith}
-use lib.ListN.{length, length-set}
+use lib.ListN.{length}
 use borrow.Author.Tests.{not-true, not-false}
-use Rattle.monitor.specs.Checkpoint.{held-bits}
+use Rattle.monitor.specs.Checkpoint.{held-count}
 use Rattle.monitor.specs.Code.{Holds}
-use Rattle.monitor.proofs.Giving.{Going, going-none, portion-more, gave-open, gave-full}
+use Rattle.monitor.proofs.Giving.{Going, going-none, counted-so-far, portion-more, gave-open, gave-full}
 use Rattle.monitor.proofs.give.give.Statement.{statement}
 use Rattle.monitor.proofs.give.give.Tie as tie
 
@@ -31,9 +31,12 @@ held : (d : tie.Else1 Inv-loop μ-loop) →
     (d .before .before .before .hold .last .1 .1 .1 .0)
 held d = rw (not-false (d .before .before .before .hold .result) (d .if1 .left)) at (d .before .before .before .hold .ensures)
 
--- the words keep their length
-words-kept : (d : tie.Else1 Inv-loop μ-loop) → 16 ≤ length (d .before .before .before .hold .last .1 .1 .1 .0)
-words-kept d = omega (arith, held d .words-length, d .before .before .before .before .before .before .loop .inv .words-length, d .before .before .before .before .before .before .before .before .before .before .pre .0 .header)
+-- some of it goes into the sheet
+portion : (d : tie.After-available Inv-loop μ-loop) →
+    let n = d .available .result in
+    let l = d .before .before .before .before .before .before .before .before .loop in
+    (0 < n) × (n ≤ 64) × (n ≤ held-count (d .before .before .before .before .before .hold .last .1 .1 .1 .0)) × (l .done + n ≤ length (l .sheet))
+portion d = omega (arith, d .available .ensures, held (d .before .before) .some refl)
 
 loop-holds : tie.Need-loop-holds Inv-loop μ-loop
 loop-holds c =
@@ -48,51 +51,52 @@ returns c =
     let h = c .before .before .before .hold in
     gave-open (c .before .before .before .before .before .before .loop .inv) (rw (not-true (h .result) (c .if1 .taken)) at (h .ensures))
 
-add-words : tie.Need-add-words Inv-loop μ-loop
-add-words c =
+write-bits-requires : tie.Need-write-bits-requires Inv-loop μ-loop
+write-bits-requires c κs = portion (c .before .before) .3
+
+spend-requires : tie.Need-spend-requires Inv-loop μ-loop
+spend-requires c κs =
     let d = c .before .before .before .before .before .before .before .before in
     let l = d .before .before .before .before .before .before .loop in
     let s = d .before .before .before .before .before .before .before .before .before .before in
-    let n = c .before .before .before .before .before .portion .ensures in
-    omega (
-      arith,
-      held d .header 1 (omega arith) (λ e. omega arith) (λ e. omega arith),
-      l .inv .count,
-      l .inv .room,
-      l .inv .sheet-length,
+    let n = portion (c .before .before .before .before .before .before) in
+    let h = held d in
+    let counted = counted-so-far (l .inv) in
+    let most = s .good .1 .1 .1 .1 .0 .1 in
+    let given-same = h .header 1 (omega arith) (λ e. omega arith) (λ e. omega arith) in
+    let noes-same = h .header 8 (omega arith) (λ e. omega arith) (λ e. omega arith) in (
+      omega (arith, h .words-length, l .inv .words-length, s .pre .0 .header),
       n .1,
-      s .pre .1,
-      s .good .1 .1 .1 .1 .0 .1,
+      n .2,
+      omega (arith, n .3, l .inv .count, l .inv .sheet-length, s .pre .1),
+      omega (arith, n .3, l .inv .sheet-length, s .pre .2),
+      c .before .before .before .write-bits .ensures .1,
     )
 
-slice-write-words-2 : tie.Need-slice-write-words-2 Inv-loop μ-loop
-slice-write-words-2 c = simp length-set (omega (arith, words-kept (c .before .before .before .before .before .before .before .before)))
-
-slice-write-words-3 : tie.Need-slice-write-words-3 Inv-loop μ-loop
-slice-write-words-3 c = simp length-set (omega (arith, words-kept (c .before .before .before .before .before .before .before .before)))
+add-done : tie.Need-add-done Inv-loop μ-loop
+add-done c =
+    let l = c .before .before .before .before .before .before .before .before .before .before .before .before .before .before .before .before .before .loop in
+    let most = c .before .before .before .before .before .before .before .before .before .before .before .before .before .before .before .before .before .before .before .before .before .good .1 .1 .1 .1 .0 .1 in
+    record { fits = omega (arith, portion (c .before .before .before .before .before .before .before .before .before) .3, l .inv .sheet-length) }
 
 loop-less : tie.Need-loop-less Inv-loop μ-loop
 loop-less c =
-    let d = c .before .before .before .before .before .before .before .before in
-    let l = d .before .before .before .before .before .before .loop in
-    let n = c .before .before .before .before .before .portion .ensures in
-    omega (arith, n .1, n .2 (held d .some refl) (omega (arith, l .inv .sheet-length)), l .inv .sheet-length)
+    let n = portion (c .before .before .before .before .before .before .before .before .before) in
+    omega (arith, n .0, n .3, c .before .before .before .before .before .before .before .before .before .before .before .before .before .before .before .before .before .loop .inv .sheet-length)
 
 loop-again : tie.Need-loop-again Inv-loop μ-loop
 loop-again c =
-    let d = c .before .before .before .before .before .before .before .before in
+    let d = c .before .before .before .before .before .before .before .before .before .before .before in
     let l = d .before .before .before .before .before .before .loop in
-    let n = c .before .before .before .before .before .portion in
-    let written = c .before .before .write-bits in
-    let behind : written .result ≡ held-bits (d .before .before .before .hold .last .1 .1 .1 .0) / 2 ^ n .result = written .ensures .1 in
-    rw (written .ensures .0, behind)
+    let n = portion (c .before .before .before .before .before .before .before .before .before) in
+    rw (c .before .before .spend .ensures, c .before .before .before .before .before .before .write-bits .ensures .0)
     (portion-more
     (l .inv)
-    (n .result)
+    (c .before .before .before .before .before .before .before .before .before .available .result)
     (d .before .before .before .before .before .before .before .before .before .before .pre .0 .header)
     (held d)
-    (n .ensures .0)
-    (omega (arith, n .ensures .1, l .inv .room, l .inv .sheet-length)))
+    (n .2)
+    (omega (arith, n .3, l .inv .sheet-length)))
 
 returns-2 : tie.Need-returns-2 Inv-loop μ-loop
 returns-2 c = gave-full (c .before .loop .inv) (omega arith)
@@ -109,17 +113,11 @@ give-spec =
     (λ c. search needs)
     returns
     (λ c. search needs)
-    (λ c. search needs)
-    (λ c. search needs)
     (λ c κs. search needs)
     (λ c. search needs)
-    (λ c κs. search needs)
-    add-words
-    (λ c. search needs)
-    (λ c. search needs)
-    slice-write-words-2
-    slice-write-words-3
-    (λ c. search needs)
+    write-bits-requires
+    spend-requires
+    add-done
     loop-less
     loop-again
     (λ c. search needs)

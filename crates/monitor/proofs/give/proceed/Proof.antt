@@ -23,7 +23,7 @@ give-requires : tie.Need-give-requires
 give-requires c κs =
     let t = table-of (c .before .before .before) in
     let s = c .before .before .before .before .before .before .before in
-    (rw (s .pre .1) (t .fits), s .pre .2)
+    (rw (s .pre .1) (t .fits), s .pre .2, s .pre .3)
 
 hold-requires : tie.Need-hold-requires
 hold-requires c κs =

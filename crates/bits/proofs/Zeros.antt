@@ -1,0 +1,78 @@
+-- The bits of a word that are 0, counted and found by what the machine counts of its turned bits. Assumes nothing.
+use Prim.Native.Nat.{ℕ, zero, suc, _+_, _*_, _-_, _/_, _%_, _≤_, _<_, _^_}
+use native.Mathlib.Nat.{mod-lt, pow-suc}
+use native.Mathlib.Omega.{arith}
+use mathlib.Core.Bool.{Bool, true, false, cond}
+use mathlib.Core.Bool.{not as negate}
+use mathlib.Core.Path.{_≡_, refl, sym, ap, _∙_}
+use lib.Count.{ones, ones-cat, ones-le, leadingZeros, leading-unique}
+use lib.Pow.{mod-pow-add, pow-pos}
+use Rattle.bits.specs.Packed.{bit, number, zeros, last-zero}
+use Rattle.bits.proofs.Laws.{number-bit, bit-not}
+
+module _ (w : ℕ) (small : w < 2 ^ 64) where
+  -- the first n bits, turned
+  abbrev pub turned-bits : ℕ → ℕ
+  turned-bits n = (2 ^ 64 - 1 - w) % 2 ^ n
+
+  -- one bit more
+  turned-more : (n : ℕ) → n < 64 → turned-bits (suc n) ≡ number (negate (bit w n)) * 2 ^ n + turned-bits n
+  turned-more n h =
+      ap turned-bits (omega arith)
+      ∙ mod-pow-add (2 ^ 64 - 1 - w) 1 n
+      ∙ ap (λ (x : ℕ). x * 2 ^ n + turned-bits n) (sym (number-bit (2 ^ 64 - 1 - w) n) ∙ ap number (bit-not 64 w n small h))
+
+  turned-lt : (n : ℕ) → turned-bits n < 2 ^ n
+  turned-lt n = mod-lt (2 ^ 64 - 1 - w) (pow-pos n)
+
+  -- a bit that is 0 counts
+  ones-turned : (b : Bool) → ones (number (negate b)) ≡ cond b 0 1
+  unfolding ones
+  ones-turned true = refl
+  ones-turned false = refl
+
+  zeros-are : (n : ℕ) → n ≤ 64 → ones (turned-bits n) ≡ zeros n w
+  unfolding ones zeros
+  zeros-are zero h = let none : turned-bits 0 ≡ 0 = omega arith in ap ones none
+  zeros-are (suc n) h =
+      let here = ones-turned (bit w n) in
+      let before = zeros-are n (omega arith) in
+      ap ones (turned-more n h) ∙ ones-cat n (number (negate (bit w n))) (turned-bits n) (turned-lt n) ∙ omega arith
+
+  -- the length in digits of the turned bits
+  record Length (n m : ℕ) : Type 0 where
+    within : m ≤ n
+    below : turned-bits n < 2 ^ m
+    least : 2 ^ m ≤ 2 * turned-bits n + 1
+
+  length-more : (b : Bool) (n m : ℕ) → bit w n ≡ b → n < 64 → Length n m → Length (suc n) (cond b m (suc n))
+  length-more true n m e h so-far =
+      let same : turned-bits (suc n) ≡ turned-bits n = turned-more n h ∙ rw e (omega arith) in
+      record { within = omega arith; below = omega arith; least = omega arith }
+  length-more false n m e h so-far =
+      let more : turned-bits (suc n) ≡ 2 ^ n + turned-bits n = turned-more n h ∙ rw e (omega arith) in
+      let double = pow-suc 2 n in
+      let small = turned-lt n in
+      record { within = omega arith; below = omega arith; least = omega arith }
+
+  length-is : (n : ℕ) → n ≤ 64 → Length n (last-zero n w)
+  unfolding last-zero
+  length-is zero h = record { within = omega arith; below = omega arith; least = omega arith }
+  length-is (suc n) h = length-more (bit w n) n (last-zero n w) refl h (length-is n (omega arith))
+
+  last-is : (n : ℕ) → n ≤ 64 → leadingZeros 64 (turned-bits n) ≡ 64 - last-zero n w
+  last-is n h =
+      let l = length-is n h in
+      let within = l .within in
+      sym (leading-unique 64 (turned-bits n) (64 - last-zero n w) (last-zero n w) (omega arith) (l .below) (l .least))
+
+  -- by what the machine counts of t, the turned bits
+  module _ (n t : ℕ) (few : n ≤ 64) (turned : t ≡ turned-bits n) where
+    pub zeros-counted : (ones t ≡ zeros n w) × (ones t ≤ n)
+    zeros-counted = (ap ones turned ∙ zeros-are n few, ones-le n t (rw turned (turned-lt n)))
+
+    pub last-found : (leadingZeros 64 t ≤ 64) × (64 - leadingZeros 64 t ≡ last-zero n w) × (64 - leadingZeros 64 t ≤ n)
+    last-found =
+        let within = length-is n few .within in
+        let found : leadingZeros 64 t ≡ 64 - last-zero n w = ap (leadingZeros 64) turned ∙ last-is n few in
+        (omega arith, omega arith, omega arith)

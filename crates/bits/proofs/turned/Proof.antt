@@ -1,0 +1,32 @@
+-- `bits::turned` meets its contract: a remainder by a power of two leaves the first bits, and 64 bits are all.
+-- Assumes nothing.
+use Prim.Native.Nat.{ℕ, _*_, _-_, _%_, _^_, _<_}
+use native.Mathlib.Nat.{mod-eq-of-lt}
+use native.Mathlib.Omega.{arith}
+use mathlib.Core.Path.{_≡_, sym, ap, _∙_}
+use lib.Pow.{pow-pos, shl-exact}
+use borrow.Author.Needs.{needs}
+use Rattle.bits.proofs.turned.Statement.{statement}
+use Rattle.bits.proofs.turned.Tie as tie
+
+-- the power of two as the code computes it
+power : (n : ℕ) → n < 64 → 1 * 2 ^ n % 2 ^ 64 ≡ 2 ^ n
+power n h = let one : 1 * 2 ^ n ≡ 2 ^ n = omega arith in shl-exact 1 n 64 (omega arith) (omega arith) ∙ one
+
+shl-result : tie.Need-shl-result
+shl-result c = search needs
+
+rem-result : tie.Need-rem-result
+rem-result c = let n = c .before .args .n in omega (arith, power n (omega arith), pow-pos n)
+
+returns : tie.Need-returns
+returns c = let a = c .before .args in ap (λ (m : ℕ). (2 ^ 64 - 1 - a .word) % m) (power (a .n) (omega arith))
+
+returns-2 : tie.Need-returns-2
+returns-2 c =
+    let a = c .before .args in
+    let all : a .n ≡ 64 = omega arith in
+    rw all (omega arith)
+
+pub turned-spec : {M : Type 1} → statement M
+turned-spec = tie.close (tie.spec shl-result rem-result returns returns-2)
