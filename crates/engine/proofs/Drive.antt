@@ -10,7 +10,6 @@ use lib.ListN.{length, drop, length-drop}
 use Rattle.mtl.specs.Formula.{Formula}
 use Rattle.mtl.specs.Log.{Log, NeverFalls}
 use Rattle.mtl.specs.Progress.{settled-to}
-use Rattle.mtl.specs.Wanted.{depth}
 use Rattle.mtl.proofs.Bounded.{true-and-false}
 use Rattle.trace.specs.Format.{record-count}
 use Rattle.rule.specs.Words.{own-words}
@@ -20,7 +19,7 @@ use Rattle.blocks.specs.Step.{Agrees, Batched, Moved, Stepped, Steps, Ends, emp
 use Rattle.engine.specs.State.{State}
 use Rattle.blocks.specs.Kinds.{takes-left, takes-right, Fields}
 use Rattle.engine.specs.Table.{Has, Row, RowOk, RowsOk, column}
-use Rattle.engine.specs.Answer.{Keeps, Answers}
+use Rattle.engine.specs.Answer.{Keeps, first-read, Answers}
 use Rattle.engine.specs.Ask.{part, back, stored, Asks}
 use Rattle.blocks.specs.declared.Step.{Step}
 use Rattle.blocks.specs.declared.Step.the-variants.{Batch, Left, Right, Again, Open}
@@ -35,7 +34,7 @@ use Rattle.engine.proofs.Fill.{stored-at, stored-keeps, stored-count, s
 abbrev pub Stands : (t s : List ℕ) → Bool → ℕ → (ws₀ ws : List ℕ) → Type 0
 Stands t s closed k ws₀ ws =
     Keeps t k ws₀ ws ×
-    ((φ : Formula) (L : Log) (g : ℕ) → Has φ t k → NeverFalls L → Agrees closed s L (g - depth φ) → State φ L g ws₀ → State φ L g ws)
+    ((φ : Formula) (L : Log) (g : ℕ) → Has φ t k → NeverFalls L → Agrees closed s L (first-read φ g) → State φ L g ws₀ → State φ L g ws)
 
 pub stands-first : (t s : List ℕ) (closed : Bool) (k : ℕ) (ws : List ℕ) → Stands t s closed k ws ws
 stands-first t s closed k ws = (λ φ entered. kept-refl φ ws, λ φ L g entered never agrees state. state)
@@ -183,7 +182,7 @@ module _ {t s : List ℕ} {closed : Bool} {k left a c end : ℕ} {ws₀ ws b′ 
         keeps-from (put-back (a + c) end b′ ws) (rw own-put own) (λ φ entered x e. rw (stay x) (kept-refl (of x φ) (lent x a c ws)))
 
     module _ (φ : Formula) (L : Log) (g : ℕ) (entered : Has φ t k) where
-      viewed : NeverFalls L → Agrees closed s L (g - depth φ) → State φ L g ws₀ → View a c φ L g ws
+      viewed : NeverFalls L → Agrees closed s L (first-read φ g) → State φ L g ws₀ → View a c φ L g ws
       viewed never agrees state =
           let e = row φ t k entered in
           view φ L g ws (turn .is-a ∙ e .left-words) (turn .is-c ∙ e .right-words) (turn .stands .1 φ L g entered never agrees state)
@@ -194,7 +193,7 @@ module _ {t s : List ℕ} {closed : Bool} {k left a c end : ℕ} {ws₀ ws b′ 
           let e = row φ t k entered in
           unview φ L p ws′ (turn .is-a ∙ e .left-words) (turn .is-c ∙ e .right-words) (view-of a c φ L p ws′ b own ready parts)
 
-      stepped : NeverFalls L → Agrees closed s L (g - depth φ) → View a c φ L g ws → Stepped φ L g (drop (a + c) ws) r b′
+      stepped : NeverFalls L → Agrees closed s L (first-read φ g) → View a c φ L g ws → Stepped φ L g (drop (a + c) ws) r b′
       stepped never agrees v = turn .steps φ (row φ t k entered) L g never (agrees-later agrees (step-from φ g)) (v .own)
 
       -- the operands stay where they stand
@@ -284,9 +283,9 @@ module _ {t s : List ℕ} {closed : Bool} {k left a c end : ℕ} {ws₀ ws b′ 
 
   -- what the operand is asked, it is asked at the next position to take
   ask-at : (P : Formula → Log → ℕ → Type 0) →
-      ((φ : Formula) (L : Log) (q : ℕ) → Has φ t (entry side left k) → NeverFalls L → Agrees closed s L (q - depth φ) →
+      ((φ : Formula) (L : Log) (q : ℕ) → Has φ t (entry side left k) → NeverFalls L → Agrees closed s L (first-read φ q) →
       State φ L q (lent side a c ws) → P φ L q) →
-      (φ : Formula) (L : Log) (g : ℕ) → Has φ t k → NeverFalls L → Agrees closed s L (g - depth φ) → View a c φ L g ws → has side φ ≡ true →
+      (φ : Formula) (L : Log) (g : ℕ) → Has φ t k → NeverFalls L → Agrees closed s L (first-read φ g) → View a c φ L g ws → has side φ ≡ true →
       P (of side φ) L (taken (drop (a + c) ws))
   ask-at P promise φ L g entered never agrees v e =
       let b = drop (a + c) ws in

@@ -15,6 +15,7 @@ use Rattle.rule.specs.Words.{own-words}
 use Rattle.blocks.specs.Block.{word, taken, left-count, right-count, kind-of, high-of, Own, Ready, Buffer, Buffers}
 use Rattle.blocks.specs.Step.{Agrees, has-left, has-right, left-of, right-of, reads-from}
 use Rattle.engine.specs.State.{State, Parts, Absent, words, left-words, right-words}
+use Rattle.engine.specs.Answer.{first-read}
 use Rattle.engine.specs.Table.{Has, Row, RowOk, column}
 use Rattle.engine.proofs.Parts.{Side, by-side, slot, lent, lent-left, lent-right}
 use Rattle.engine.proofs.Parts.Side.{on-left, on-right}
@@ -139,8 +140,8 @@ all-buffered (until low high φ ψ) L b s = (s on-left refl, s on-right refl)
 pub agrees-later : {closed : Bool} {s : List ℕ} {L : Log} {a b : ℕ} → Agrees closed s L a → a ≤ b → Agrees closed s L b
 agrees-later agrees later = record { ends = agrees .ends; size = agrees .size; same = λ i low high. agrees .same i (omega arith) high }
 
--- no step reads before g less the formula's depth
-pub step-from : (φ : Formula) (g : ℕ) → g - depth φ ≤ reads-from φ g
+-- a step reads no earlier record
+pub step-from : (φ : Formula) (g : ℕ) → first-read φ g ≤ reads-from φ g
 unfolding depth
 step-from (letter k) g = omega arith
 step-from (not φ) g = omega arith
@@ -150,9 +151,9 @@ step-from (next low high φ) g = omega arith
 step-from (since low high φ ψ) g = omega arith
 step-from (until low high φ ψ) g = omega arith
 
--- and no operand, from the next position to take: the operand of a previous stands one position behind, and its depth is one smaller
+-- nor does an operand that is asked at the next position to take: that of a previous is one behind, and has a depth one smaller
 abbrev pub FromOperand : Formula → ℕ → List ℕ → Side → Type 0
-FromOperand φ g b side = g - depth φ ≤ taken b - depth (of side φ)
+FromOperand φ g b side = first-read φ g ≤ first-read (of side φ) (taken b)
 
 pub operand-from : (φ : Formula) (L : Log) (g : ℕ) (b : List ℕ) → Own φ L g b → (side : Side) → FromOperand φ g b side
 unfolding depth

@@ -22,9 +22,13 @@ Replied φ L g Open ws′ = (settled-to φ L ≡ g) × State φ L g ws′
 abbrev pub Keeps : List ℕ → ℕ → List ℕ → List ℕ → Type 0
 Keeps t k ws ws′ = (φ : Formula) → Has φ t k → Kept φ ws ws′
 
--- the promise of `answer` for entry k of table t, on records s, closed or open, from words ws to words ws′. Its operands, and theirs, may have answered
--- one position fewer than g for each previous on the way: no head reads before g less the formula's depth.
+-- the first record that the formula's entries may read, where g is the next position that it answers: its operands, and theirs, may
+-- have answered one position fewer for each previous on the way
+abbrev pub first-read : Formula → (g : ℕ) → ℕ
+first-read φ g = g - depth φ
+
+-- the promise of `answer` for entry k of table t, on records s, closed or open, from words ws to words ws′
 abbrev pub Answers : List ℕ → List ℕ → Bool → ℕ → List ℕ → Reply → List ℕ → Type 0
 Answers t s closed k ws r ws′ =
     Keeps t k ws ws′ ×
-    ((φ : Formula) (L : Log) (g : ℕ) → Has φ t k → NeverFalls L → Agrees closed s L (g - depth φ) → State φ L g ws → Replied φ L g r ws′)
+    ((φ : Formula) (L : Log) (g : ℕ) → Has φ t k → NeverFalls L → Agrees closed s L (first-read φ g) → State φ L g ws → Replied φ L g r ws′)

@@ -7,11 +7,10 @@ use lib.ListN.{length, take, drop, set}
 use Rattle.mtl.specs.Formula.{Formula}
 use Rattle.mtl.specs.Log.{Log, NeverFalls}
 use Rattle.mtl.specs.Progress.{settled-to}
-use Rattle.mtl.specs.Wanted.{depth}
 use Rattle.blocks.specs.Step.{Agrees, Batched}
 use Rattle.engine.specs.State.{State}
 use Rattle.engine.specs.Table.{Has}
-use Rattle.engine.specs.Answer.{Keeps}
+use Rattle.engine.specs.Answer.{Keeps, first-read}
 
 -- a part that was lent, and the whole with the part put back
 abbrev pub part : (from to : ℕ) → List ℕ → List ℕ
@@ -28,11 +27,11 @@ stored ws slot bits count = set (set ws slot count) (slot + 1) bits
 abbrev pub Filled : List ℕ → List ℕ → Bool → ℕ → (from to slot : ℕ) → List ℕ → Bool → List ℕ → List ℕ → Type 0
 Filled t s closed o from to slot ws true ws′ ys =
     (bits : ℕ) × (count : ℕ) × (1 ≤ count) × (ws′ ≡ stored (back from to ys ws) slot bits count) ×
-    ((φ : Formula) (L : Log) (q : ℕ) → Has φ t o → NeverFalls L → Agrees closed s L (q - depth φ) → State φ L q (part from to ws) →
+    ((φ : Formula) (L : Log) (q : ℕ) → Has φ t o → NeverFalls L → Agrees closed s L (first-read φ q) → State φ L q (part from to ws) →
     Batched φ L q bits count × State φ L (q + count) ys)
 Filled t s closed o from to slot ws false ws′ ys =
     (ws′ ≡ back from to ys ws) ×
-    ((φ : Formula) (L : Log) (q : ℕ) → Has φ t o → NeverFalls L → Agrees closed s L (q - depth φ) → State φ L q (part from to ws) →
+    ((φ : Formula) (L : Log) (q : ℕ) → Has φ t o → NeverFalls L → Agrees closed s L (first-read φ q) → State φ L q (part from to ws) →
     (settled-to φ L ≡ q) × State φ L q ys)
 
 abbrev pub Asks : List ℕ → List ℕ → Bool → ℕ → (from to slot : ℕ) → List ℕ → Bool → List ℕ → Type 0

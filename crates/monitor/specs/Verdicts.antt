@@ -3,7 +3,6 @@
 use Prim.Native.Nat.{ℕ, zero, suc, _+_, _*_}
 use mathlib.Core.Bool.{Bool}
 use mathlib.Core.List.{List, [], _∷_, _++_}
-use mathlib.Core.Option.{Option, none, some}
 use lib.ListN.{take}
 use Rattle.mtl.specs.Formula.{Formula}
 use Rattle.mtl.specs.Log.{Log}
@@ -11,15 +10,11 @@ use Rattle.mtl.specs.Satisfaction.{sat}
 use Rattle.mtl.specs.Progress.{joint-progress}
 use Rattle.bits.specs.Packed.{bit, number}
 use Rattle.rule.specs.Entries.{count, decoded}
-use Rattle.rule.specs.Postfix.{formulas}
+use Rattle.rule.specs.Postfix.{formulas, formulas-or}
 use Rattle.trace.specs.Format.{records-of}
 use Rattle.trace.specs.Log.{log-of}
 
--- the formulas of an accepted rule: one, or none where it has no entry; what stands here for a refused rule is used by nothing
-abbrev pub formulas-or : Option (List Formula) → List Formula
-formulas-or none = []
-formulas-or (some fs) = fs
-
+-- the formulas of an accepted rule
 abbrev pub formulas-of : List ℕ → List Formula
 formulas-of rule = formulas-or (formulas (decoded rule) (count rule))
 

@@ -11,7 +11,8 @@ use Rattle.mtl.specs.Formula.{Formula, unbounded, has-next}
 use Rattle.mtl.specs.Formula.{reach as formula-reach}
 use Rattle.mtl.specs.Satisfaction.{any}
 use Rattle.rule.specs.declared.Entry.{Entry}
-use Rattle.rule.specs.declared.measuring.Reading.the-variants.{Reach, Faulty}
+use Rattle.rule.specs.declared.measuring.Reading.the-variants.{Found, Faulty}
+use Rattle.rule.specs.declared.measuring.Quantity.the-variants.{Reach}
 use Rattle.rule.specs.declared.measuring.Totals.{Totals}
 use Rattle.rule.specs.Words.{words, limit}
 use Rattle.rule.specs.Postfix.{at-most-one, stack-after, formulas}
@@ -20,11 +21,11 @@ use Rattle.rule.specs.Measure.{Answer, refused, far, some-next, farthest
 use Rattle.rule.specs.Code.{totals, next-at, measured-entries, largest, reading}
 use Rattle.rule.proofs.Nexts.{next-is}
 
-none-of : (o : Option (List Formula)) → reading o ≡ Faulty → lacking o ≡ true
+none-of : (o : Option (List Formula)) → reading Reach o ≡ Faulty → lacking o ≡ true
 none-of none p = refl
 none-of (some fs) p = cc
 
-some-of : (o : Option (List Formula)) (most : ℕ) → reading o ≡ Reach most → lacking o ≡ false
+some-of : (o : Option (List Formula)) (most : ℕ) → reading Reach o ≡ Found most → lacking o ≡ false
 some-of none most p = cc
 some-of (some fs) most p = refl
 
@@ -35,7 +36,7 @@ far-or-none φ false e = rw (sym (or-false (has-next φ)) ∙ e)
 
 -- the reach, once the largest of the formulas' own is known
 far-of : (o : Option (List Formula)) (most : ℕ) (next : Bool) → ((fs : List Formula) → at-most-one o ≡ some fs → some-next fs ≡ next) →
-    reading (at-most-one o) ≡ Reach most → reach-of (at-most-one o) ≡ cond next unbounded most
+    reading Reach (at-most-one o) ≡ Found most → reach-of (at-most-one o) ≡ cond next unbounded most
 unfolding farthest largest
 far-of none most next h e = cc
 far-of (some []) most next h e =
@@ -64,11 +65,11 @@ module _ (t : List Entry) (n : ℕ) (sums : Totals) (s : sums ≡ totals t n) wh
   unfolding entries-refusal
   stop6 a b = simp (shape-is false a, place-is true b)
 
-  pub stop7 : sums .misshapen ≡ false → sums .misplaced ≡ false → reading (formulas t n) ≡ Faulty → refused 7 ≡ measured-entries t n
+  pub stop7 : sums .misshapen ≡ false → sums .misplaced ≡ false → reading Reach (formulas t n) ≡ Faulty → refused 7 ≡ measured-entries t n
   unfolding entries-refusal
   stop7 a b e = simp (shape-is false a, place-is false b, none-of (formulas t n) e)
 
-  pub stop8 : (far : ℕ) → sums .misshapen ≡ false → sums .misplaced ≡ false → reading (formulas t n) ≡ Reach far
+  pub stop8 : (far : ℕ) → sums .misshapen ≡ false → sums .misplaced ≡ false → reading Reach (formulas t n) ≡ Found far
       → limit < 16 + sums .words → refused 8 ≡ measured-entries t n
   unfolding entries-refusal
   stop8 far a b e l =
@@ -76,7 +77,7 @@ module _ (t : List Entry) (n : ℕ) (sums : Totals) (s : sums ≡ totals t n) wh
       simp (shape-is false a, place-is false b, some-of (formulas t n) far e, o)
 
   pub passes : (far : ℕ) (next : Bool) → n ≤ length t → sums .misshapen ≡ false → sums .misplaced ≡ false
-      → reading (formulas t n) ≡ Reach far → 16 + sums .words ≤ limit → sums .next ≡ next
+      → reading Reach (formulas t n) ≡ Found far → 16 + sums .words ≤ limit → sums .next ≡ next
       → record { number = 0; words = 16 + sums .words; reach = cond next unbounded far } ≡ measured-entries t n
   unfolding entries-refusal
   passes far next h a b e l f =

@@ -8,12 +8,15 @@ use lib.ListN.{getD, set, replicate}
 use Rattle.mtl.specs.Formula.{Formula}
 use Rattle.mtl.specs.Formula.{reach as formula-reach}
 use Rattle.mtl.specs.Satisfaction.{any}
+use Rattle.mtl.specs.Wanted.{depth}
 use Rattle.rule.specs.declared.Entry.{Entry}
 use Rattle.rule.specs.declared.measuring.Totals.{Totals}
 use Rattle.rule.specs.declared.refusals.Header.{Header}
 use Rattle.rule.specs.declared.refusals.Header.the-variants.{Count, Stopped}
 use Rattle.rule.specs.declared.measuring.Reading.{Reading}
-use Rattle.rule.specs.declared.measuring.Reading.the-variants.{Reach, Faulty}
+use Rattle.rule.specs.declared.measuring.Reading.the-variants.{Found, Faulty}
+use Rattle.rule.specs.declared.measuring.Quantity.{Quantity}
+use Rattle.rule.specs.declared.measuring.Quantity.the-variants.{Reach, Depth}
 use Rattle.rule.specs.Entries.{count, entry-of, blank, entry}
 use Rattle.rule.specs.Words.{own, offset}
 use Rattle.rule.specs.Refusal.{misshapen, misplaced, misshapen-at, misplaced-at, header-refusal, entries-refusal}
@@ -23,9 +26,19 @@ use Rattle.rule.specs.Measure.{Answer, refused, answer-by}
 abbrev pub lacks : List ℕ → List ℕ → Bool
 lacks s m = not (eqb (getD s 0 0) (getD m 0 0) && eqb (getD s 1 0) (getD m 1 0) && eqb (getD s 2 0) (getD m 2 0))
 
--- the reach of an entry's formula from the reaches of its operands; both are the same where there is one operand
-abbrev pub joined-reach : Entry → ℕ → ℕ → ℕ
-joined-reach e left right = cond (eqb (e .kind) 0) 0 (cond (eqb (e .kind) 6) (e .high + max left right) (max left right))
+-- what is read of a formula
+abbrev pub quantity : Quantity → Formula → ℕ
+quantity Reach = formula-reach
+quantity Depth = depth
+
+-- what an entry adds to the larger of its operands' quantities
+abbrev pub added-by : Quantity → Entry → ℕ
+added-by Reach e = cond (eqb (e .kind) 6) (e .high) 0
+added-by Depth e = cond (eqb (e .kind) 3) 1 0
+
+-- the quantity of an entry's formula from those of its operands; both are the same where there is one operand
+abbrev pub joined-by : Quantity → Entry → ℕ → ℕ → ℕ
+joined-by of e left right = cond (eqb (e .kind) 0) 0 (added-by of e + max left right)
 
 abbrev pub next-at : List Entry → ℕ → Bool
 next-at t k = eqb (entry t k .kind) 4
@@ -68,12 +81,12 @@ measured-by (Stopped n) t = refused n
 abbrev pub header : List ℕ → Header
 header s = cond (eqb (header-refusal s) 0) (Count (count s)) (Stopped (header-refusal s))
 
--- the largest reach of the formulas, whether they have next or not
-unfoldable pub largest : List Formula → ℕ
-largest [] = 0
-largest (φ ∷ fs) = max (formula-reach φ) (largest fs)
+-- the largest over the formulas; their reach is taken whether they have next or not
+unfoldable pub largest : Quantity → List Formula → ℕ
+largest of [] = 0
+largest of (φ ∷ fs) = max (quantity of φ) (largest of fs)
 
--- what reading the entries answers: that reach, where refusal 7 does not apply
-abbrev pub reading : Option (List Formula) → Reading
-reading none = Faulty
-reading (some fs) = Reach (largest fs)
+-- what reading the entries answers: the largest, where refusal 7 does not apply
+abbrev pub reading : Quantity → Option (List Formula) → Reading
+reading of none = Faulty
+reading of (some fs) = Found (largest of fs)

@@ -54,6 +54,11 @@ at-most-one (some (φ ∷ (ψ ∷ rest))) = none
 abbrev pub formulas : List Entry → ℕ → Option (List Formula)
 formulas t n = at-most-one (stack-after t n)
 
+-- the formulas of an accepted rule: one, or none where it has no entry; what stands here for a refused rule is used by nothing
+abbrev pub formulas-or : Option (List Formula) → List Formula
+formulas-or none = []
+formulas-or (some fs) = fs
+
 -- the entry of a formula's outermost operator: "an unused field is zero"
 abbrev pub root : Formula → Entry
 root (letter k) = record { kind = 0; letter = k; low = 0; high = 0 }

@@ -9,6 +9,7 @@ mod refusals;
 
 pub use bytes::byte_at;
 pub use entries::decode;
+pub use measuring::depth;
 pub use measuring::measure_decoded;
 pub use measuring::own_words;
 pub use refusals::Header;

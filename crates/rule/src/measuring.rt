@@ -1,10 +1,12 @@
-// The words and the reach of a rule's entries ("Points and sheets", "Which positions are settled"), and refusals 5 to 8.
+// The words, the reach and the depth of a rule's entries ("Points and sheets", "Which positions are settled", document 02's paper 2), and
+// refusals 5 to 8.
 ghost use mathlib.Core.Path.{_≡_};
 ghost use Prim.Native.Nat.{_+_, _≤_, _<_, max};
+ghost use Rattle.mtl.specs.Wanted.{deepest};
 ghost use Rattle.rule.specs.Words.{own};
-ghost use Rattle.rule.specs.Postfix.{formulas};
+ghost use Rattle.rule.specs.Postfix.{formulas, formulas-or};
 ghost use Rattle.rule.specs.Measure.{answer};
-ghost use Rattle.rule.specs.Code.{joined-reach, totals, with-entry, reading, measured-entries, header-count, measured-by};
+ghost use Rattle.rule.specs.Code.{added-by, joined-by, totals, with-entry, reading, measured-entries, header-count, measured-by};
 ghost use Rattle.rule.specs.Operands.{operands};
 use super::Entry;
 use super::Measured;
@@ -12,9 +14,15 @@ use super::entries;
 use super::refusals;
 use super::refusals::Header;
 
-// What reading the entries in postfix order answers: the reach of the formula, 0 where there is no entry.
+// What is read of a formula: its reach, or its depth, the most previous entries on a path from its last entry to a letter.
+enum Quantity {
+    Reach,
+    Depth,
+}
+
+// What reading the entries in postfix order answers: the quantity of the formula, 0 where there is no entry.
 enum Reading {
-    Reach(u64),
+    Found(u64),
     Faulty,
 }
 
@@ -96,26 +104,33 @@ fn larger(a: u64, b: u64) -> u64
     if a < b { b } else { a }
 }
 
-// The reach of an entry's formula from those of its operands.
-fn joined(e: Entry, left: u64, right: u64) -> u64
-    requires { ⌜ (left < 1125899906842624) × (right < 1125899906842624) ⌝ }
-    ensures { λ r. ⌜ (r ≡ joined-reach e left right) × (r ≤ max left right + 4294967295) ⌝ }
+// What an entry adds to the larger of its operands' quantities.
+fn added(of: Quantity, e: Entry) -> u64
+    ensures { λ r. ⌜ (r ≡ added-by of e) × (r ≤ 4294967295) ⌝ }
 {
-    let most = larger(left, right);
     let high = e.high as u64;
-    if e.kind == 0 {
-        0
-    } else if e.kind == 6 {
-        high + most
-    } else {
-        most
+    match of {
+        Quantity::Reach => { if e.kind == 6 { high } else { 0 } }
+        Quantity::Depth => { if e.kind == 3 { 1 } else { 0 } }
     }
 }
 
-// The entries are read with a stack, which holds the reach of each formula: position 1 is its bottom, and 0 stands below it.
-fn read(table: [Entry; 128], count: usize) -> Reading
+// The quantity of an entry's formula from those of its operands.
+fn joined(of: Quantity, e: Entry, left: u64, right: u64) -> u64
+    requires { ⌜ (left < 1125899906842624) × (right < 1125899906842624) ⌝ }
+    ensures { λ r. ⌜ (r ≡ joined-by of e left right) × (r ≤ max left right + 4294967295) ⌝ }
+{
+    if e.kind == 0 {
+        0
+    } else {
+        added(of, e) + larger(left, right)
+    }
+}
+
+// The entries are read with a stack, which holds the quantity of each formula: position 1 is its bottom, and 0 stands below it.
+fn read(of: Quantity, table: [Entry; 128], count: usize) -> Reading
     requires { ⌜ count ≤ 128 ⌝ }
-    ensures { λ r. ⌜ r ≡ reading (formulas table count) ⌝ }
+    ensures { λ r. ⌜ r ≡ reading of (formulas table count) ⌝ }
 {
     let mut stack = [0u64; 129];
     let mut depth: usize = 0;
@@ -127,15 +142,26 @@ fn read(table: [Entry; 128], count: usize) -> Reading
             return Reading::Faulty;
         }
         let at = depth + 1 - taken;
-        stack[at] = joined(e, stack[at], stack[depth]);
+        stack[at] = joined(of, e, stack[at], stack[depth]);
         depth = at;
         k += 1;
     }
     if depth < 2 {
-        Reading::Reach(stack[depth])
+        Reading::Found(stack[depth])
     } else {
         Reading::Faulty
     }
+}
+
+// The depth of the entries' formula; 0 where they are none.
+pub fn depth(table: [Entry; 128], count: usize) -> u64
+    requires { ⌜ count ≤ 128 ⌝ }
+    ensures { λ r. ⌜ r ≡ deepest (formulas-or (formulas table count)) ⌝ }
+{
+    let Reading::Found(most) = read(Quantity::Depth, table, count) else {
+        return 0;
+    };
+    most
 }
 
 // Refusals 5 to 8, or the words and the reach.
@@ -150,7 +176,7 @@ fn measure_entries(table: [Entry; 128], count: usize) -> Measured
     if sums.misplaced {
         return Measured::Refused(6);
     }
-    let Reading::Reach(reach) = read(table, count) else {
+    let Reading::Found(reach) = read(Quantity::Reach, table, count) else {
         return Measured::Refused(7);
     };
     let words = 16 + sums.words;

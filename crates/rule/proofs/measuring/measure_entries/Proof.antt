@@ -48,8 +48,8 @@ returns-4 c =
     stop8 (a .table) (a .count) (r .result) (r .ensures .0) _ (c .before .before .before .before .before .before .before .if1 .left) (c .before .before .before .before .before .before .if2 .left)
     (sym (c .before .before .before .before .before .read .ensures) ∙ c .before .before .before .reach .given .1) (omega arith)
 
-cast-t9 : tie.Need-cast-t9
-cast-t9 c = search needs
+cast-t10 : tie.Need-cast-t10
+cast-t10 c = search needs
 
 returns-5 : tie.Need-returns-5
 returns-5 c =
@@ -78,6 +78,6 @@ measure-entries-spec =
     returns-3
     add-words
     returns-4
-    cast-t9
+    cast-t10
     returns-5
     returns-6)

@@ -1,4 +1,4 @@
--- `measuring::read` meets its contract. The loop's invariant: the array holds the reaches of the formulas on the stack after k entries.
+-- `measuring::read` meets its contract. The loop's invariant: the array holds the quantities of the formulas on the stack after k entries.
 use Prim.Native.Nat.{_<_, zero-le, _+_, _-_, _≤_}
 use native.Mathlib.Omega.{arith}
 use borrow.Author.Needs.{needs}
@@ -10,13 +10,13 @@ use Rattle.rule.proofs.measuring.read.Statement.{statement}
 use Rattle.rule.proofs.measuring.read.Tie as tie
 
 abbrev Inv-loop : tie.InvT-loop
-Inv-loop count table stack₀ depth₀ k₀ stack depth k = (k ≤ count) × Running table stack depth k
+Inv-loop of count table stack₀ depth₀ k₀ stack depth k = (k ≤ count) × Running of table stack depth k
 
 abbrev μ-loop : tie.MeasureT-loop
-μ-loop count table stack₀ depth₀ k₀ stack depth k = count - k
+μ-loop of count table stack₀ depth₀ k₀ stack depth k = count - k
 
 loop-holds : tie.Need-loop-holds Inv-loop μ-loop
-loop-holds c = (zero-le, none-read (c .args .t1))
+loop-holds c = (zero-le, none-read (c .args .of) (c .args .t2))
 
 mul-e : tie.Need-mul-e Inv-loop μ-loop
 mul-e c = search needs
@@ -31,8 +31,8 @@ returns : tie.Need-returns Inv-loop μ-loop
 returns c =
     let i = c .before .before .before .before .loop in
     let a = c .before .before .before .before .before .args in
-    let l : i .depth < operands (entry (a .t1) (i .k) .kind) = omega (arith, c .before .operands-of .ensures) in
-    sym (lacks-operand (a .t1) (i .stack) (i .depth) (i .k) (a .count) (i .inv .1) (omega arith) (omega arith) l)
+    let l : i .depth < operands (entry (a .t2) (i .k) .kind) = omega (arith, c .before .operands-of .ensures) in
+    sym (lacks-operand (a .of) (a .t2) (i .stack) (i .depth) (i .k) (a .count) (i .inv .1) (omega arith) (omega arith) l)
 
 add-at : tie.Need-add-at Inv-loop μ-loop
 add-at c = search needs
@@ -74,32 +74,32 @@ loop-again c =
     let i = c .before .before .before .before .before .loop in
     let a = c .before .before .before .before .before .before .args in
     let e = c .before .before .operands-of .ensures in
-    let l : operands (entry (a .t1) (i .k) .kind) ≤ i .depth = omega (arith, e) in (
+    let l : operands (entry (a .t2) (i .k) .kind) ≤ i .depth = omega (arith, e) in (
       omega arith,
       rw e
-          (one-more (a .t1) (i .stack) (i .depth) (i .k) (c .joined .result) (i .inv .1) (omega arith) (omega arith) l
+          (one-more (a .of) (a .t2) (i .stack) (i .depth) (i .k) (c .joined .result) (i .inv .1) (omega arith) (omega arith) l
           (rw e at (c .joined .ensures .0)) (rw e at (c .joined .ensures .1))),
     )
 
-mul-t28 : tie.Need-mul-t28 Inv-loop μ-loop
-mul-t28 c = search needs
+mul-t29 : tie.Need-mul-t29 Inv-loop μ-loop
+mul-t29 c = search needs
 
-array-read-t31 : tie.Need-array-read-t31 Inv-loop μ-loop
-array-read-t31 c = search needs
+array-read-t32 : tie.Need-array-read-t32 Inv-loop μ-loop
+array-read-t32 c = search needs
 
 returns-2 : tie.Need-returns-2 Inv-loop μ-loop
 returns-2 c =
     let i = c .before .before .loop in
     let a = c .before .before .before .args in
     let e : i .k ≡ a .count = omega arith in
-    sym (one-formula (a .t1) (i .stack) (i .depth) (a .count) (rw e at (i .inv .1)) (omega arith))
+    sym (one-formula (a .of) (a .t2) (i .stack) (i .depth) (a .count) (rw e at (i .inv .1)) (omega arith))
 
 returns-3 : tie.Need-returns-3 Inv-loop μ-loop
 returns-3 c =
     let i = c .before .before .loop in
     let a = c .before .before .before .args in
     let e : i .k ≡ a .count = omega arith in
-    sym (more-than-one (a .t1) (i .stack) (i .depth) (a .count) (rw e at (i .inv .1)) (λ l. omega arith))
+    sym (more-than-one (a .of) (a .t2) (i .stack) (i .depth) (a .count) (rw e at (i .inv .1)) (λ l. omega arith))
 
 pub read-spec : {M : Type 1} → statement M
 read-spec =
@@ -124,7 +124,7 @@ read-spec =
     add-k
     loop-less
     loop-again
-    mul-t28
-    array-read-t31
+    mul-t29
+    array-read-t32
     returns-2
     returns-3)
