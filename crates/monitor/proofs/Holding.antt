@@ -37,8 +37,8 @@ module _ (t : List ℕ) (n : ℕ) where
       kept-trans φ (drop 16 ws) (drop 16 ws′) (drop 16 ws″) (a some φ has) (b some φ has)
 
 -- nothing to do where something is held
-pub already-held : (t s : List ℕ) (n : ℕ) (ws : List ℕ) → 0 < held-count ws → Holds t s n ws true ws
-already-held t s n ws held =
+pub already-held : (t s : List ℕ) (closed : Bool) (n : ℕ) (ws : List ℕ) → 0 < held-count ws → Holds t s closed n ws true ws
+already-held t s closed n ws held =
     record {
       words-length = refl;
       header = λ i low ne ne′. refl;
@@ -101,9 +101,9 @@ one-top P t n some (φ ∷ []) (there, has) f = f φ has
 one-top P t n some (φ ∷ (ψ ∷ fs)) several f = absurd several
 
 -- what asking the last entry does to the header
-pub asked-holds : (t s : List ℕ) (n : ℕ) (ws : List ℕ) (r : Bool) (ws′ : List ℕ) → 16 ≤ length ws → 0 < n → held-count ws ≡ 0 →
-    Asks t s (n - 1) 16 (length ws) 4 ws r ws′ → Holds t s n ws r ws′
-asked-holds t s n ws true ws′ room entries empty (ys, kept, keeps, (bits, count, some, is, means)) =
+pub asked-holds : (t s : List ℕ) (closed : Bool) (n : ℕ) (ws : List ℕ) (r : Bool) (ws′ : List ℕ) → 16 ≤ length ws → 0 < n → held-count ws ≡ 0 →
+    Asks t s closed (n - 1) 16 (length ws) 4 ws r ws′ → Holds t s closed n ws r ws′
+asked-holds t s closed n ws true ws′ room entries empty (ys, kept, keeps, (bits, count, some, is, means)) =
     rw is
     (record {
       words-length = length-filled ws ys room kept bits count;
@@ -123,7 +123,7 @@ asked-holds t s n ws true ws′ room entries empty (ys, kept, keeps, (bits, coun
             state = rw (count-filled ws ys room kept bits count, drop-filled ws ys room kept bits count) next;
           });
     })
-asked-holds t s n ws false ws′ room entries empty (ys, kept, keeps, (is, means)) =
+asked-holds t s closed n ws false ws′ room entries empty (ys, kept, keeps, (is, means)) =
     rw is
     (record {
       words-length = length-asked ws ys room kept;
@@ -163,7 +163,7 @@ module _ (s ws : List ℕ) (room : 16 ≤ length ws) where
   word-yes : (i : ℕ) → word (all-yes s ws) i ≡ after (put 4 count-of ∷ put 5 (2 ^ 64 - 1) ∷ []) (word ws) i
   word-yes = word-stores (put 4 count-of ∷ put 5 (2 ^ 64 - 1) ∷ []) ws (omega arith) room
 
-  top-yes : (L : Log) (d : ℕ) → Agrees s L d → Top [] L d ws → Top [] L d (all-yes s ws)
+  top-yes : {closed : Bool} (L : Log) (d : ℕ) → Agrees closed s L d → Top [] L d ws → Top [] L d (all-yes s ws)
   top-yes L d agrees top =
       let within = top .held .within in
       let all = joint-none L in
@@ -182,9 +182,9 @@ some-left given size =
     (le-or-lt size given)
 
 -- what a rule with no entry holds
-pub yes-holds : (t s : List ℕ) (n : ℕ) (ws : List ℕ) (r : Bool) → 16 ≤ length ws → n ≡ 0 → r ≡ ltb (given ws) (record-count s) →
-    Holds t s n ws r (all-yes s ws)
-yes-holds t s n ws r room none is =
+pub yes-holds : (t s : List ℕ) (closed : Bool) (n : ℕ) (ws : List ℕ) (r : Bool) → 16 ≤ length ws → n ≡ 0 → r ≡ ltb (given ws) (record-count s) →
+    Holds t s closed n ws r (all-yes s ws)
+yes-holds t s closed n ws r room none is =
     record {
       words-length = simp length-set;
       header = λ i low ne ne′. word-yes s ws room i ∙ rw (ne-eqb i 4 ne, ne-eqb i 5 ne′) refl;
@@ -195,7 +195,7 @@ yes-holds t s n ws r room none is =
           no-top (λ gs. Top gs L d ws → Holding gs L d r (all-yes s ws)) t n none fs tops (holding r is L d agrees);
     }
   where
-    holding : (r : Bool) → r ≡ ltb (given ws) (record-count s) → (L : Log) (d : ℕ) → Agrees s L d → Top [] L d ws → Holding [] L d r (all-yes s ws)
+    holding : (r : Bool) → r ≡ ltb (given ws) (record-count s) → (L : Log) (d : ℕ) → Agrees closed s L d → Top [] L d ws → Holding [] L d r (all-yes s ws)
     holding true is L d agrees top = top-yes s ws room L d agrees top
     holding false is L d agrees top =
         let over = ltb-false (given ws) (record-count s) (sym is) in
