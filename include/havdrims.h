@@ -55,8 +55,8 @@ enum havdrims_refusal {
     HAVDRIMS_LOG_FORMAT = 12,     /* the log is shorter than 8 bytes, its mark, version or spare bytes are wrong, its
                                      length less 8 is no multiple of 8, or it has more than 1,000,000 records */
     HAVDRIMS_FEWER_RECORDS = 13,  /* the log has fewer records than the point has seen */
-    HAVDRIMS_TIME_FALLS = 14,     /* some record after the first without a verdict has a time below that of the
-                                     record before it, or the first new record's time is below the last time seen */
+    HAVDRIMS_TIME_FALLS = 14,     /* some record after the first still wanted has a time below that of the record
+                                     before it, or the first new record's time is below the last time seen */
     HAVDRIMS_SHEET_BYTE = 15,     /* a sheet given to tally has a byte above 1 */
     HAVDRIMS_UNKNOWN_WORD = 16,   /* a word, sign or form of number of a text is unknown, or it has more than 1,024
                                      bytes */
@@ -109,12 +109,16 @@ uint32_t havdrims_open(const uint8_t *rule, size_t rule_len, uint64_t *point, si
  *
  * rule    the rule that the point was opened for, byte for byte.
  * log     the whole log from its header on, with the records of the accepted calls before and any number of new
- *         ones behind them. A record that has its verdict is not read again: it may hold any bytes. The others must
- *         be as they were; if they are not, or if the point was not left by this library, the call still returns and
- *         writes only point, sheet, *given and *more, but its verdicts mean nothing.
+ *         ones behind them. The records before the first still wanted are not read again: they may hold any bytes.
+ *         The others must be as they were; if they are not, or if the point was not left by this library, the call
+ *         still returns and writes only point, sheet, *given and *more, but its verdicts mean nothing.
  * point   as open or the last accepted call left it. It becomes the point to carry on from. Words behind the need
  *         are kept.
  * sheet   takes the verdicts. Its bytes behind them are kept. It may be of any length, 0 included.
+ *
+ * The first record still wanted is the number of verdicts given with this point so far, less k, or 0 where it is below
+ * k: k is the largest number of previous entries on a path from the rule's last entry to a letter. So a rule without
+ * previous wants the records that have no verdict yet, and no others.
  *
  * *given becomes the number of verdicts written. *more becomes 1 if the log settles further records, for which the
  * sheet had no room, and 0 if the point has caught up.

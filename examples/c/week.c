@@ -86,7 +86,7 @@ int main(void) {
     check(memcmp(sheet, "\1\1\1\0\0\7", 6) == 0, "Monday's verdicts");
     uint64_t first = given;
 
-    /* The records that have verdicts may be overwritten. */
+    /* The records that have verdicts may be overwritten, since the rule has no previous. */
     memset(log_file + 8, 0xFF, 8 * first);
 
     /* Tuesday: the print starts in time for record 5; then one waits for more than ninety seconds. */

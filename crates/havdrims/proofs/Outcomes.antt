@@ -4,9 +4,10 @@ use mathlib.Core.Bool.{Bool, true, false, cond, true≢false}
 use mathlib.Core.Path.{_≡_, refl, sym, _∙_, ap, subst}
 use mathlib.Core.List.{List}
 use native.Mathlib.Omega.{arith}
-use borrow.Author.Tests.{ne-eqb}
+use borrow.Author.Tests.{eqb-false, ne-eqb}
 use mir.Val.{boolByte}
 use Rattle.mtl.specs.Satisfaction.{any}
+use lib.Dec.{eqb}
 use lib.ListN.{length}
 use Rattle.rule.specs.declared.Measured.{Measured}
 use Rattle.rule.specs.declared.Measured.the-variants.{Words}
@@ -24,6 +25,13 @@ use Rattle.monitor.specs.Open.{Opens, opened-number}
 use Rattle.monitor.specs.Resume.{Resumes, resumed-number, resumed-count, resumed-more}
 use Rattle.monitor.specs.Tally.{tallied, count-of, above-one}
 use Rattle.monitor.specs.Tally.{Answer as Tally, answer as tally-of}
+use Rattle.monitor.specs.declared.Latest.{Latest}
+use Rattle.monitor.specs.declared.Summarized.{Summarized}
+use Rattle.monitor.specs.declared.Summarized.the-variants.{Counted}
+use Rattle.monitor.specs.declared.Summarized.the-variants.{Refused as Unsummarized}
+use Rattle.monitor.specs.Refusal.{summary-refusal}
+use Rattle.monitor.specs.Summary.{Noes, stored-noes, told, refused-with, position, position-or, summarized}
+use Rattle.monitor.specs.Summary.{Answer as Summary, answer as summary-of}
 use Rattle.text.specs.declared.Parsed.{Parsed}
 use Rattle.text.specs.declared.Parsed.the-variants.{Written}
 use Rattle.text.specs.declared.Parsed.the-variants.{Refused as Unparsed}
@@ -36,7 +44,7 @@ use Rattle.worst.specs.declared.Made.the-variants.{Refused as Unmade}
 use Rattle.worst.specs.Call.{answered, Writes}
 use Rattle.worst.specs.Call.{Answer as Making, answer as made-of}
 use Rattle.worst.proofs.Outcome.{not-zero}
-use Rattle.havdrims.specs.Interface.{or-kept, flag, MeasureCall, OpenCall, ResumeCall, TallyCall, ParseCall, WorstLogCall}
+use Rattle.havdrims.specs.Interface.{or-kept, flag, no-position, MeasureCall, OpenCall, ResumeCall, TallyCall, SummaryCall, ParseCall, WorstLogCall}
 
 -- a number that is not 0 keeps what stood behind the pointer
 pub kept : (n old new : ℕ) → (n ≡ 0 → ⊥) → old ≡ or-kept n old new
@@ -125,6 +133,34 @@ module _ (s : List ℕ) (noes yeses : ℕ) (o : Tallied) (e : tally-of o ≡ tal
         number = ap (λ (a : Tally). a .number) q;
         no-count = ap (λ (a : Tally). a .no-count) q;
         yes-count = ap (λ (a : Tally). a .yes-count) q;
+      }
+
+-- a refused summary has another number than 0
+not-zero-by : (b : Bool) (k n : ℕ) (noes : Noes) → eqb k 0 ≡ b → refused-with n ≡ cond b (told noes) (refused-with k) → n ≡ 0 → ⊥
+not-zero-by true k n noes t e z = true≢false (ap (λ (a : Summary). a .refused) e)
+not-zero-by false k n noes t e z = omega (arith, ap (λ (a : Summary). a .number) e, eqb-false k 0 t)
+
+module _ (s p : List ℕ) (noes latest : ℕ) (o : Summarized) (e : summary-of o ≡ summarized s p) where
+  pub not-summarized : (n : ℕ) → o ≡ Unsummarized n → (r : ℕ) → r ≡ summary-of o .number → SummaryCall s p noes latest r noes latest
+  not-summarized n is r number =
+      let q : summary-of (Unsummarized n) ≡ summarized s p = ap summary-of (sym is) ∙ e in
+      let same : r ≡ n = number ∙ ap (λ (a : Summarized). summary-of a .number) is in
+      let z : r ≡ 0 → ⊥ =
+      λ g. not-zero-by (eqb (summary-refusal s p) 0) (summary-refusal s p) n (stored-noes p) refl q (sym same ∙ g) in
+      record {
+        number = same ∙ ap (λ (a : Summary). a .number) q;
+        no-count = kept r noes (summarized s p .noes .count) z;
+        latest = kept r latest (position-or (summarized s p .noes .latest) no-position) z;
+      }
+
+  pub is-summarized : (x : ℕ) (at : Latest) → o ≡ Counted x at → (y : ℕ) → y ≡ position-or (position at) no-position →
+      SummaryCall s p noes latest 0 x y
+  is-summarized x at is y value =
+      let q : summary-of (Counted x at) ≡ summarized s p = ap summary-of (sym is) ∙ e in
+      record {
+        number = ap (λ (a : Summary). a .number) q;
+        no-count = ap (λ (a : Summary). a .noes .count) q;
+        latest = value ∙ ap (λ (a : Summary). position-or (a .noes .latest) no-position) q;
       }
 
 module _ (text rule : List ℕ) (old : ℕ) (o : Parsed) (rule′ : List ℕ) (h : Parses text rule o rule′) where

@@ -1,6 +1,6 @@
 -- What the exported functions promise, in terms of the calls' own definitions: the number returned, and each lent byte, word and
 -- number afterwards. Where the number is not 0, the numbers behind the pointers are kept.
-use Prim.Native.Nat.{ℕ}
+use Prim.Native.Nat.{ℕ, _-_, _^_}
 use mathlib.Core.Bool.{Bool, cond}
 use mathlib.Core.Path.{_≡_}
 use mathlib.Core.List.{List}
@@ -11,6 +11,7 @@ use Rattle.rule.specs.Measure.{measured}
 use Rattle.monitor.specs.Open.{Opens, opened-number}
 use Rattle.monitor.specs.Resume.{Resumes, resumed-number, resumed-count, resumed-more}
 use Rattle.monitor.specs.Tally.{tallied}
+use Rattle.monitor.specs.Summary.{position-or, summarized}
 use Rattle.monitor.specs.declared.Opened.{Opened}
 use Rattle.monitor.specs.declared.Resumed.{Resumed}
 use Rattle.text.specs.declared.Parsed.{Parsed}
@@ -48,6 +49,15 @@ pub record TallyCall (sheet : List ℕ) (noes yeses r noes′ yeses′ : ℕ) : 
   pub number : r ≡ tallied sheet .number
   pub no-count : noes′ ≡ or-kept r noes (tallied sheet .no-count)
   pub yes-count : yeses′ ≡ or-kept r yeses (tallied sheet .yes-count)
+
+-- where there is no position, the greatest number of 64 bits
+abbrev pub no-position : ℕ
+no-position = 2 ^ 64 - 1
+
+pub record SummaryCall (rule p : List ℕ) (noes at r noes′ at′ : ℕ) : Type 0 where
+  pub number : r ≡ summarized rule p .number
+  pub no-count : noes′ ≡ or-kept r noes (summarized rule p .noes .count)
+  pub latest : at′ ≡ or-kept r at (position-or (summarized rule p .noes .latest) no-position)
 
 pub record ParseCall (text rule : List ℕ) (n r : ℕ) (rule′ : List ℕ) (n′ : ℕ) : Type 0 where
   pub outcome : Parsed

@@ -1,8 +1,9 @@
 // The C interface: the library's calls under plain names. Each answers 0, or the refusal's number, and then every number
 // behind a pointer is as it was. include/havdrims.h says what a C programmer needs to know.
-ghost use Rattle.havdrims.specs.Interface.{MeasureCall, OpenCall, ResumeCall, TallyCall, ParseCall, WorstLogCall, settings, SimulateCall};
+ghost use Rattle.havdrims.specs.Interface.{MeasureCall, OpenCall, ResumeCall, TallyCall, SummaryCall, ParseCall, WorstLogCall, settings, SimulateCall};
 use monitor::Opened;
 use monitor::Resumed;
+use monitor::Summarized;
 use monitor::Tallied;
 use rule::Measured;
 use simulation::Settings;
@@ -72,6 +73,29 @@ pub extern "C" fn havdrims_tally(sheet: &[u8], no: &mut u64, yes: &mut u64) -> u
     };
     *no = n as u64;
     *yes = y as u64;
+    0
+}
+
+// The count of no among the verdicts given from a checkpoint (point), and the position of the latest: `u64::MAX` for none.
+#[no_mangle]
+pub extern "C" fn havdrims_summary(
+    rule: &[u8],
+    point: &[u64],
+    no: &mut u64,
+    latest: &mut u64,
+) -> u32
+    ensures { λ r. ⌜ SummaryCall (now (rule .entry)) (now (point .entry)) (now («no» .entry)) (now (latest .entry)) r (now («no» .exit)) (now (latest .exit)) ⌝ }
+{
+    let summarized = monitor::summary(rule, point);
+    let Summarized::Counted {
+        no: count,
+        latest: position,
+    } = summarized
+    else {
+        return summarized.number();
+    };
+    *no = count;
+    *latest = position.or(u64::MAX);
     0
 }
 

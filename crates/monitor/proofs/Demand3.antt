@@ -11,6 +11,7 @@ use lib.Seq.{getD-take, getD-drop, length-take-le, take-take, take-all}
 use lib.Dec.{leb, ltb}
 use borrow.Author.Tests.{le-leb, leb-true, le-ltb, lt-ltb, ltb-true, ltb-false, eq-eqb, ne-eqb}
 use Rattle.mtl.specs.Log.{Log, closing, NeverFalls, Agree, Continues}
+use Rattle.mtl.specs.Wanted.{wanted}
 use Rattle.mtl.proofs.Bounded.{same-test, le-or-lt}
 use Rattle.rule.specs.Entries.{count, decoded}
 use Rattle.rule.specs.Refusal.{first, refusal}
@@ -140,17 +141,21 @@ module _ (rule log : List ℕ) (untouched : Untouched log) where
       let second = c .same j (omega arith) h .time in
       omega arith
 
-  -- a call's log
-  module _ (closed : Bool) (d n : ℕ) (log′ : List ℕ) (brings : Brings log d n log′) where
+  -- a call's log, where d verdicts were given
+  module _ (closed : Bool) (d n : ℕ) (log′ : List ℕ) (brings : Brings log (wanted (formulas-of rule) d) n log′) where
+    -- the first record still wanted
+    abbrev from : ℕ
+    from = wanted (formulas-of rule) d
+
     brought-size : length (records-of log′) ≡ 8 * n
     brought-size = let size = brings .size in length-drop 8 log′ ∙ omega arith
 
-    same-byte : (k : ℕ) → d * 8 ≤ k → k < n * 8 → getD (records-of log′) k 0 ≡ getD (take (8 * n) records) k 0
+    same-byte : (k : ℕ) → from * 8 ≤ k → k < n * 8 → getD (records-of log′) k 0 ≡ getD (take (8 * n) records) k 0
     same-byte k lo hi =
         getD-drop 8 log′ k 0 ∙ brings .same (8 + k) (omega arith) (omega arith) ∙ sym (getD-drop 8 log k 0) ∙
         sym (getD-take (8 * n) records k 0 (omega arith))
 
-    brought-agrees : Agrees closed (records-of log′) (first-records closed log n) d
+    brought-agrees : Agrees closed (records-of log′) (first-records closed log n) from
     brought-agrees =
         let size = brought-size in
         let first = first-size n (brings .within) in
@@ -159,7 +164,7 @@ module _ (rule log : List ℕ) (untouched : Untouched log) where
           size = omega arith;
           same =
               closings-agree false closed
-              (agree (records-of log′) (take (8 * n) records) d (first-records closed log n .size) (λ k lo hi. same-byte k lo (omega arith)));
+              (agree (records-of log′) (take (8 * n) records) from (first-records closed log n .size) (λ k lo hi. same-byte k lo (omega arith)));
         }
 
     -- refusal 12 is not met
@@ -210,13 +215,14 @@ module _ (rule log : List ℕ) (untouched : Untouched log) where
           (le-or-lt 1 (old .size))
 
       -- refusal 14 is not met
-      brought-ordered : disordered (records-of log′) (given p) (seen p) (last p) ≡ false
+      brought-ordered : disordered (records-of log′) (wanted (formulas-of rule) (given p)) (seen p) (last p) ≡ false
       brought-ordered =
           let agrees = brought-agrees in
           let counts = agrees .size in
           let same = own-given rule old d p fine stands in
-          ordered-iff (records-of log′) (given p) (seen p) (last p) .1 (
-            keeps-agreed (records-of log′) (take (8 * n) records) (given p) (first-falls false n) (le-of-eq counts)
+          let start = wanted (formulas-of rule) (given p) in
+          ordered-iff (records-of log′) start (seen p) (last p) .1 (
+            keeps-agreed (records-of log′) (take (8 * n) records) start (first-falls false n) (le-of-eq counts)
                 (λ i lo hi. let at = agrees .same i (omega arith) (omega arith) in record { time = at .time; letters = at .letters }),
             last-not-above,
           )
@@ -295,7 +301,7 @@ module _ (rule log : List ℕ) (untouched : Untouched log) where
   -- after an accepted call on the words p
   module _ (h : List Call) (point p : List ℕ) (before : Invariant h point) (lends : Lends point p)
       (closed : Bool) (n : ℕ) (log′ sheet : List ℕ) (c : ℕ) (more : Bool) (p′ sheet′ : List ℕ)
-      (brought : BringsAfter log h n log′) (resumes : Resumes closed rule log′ p sheet (Given c more) p′ sheet′) where
+      (brought : BringsAfter rule log h n log′) (resumes : Resumes closed rule log′ p sheet (Given c more) p′ sheet′) where
     accepted-whole : length point ≤ length p
     accepted-whole =
         let size = before .size in
@@ -371,6 +377,11 @@ module _ (rule log : List ℕ) (untouched : Untouched log) where
   invariant (opened lent p opens) = after-open lent p opens
   invariant (and-then {point = point} calls p p′ lends call) = after-call point p (invariant calls) lends call
 
+  -- a log of which no record is overwritten
+  brings-whole : (d n : ℕ) (log′ : List ℕ) → Brings log 0 n log′ → Brings log (wanted (formulas-of rule) d) n log′
+  brings-whole d n log′ brings =
+      record { size = brings .size; within = brings .within; header = brings .header; same = λ i lo hi. brings .same i (omega arith) hi }
+
   -- "One run is a carry on from a fresh point with a sheet of A bytes, and it writes just these."
   one-run-writes : (closed : Bool) (n : ℕ) (r : Resumed) (sheet′ : List ℕ) → OneRun closed rule log n r sheet′ →
       (r ≡ Given (answered closed rule log n) false) × (sheet′ ≡ all-verdicts closed rule log n)
@@ -378,7 +389,8 @@ module _ (rule log : List ℕ) (untouched : Untouched log) where
   one-run-writes closed n (Refused number) sheet′ run =
       let fine = opened-fine (run .lent) (run .fresh) (run .opens) in
       let stands = opened-stands (run .lent) (run .fresh) (run .opens) in
-      let number-is = number-met closed 0 n (run .brought) (run .brings) false 0 (run .fresh) (omega arith) fine stands in
+      let whole = brings-whole 0 n (run .brought) (run .brings) in
+      let number-is = number-met closed 0 n (run .brought) whole false 0 (run .fresh) (omega arith) fine stands in
       let none = fresh-allowed closed 0 n in
       let is = run .resumes .number in
       let some = run .resumes .words .0 in
@@ -388,9 +400,10 @@ module _ (rule log : List ℕ) (untouched : Untouched log) where
       let stands = opened-stands (run .lent) (run .fresh) (run .opens) in
       let fs = formulas-of rule in
       let all = answered closed rule log n in
-      let step = gives closed 0 n (run .brought) (run .brings) false 0 (run .fresh) (omega arith) fine stands (run .sheet) c more (run .left) sheet′ (run .resumes) in
+      let brings = brings-whole 0 n (run .brought) (run .brings) in
+      let step = gives closed 0 n (run .brought) brings false 0 (run .fresh) (omega arith) fine stands (run .sheet) c more (run .left) sheet′ (run .resumes) in
       let bytes =
-      gives-bytes closed 0 n (run .brought) (run .brings) false 0 (run .fresh) (omega arith) fine stands (run .sheet) c more (run .left) sheet′ (run .resumes) in
+      gives-bytes closed 0 n (run .brought) brings false 0 (run .fresh) (omega arith) fine stands (run .sheet) c more (run .left) sheet′ (run .resumes) in
       let count = step .count in
       let room = run .room in
       let kept = run .resumes .sheet-length in
@@ -407,7 +420,7 @@ own-summary : (rule : List ℕ) (K : Log) (d : ℕ) (p : List ℕ) → refusal r
 own-summary rule K d p fine stands =
     rw (
       open-enough rule (length p) fine (stands .enough),
-      not-foreign rule K d p fine stands,
+      stands .own,
       not-outside rule K d p fine stands,
     ) (ap told (stands .noes))
 

@@ -10,10 +10,12 @@ use lib.Seq.{drop-drop, drop-set-lt}
 use borrow.Author.Tests.{ne-eqb}
 use Rattle.mtl.specs.Formula.{Formula}
 use Rattle.mtl.specs.Log.{Log, NeverFalls}
+use Rattle.mtl.specs.Wanted.{wanted}
 use Rattle.mtl.proofs.Bounded.{le-or-lt}
 use Rattle.bits.specs.Packed.{zeros, last-zero}
 use Rattle.blocks.specs.Block.{word}
 use Rattle.blocks.specs.Step.{Agrees}
+use Rattle.engine.proofs.Uniform.{agrees-later}
 use Rattle.blocks.proofs.Words.{Store, put, stores, after, Inside, word-stores}
 use Rattle.monitor.specs.Checkpoint.{given, held-count, held-bits, no-count, after-latest}
 use Rattle.monitor.specs.Stands.{Top}
@@ -25,10 +27,6 @@ use Rattle.monitor.proofs.Held.{held-rest}
 use Rattle.monitor.proofs.Holding.{kept-same, kept-then}
 use Rattle.monitor.proofs.Noes.{noes, count-le, behind-none, noes-same, noes-behind, behind-behind, noes-of-bits, noes-bits, latest-end}
 use Rattle.monitor.proofs.Written.{byte-at, written, length-written, drop-written, written-before, written-at}
-
--- records that are a log's own from d on are its own from later on
-pub agrees-later : {closed : Bool} (s : List ℕ) (L : Log) (d d′ : ℕ) → d ≤ d′ → Agrees closed s L d → Agrees closed s L d′
-agrees-later s L d d′ later a = record { ends = a .ends; size = a .size; same = λ i low high. a .same i (omega arith) high }
 
 -- what is held is not counted yet
 pub noes-held : {t s : List ℕ} {closed : Bool} {k : ℕ} {ws : List ℕ} {r : Bool} {ws′ : List ℕ} → Holds t s closed k ws r ws′ → stored-noes ws′ ≡ stored-noes ws
@@ -45,7 +43,7 @@ pub record Going (t s : List ℕ) (closed : Bool) (k : ℕ) (ws sheet : List ℕ
   pub header : (i : ℕ) → i < 8 → (i ≡ 1 → ⊥) → (i ≡ 4 → ⊥) → (i ≡ 5 → ⊥) → word ws′ i ≡ word ws i
   pub noes : stored-noes ws′ ≡ laid-behind (stored-noes ws) (given ws) (noes-in sheet′ done)
   pub kept : KeptBlocks t k ws ws′
-  pub meaning : (fs : List Formula) (L : Log) (d : ℕ) → Tops fs t k → NeverFalls L → Agrees closed s L d → Top fs L d ws →
+  pub meaning : (fs : List Formula) (L : Log) (d : ℕ) → Tops fs t k → NeverFalls L → Agrees closed s L (wanted fs d) → Top fs L d ws →
       Giving fs L d done ws′ sheet′
 
 pub going-none : (t s : List ℕ) (closed : Bool) (k : ℕ) (ws sheet : List ℕ) → Going t s closed k ws sheet 0 ws sheet
@@ -168,7 +166,7 @@ module _ {t s : List ℕ} {closed : Bool} {k : ℕ} {ws sheet : List ℕ} {done 
         meaning = λ fs L d tops never agrees top.
             let so-far = going .meaning fs L d tops never agrees top in
             let next =
-            held .meaning fs L (d + done) tops never (agrees-later s L d (d + done) (omega arith) agrees) (so-far .top) in
+            held .meaning fs L (d + done) tops never (agrees-later agrees (omega arith)) (so-far .top) in
             let place : d + done + n ≡ d + (done + n) = omega arith in
             record {
               top = rw place at (top-spent n ws₂ wide fs L (d + done) some next);
@@ -199,7 +197,7 @@ module _ {t s : List ℕ} {closed : Bool} {k : ℕ} {ws sheet : List ℕ} {done 
         meaning = λ fs L d tops never agrees top.
             let so-far = going .meaning fs L d tops never agrees top in
             let (next, is-open) =
-            held .meaning fs L (d + done) tops never (agrees-later s L d (d + done) (omega arith) agrees) (so-far .top) in
+            held .meaning fs L (d + done) tops never (agrees-later agrees (omega arith)) (so-far .top) in
             (record { top = next; bytes = so-far .bytes }, λ below. is-open);
       }
 

@@ -11,6 +11,7 @@ use lib.ListN.{length, take, drop, set, length-append, length-drop, length-set, 
 use lib.Seq.{length-take-le, drop-set-lt, getD-take, getD-set-same, getD-set-other}
 use Rattle.mtl.specs.Formula.{Formula}
 use Rattle.mtl.specs.Log.{Log}
+use Rattle.mtl.specs.Wanted.{deepest, wanted}
 use Rattle.mtl.proofs.Bounded.{le-or-lt}
 use Rattle.mtl.proofs.Joint.{joint-one, joint-none}
 use Rattle.trace.specs.Format.{record-count}
@@ -18,8 +19,10 @@ use Rattle.blocks.specs.Block.{word}
 use Rattle.engine.specs.State.{State}
 use Rattle.blocks.specs.Step.{Agrees}
 use Rattle.engine.specs.Table.{Has}
+use Rattle.engine.specs.Answer.{first-read}
 use Rattle.engine.specs.Ask.{part, back, stored, Asks}
 use Rattle.engine.proofs.Parts.{part-end, drop-back-last}
+use Rattle.engine.proofs.Uniform.{agrees-later}
 use Rattle.engine.proofs.Kept.{kept-refl, kept-trans}
 use Rattle.blocks.proofs.Words.{put, after, word-stores}
 use Rattle.monitor.specs.Checkpoint.{given, held-count, held-bits}
@@ -100,6 +103,11 @@ one-top P t n some [] none f = absurd (omega arith)
 one-top P t n some (φ ∷ []) (there, has) f = f φ has
 one-top P t n some (φ ∷ (ψ ∷ fs)) several f = absurd several
 
+-- what its entries may read is wanted
+reads-wanted : (φ : Formula) (d : ℕ) → wanted (φ ∷ []) d ≤ first-read φ d
+unfolding deepest
+reads-wanted φ d = omega arith
+
 -- what asking the last entry does to the header
 pub asked-holds : (t s : List ℕ) (closed : Bool) (n : ℕ) (ws : List ℕ) (r : Bool) (ws′ : List ℕ) → 16 ≤ length ws → 0 < n → held-count ws ≡ 0 →
     Asks t s closed (n - 1) 16 (length ws) 4 ws r ws′ → Holds t s closed n ws r ws′
@@ -111,12 +119,12 @@ asked-holds t s closed n ws true ws′ room entries empty (ys, kept, keeps, (bit
       kept = λ there. rw (drop-filled ws ys room kept bits count, ← part-end 16 (length ws) ws refl) keeps;
       some = λ e. omega (arith, count-filled ws ys room kept bits count);
       none = λ e. let z : _≡_ {A = ℕ} 0 1 = cc in absurd (omega arith);
-      meaning = λ fs L d tops never agrees.
-          one-top (λ gs. Top gs L d ws → Top gs L d (filled ws ys room kept bits count)) t n entries fs tops
-          (λ φ has top.
+      meaning = λ fs L d tops never.
+          one-top (λ gs. Agrees closed s L (wanted gs d) → Top gs L d ws → Top gs L d (filled ws ys room kept bits count)) t n entries fs tops
+          (λ φ has agrees top.
           let place : d + held-count ws ≡ d = omega arith in
           let at : State φ L d (part 16 (length ws) ws) = rw (part-end 16 (length ws) ws refl) (rw place at (top .state)) in
-          let (gives, next) = means φ L d has never agrees at in
+          let (gives, next) = means φ L d has never (agrees-later agrees (reads-wanted φ d)) at in
           record {
             at = header-filled ws ys room kept bits count 1 (omega arith) (λ e. omega arith) (λ e. omega arith) ∙ top .at;
             held = rw (count-filled ws ys room kept bits count, bits-filled ws ys room kept bits count) (held-one φ L d count bits (gives .buffer));
@@ -131,12 +139,12 @@ asked-holds t s closed n ws false ws′ room entries empty (ys, kept, keeps, (is
       kept = λ there. rw (drop-asked ws ys room kept, ← part-end 16 (length ws) ws refl) keeps;
       some = λ e. let z : _≡_ {A = ℕ} 0 1 = cc in absurd (omega arith);
       none = λ e. header-asked ws ys room kept 4 (omega arith) ∙ empty;
-      meaning = λ fs L d tops never agrees.
-          one-top (λ gs. Top gs L d ws → Holding gs L d false (asked ws ys room kept)) t n entries fs tops
-          (λ φ has top.
+      meaning = λ fs L d tops never.
+          one-top (λ gs. Agrees closed s L (wanted gs d) → Top gs L d ws → Holding gs L d false (asked ws ys room kept)) t n entries fs tops
+          (λ φ has agrees top.
           let place : d + held-count ws ≡ d = omega arith in
           let at : State φ L d (part 16 (length ws) ws) = rw (part-end 16 (length ws) ws refl) (rw place at (top .state)) in
-          let (is-open, next) = means φ L d has never agrees at in
+          let (is-open, next) = means φ L d has never (agrees-later agrees (reads-wanted φ d)) at in
           let none : held-count (back 16 (length ws) ys ws) ≡ 0 = header-asked ws ys room kept 4 (omega arith) ∙ empty in
           let all = joint-one φ L ∙ is-open in
           let still : d + 0 ≡ d = omega arith in (
@@ -163,13 +171,13 @@ module _ (s ws : List ℕ) (room : 16 ≤ length ws) where
   word-yes : (i : ℕ) → word (all-yes s ws) i ≡ after (put 4 count-of ∷ put 5 (2 ^ 64 - 1) ∷ []) (word ws) i
   word-yes = word-stores (put 4 count-of ∷ put 5 (2 ^ 64 - 1) ∷ []) ws (omega arith) room
 
-  top-yes : {closed : Bool} (L : Log) (d : ℕ) → Agrees closed s L d → Top [] L d ws → Top [] L d (all-yes s ws)
-  top-yes L d agrees top =
+  top-yes : (L : Log) (d : ℕ) → record-count s ≡ L .size → Top [] L d ws → Top [] L d (all-yes s ws)
+  top-yes L d size top =
       let within = top .held .within in
       let all = joint-none L in
       record {
         at = word-yes 1 ∙ top .at;
-        held = rw (word-yes 4, word-yes 5, agrees .size, top .at) (held-yes L d (omega arith));
+        held = rw (word-yes 4, word-yes 5, size, top .at) (held-yes L d (omega arith));
         state = tt;
       }
 
@@ -192,15 +200,14 @@ yes-holds t s closed n ws r room none is =
       some = λ e. omega (arith, word-yes s ws room 4, ltb-true (given ws) (record-count s) (sym is ∙ e));
       none = λ e. omega (arith, word-yes s ws room 4, ltb-false (given ws) (record-count s) (sym is ∙ e));
       meaning = λ fs L d tops never agrees.
-          no-top (λ gs. Top gs L d ws → Holding gs L d r (all-yes s ws)) t n none fs tops (holding r is L d agrees);
+          no-top (λ gs. Top gs L d ws → Holding gs L d r (all-yes s ws)) t n none fs tops (holding r is L d (agrees .size));
     }
   where
-    holding : (r : Bool) → r ≡ ltb (given ws) (record-count s) → (L : Log) (d : ℕ) → Agrees closed s L d → Top [] L d ws → Holding [] L d r (all-yes s ws)
-    holding true is L d agrees top = top-yes s ws room L d agrees top
-    holding false is L d agrees top =
+    holding : (r : Bool) → r ≡ ltb (given ws) (record-count s) → (L : Log) (d : ℕ) → record-count s ≡ L .size → Top [] L d ws → Holding [] L d r (all-yes s ws)
+    holding true is L d size top = top-yes s ws room L d size top
+    holding false is L d size top =
         let over = ltb-false (given ws) (record-count s) (sym is) in
-        let size = agrees .size in
         let at = top .at in
         let within = top .held .within in
         let all = joint-none L in
-        (top-yes s ws room L d agrees top, omega arith)
+        (top-yes s ws room L d size top, omega arith)

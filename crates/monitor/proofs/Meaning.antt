@@ -12,6 +12,7 @@ use Rattle.bits.specs.Packed.{number}
 use Rattle.rule.specs.Entries.{count, decoded}
 use Rattle.rule.specs.Postfix.{formulas-or}
 use Rattle.rule.specs.Refusal.{refusal}
+use Rattle.rule.specs.Postfix.{formulas-or}
 use Rattle.rule.specs.Accepted.{Whole}
 use Rattle.rule.proofs.Acceptance.{accepted}
 use Rattle.monitor.specs.Verdicts.{formulas-of, byte-of, verdict}

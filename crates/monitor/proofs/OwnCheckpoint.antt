@@ -87,7 +87,7 @@ module _ (rule : List ℕ) (K : Log) (d : ℕ) (p : List ℕ) (fine : refusal ru
         le-leb (word b 0) (seen p) (omega (arith, same-word j 0 h (omega arith))),
         le-leb (word b 1) 64 (omega (arith, same-word j 1 h (omega arith))),
         le-leb (word b 3) 64 (omega (arith, same-word j 3 h (omega arith))),
-        le-leb (word b 5) (word b 0) (omega (arith, same-word j 0 h (omega arith), same-word j 5 h (omega arith))),
+        le-leb (word b 5) (seen p) (omega (arith, same-word j 5 h (omega arith))),
         le-leb (word b 6) 1 (omega (arith, same-word j 6 h (omega arith))),
         le-leb (word b 7) 1 (omega (arith, same-word j 7 h (omega arith))),
         lt-ltb (word b 8) (2 ^ 32) (omega (arith, same-word j 8 h (omega arith))),

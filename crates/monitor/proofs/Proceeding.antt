@@ -23,6 +23,7 @@ use Rattle.blocks.specs.Block.{word}
 use Rattle.blocks.proofs.Words.{Store, put, stores, after, word-stores}
 use Rattle.engine.specs.Layout.{Laid}
 use Rattle.engine.specs.State.{words as words-of}
+use Rattle.engine.proofs.Uniform.{agrees-later}
 use Rattle.engine.proofs.Rows.{rows-ok, has-at, column-is-part}
 use Rattle.engine.proofs.Entries.{rule-size, rule-kept}
 use Rattle.monitor.specs.Stands.{Top}
@@ -30,7 +31,7 @@ use Rattle.monitor.specs.Summary.{stored-noes}
 use Rattle.monitor.specs.Code.{Fits, Tops, KeptBlocks, Holding, Holds, Gave, Ready, KeptEntries, Proceeded}
 use Rattle.monitor.proofs.Offsets.{in-block}
 use Rattle.monitor.proofs.Holding.{kept-same, kept-then}
-use Rattle.monitor.proofs.Giving.{agrees-later, noes-held}
+use Rattle.monitor.proofs.Giving.{noes-held}
 
 -- the table of an accepted rule's entries
 pub record Tabled (t : List Entry) (table : List ℕ) (n : ℕ) : Type 0 where
@@ -168,8 +169,7 @@ proceeded t table s closed k ws sheet c ws₁ sheet₁ more ws₂ time size ende
       meaning = λ fs L d whole never agrees top.
           let tops = tab .tops fs whole in
           let (giving, short) = gave .meaning fs L d tops never agrees top in
-          let later = agrees-later s L d (d + c) (omega arith) agrees in
-          let after = held .meaning fs L (d + c) tops never later (giving .top) in
+          let after = held .meaning fs L (d + c) tops never (agrees-later agrees (omega arith)) (giving .top) in
           let n = counted fs L d c (length sheet) more ws₂ (gave .room) short (held .some) after in (
             record { top = top-noted time size ended ws₂ wide fs L (d + c) (n .top); bytes = giving .bytes },
             n .count,

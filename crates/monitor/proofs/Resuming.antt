@@ -14,6 +14,7 @@ use lib.Seq.{length-take-le, take-at, drop-at, getD-take}
 use Rattle.mtl.specs.Formula.{Formula}
 use Rattle.mtl.specs.Log.{Log, NeverFalls, Continues}
 use Rattle.mtl.specs.Satisfaction.{any}
+use Rattle.mtl.specs.Wanted.{wanted}
 use Rattle.mtl.proofs.Bounded.{and-iff, leb-iff, le-or-lt}
 use Rattle.mtl.proofs.Joint.{joint-le-size}
 use Rattle.rule.specs.declared.Entry.{Entry}
@@ -143,7 +144,7 @@ cond-same true x y e = refl
 cond-same false x y e = e refl
 
 -- the last time seen, once the lent records are seen
-module _ {closed : Bool} (s : List ℕ) (K L : Log) (d : ℕ) (longer : Continues K L) (agrees : Agrees closed s L d) (given : d ≤ K .size) where
+module _ {closed : Bool} (s : List ℕ) (K L : Log) (first : ℕ) (longer : Continues K L) (agrees : Agrees closed s L first) (given : first ≤ K .size) where
   time-new : K .size < record-count s → last-time s (K .size) (last-of K) ≡ last-of L
   time-new new =
       let size = agrees .size in
@@ -196,17 +197,18 @@ module _ (closing : Bool) (rule log p sheet : List ℕ) (ok : refusal rule ≡ 0
   noes-now : stored-noes (ws′ ++ drop (need rule) p) ≡ laid-behind (stored-noes p) (given p) (noes-in sheet′ c)
   noes-now = rw (now 8 (omega arith), now 9 (omega arith), ← was 1 (omega arith), ← was 8 (omega arith), ← was 9 (omega arith)) (done .noes)
 
-  stands-now : (K L : Log) (d : ℕ) → Stands rule K d p → Continues K L → NeverFalls L → Agrees closing (records-of log) L d →
+  stands-now : (K L : Log) (d : ℕ) → Stands rule K d p → Continues K L → NeverFalls L → Agrees closing (records-of log) L (wanted (formulas-of rule) d) →
       Giving (formulas-of rule) L d c ws′ sheet′ → Stands rule L (d + c) (ws′ ++ drop (need rule) p)
   stands-now K L d stands longer never agrees giving =
       let fs = formulas-of rule in
       let within = stands .top .held .within in
-      let reached : d ≤ K .size = omega (arith, joint-le-size fs K) in
+      let first = wanted fs d in
+      let reached : first ≤ K .size = omega (arith, joint-le-size fs K) in
       let at-d : given p ≡ d = sym (was 1 (omega arith)) ∙ stands .top .at in
       let stay = ap (λ (vs : List ℕ). noes-in vs d) (verdicts-stay fs K L longer never d (omega arith)) in
       let before : last-time (records-of log) (seen (take (need rule) p)) (last (take (need rule) p)) ≡ last-of L =
       rw (was 2 (omega arith), was 3 (omega arith), stands .size, stands .time)
-      (time-seen (records-of log) K L d longer agrees reached) in
+      (time-seen (records-of log) K L first longer agrees reached) in
       record {
         enough = omega (arith, length-now);
         own = foreign-now ∙ stands .own;

@@ -96,25 +96,26 @@ calls-before (and-then calls p p′ lends (accepted-call false n log′ sheet c 
 open-before : (h : List Call) → closed-by (before-closing h) ≡ false
 unfolding before-closing closed-by
 open-before [] = refl
-open-before (c ∷ older) = by (c .closing) refl
+open-before (c ∷ older) = by (c .closing) refl (open-before older)
   where
-    by : (b : Bool) → c .closing ≡ b → closed-by (cond b (before-closing older) (c ∷ older)) ≡ false
-    by true e = open-before older
-    by false e = e
+    by : (b : Bool) → c .closing ≡ b → closed-by (before-closing older) ≡ false → closed-by (cond b (before-closing older) (c ∷ older)) ≡ false
+    by true e older-open = older-open
+    by false e older-open = e
 
 -- their bytes are the first
 laid-before : (h : List Call) (i : ℕ) → i < length (laid (before-closing h)) →
     (i < length (laid h)) × (getD (laid h) i 0 ≡ getD (laid (before-closing h)) i 0)
 unfolding before-closing laid
 laid-before [] i l = (l, refl)
-laid-before (c ∷ older) i l = by (c .closing) l
+laid-before (c ∷ older) i l = by (c .closing) l (laid-before older i)
   where
     by : (b : Bool) → i < length (laid (cond b (before-closing older) (c ∷ older))) →
+        (i < length (laid (before-closing older)) → (i < length (laid older)) × (getD (laid older) i 0 ≡ getD (laid (before-closing older)) i 0)) →
         (i < length (laid older ++ c .bytes)) × (getD (laid older ++ c .bytes) i 0 ≡ getD (laid (cond b (before-closing older) (c ∷ older))) i 0)
-    by true l =
-        let (there, same) = laid-before older i l in
+    by true l earlier =
+        let (there, same) = earlier l in
         (omega (arith, length-append (laid older) (c .bytes)), List·getD-append (laid older) (c .bytes) 0 i there ∙ same)
-    by false l = (l, refl)
+    by false l earlier = (l, refl)
 
 module _ (rule log : List ℕ) (untouched : Untouched log) (h : List Call) (point : List ℕ) (calls : Calls rule log h point) where
   early-says : (Holds : Formula → Type 0) (i : ℕ) (l : i < length (laid (before-closing h))) →

@@ -10,6 +10,7 @@ use lib.ListN.{length, getD, take, drop}
 use lib.Dec.{ltb}
 use Rattle.mtl.specs.Formula.{Formula}
 use Rattle.mtl.specs.Log.{Log, Stream, NeverFalls, StreamNeverFalls, Continues, Begins}
+use Rattle.mtl.specs.Wanted.{wanted}
 use Rattle.mtl.specs.Reading.{HoldsIn, HoldsOn}
 use Rattle.trace.specs.Format.{record-count, records-of, malformed}
 use Rattle.trace.specs.Log.{log-of}
@@ -76,18 +77,18 @@ unfoldable pub laid : List Call → List ℕ
 laid [] = []
 laid (c ∷ older) = laid older ++ c .bytes
 
--- "it brings .. this header and the records from the first on .. A record has a verdict if its position is below d. Such a
--- record may hold any bytes; the others stand as in the untouched log."
-pub record Brings (log : List ℕ) (d n : ℕ) (log′ : List ℕ) : Type 0 where
+-- "it brings .. this header and the records from the first on"; "Overwriting is .. allowed only for records before the first still
+-- wanted" (document 02, paper 2). "Such a record may hold any bytes; the others stand as in the untouched log."
+pub record Brings (log : List ℕ) (first n : ℕ) (log′ : List ℕ) : Type 0 where
   pub size : length log′ ≡ 8 + 8 * n
   pub within : n ≤ record-count (records-of log)
   pub header : take 8 log′ ≡ take 8 log
-  pub same : (i : ℕ) → 8 + 8 * d ≤ i → i < 8 + 8 * n → getD log′ i 0 ≡ getD log i 0
+  pub same : (i : ℕ) → 8 + 8 * first ≤ i → i < 8 + 8 * n → getD log′ i 0 ≡ getD log i 0
 
 -- after the accepted calls h, "no fewer than the accepted call before it brought"
-pub record BringsAfter (log : List ℕ) (h : List Call) (n : ℕ) (log′ : List ℕ) : Type 0 where
+pub record BringsAfter (rule log : List ℕ) (h : List Call) (n : ℕ) (log′ : List ℕ) : Type 0 where
   pub no-fewer : brought-by h ≤ n
-  pub brings : Brings log (given-by h) n log′
+  pub brings : Brings log (wanted (formulas-of rule) (given-by h)) n log′
 
 -- "Each gets the point as the call before left it": the words p that a call lends are the point's as far as both go. Behind the
 -- point any words may stand; if they are fewer than the point's, they are the first of them.
@@ -105,7 +106,7 @@ pub data OneCall (rule log : List ℕ) (h : List Call) (p : List ℕ) : List Cal
       Resumes closing rule′ log′ p sheet (Refused n) p′ sheet′ → OneCall rule log h p h p′
   -- "or it brings the rule, this header and the records"
   accepted : (closing : Bool) (n : ℕ) (log′ sheet : List ℕ) (c : ℕ) (more : Bool) (p′ sheet′ : List ℕ) →
-      BringsAfter log h n log′ → Resumes closing rule log′ p sheet (Given c more) p′ sheet′ →
+      BringsAfter rule log h n log′ → Resumes closing rule log′ p sheet (Given c more) p′ sheet′ →
       OneCall rule log h p (the-call closing n sheet c more sheet′ ∷ h) p′
 
 -- a list of calls: its accepted calls, the latest first, and the point, as many words as weigh gave, as its last call left it
@@ -193,7 +194,7 @@ pub record Demand3 (rule log : List ℕ) (h : List Call) (point : List ℕ) : Ty
   pub each : Each rule log h
   -- 4. "A call that brings rule and log in this way is not refused." but with 20 or 21, the point being whole in the words that it lends
   pub not-refused : (p : List ℕ) → Lends point p → length point ≤ length p →
-      (closing : Bool) (n : ℕ) (log′ sheet : List ℕ) → BringsAfter log h n log′ →
+      (closing : Bool) (n : ℕ) (log′ sheet : List ℕ) → BringsAfter rule log h n log′ →
       (r : Resumed) (p′ sheet′ : List ℕ) → Resumes closing rule log′ p sheet r p′ sheet′ →
       resumed-number r ≡ expected-refusal closing (closed-by h) (closed-at h) n
   -- with fewer words it meets 9, whatever they, the log and the sheet hold

@@ -74,7 +74,7 @@ room at count total = leb count total && leb at (total - count)
 -- the words of one block lie in their ranges
 abbrev pub block-in-range : (size cells : ℕ) → List ℕ → Bool
 block-in-range size cells b =
-    leb (word b 0) size && leb (word b 1) 64 && leb (word b 3) 64 && leb (word b 5) (word b 0)
+    leb (word b 0) size && leb (word b 1) 64 && leb (word b 3) 64 && leb (word b 5) size
     && leb (word b 6) 1 && leb (word b 7) 1 && ltb (word b 8) (2 ^ 32)
     && leb (word b 9) cells && leb (word b 10) cells
 

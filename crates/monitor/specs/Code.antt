@@ -8,6 +8,7 @@ use lib.Dec.{eqb, ltb}
 use Rattle.mtl.specs.Formula.{Formula}
 use Rattle.mtl.specs.Log.{Log, NeverFalls}
 use Rattle.mtl.specs.Progress.{joint-progress}
+use Rattle.mtl.specs.Wanted.{wanted}
 use Rattle.bits.specs.Packed.{zeros, last-zero}
 use Rattle.rule.specs.declared.Entry.{Entry}
 use Rattle.rule.specs.declared.Measured.{Measured}
@@ -100,7 +101,7 @@ pub record Holds (t s : List ℕ) (closed : Bool) (n : ℕ) (ws : List ℕ) (r :
   pub kept : KeptBlocks t n ws ws′
   pub some : r ≡ true → 0 < held-count ws′
   pub none : r ≡ false → held-count ws′ ≡ 0
-  pub meaning : (fs : List Formula) (L : Log) (d : ℕ) → Tops fs t n → NeverFalls L → Agrees closed s L d → Top fs L d ws →
+  pub meaning : (fs : List Formula) (L : Log) (d : ℕ) → Tops fs t n → NeverFalls L → Agrees closed s L (wanted fs d) → Top fs L d ws →
       Holding fs L d r ws′
 
 -- the copies of the first n entries, written into their blocks
@@ -131,7 +132,7 @@ pub record Gave (t s : List ℕ) (closed : Bool) (n : ℕ) (ws sheet : List ℕ)
   pub header : (i : ℕ) → i < 8 → (i ≡ 1 → ⊥) → (i ≡ 4 → ⊥) → (i ≡ 5 → ⊥) → word ws′ i ≡ word ws i
   pub noes : stored-noes ws′ ≡ laid-behind (stored-noes ws) (given ws) (noes-in sheet′ c)
   pub kept : KeptBlocks t n ws ws′
-  pub meaning : (fs : List Formula) (L : Log) (d : ℕ) → Tops fs t n → NeverFalls L → Agrees closed s L d → Top fs L d ws →
+  pub meaning : (fs : List Formula) (L : Log) (d : ℕ) → Tops fs t n → NeverFalls L → Agrees closed s L (wanted fs d) → Top fs L d ws →
       Giving fs L d c ws′ sheet′ × (c < length sheet → joint-progress fs L ≡ d + c)
 
 -- the decoded entries of an accepted rule
@@ -160,7 +161,7 @@ pub record Proceeded (closed : Bool) (t : List Entry) (n : ℕ) (s ws sheet : Li
   pub noes : stored-noes ws′ ≡ laid-behind (stored-noes ws) (given ws) (noes-in sheet′ c)
   pub entries : word ws′ 6 ≡ word ws 6
   pub kept : KeptEntries t n ws ws′
-  pub meaning : (fs : List Formula) (L : Log) (d : ℕ) → Whole t n fs → NeverFalls L → Agrees closed s L d → Top fs L d ws →
+  pub meaning : (fs : List Formula) (L : Log) (d : ℕ) → Whole t n fs → NeverFalls L → Agrees closed s L (wanted fs d) → Top fs L d ws →
       Giving fs L d c ws′ sheet′ × (c ≡ min (joint-progress fs L - d) (length sheet)) ×
       (more ≡ ltb (d + c) (joint-progress fs L))
 

@@ -1,4 +1,4 @@
--- Document 01's "Worked by hand", and an empty rule's cases: one table, from the bytes of rules and logs to numbers, verdicts and refusals, proved by computation;
+-- Document 01's "Worked by hand", and cases of document 02's requests: one table, from the bytes of rules and logs to numbers, verdicts and refusals, proved by computation;
 -- and the count of no after calls of that table.
 use Prim.Native.Nat.{ℕ, suc, _+_, _/_, _%_, _^_}
 use mathlib.Core.Bool.{Bool, true, false, cond, _&&_}
@@ -11,6 +11,7 @@ use lib.ListN.{length, take, drop, replicate}
 use Rattle.mtl.specs.Formula.{has-next, reach}
 use Rattle.mtl.specs.Satisfaction.{any, all, sat}
 use Rattle.mtl.specs.Progress.{run, progress, settled-to, joint-progress}
+use Rattle.mtl.specs.Wanted.{depth, deepest, wanted}
 use Rattle.rule.specs.Entries.{first-entries}
 use Rattle.rule.specs.Words.{offset}
 use Rattle.rule.specs.Postfix.{push-kind, read}
@@ -21,7 +22,7 @@ use Rattle.trace.specs.Order.{last-time}
 use Rattle.monitor.specs.Refusal.{log-refusal}
 use Rattle.monitor.specs.Summary.{Noes, noes-in, laid-behind}
 use Rattle.monitor.specs.Tally.{count-of, latest-no}
-use Rattle.monitor.specs.Verdicts.{byte-of, verdicts, answered, all-verdicts}
+use Rattle.monitor.specs.Verdicts.{formulas-of, byte-of, verdicts, answered, all-verdicts}
 
 -- BYTES
 
@@ -154,25 +155,6 @@ after r untouched brought answered verdicts =
       more = false;
     }
 
--- a rule that is refused with this number
-abbrev refused : (rule : List ℕ) (number : ℕ) → Row
-refused rule number =
-    record {
-      rule = rule;
-      untouched = log [];
-      brought = log [];
-      given = 0;
-      seen = 0;
-      last = 0;
-      room = 8191;
-      number = number;
-      words = 0;
-      reach = 0;
-      answered = 0;
-      verdicts = [];
-      more = false;
-    }
-
 -- the call is refused with this number instead
 abbrev stopped : Row → (number : ℕ) → Row
 stopped r number =
@@ -192,6 +174,25 @@ stopped r number =
       more = false;
     }
 
+-- a rule that is refused with this number
+abbrev refused : (rule : List ℕ) (number : ℕ) → Row
+refused rule number =
+    record {
+      rule = rule;
+      untouched = log [];
+      brought = log [];
+      given = 0;
+      seen = 0;
+      last = 0;
+      room = 8191;
+      number = number;
+      words = 0;
+      reach = 0;
+      answered = 0;
+      verdicts = [];
+      more = false;
+    }
+
 -- two lists of bytes are the same
 unfoldable pub same : List ℕ → List ℕ → Bool
 same [] [] = true
@@ -199,11 +200,12 @@ same [] (y ∷ ys) = false
 same (x ∷ xs) [] = false
 same (x ∷ xs) (y ∷ ys) = eqb x y && same xs ys
 
--- the number with which the call stops, a resume or a closing, on a checkpoint with this word of its first closing, and what weighing
--- gives
+-- the number with which the call stops, a resume or a closing, on a checkpoint with this word of its first closing, 14 from the first
+-- record still wanted on, and what weighing gives
 unfoldable pub computes-refusal : (closing : Bool) (closed-with : ℕ) → Row → Bool
 computes-refusal closing closed-with r =
-    eqb (before (refusal (r .rule)) (log-refusal closing (r .brought) (r .given) (r .seen) (r .last) closed-with)) (r .number)
+    let from = wanted (formulas-of (r .rule)) (r .given) in
+    eqb (before (refusal (r .rule)) (log-refusal closing (r .brought) from (r .seen) (r .last) closed-with)) (r .number)
     && (eqb (measured (r .rule) .words) (r .words) && eqb (measured (r .rule) .reach) (r .reach))
 
 -- two answers are the same
@@ -265,6 +267,26 @@ records-20 = at 5 (0 ∷ []) ++ at 5 [] ++ at 7 []
 abbrev call-20 : Row
 call-20 = on-short (on-fresh (rule 1 0 []) (log records-20) 16 0 3 []) 2 (yes ∷ yes ∷ [])
 
+-- P4's call, and the next one, which adds (6, none) and brings the first three records as `kept`
+abbrev records-4 : List ℕ
+records-4 = at 5 (0 ∷ []) ++ at 5 [] ++ at 6 (0 ∷ [])
+
+abbrev call-4 : Row
+call-4 = on-fresh (rule 1 2 (letter 0 ++ previous 0 0)) (log records-4) 48 0 3 (no ∷ yes ∷ no ∷ [])
+
+abbrev after-4 : List ℕ → Row
+after-4 kept = after call-4 (log (records-4 ++ at 6 [])) (log (kept ++ at 6 [])) 4 (yes ∷ [])
+
+-- previous 0 to 9 of P1's until, over P7's two records, and over these and two more
+abbrev records-23 : List ℕ
+records-23 = at 10 (0 ∷ []) ++ at 12 (0 ∷ [])
+
+abbrev more-23 : List ℕ
+more-23 = records-23 ++ at 12 (1 ∷ []) ++ at 12 (0 ∷ [])
+
+abbrev call-23 : Row
+call-23 = on-fresh (rule 1 4 (letter 0 ++ letter 1 ++ until 0 2 ++ previous 0 9)) (log records-23) 86 2 1 (no ∷ [])
+
 unfoldable pub rows : List Row
 rows =
     -- 1: P1 The run above.
@@ -275,7 +297,7 @@ rows =
     ∷ on-fresh (rule 1 3 (letter 0 ++ letter 1 ++ since 1 no-end))
     (log (at 5 (1 ∷ []) ++ at 5 (0 ∷ []) ++ at 6 (0 ∷ []) ++ at 7 [])) 65 0 4 (no ∷ no ∷ yes ∷ no ∷ [])
     -- 4: P4 Previous 0 to 0 of letter 0 over (5, 0) (5, none) (6, 0): no, yes, no.
-    ∷ on-fresh (rule 1 2 (letter 0 ++ previous 0 0)) (log (at 5 (0 ∷ []) ++ at 5 [] ++ at 6 (0 ∷ []))) 48 0 3 (no ∷ yes ∷ no ∷ [])
+    ∷ call-4
     -- 5: P5 Next 1 to 1 of letter 0 over (5, none) (6, 0) (8, 0): yes, no, and position 2 open.
     ∷ on-fresh (rule 1 2 (letter 0 ++ next 1 1)) (log (at 5 [] ++ at 6 (0 ∷ []) ++ at 8 (0 ∷ []))) 48 no-end 2 (yes ∷ no ∷ [])
     -- 6: P6 Not of P1's rule over (10, 0): no verdict.
@@ -309,12 +331,19 @@ rows =
     ∷ after call-20 (log records-20) (log (replicate 16 255 ++ at 7 [])) 3 (yes ∷ [])
     -- 22: a count of 0 with a length of 18 is refusal 4
     ∷ refused (rule 1 0 (letter 0)) 4
+    -- 23 and 24: request 2: previous 0 to 9 of P1's until over (10, 0) (12, 0): the until is open, previous says no at 0; with (12, 1)
+    -- (12, 0) added the until is open at 3 alone: yes, yes, yes
+    ∷ call-23
+    ∷ after call-23 (log more-23) (log more-23) 4 (yes ∷ yes ∷ yes ∷ [])
+    -- 25 and 26: after P4 record 2 is still wanted. With records 0 and 1 set to all ones: yes; with record 2, too: refusal 14
+    ∷ after-4 (replicate 16 255 ++ at 6 (0 ∷ []))
+    ∷ stopped (after-4 (replicate 24 255)) 14
     ∷ []
 
 -- every row computes; an edit of the definitions that breaks a row has its number in an error
 pub every-row : Right 1 rows
-unfolding Right wrong rows computes computes-refusal computes-verdicts same event-set first-entries offset push-kind read header-refusal entries-refusal has-next reach any all sat run progress settled-to farthest joint-progress byte-of verdicts
-every-row = (refl, (refl, (refl, (refl, (refl, (refl, (refl, (refl, (refl, (refl, (refl, (refl, (refl, (refl, (refl, (refl, (refl, (refl, (refl, (refl, (refl, (refl, tt))))))))))))))))))))))
+unfolding Right wrong rows computes computes-refusal computes-verdicts same event-set first-entries offset push-kind read header-refusal entries-refusal has-next reach any all sat run progress settled-to farthest depth deepest joint-progress byte-of verdicts
+every-row = (refl, (refl, (refl, (refl, (refl, (refl, (refl, (refl, (refl, (refl, (refl, (refl, (refl, (refl, (refl, (refl, (refl, (refl, (refl, (refl, (refl, (refl, (refl, (refl, (refl, (refl, tt))))))))))))))))))))))))))
 
 -- CLOSINGS: document 02, paper 9
 
@@ -381,7 +410,7 @@ closing-rows =
     ∷ []
 
 pub every-closing : AllClose 1 closing-rows
-unfolding AllClose closing-rows computes computes-refusal computes-verdicts same event-set first-entries offset push-kind read header-refusal entries-refusal has-next reach any all sat run progress settled-to farthest joint-progress byte-of verdicts
+unfolding AllClose closing-rows computes computes-refusal computes-verdicts same event-set first-entries offset push-kind read header-refusal entries-refusal has-next reach any all sat run progress settled-to farthest depth deepest joint-progress byte-of verdicts
 every-closing = (refl, (refl, (refl, (refl, (refl, (refl, (refl, (refl, (refl, (refl, (refl, (refl, tt))))))))))))
 
 -- THE COUNT OF NO

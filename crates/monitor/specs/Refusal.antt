@@ -5,8 +5,10 @@ use mathlib.Core.Bool.{not as negate}
 use mathlib.Core.List.{List}
 use lib.ListN.{length}
 use lib.Dec.{leb, ltb}
+use Rattle.mtl.specs.Wanted.{wanted}
 use Rattle.rule.specs.declared.Entry.{Entry}
 use Rattle.rule.specs.Entries.{count, decoded}
+use Rattle.rule.specs.Postfix.{formulas, formulas-or}
 use Rattle.rule.specs.Refusal.{first, before, refusal}
 use Rattle.trace.specs.Format.{record-count, records-of, malformed}
 use Rattle.trace.specs.Order.{disordered}
@@ -24,13 +26,14 @@ resumes-closed closing closed-with = negate closing && ltb 0 closed-with
 abbrev pub closes-more : (closing : Bool) (closed-with records : ℕ) → Bool
 closes-more closing closed-with records = closing && (ltb 0 closed-with && leb closed-with records)
 
--- refusals 20, 12, 13, 21 and 14 of a resume or a closing: of a log's bytes and of what a checkpoint says was given and seen
-abbrev pub log-refusal : (closing : Bool) (log : List ℕ) (given seen last closed-with : ℕ) → ℕ
-log-refusal closing log given seen last closed-with =
+-- refusals 20, 12, 13, 21 and 14 of a resume or a closing: of a log's bytes, the first record still wanted, and what a checkpoint says
+-- was seen: document 02, paper 2, "refusal 14 starts from that record"
+abbrev pub log-refusal : (closing : Bool) (log : List ℕ) (from seen last closed-with : ℕ) → ℕ
+log-refusal closing log from seen last closed-with =
     first 20 (resumes-closed closing closed-with)
     (first 12 (malformed log)
     (first 13 (ltb (record-count (records-of log)) seen)
-    (first 21 (closes-more closing closed-with (record-count (records-of log))) (first 14 (disordered (records-of log) given seen last) 0))))
+    (first 21 (closes-more closing closed-with (record-count (records-of log))) (first 14 (disordered (records-of log) from seen last) 0))))
 
 -- refusals 10 and 11, of a rule's n entries and a checkpoint's words, or what comes after them
 abbrev pub words-refusal : List Entry → ℕ → List ℕ → ℕ → ℕ
@@ -38,7 +41,8 @@ words-refusal t n p other = first 10 (foreign t n p) (first 11 (outside t n p) o
 
 -- refusals 10 and 11 and these, of a rule's n entries, a log's bytes and a checkpoint's words
 abbrev pub point-refusal : (closing : Bool) → List Entry → ℕ → List ℕ → List ℕ → ℕ
-point-refusal closing t n log p = words-refusal t n p (log-refusal closing log (given p) (seen p) (last p) (closed-with p))
+point-refusal closing t n log p =
+    words-refusal t n p (log-refusal closing log (wanted (formulas-or (formulas t n)) (given p)) (seen p) (last p) (closed-with p))
 
 -- resume and closing: all refusals, for every rule, log and checkpoint, forged ones included
 abbrev pub resume-refusal : (closing : Bool) (rule log point : List ℕ) → ℕ

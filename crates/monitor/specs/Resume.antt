@@ -7,6 +7,7 @@ use lib.ListN.{length, getD, drop}
 use lib.Dec.{ltb}
 use Rattle.mtl.specs.Log.{Log, NeverFalls, Continues}
 use Rattle.mtl.specs.Progress.{joint-progress}
+use Rattle.mtl.specs.Wanted.{wanted}
 use Rattle.trace.specs.Format.{record-count, records-of}
 use Rattle.trace.specs.Order.{last-time}
 use Rattle.blocks.specs.Step.{Agrees}
@@ -39,7 +40,8 @@ pub record Gives (rule : List ℕ) (L : Log) (d : ℕ) (sheet : List ℕ) (c : �
   pub stands : Stands rule L (d + c) p′
 
 -- an accepted call: what holds on any words, and `meaning`, where the checkpoint stands for the rule and a log as it was last
--- seen, the log brought continues it, and the lent records are its own from d on: those before may have been overwritten
+-- seen, the log brought continues it, and the lent records are its own from the first still wanted on: those before may have been
+-- overwritten
 pub record Accepted (closing : Bool) (rule log p sheet : List ℕ) (c : ℕ) (more : Bool) (p′ sheet′ : List ℕ) : Type 0 where
   pub room : c ≤ length sheet
   pub rest : drop c sheet′ ≡ drop c sheet
@@ -50,7 +52,7 @@ pub record Accepted (closing : Bool) (rule log p sheet : List ℕ) (c : ℕ) (mo
   pub closed : closed-with p′ ≡ cond closing (suc (record-count (records-of log))) 0
   -- the no among the bytes written, behind those from before
   pub noes : stored-noes p′ ≡ laid-behind (stored-noes p) (given p) (noes-in sheet′ c)
-  pub meaning : (K L : Log) (d : ℕ) → Stands rule K d p → Continues K L → NeverFalls L → Agrees closing (records-of log) L d →
+  pub meaning : (K L : Log) (d : ℕ) → Stands rule K d p → Continues K L → NeverFalls L → Agrees closing (records-of log) L (wanted (formulas-of rule) d) →
       Gives rule L d sheet c more p′ sheet′
 
 abbrev pub Resuming : (closing : Bool) (rule log p sheet : List ℕ) → Resumed → (p′ sheet′ : List ℕ) → Type 0

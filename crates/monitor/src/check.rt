@@ -3,9 +3,11 @@ ghost use mathlib.Core.Path.{_≡_};
 ghost use Prim.Native.Nat.{_+_, _≤_, _<_};
 ghost use lib.ListN.{length, drop};
 ghost use Rattle.mtl.specs.Satisfaction.{any};
+ghost use Rattle.mtl.specs.Wanted.{wanted};
+ghost use Rattle.rule.specs.Postfix.{formulas, formulas-or};
 ghost use Rattle.rule.specs.Refusal.{first};
 ghost use Rattle.rule.specs.Words.{offset};
-ghost use Rattle.monitor.specs.Checkpoint.{given, seen, last, closed-with, copy-head, copy-ends, copy-differs, foreign, room, block-in-range, block-outside, noes-in-range, closed-in-range, outside};
+ghost use Rattle.monitor.specs.Checkpoint.{seen, last, closed-with, copy-head, copy-ends, copy-differs, foreign, room, block-in-range, block-outside, noes-in-range, closed-in-range, outside};
 ghost use Rattle.monitor.specs.Code.{sized-by, sized-number, checked-by, checked-number};
 ghost use Rattle.monitor.specs.Refusal.{log-refusal, words-refusal, point-refusal};
 ghost use Rattle.blocks.specs.Block.{cells-of};
@@ -143,7 +145,7 @@ fn block_fits(size: u64, cells: u64, point: &[u64], at: usize) -> bool
     (point[at] <= size)
         & (point[at + word::LEFT_COUNT] <= 64)
         & (point[at + word::RIGHT_COUNT] <= 64)
-        & (point[at + word::ANSWERED] <= point[at])
+        & (point[at + word::ANSWERED] <= size)
         & (point[at + word::LAST_LEFT] <= 1)
         & (point[at + word::LAST_RIGHT] <= 1)
         & (point[at + word::LAST_TIME] < 4294967296)
@@ -202,15 +204,23 @@ fn is_outside(entries: [Entry; 128], count: usize, point: &[u64]) -> bool
     !fits | blocks_outside(entries, count, point)
 }
 
+// The first record still wanted: those before it may have been overwritten.
+fn first_wanted(entries: [Entry; 128], count: usize, given: usize) -> usize
+    requires { ⌜ count ≤ 128 ⌝ }
+    ensures { λ r. ⌜ r ≡ wanted (formulas-or (formulas entries count)) given ⌝ }
+{
+    let depth = rule::depth(entries, count) as usize;
+    if depth <= given { given - depth } else { 0 }
+}
+
 // The number of the first of refusals 20, 12, 13, 21 and 14 that applies, or 0.
-fn log_reason(log: &[u8], closing: bool, point: &[u64]) -> u32
+fn log_reason(log: &[u8], closing: bool, point: &[u64], from: usize) -> u32
     requires { ⌜ 16 ≤ length (now point) ⌝ }
-    ensures { λ r. ⌜ r ≡ log-refusal closing (now (log .entry)) (given (now (point .entry))) (seen (now (point .entry))) (last (now (point .entry))) (closed-with (now (point .entry))) ⌝ }
+    ensures { λ r. ⌜ r ≡ log-refusal closing (now (log .entry)) from (seen (now (point .entry))) (last (now (point .entry))) (closed-with (now (point .entry))) ⌝ }
 {
     let records = trace::records(log);
-    let given = point[header::GIVEN] as usize;
     let seen = point[header::SEEN] as usize;
-    let disordered = trace::is_disordered(records, given, seen, point[header::LAST]);
+    let disordered = trace::is_disordered(records, from, seen, point[header::LAST]);
     let total = trace::count(records);
     let closed_with = point[header::CLOSED_WITH];
     let more = closing & ((0 < closed_with) & (closed_with <= total as u64));
@@ -267,5 +277,11 @@ pub fn check_point(
     requires { ⌜ (count ≤ 128) × (16 + offset entries count ≤ length (now point)) ⌝ }
     ensures { λ r. ⌜ r ≡ checked-by (point-refusal closing entries count (now (log .entry)) (now (point .entry))) ⌝ }
 {
-    checked_by(words_reason(entries, count, point, log_reason(log, closing, point)))
+    let wanted = first_wanted(entries, count, point[header::GIVEN] as usize);
+    checked_by(words_reason(
+        entries,
+        count,
+        point,
+        log_reason(log, closing, point, wanted),
+    ))
 }

@@ -9,8 +9,8 @@ use lib.Dec.{ltb}
 use borrow.Author.Tests.{lt-ltb}
 use Rattle.bits.specs.Packed.{number}
 use Rattle.bits.proofs.Laws.{number-lt}
-use Rattle.simulation.specs.Generator.{state-after}
-use Rattle.simulation.specs.Kiosk.{is-off, is-warming, is-free, is-printing, over, end-print, join, end-warming, switch-off, begin-print, begin-warming, second-of, kiosk-after}
+use Rattle.simulation.specs.Generator.{xorshift}
+use Rattle.simulation.specs.Kiosk.{is-off, is-warming, is-free, is-printing, over, end-print, join, end-warming, switch-off, begin-print, begin-warming, second-of, run-after, kiosk-after}
 use Rattle.simulation.specs.Arrivals.{customers}
 use Rattle.simulation.specs.declared.Settings.{Settings}
 use Rattle.simulation.specs.declared.kiosk.Kiosk.{Kiosk}
@@ -123,9 +123,9 @@ module _ (s : Settings) (now draw : ℕ) (k : Kiosk) where
 
 -- one a second at most
 pub few-customers : (s : Settings) (seed n : ℕ) → customers (kiosk-after s seed n) ≤ n
-unfolding kiosk-after
+unfolding run-after
 few-customers s seed zero = omega arith
 few-customers s seed (suc n) =
-    let draw = state-after seed (suc n) in
+    let draw = xorshift (run-after s seed n .state) in
     let k = kiosk-after s seed n in
     omega (arith, few-customers s seed n, second-customers s n draw k, number-lt (second-of s n draw k .joined))

@@ -10,8 +10,8 @@ use Rattle.bits.proofs.Laws.{number-lt}
 use Rattle.trace.specs.Format.{time-at, events-at, records-of, malformed}
 use Rattle.trace.specs.Order.{disordered}
 use Rattle.trace.proofs.Making.{time-back, events-back, made-well, made-ordered}
-use Rattle.simulation.specs.Generator.{state-after}
-use Rattle.simulation.specs.Kiosk.{is-warm, is-printing, letter, events-of, kiosk-after}
+use Rattle.simulation.specs.Generator.{xorshift, state-after}
+use Rattle.simulation.specs.Kiosk.{is-warm, is-printing, letter, events-of, run-after, kiosk-after}
 use Rattle.simulation.specs.Simulate.{time-of, events-in, log-of, given}
 use Rattle.simulation.specs.Arrivals.{arrivals, customers}
 use Rattle.simulation.specs.declared.Settings.{Settings}
@@ -77,10 +77,10 @@ module _ (s : Settings) (seed n : ℕ) (few : n ≤ 3600) where
 
   -- "After every second the three sum to the arrivals counted from the log."
   pub nobody-lost : (m : ℕ) → m ≤ n → customers (kiosk-after s seed m) ≡ arrivals written m
-  unfolding kiosk-after arrivals
+  unfolding run-after arrivals
   nobody-lost zero le = refl
   nobody-lost (suc m) le =
-      second-customers s m (state-after seed (suc m)) (kiosk-after s seed m) ∙
+      second-customers s m (xorshift (run-after s seed m .state)) (kiosk-after s seed m) ∙
       ap₂ (λ (x y : ℕ). x + y) (nobody-lost m (omega arith)) (ap number (sym (says m (omega arith) .joined)))
 
   -- the numbers that the call gives
@@ -90,6 +90,12 @@ module _ (s : Settings) (seed n : ℕ) (few : n ≤ 3600) where
 pub printing-one : (s : Settings) (seed n : ℕ) → given s n seed .printing ≤ 1
 printing-one s seed n = omega (arith, number-lt (is-printing (kiosk-after s seed n .head)))
 
+-- "one draw" in each second
+pub one-draw : (s : Settings) (seed n : ℕ) → run-after s seed n .state ≡ state-after seed n
+unfolding run-after state-after
+one-draw s seed zero = refl
+one-draw s seed (suc n) = ap xorshift (one-draw s seed n)
+
 -- no draw on the way is 0
-pub never-zero : (seed n : ℕ) → seed < 2 ^ 32 → 0 < seed → 0 < state-after seed n
-never-zero seed n small some = state-in-range seed n small some .1
+pub never-zero : (s : Settings) (seed n : ℕ) → seed < 2 ^ 32 → 0 < seed → 0 < run-after s seed n .state
+never-zero s seed n small some = rw (one-draw s seed n) (state-in-range seed n small some .1)

@@ -7,7 +7,7 @@ use lib.Dec.{eqb}
 use Rattle.bits.specs.Packed.{number}
 use Rattle.trace.specs.Making.{records-bytes}
 use Rattle.simulation.specs.Generator.{xor, state-after}
-use Rattle.simulation.specs.Kiosk.{is-printing, end-print, join, end-warming, switch-off, begin-print, begin-warming, second-of, events-of, kiosk-after}
+use Rattle.simulation.specs.Kiosk.{is-printing, end-print, join, end-warming, switch-off, begin-print, begin-warming, second-of, events-of, run-after, kiosk-after}
 use Rattle.simulation.specs.Simulate.{out-of-range, events-in, log-of}
 use Rattle.simulation.specs.declared.Settings.{Settings}
 
@@ -68,13 +68,13 @@ run =
     ∷ []
 
 pub run-computes : wrong 0 (follows small 6 0 run) ≡ []
-unfolding wrong follows kiosk-after second-of end-print join end-warming switch-off begin-print begin-warming events-of state-after xor
+unfolding wrong follows run-after second-of end-print join end-warming switch-off begin-print begin-warming events-of xor
 run-computes = refl
 
 -- the bytes of its first two seconds
 pub log-computes : log-of small 6 2 ≡
     0x4B ∷ 0x4C ∷ 0x47 ∷ 0 ∷ 1 ∷ 0 ∷ 0 ∷ 0 ∷ 0 ∷ 0 ∷ 0 ∷ 0 ∷ 0 ∷ 0 ∷ 0 ∷ 4 ∷ 0 ∷ 0 ∷ 0 ∷ 1 ∷ 0 ∷ 0 ∷ 0 ∷ 3 ∷ []
-unfolding records-bytes kiosk-after second-of end-print join end-warming switch-off begin-print begin-warming events-of state-after xor
+unfolding records-bytes run-after second-of end-print join end-warming switch-off begin-print begin-warming events-of xor
 log-computes = refl
 
 abbrev set : (warmup print switchoff gap : ℕ) → Settings

@@ -3,7 +3,7 @@ use Prim.Native.Nat.{ℕ, zero, suc, _+_, _-_, _%_}
 use mathlib.Core.Bool.{Bool, true, false, cond, _&&_, _||_}
 use lib.Dec.{leb, ltb, eqb}
 use Rattle.bits.specs.Packed.{number}
-use Rattle.simulation.specs.Generator.{state-after}
+use Rattle.simulation.specs.Generator.{xorshift}
 use Rattle.simulation.specs.declared.Settings.{Settings}
 use Rattle.simulation.specs.declared.kiosk.Kiosk.{Kiosk}
 use Rattle.simulation.specs.declared.kiosk.Head.{Head}
@@ -132,7 +132,18 @@ letter stands worth = cond stands worth 0
 unfoldable pub events-of : Kiosk → ℕ
 events-of k = letter (is-warm (k .head)) 1 + letter (k .began) 2 + letter (k .joined) 4 + letter (k .ended) 8
 
--- the kiosk after n seconds, from time 0
-unfoldable pub kiosk-after : Settings → (seed n : ℕ) → Kiosk
-kiosk-after s seed zero = started
-kiosk-after s seed (suc n) = second-of s n (state-after seed (suc n)) (kiosk-after s seed n)
+-- a simulation on its way: the generator's state, and the kiosk
+pub record Run : Type 0 where
+  pub state : ℕ
+  pub kiosk : Kiosk
+
+-- after n seconds, from time 0; "each draw moves the generator on by one step and is its new state"
+unfoldable pub run-after : Settings → (seed n : ℕ) → Run
+run-after s seed zero = record { state = seed; kiosk = started }
+run-after s seed (suc n) =
+    let before = run-after s seed n in
+    let draw = xorshift (before .state) in
+    record { state = draw; kiosk = second-of s n draw (before .kiosk) }
+
+abbrev pub kiosk-after : Settings → (seed n : ℕ) → Kiosk
+kiosk-after s seed n = run-after s seed n .kiosk

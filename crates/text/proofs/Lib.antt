@@ -10,5 +10,4 @@ pub mod Encoded
 pub mod Small
 pub mod Outcome
 pub mod Accepted
-pub mod Ascii
 pub mod Texts

@@ -16,7 +16,7 @@ use Rattle.text.specs.Tokens.{word, sign, tokens-from, tokens, some-unkn
 use Rattle.text.specs.Grammar.{Level, meaning, Derived}
 use Rattle.text.specs.Parse.{entries-refusal, refusal}
 use Rattle.text.specs.Reader.{timing, phrase}
-use Rattle.text.proofs.Ascii.{ascii}
+use Rattle.text.specs.Ascii.{ascii}
 use Rattle.text.proofs.Complete.{found, decides}
 
 -- a text, the number of the refusal that it meets with a lent buffer of `room` bytes or 0, and what the grammar derives from it

@@ -2,7 +2,8 @@
 //!
 //! Figure 3's recursion with HYDRA's change that a step gives a verdict or finds the log at its end; figure 4's steps
 //! for since and until. A verdict carries its time, as there. Unlike the checker, an until waits for both operands'
-//! answers at a position before it uses that position's time, so nested future operators may answer later.
+//! answers at a position before it uses that position's time, and a previous for its operand's answer at the position
+//! itself, so that either may answer later over a future operator.
 
 use evaluator::rule::{Entry, Rule, LETTER, NEXT, NOT, NO_END, OR, PREVIOUS, SINCE, UNTIL};
 use std::collections::VecDeque;
@@ -51,12 +52,12 @@ pub fn monitor(rule: &Rule) -> Boxed {
     stack.pop().unwrap()
 }
 
-/// Some until stands over a next or an until: only then may this monitor answer later than document 01 asks.
+/// Some until or previous stands over a next or an until: only then may this monitor answer later than the papers ask.
 pub fn may_answer_later(rule: &Rule) -> bool {
     let mut future = Vec::new();
     for (e, ops) in rule.entries.iter().zip(&rule.operands) {
         let below = ops.iter().any(|&o| future[o]);
-        if e.kind == UNTIL && below {
+        if (e.kind == UNTIL || e.kind == PREVIOUS) && below {
             return true;
         }
         future.push(below || e.kind == UNTIL || e.kind == NEXT);

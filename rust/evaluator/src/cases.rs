@@ -1,4 +1,4 @@
-//! Worked cases that are one rule, one log and its verdicts: document 01's, and those of the requests.
+//! Worked cases, document 01's and those of the requests: one rule, one log and its verdicts; and lists of calls.
 
 use crate::log::Record;
 use crate::rule::{Entry, NEXT, NO_END, PREVIOUS, SINCE, UNTIL};
@@ -26,14 +26,6 @@ pub fn p1_records() -> Vec<Record> {
     records(&[(10, &[0]), (11, &[0]), (11, &[]), (12, &[0]), (13, &[1]), (20, &[0])])
 }
 
-/// P2's log: P1's with records 0 to 4 set to all ones and (21, 1) added.
-pub fn p2_records() -> Vec<Record> {
-    let ones = Record { time: u32::MAX, letters: u32::MAX };
-    let mut all = vec![ones; 5];
-    all.extend(records(&[(20, &[0]), (21, &[1])]));
-    all
-}
-
 /// P10's rule: two untils over three letters, with these highs.
 pub fn p10_entries(outer: u32, inner: u32) -> Vec<Entry> {
     let letters = [0, 1, 2].map(Entry::letter);
@@ -47,7 +39,24 @@ fn case(name: &'static str, entries: &[Entry], log: &[(u32, &[u32])], verdicts: 
 
 /// All of them.
 pub fn all() -> Vec<Case> {
-    [document_01(), endless_next(), empty_rule()].into_iter().flatten().collect()
+    [document_01(), endless_next(), empty_rule(), sooner_previous()].into_iter().flatten().collect()
+}
+
+/// Request 2: previous answers one position more than its operand.
+fn sooner_previous() -> Vec<Case> {
+    let previous = Entry::timed(PREVIOUS, 0, 9);
+    let of_p1 = [p1_entries(), vec![previous]].concat();
+    let [e0, e1] = [0, 1].map(Entry::letter);
+    let of_next = [e0, Entry::timed(NEXT, 0, 9), previous];
+    let under_until = [&[e1], of_next.as_slice(), &[Entry::timed(UNTIL, 0, 5)]].concat();
+    vec![
+        case("previous at 0, over an open until", &of_p1, &[(10, &[0])], &[0]),
+        case("previous over an open until", &of_p1, &[(10, &[0]), (12, &[0])], &[0]),
+        case("previous over an until with one answer", &of_p1, &[(10, &[0]), (12, &[0]), (13, &[0])], &[0, 0]),
+        case("previous over an until that is settled", &of_p1, &[(10, &[0]), (11, &[1])], &[0, 1]),
+        case("previous over next", &of_next, &[(5, &[]), (6, &[0]), (7, &[])], &[0, 1, 0]),
+        case("previous holds up no until", &under_until, &[(10, &[1]), (11, &[0])], &[1, 1]),
+    ]
 }
 
 /// Request 3: a rule with nothing in it.
@@ -95,5 +104,124 @@ fn document_01() -> Vec<Case> {
         case("since does not test left at j", &since_near, &[(1, &[1]), (2, &[0])], &[1, 1]),
         case("records of one second stay apart", &p1, &[(1, &[0]), (1, &[]), (1, &[1])], &[0, 0, 1]),
         case("the oldest witness is kept", &since, &[(0, &[1]), (1, &[0, 1]), (1, &[0, 1])], &[0, 1, 1]),
+    ]
+}
+
+/// One call of a list.
+pub struct Call {
+    /// What the call brings.
+    pub log: Vec<Record>,
+    /// The length of its sheet.
+    pub sheet: usize,
+    /// Its verdicts, and whether there are more; or its refusal.
+    pub gives: Result<(Vec<u8>, bool), u32>,
+    /// The first record still wanted after it.
+    pub wanted: usize,
+}
+
+/// Calls with one point, from a fresh one on.
+pub struct List {
+    pub name: &'static str,
+    pub entries: Vec<Entry>,
+    /// The untouched log.
+    pub records: Vec<Record>,
+    pub calls: Vec<Call>,
+}
+
+/// A call as it is written down.
+struct Step {
+    records: usize,
+    replaced: Option<(usize, Record)>,
+    sheet: usize,
+    gives: Result<(Vec<u8>, bool), u32>,
+    wanted: Option<usize>,
+}
+
+/// A carry on with the first `n` records of the list's log, and a sheet for all verdicts. It gives none and has caught
+/// up, unless another answer is said.
+fn resume(n: usize) -> Step {
+    Step { records: n, replaced: None, sheet: 100, gives: Ok((Vec::new(), false)), wanted: None }
+}
+
+impl Step {
+    fn with_record(self, at: usize, time: u32, letters: u32) -> Step {
+        Step { replaced: Some((at, Record { time, letters })), ..self }
+    }
+
+    fn sheet(self, length: usize) -> Step {
+        Step { sheet: length, ..self }
+    }
+
+    fn gives(self, verdicts: &[u8]) -> Step {
+        Step { gives: Ok((verdicts.to_vec(), false)), ..self }
+    }
+
+    fn gives_and_more(self, verdicts: &[u8]) -> Step {
+        Step { gives: Ok((verdicts.to_vec(), true)), ..self }
+    }
+
+    fn refused(self, number: u32) -> Step {
+        Step { gives: Err(number), ..self }
+    }
+
+    /// The first record wanted after it, if it is not that of before.
+    fn wanted(self, record: usize) -> Step {
+        Step { wanted: Some(record), ..self }
+    }
+}
+
+/// Before each call the records before the first wanted are overwritten with ones.
+fn list<const N: usize>(name: &'static str, entries: &[Entry], records: &[Record], steps: [Step; N]) -> List {
+    let mut wanted = 0;
+    let calls = steps.map(|step| {
+        let mut log = records[..step.records].to_vec();
+        log[..wanted].fill(Record { time: u32::MAX, letters: u32::MAX });
+        if let Some((at, record)) = step.replaced {
+            log[at] = record;
+        }
+        wanted = step.wanted.unwrap_or(wanted);
+        Call { log, sheet: step.sheet, gives: step.gives, wanted }
+    });
+    List { name, entries: entries.to_vec(), records: records.to_vec(), calls: calls.into() }
+}
+
+/// All lists.
+pub fn lists() -> Vec<List> {
+    let p1 = p1_entries();
+    let mut seven = p1_records();
+    seven.extend(records(&[(21, &[1])]));
+    let three = records(&[(5, &[]), (5, &[0]), (9, &[])]);
+    let previous = Entry::timed(PREVIOUS, 0, 9);
+    let twice = [Entry::letter(0), previous, previous];
+    let thrice = [twice.as_slice(), &[previous]].concat();
+    let six = records(&[(1, &[0]), (2, &[]), (3, &[0]), (4, &[0]), (5, &[]), (5, &[])]);
+    let p1_then_p2 = [resume(6).gives(&[0, 0, 0, 1, 1]).wanted(5), resume(7).gives(&[1, 1]).wanted(7)];
+    let no_room = [resume(0), resume(6).sheet(0).gives_and_more(&[])];
+    let all_yes = [
+        resume(3).sheet(2).gives_and_more(&[1, 1]).wanted(2),
+        resume(3).sheet(2).gives(&[1]).wanted(3),
+        resume(3).sheet(0),
+    ];
+    let day_by_day = [
+        resume(1).gives(&[0]),
+        resume(2).gives(&[0]),
+        resume(3).gives(&[0]),
+        resume(4).gives(&[1]).wanted(1),
+        resume(5).gives(&[0]).wanted(2),
+        resume(6).gives(&[1]).wanted(3),
+    ];
+    let falling_times = [
+        resume(3).gives(&[0, 0, 1]).wanted(1),
+        resume(4).with_record(1, 4, 0).refused(14),
+        resume(4).gives(&[0]).wanted(2),
+        resume(4).with_record(2, 5, 1).refused(14),
+        resume(4),
+    ];
+    vec![
+        list("P1, then P2", &p1, &seven, p1_then_p2),
+        list("P9, then a sheet of no bytes", &p1, &seven, no_room),
+        list("an empty rule with short sheets", &[], &three, all_yes),
+        list("three times previous: the first wanted is d less 3", &thrice, &six, day_by_day),
+        list("14 starts from the first wanted", &twice, &six, falling_times),
     ]
 }

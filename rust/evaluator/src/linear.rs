@@ -43,7 +43,7 @@ fn evaluate(e: &Entry, mut ops: Vec<Reading>, log: &[Record]) -> Reading {
         }
         PREVIOUS => {
             let holds = (0..n).map(|i| i > 0 && within(i - 1, i) && left[i - 1]).collect();
-            Reading { holds, answered }
+            Reading { holds, answered: (answered + 1).min(n) }
         }
         NEXT => {
             let holds = (0..n).map(|i| i + 1 < n && within(i, i + 1) && left[i + 1]).collect();

@@ -56,18 +56,23 @@ impl Point {
         if records.len() < self.seen {
             return Err(13);
         }
-        if self.time_falls(&records) {
+        if self.time_falls(&rule, &records) {
             return Err(14);
         }
         Ok((rule, records))
     }
 
+    /// "The first still wanted, which is d less k (0 when d is below k)": the records before it may be overwritten.
+    pub fn wanted(&self, rule: &Rule) -> usize {
+        self.given.saturating_sub(rule.depth)
+    }
+
     /// "Some record after position d has a time below that of the record before it, or the first new record's
-    /// time is below the last time seen."
-    fn time_falls(&self, records: &[Record]) -> bool {
-        let after_d = (self.given + 1..records.len()).any(|p| records[p].time < records[p - 1].time);
+    /// time is below the last time seen", where by request 2 the first record still wanted stands for position d.
+    fn time_falls(&self, rule: &Rule, records: &[Record]) -> bool {
+        let after_wanted = (self.wanted(rule) + 1..records.len()).any(|p| records[p].time < records[p - 1].time);
         let first_new = records.get(self.seen).is_some_and(|r| r.time < self.last);
-        after_d || first_new
+        after_wanted || first_new
     }
 
     /// Carry on. `verdicts` gives the verdicts of the untouched log as far as this call brings it.

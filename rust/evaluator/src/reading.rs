@@ -58,6 +58,8 @@ fn answered(e: &Entry, ops: &[&Reading], log: &[Record]) -> usize {
     let smaller = ops.iter().map(|o| o.answered).min();
     match e.kind {
         LETTER => log.len(),
+        // "Previous now answers one position more than its operand, never more than N."
+        PREVIOUS => (smaller.unwrap() + 1).min(log.len()),
         NEXT => smaller.unwrap().saturating_sub(1),
         UNTIL => {
             let m = smaller.unwrap();

@@ -66,6 +66,8 @@ pub struct Rule {
     pub operands: Vec<Vec<usize>>,
     pub words: u64,
     pub reach: u64,
+    /// Request 2's k.
+    pub depth: usize,
 }
 
 /// The bytes of a rule with these entries.
@@ -119,7 +121,8 @@ fn check(entries: Vec<Entry>) -> Result<Rule, u32> {
         return Err(8);
     }
     let reach = reach(&entries, &operands);
-    Ok(Rule { entries, operands, words, reach })
+    let depth = depth(&entries, &operands);
+    Ok(Rule { entries, operands, words, reach, depth })
 }
 
 /// "Some kind is above 6, some letter above 31, or some unused field not zero."
@@ -174,4 +177,14 @@ fn reach(entries: &[Entry], operands: &[Vec<usize>]) -> u64 {
     }
     // "A count of 0 now means that every position is yes: 16 words, reach 0, A equals N."
     reaches.last().copied().unwrap_or(0)
+}
+
+/// "k being the largest number of previous entries on a path from the last entry to a letter"; 0 for an empty rule.
+fn depth(entries: &[Entry], operands: &[Vec<usize>]) -> usize {
+    let mut depths: Vec<usize> = Vec::new();
+    for (e, ops) in entries.iter().zip(operands) {
+        let largest = ops.iter().map(|&o| depths[o]).max().unwrap_or(0);
+        depths.push(largest + usize::from(e.kind == PREVIOUS));
+    }
+    depths.last().copied().unwrap_or(0)
 }

@@ -1,6 +1,6 @@
 //! Document 01's worked cases, evaluated.
 
-use evaluator::log::{self, Record};
+use evaluator::log;
 use evaluator::rule::{self, Entry, Rule, NEXT, NO_END, NO_REACH};
 use evaluator::{cases, linear, model, reading};
 
@@ -25,16 +25,19 @@ fn p1_bytes_words_and_reach() {
 }
 
 #[test]
-fn p2_carries_on_after_overwriting() {
-    let bytes = rule::encode(&cases::p1_entries());
-    let mut untouched = cases::p1_records();
-    untouched.push(Record { time: 21, letters: 2 });
-    let evaluate = |rule: &Rule, n: usize| reading::verdicts(rule, &untouched[..n]);
-    let mut point = model::open(&bytes, 70).unwrap();
-    let first = point.resume(&bytes, &log::encode(&cases::p1_records()), 70, 100, evaluate).unwrap();
-    assert_eq!((first.verdicts, first.more), (vec![0, 0, 0, 1, 1], false));
-    let second = point.resume(&bytes, &log::encode(&cases::p2_records()), 70, 100, evaluate).unwrap();
-    assert_eq!((second.verdicts, second.more), (vec![1, 1], false));
+fn worked_lists() {
+    for list in cases::lists() {
+        let bytes = rule::encode(&list.entries);
+        let rule = rule::parse(&bytes).unwrap();
+        let words = rule.words as usize;
+        let mut point = model::open(&bytes, words).unwrap();
+        for (at, call) in list.calls.iter().enumerate() {
+            let evaluate = |rule: &Rule, n: usize| reading::verdicts(rule, &list.records[..n]);
+            let got = point.resume(&bytes, &log::encode(&call.log), words, call.sheet, evaluate);
+            assert_eq!(got.map(|given| (given.verdicts, given.more)), call.gives, "{}, call {at}", list.name);
+            assert_eq!(point.wanted(&rule), call.wanted, "{}, call {at}", list.name);
+        }
+    }
 }
 
 #[test]
@@ -66,19 +69,9 @@ fn next_without_upper_end_is_weighed() {
 }
 
 #[test]
-fn an_empty_rule_says_yes() {
+fn an_empty_rule_is_weighed() {
     let empty = rule::encode(&[]);
     assert_eq!(empty, *b"KRL\x00\x01\x00\x00\x00");
     assert_eq!(model::measure(&empty), Ok((16, 0)));
     assert_eq!(model::measure(&[empty.as_slice(), &[0; 10]].concat()), Err(4));
-    let three = [5, 5, 9].map(|time| Record { time, letters: 0 });
-    let mut point = model::open(&empty, 16).unwrap();
-    let mut call = |sheet| {
-        let evaluate = |rule: &Rule, n: usize| reading::verdicts(rule, &three[..n]);
-        let given = point.resume(&empty, &log::encode(&three), 16, sheet, evaluate).unwrap();
-        (given.verdicts, given.more)
-    };
-    assert_eq!(call(2), (vec![1, 1], true));
-    assert_eq!(call(2), (vec![1], false));
-    assert_eq!(call(0), (vec![], false));
 }

@@ -3,8 +3,8 @@
 //! A rule says what ought to hold around each record of a log, in metric temporal logic: "the head stays warm
 //! until the print starts, within ninety seconds". The checker gives a verdict, yes or no, for each record in
 //! turn, as soon as the log decides it. What it knows between two evenings is a checkpoint (a saved point): some
-//! words that the caller lends and keeps. A record that has its verdict is never read again, so the kiosk may
-//! overwrite it.
+//! words that the caller lends and keeps. A record that has its verdict is not read again, but for the last few where
+//! the rule looks back with previous, so the kiosk may overwrite it.
 //!
 //! The calls: [`measure`] (weigh), [`open`], [`resume`] (carry on) and [`tally`]; [`parse`], which writes a rule that is
 //! typed as text; and [`worst_log`] and [`simulate`], which write logs to try a kiosk or its settings with. Each yields
@@ -108,8 +108,9 @@ pub fn open(rule: &[u8], checkpoint: &mut [u64]) -> Result<(), Refusal> {
 /// Carries on: writes the verdicts that the log settles beyond those already given, as many as the sheet takes,
 /// each byte 1 for yes or 0 for no. The rest of the sheet keeps its bytes.
 ///
-/// The log is the whole log from its header on; records that have verdicts may have been overwritten with any
-/// bytes. Refusals: 1 to 14.
+/// The log is the whole log from its header on; records before the first still wanted may have been overwritten with
+/// any bytes. That record is the number of verdicts given with this checkpoint so far, less k, or 0 where it is below k,
+/// k being the largest number of previous entries on a path from the rule's last entry to a letter. Refusals: 1 to 14.
 pub fn resume(rule: &[u8], log: &[u8], checkpoint: &mut [u64], sheet: &mut [u8]) -> Result<Resumed, Refusal> {
     let (mut given, mut more) = (0, 0);
     // SAFETY: the pointers and lengths are those of four slices and of two numbers. What is written to is borrowed

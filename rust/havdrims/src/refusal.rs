@@ -64,8 +64,8 @@ const SENTENCES: [(Refusal, &str); 19] = [
     (Refusal::FewerRecords, "The log has fewer records than the point has seen."),
     (
         Refusal::TimeFalls,
-        "Some record after position d has a time below that of the record before it, or the first new record's \
-         time is below the last time seen.",
+        "Some record after the first still wanted has a time below that of the record before it, or the first new \
+         record's time is below the last time seen.",
     ),
     (Refusal::SheetByte, "A sheet given to tally has a byte above 1."),
     (Refusal::UnknownWord, "A word, sign or form of number is unknown or the text is too long."),

@@ -7,8 +7,7 @@ use lib.ListN.{length}
 use borrow.Author.Needs.{needs}
 use Rattle.trace.specs.Making.{records-bytes, put}
 use Rattle.trace.proofs.Making.{put-nothing}
-use Rattle.simulation.specs.Generator.{state-after}
-use Rattle.simulation.specs.Kiosk.{kiosk-after}
+use Rattle.simulation.specs.Kiosk.{run-after, kiosk-after}
 use Rattle.simulation.specs.Simulate.{time-of, events-in}
 use Rattle.simulation.proofs.Running.{next-state, small, next-kiosk, next-log}
 use Rattle.simulation.proofs.run.Statement.{statement}
@@ -16,14 +15,14 @@ use Rattle.simulation.proofs.run.Tie as tie
 
 abbrev Inv-loop : tie.InvT-loop
 Inv-loop s seconds seed log₀ state₀ k₀ t₀ log state k t =
-    (t ≤ seconds) × (state ≡ state-after seed t) × (k ≡ kiosk-after s seed t) × (length log ≡ length log₀) ×
+    (t ≤ seconds) × (state ≡ run-after s seed t .state) × (k ≡ kiosk-after s seed t) × (length log ≡ length log₀) ×
     (log ≡ put log₀ 8 (records-bytes time-of (events-in s seed) t))
 
 abbrev μ-loop : tie.MeasureT-loop
 μ-loop s seconds seed log₀ state₀ k₀ t₀ log state k t = seconds - t
 
 loop-holds : tie.Need-loop-holds Inv-loop μ-loop
-unfolding state-after kiosk-after records-bytes
+unfolding run-after records-bytes
 loop-holds c = (omega arith, refl, c .start .ensures, refl, put-nothing (c .before .before .args .log .now) 8 (omega arith))
 
 second-requires : tie.Need-second-requires Inv-loop μ-loop
@@ -41,7 +40,7 @@ loop-again c =
     let k = c .before .before .before .before .before .second in
     let e = c .before .before .before .events in
     let w = c .before .before .write-record in
-    let state = d .ensures ∙ next-state (a .seed) (l .t) (l .state) (l .inv .1) in
+    let state = d .ensures ∙ next-state (a .s) (a .seed) (l .t) (l .state) (l .inv .1) in
     let kiosk = k .ensures ∙ next-kiosk (a .s) (a .seed) (l .t) (d .result) (l .k) state (l .inv .2) in (
       omega arith,
       state,

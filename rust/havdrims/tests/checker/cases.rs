@@ -26,29 +26,25 @@ fn worked_cases() {
 }
 
 #[test]
-fn p1_then_p2() {
-    let rule = rule::encode(&cases::p1_entries());
-    assert_eq!(measure(&rule), Ok(Needs { words: 70, reach: Some(2) }));
-    let mut point = fresh(&rule);
-    let mut sheet = [7; 8];
-    let first = resume(&rule, &log::encode(&cases::p1_records()), &mut point, &mut sheet);
-    assert_eq!(first, Ok(Resumed { verdicts: 5, more: false }));
-    let second = resume(&rule, &log::encode(&cases::p2_records()), &mut point, &mut sheet);
-    assert_eq!(second, Ok(Resumed { verdicts: 2, more: false }));
-    assert_eq!(sheet, [1, 1, 0, 1, 1, 7, 7, 7]);
-}
-
-#[test]
-fn p9_empty_log_and_empty_sheet() {
-    let rule = rule::encode(&cases::p1_entries());
-    let nothing = Ok(Resumed { verdicts: 0, more: false });
-    assert_eq!(resume(&rule, &log::encode(&[]), &mut fresh(&rule), &mut []), nothing);
-    let more = Ok(Resumed { verdicts: 0, more: true });
-    assert_eq!(resume(&rule, &log::encode(&cases::p1_records()), &mut fresh(&rule), &mut []), more);
+fn worked_lists() {
+    for list in cases::lists() {
+        let rule = rule::encode(&list.entries);
+        let mut point = fresh(&rule);
+        for (at, call) in list.calls.iter().enumerate() {
+            let mut sheet = vec![7; call.sheet];
+            let got = resume(&rule, &log::encode(&call.log), &mut point, &mut sheet);
+            let got = got.map(|given| (sheet[..given.verdicts].to_vec(), given.more)).map_err(Refusal::number);
+            assert_eq!(got, call.gives, "{}, call {at}", list.name);
+            let c = got.map_or(0, |(verdicts, _)| verdicts.len());
+            assert!(sheet[c..].iter().all(|&b| b == 7), "{}, call {at}", list.name);
+        }
+    }
 }
 
 #[test]
 fn p10_and_limits() {
+    let p1 = rule::encode(&cases::p1_entries());
+    assert_eq!(measure(&p1), Ok(Needs { words: 70, reach: Some(2) }));
     let words = |inner| measure(&rule::encode(&cases::p10_entries(3600, inner))).map(|n| n.words);
     assert_eq!(words(446), Ok(8192));
     assert_eq!(words(447), Err(Refusal::TooManyWords));
@@ -68,18 +64,8 @@ fn p10_and_limits() {
 }
 
 #[test]
-fn empty_rule_in_two_calls() {
+fn empty_rule_is_weighed() {
     let rule = rule::encode(&[]);
     assert_eq!(measure(&rule), Ok(Needs { words: 16, reach: Some(0) }));
     assert_eq!(measure(&[rule.as_slice(), &[0; 10]].concat()), Err(Refusal::RuleLength));
-    let three = log::encode(&cases::p1_records()[..3]);
-    let mut point = fresh(&rule);
-    let mut call = |length: usize| {
-        let mut sheet = [7; 2];
-        let got = resume(&rule, &three, &mut point, &mut sheet[..length]);
-        (got, sheet)
-    };
-    assert_eq!(call(2), (Ok(Resumed { verdicts: 2, more: true }), [1, 1]));
-    assert_eq!(call(2), (Ok(Resumed { verdicts: 1, more: false }), [1, 7]));
-    assert_eq!(call(0), (Ok(Resumed { verdicts: 0, more: false }), [7, 7]));
 }

@@ -6,6 +6,14 @@ use crate::runner::{cases, Counts};
 use evaluator::log;
 use evaluator::random::{self, Random};
 
+/// The number of the checkpoint's format.
+const FORMAT: u64 = 3;
+
+/// The first word of a checkpoint of this format.
+fn mark(format: u64) -> u64 {
+    u64::from(u32::from_be_bytes(*b"HAVD")) << 32 | format
+}
+
 /// Changes some words, most of them to numbers that a point might hold.
 fn forge(r: &mut Random, words: &mut [u64], n: usize) {
     let times = r.pick(&[1, 1, 2, 4, 40]);
@@ -26,7 +34,7 @@ fn forge(r: &mut Random, words: &mut [u64], n: usize) {
     }
 }
 
-/// Records at or behind d changed, with times that may fall.
+/// Records from the first given on changed, with times that may fall.
 fn alter(r: &mut Random, log: &mut [u8], from: usize) {
     let n = (log.len() - 8) / 8;
     for at in from..n {
@@ -84,14 +92,15 @@ fn foreign_points() {
     let body = |r: &mut Random, counts: &mut Counts| {
         let (mut kiosk, n) = used(r);
         let mut words = kiosk.point.words().to_vec();
+        assert_eq!(words[0], mark(FORMAT));
         let need = kiosk.need;
         let random = r.draw();
         match r.below(4) {
             0 => words[..need].fill(r.pick(&[0, 1, u64::MAX, random])),
             1 => words[..need].iter_mut().for_each(|w| *w = r.draw()),
             2 => words[0] ^= 1 << r.below(64),
-            // the format before this one
-            _ => words[0] = 0x4841_5644_0000_0001,
+            // the formats before this one
+            _ => words[0] = mark(r.from_to(1, FORMAT as usize - 1) as u64),
         }
         kiosk.point.set(&words, side(r));
         let mut log = kiosk.brought(n);
@@ -116,9 +125,10 @@ fn altered_open_records() {
         for _ in 0..r.from_to(1, 4) {
             n = r.from_to(n, kiosk.untouched.len());
             let mut log = kiosk.brought(n);
-            alter(r, &mut log, kiosk.model.given);
+            let wanted = kiosk.wanted();
+            alter(r, &mut log, wanted);
             if r.one_in(2) {
-                sort_times(&mut log, kiosk.model.given);
+                sort_times(&mut log, wanted);
             }
             let sheet = vec![5; r.below(30)];
             let call = Call { rule: &kiosk.rule, need: kiosk.need, words: length, side: side(r) };

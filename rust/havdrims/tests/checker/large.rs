@@ -7,6 +7,7 @@ use evaluator::log::{self, Record};
 use evaluator::random::{self, LogShape, Random, RuleShape};
 use evaluator::rule::{self, Entry, NEXT, NO_END, PREVIOUS, SINCE, UNTIL};
 use evaluator::{linear, model};
+use std::ops::Range;
 use std::time::Instant;
 
 const MILLION: usize = 1_000_000;
@@ -55,6 +56,12 @@ fn expected(entries: &[Entry], records: &[Record]) -> (Vec<u8>, Vec<u8>, usize) 
     (bytes, all, rule.words as usize)
 }
 
+/// The bytes of the records that may be overwritten once so many verdicts are given.
+fn free(rule: &[u8], given: usize) -> Range<usize> {
+    let wanted = given.saturating_sub(rule::parse(rule).unwrap().depth);
+    8..8 + 8 * wanted
+}
+
 fn open(rule: &[u8], need: usize) -> Checkpoint {
     let mut point = Checkpoint::new(&vec![0; need], Side::Right);
     point.open(rule, need, Side::Left).unwrap();
@@ -97,9 +104,9 @@ fn million_records_in_a_thousand_calls() {
             // Now and then the sheet is too short for all that is settled.
             let length = if n % 7_000 == 0 { 300 } else { 5_000 };
             let given = point.resume_in_place(&call, &mut log, &vec![3; length]).unwrap();
-            let from = 8 + 8 * written.len();
+            let before = free(&rule, written.len()).end;
             written.extend(given.verdicts);
-            log.bytes_mut()[from..8 + 8 * written.len()].fill(0xFF);
+            log.bytes_mut()[before..free(&rule, written.len()).end].fill(0xFF);
         }
         let seconds = begun.elapsed().as_secs_f64();
         assert!(written == all, "{name}");
@@ -170,12 +177,13 @@ fn largest_rules() {
         }
         let (rule, all, need) = expected(&entries, &records);
         let mut point = open(&rule, need);
-        let file = log::encode(&records);
+        let mut file = log::encode(&records);
         let (mut n, mut written) = (0, Vec::new());
         while n < records.len() {
             n = r.from_to(n + 1, records.len());
             let call = Call { rule: &rule, need, words: need, side: side(r) };
             written.extend(point.resume(&call, &file[..8 + 8 * n], &vec![3; records.len()]).unwrap().verdicts);
+            file[free(&rule, written.len())].fill(r.pick(&[0, 255]));
         }
         assert!(written == all, "{entries:?}");
         counts.add("verdicts", all.len());

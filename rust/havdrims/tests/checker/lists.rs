@@ -14,7 +14,7 @@ pub struct Kiosk {
     pub shape: RuleShape,
     pub need: usize,
     pub untouched: Vec<Record>,
-    /// The whole log; records that have verdicts may be overwritten.
+    /// The whole log; records before the first still wanted may be overwritten.
     pub file: Vec<u8>,
     pub point: Checkpoint,
     pub model: Point,
@@ -71,11 +71,17 @@ impl Kiosk {
         self.file[..8 + 8 * n].to_vec()
     }
 
-    /// Overwrites some of the records that have verdicts.
+    /// The first record still wanted.
+    pub fn wanted(&self) -> usize {
+        self.model.wanted(&rule::parse(&self.rule).unwrap())
+    }
+
+    /// Overwrites the records before the first still wanted, all of them or some.
     pub fn overwrite(&mut self, r: &mut Random) {
-        for at in 0..self.model.given {
+        let ways = r.pick(&[2, 4]);
+        for at in 0..self.wanted() {
             let record = &mut self.file[8 + 8 * at..16 + 8 * at];
-            match r.below(4) {
+            match r.below(ways) {
                 0 => r.fill(record),
                 1 => record.fill(r.pick(&[0, 1, 127, 128, 255])),
                 _ => {}
@@ -83,7 +89,8 @@ impl Kiosk {
         }
     }
 
-    /// Calls, and compares with the model. `log` agrees with the untouched one from d on, or is refused.
+    /// Calls, and compares with the model. `log` agrees with the untouched one from the first record wanted on, or is
+    /// refused.
     fn resume(&mut self, r: &mut Random, rule: &[u8], log: &[u8], words: usize, sheet: &[u8]) -> Result<Given, u32> {
         self.story.add(rule, log, words, sheet.len(), &self.model);
         let untouched = &self.untouched;
@@ -157,6 +164,7 @@ fn lists() {
         for _ in 0..r.from_to(0, 14) {
             if r.one_in(3) {
                 kiosk.overwrite(r);
+                counts.add("kept for previous", kiosk.model.given - kiosk.wanted());
             }
             if r.one_in(3) {
                 let n = r.from_to(n, total);
@@ -182,7 +190,8 @@ fn lists() {
     };
     let shown = |counts: &Counts| {
         let met = |n: u32| counts.get(&format!("refused {n:02}")) > 0;
-        (1..=14).all(|n| met(n) || [3, 8, 11].contains(&n)) && counts.get("of empty rules") > 0
+        let reached = ["of empty rules", "kept for previous"].iter().all(|name| counts.get(name) > 0);
+        (1..=14).all(|n| met(n) || [3, 8, 11].contains(&n)) && reached
     };
     cases("lists", 30_000, body, shown);
 }

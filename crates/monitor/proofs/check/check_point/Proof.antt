@@ -3,6 +3,12 @@ use borrow.Author.Needs.{needs}
 use Rattle.monitor.proofs.check.check_point.Statement.{statement}
 use Rattle.monitor.proofs.check.check_point.Tie as tie
 
+shared-slice-read-first-wanted : tie.Need-shared-slice-read-first-wanted
+shared-slice-read-first-wanted c = search needs
+
+first-wanted-requires : tie.Need-first-wanted-requires
+first-wanted-requires c κs = search needs
+
 log-reason-requires : tie.Need-log-reason-requires
 log-reason-requires c κs = search needs
 
@@ -13,8 +19,8 @@ checked-by-requires : tie.Need-checked-by-requires
 checked-by-requires c κs = search needs
 
 returns : tie.Need-returns
-returns c = simp (c .checked-by .ensures, c .before .words-reason .ensures, c .before .before .log-reason .ensures)
+returns c = simp (c .checked-by .ensures, c .before .words-reason .ensures, c .before .before .log-reason .ensures, c .before .before .before .first-wanted .ensures)
 
 pub check-point-spec : {M : Type 1} → statement M
 check-point-spec =
-    tie.close (tie.spec log-reason-requires words-reason-requires checked-by-requires returns)
+    tie.close (tie.spec shared-slice-read-first-wanted first-wanted-requires log-reason-requires words-reason-requires checked-by-requires returns)

@@ -11,4 +11,4 @@ returns-2 : tie.Need-returns-2
 returns-2 c = simp (ne-eqb _ _ (c .if1 .left))
 
 pub closed-fits-spec : {M : Type 1} → statement M
-closed-fits-spec = tie.close (tie.spec returns (λ c. search needs) returns-2)
+closed-fits-spec = tie.close (tie.spec (λ c. search needs) returns returns-2)

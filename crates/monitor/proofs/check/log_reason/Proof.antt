@@ -17,7 +17,7 @@ returns c =
       c .before .before .is-malformed .ensures,
       c .before .before .before .before .before .before .before .count .ensures,
       c .before .before .before .before .before .before .before .before .is-disordered .ensures,
-      c .before .before .before .before .before .before .before .before .before .before .before .before .records .ensures,
+      c .before .before .before .before .before .before .before .before .before .before .before .records .ensures,
     )
 
 pub log-reason-spec : {M : Type 1} → statement M
@@ -25,7 +25,6 @@ log-reason-spec =
     tie.close
     (tie.spec
     (λ c κs. search needs)
-    (λ c. search needs)
     (λ c. search needs)
     (λ c. search needs)
     (λ c κs. search needs)
