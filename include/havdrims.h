@@ -24,8 +24,8 @@ extern "C" {
  * A length counts the elements of its buffer: bytes, or 64-bit words for a point. A buffer of length 0 is not
  * touched, and its pointer may be null. Words are aligned as uint64_t is.
  *
- * The last two pointers of measure, resume and tally, the last of parse and of worst_log, and the last four of simulate each point
- * to a number of the caller's and are never null.
+ * The last two pointers of measure, resume, summary and tally, the last of parse and of worst_log, and the last four of
+ * simulate each point to a number of the caller's and are never null.
  *
  * What a call writes (point, sheet, a rule or log that it makes, the numbers behind its last pointers) shares no byte with
  * anything else that the call is given. What it only reads may overlap.
@@ -70,6 +70,9 @@ enum havdrims_refusal {
 
 /* No position of the rule is sure to be answered after any time: the reach of a rule with next. */
 #define HAVDRIMS_NO_REACH UINT64_C(4294967295)
+
+/* No position: what havdrims_summary gives as the latest no where there is none. */
+#define HAVDRIMS_NONE UINT64_MAX
 
 /* The most words that a point can need. */
 #define HAVDRIMS_MOST_WORDS 8192
@@ -128,6 +131,16 @@ uint32_t havdrims_open(const uint8_t *rule, size_t rule_len, uint64_t *point, si
 uint32_t havdrims_resume(const uint8_t *rule, size_t rule_len, const uint8_t *log, size_t log_len,
                          uint64_t *point, size_t point_len, uint8_t *sheet, size_t sheet_len,
                          uint64_t *given, uint64_t *more);
+
+/*
+ * What the point itself knows of the verdicts given with it, all calls together: *no becomes the count of no among them,
+ * *latest the position of the latest no, or HAVDRIMS_NONE. They are what havdrims_tally and a scan would give over the
+ * verdicts of all calls laid end to end. The point is not changed.
+ *
+ * Refusals: 1 to 11.
+ */
+uint32_t havdrims_summary(const uint8_t *rule, size_t rule_len, const uint64_t *point, size_t point_len,
+                          uint64_t *no, uint64_t *latest);
 
 /*
  * Counts the verdicts of a sheet of sheet_len bytes: *no becomes the number of bytes 0, *yes that of bytes 1.

@@ -60,7 +60,7 @@ static void print(const char *evening, const uint8_t *sheet, uint64_t from, uint
 
 int main(void) {
     enum { WARM = 1, PRINTS = 2 };
-    uint64_t words, reach, given, more, no, yes;
+    uint64_t words, reach, given, more, no, yes, latest;
     uint8_t sheet[16];
 
     accepted("measure", havdrims_measure(rule, sizeof rule, &words, &reach));
@@ -103,6 +103,11 @@ int main(void) {
     accepted("tally", havdrims_tally(sheet, all, &no, &yes));
     printf("the week so far: %u yes, %u no\n", (unsigned)yes, (unsigned)no);
     check(yes == 5 && no == 3, "the tally");
+
+    /* The point knows the count of no without any sheet, and where the latest is. */
+    accepted("summary", havdrims_summary(rule, sizeof rule, point, words, &no, &latest));
+    printf("the latest no is record %u\n", (unsigned)latest);
+    check(no == 3 && latest == 7, "the summary");
 
     /* A log that has lost a record is refused, and the point is as it was. */
     uint32_t number = havdrims_resume(rule, sizeof rule, log_file, log_length - 8, point, words, sheet, sizeof sheet,

@@ -277,7 +277,8 @@ pub fn check_point(
     requires { ⌜ (count ≤ 128) × (16 + offset entries count ≤ length (now point)) ⌝ }
     ensures { λ r. ⌜ r ≡ checked-by (point-refusal closing entries count (now (log .entry)) (now (point .entry))) ⌝ }
 {
-    let wanted = first_wanted(entries, count, point[header::GIVEN] as usize);
+    let given = point[header::GIVEN] as usize;
+    let wanted = first_wanted(entries, count, given);
     checked_by(words_reason(
         entries,
         count,

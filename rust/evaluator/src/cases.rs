@@ -117,6 +117,8 @@ pub struct Call {
     pub gives: Result<(Vec<u8>, bool), u32>,
     /// The first record still wanted after it.
     pub wanted: usize,
+    /// The count of no after it, and the position of the latest.
+    pub no: (u64, Option<u64>),
 }
 
 /// Calls with one point, from a fresh one on.
@@ -135,12 +137,13 @@ struct Step {
     sheet: usize,
     gives: Result<(Vec<u8>, bool), u32>,
     wanted: Option<usize>,
+    no: Option<(u64, Option<u64>)>,
 }
 
 /// A carry on with the first `n` records of the list's log, and a sheet for all verdicts. It gives none and has caught
 /// up, unless another answer is said.
 fn resume(n: usize) -> Step {
-    Step { records: n, replaced: None, sheet: 100, gives: Ok((Vec::new(), false)), wanted: None }
+    Step { records: n, replaced: None, sheet: 100, gives: Ok((Vec::new(), false)), wanted: None, no: None }
 }
 
 impl Step {
@@ -168,11 +171,16 @@ impl Step {
     fn wanted(self, record: usize) -> Step {
         Step { wanted: Some(record), ..self }
     }
+
+    /// The count of no after it and the position of the latest, if they are not those of before.
+    fn no(self, count: u64, latest: u64) -> Step {
+        Step { no: Some((count, Some(latest))), ..self }
+    }
 }
 
 /// Before each call the records before the first wanted are overwritten with ones.
 fn list<const N: usize>(name: &'static str, entries: &[Entry], records: &[Record], steps: [Step; N]) -> List {
-    let mut wanted = 0;
+    let (mut wanted, mut no) = (0, (0, None));
     let calls = steps.map(|step| {
         let mut log = records[..step.records].to_vec();
         log[..wanted].fill(Record { time: u32::MAX, letters: u32::MAX });
@@ -180,7 +188,8 @@ fn list<const N: usize>(name: &'static str, entries: &[Entry], records: &[Record
             log[at] = record;
         }
         wanted = step.wanted.unwrap_or(wanted);
-        Call { log, sheet: step.sheet, gives: step.gives, wanted }
+        no = step.no.unwrap_or(no);
+        Call { log, sheet: step.sheet, gives: step.gives, wanted, no }
     });
     List { name, entries: entries.to_vec(), records: records.to_vec(), calls: calls.into() }
 }
@@ -195,7 +204,7 @@ pub fn lists() -> Vec<List> {
     let twice = [Entry::letter(0), previous, previous];
     let thrice = [twice.as_slice(), &[previous]].concat();
     let six = records(&[(1, &[0]), (2, &[]), (3, &[0]), (4, &[0]), (5, &[]), (5, &[])]);
-    let p1_then_p2 = [resume(6).gives(&[0, 0, 0, 1, 1]).wanted(5), resume(7).gives(&[1, 1]).wanted(7)];
+    let p1_then_p2 = [resume(6).gives(&[0, 0, 0, 1, 1]).wanted(5).no(3, 2), resume(7).gives(&[1, 1]).wanted(7)];
     let no_room = [resume(0), resume(6).sheet(0).gives_and_more(&[])];
     let all_yes = [
         resume(3).sheet(2).gives_and_more(&[1, 1]).wanted(2),
@@ -203,17 +212,17 @@ pub fn lists() -> Vec<List> {
         resume(3).sheet(0),
     ];
     let day_by_day = [
-        resume(1).gives(&[0]),
-        resume(2).gives(&[0]),
-        resume(3).gives(&[0]),
+        resume(1).gives(&[0]).no(1, 0),
+        resume(2).gives(&[0]).no(2, 1),
+        resume(3).gives(&[0]).no(3, 2),
         resume(4).gives(&[1]).wanted(1),
-        resume(5).gives(&[0]).wanted(2),
+        resume(5).gives(&[0]).wanted(2).no(4, 4),
         resume(6).gives(&[1]).wanted(3),
     ];
     let falling_times = [
-        resume(3).gives(&[0, 0, 1]).wanted(1),
+        resume(3).gives(&[0, 0, 1]).wanted(1).no(2, 1),
         resume(4).with_record(1, 4, 0).refused(14),
-        resume(4).gives(&[0]).wanted(2),
+        resume(4).gives(&[0]).wanted(2).no(3, 3),
         resume(4).with_record(2, 5, 1).refused(14),
         resume(4),
     ];

@@ -1,4 +1,4 @@
-//! A point as document 01 describes it, and what each of the four calls must answer.
+//! A point as document 01 describes it, and what each call must answer.
 
 use crate::log::{self, Record};
 use crate::rule::{self, Rule};
@@ -7,9 +7,17 @@ use crate::rule::{self, Rule};
 #[derive(Clone, Debug)]
 pub struct Point {
     pub rule: Vec<u8>,
-    pub given: usize,
+    /// "All verdict bytes written from that point, laid end to end": d of them.
+    pub sheet: Vec<u8>,
     pub seen: usize,
     pub last: u32,
+}
+
+/// "The count of no among verdicts given and the position of the latest, or none."
+#[derive(Clone, Copy, Debug, PartialEq, Eq)]
+pub struct Summary {
+    pub no: u64,
+    pub latest: Option<u64>,
 }
 
 /// What an accepted carry on gives: its c verdicts, and whether there are more.
@@ -29,7 +37,7 @@ pub fn open(bytes: &[u8], lent_words: usize) -> Result<Point, u32> {
     if rule::parse(bytes)?.words > lent_words as u64 {
         return Err(9);
     }
-    Ok(Point { rule: bytes.to_vec(), given: 0, seen: 0, last: 0 })
+    Ok(Point { rule: bytes.to_vec(), sheet: Vec::new(), seen: 0, last: 0 })
 }
 
 /// Tally: the count of no and of yes.
@@ -41,10 +49,22 @@ pub fn tally(sheet: &[u8]) -> Result<(u64, u64), u32> {
     Ok((count(0), count(1)))
 }
 
+/// Tally and a scan over a sheet without fault.
+pub fn summed(sheet: &[u8]) -> Summary {
+    let (no, _) = tally(sheet).expect("a sheet without fault");
+    let latest = sheet.iter().rposition(|&b| b == 0);
+    Summary { no, latest: latest.map(|at| at as u64) }
+}
+
 impl Point {
-    /// The rule and the records of a carry on that is not refused, else its refusal. The point is one that the
-    /// library left, so 11 is not met; and it begins as one, so 10 is met by another rule alone.
-    pub fn check(&self, bytes: &[u8], log: &[u8], lent_words: usize) -> Result<(Rule, Vec<Record>), u32> {
+    /// The number of verdicts given, d.
+    pub fn given(&self) -> usize {
+        self.sheet.len()
+    }
+
+    /// The rule that is brought, or one of refusals 1 to 11. The point is one that the library left, so 11 is not met;
+    /// and it begins as one, so 10 is met by another rule alone.
+    fn check_rule(&self, bytes: &[u8], lent_words: usize) -> Result<Rule, u32> {
         let rule = rule::parse(bytes)?;
         if rule.words > lent_words as u64 {
             return Err(9);
@@ -52,6 +72,19 @@ impl Point {
         if bytes != self.rule {
             return Err(10);
         }
+        Ok(rule)
+    }
+
+    /// "A call with checks 1 to 11 gives both. They equal what tally and a scan give over all verdict bytes written from
+    /// that point, laid end to end."
+    pub fn summary(&self, bytes: &[u8], lent_words: usize) -> Result<Summary, u32> {
+        self.check_rule(bytes, lent_words)?;
+        Ok(summed(&self.sheet))
+    }
+
+    /// The rule and the records of a carry on that is not refused, else its refusal.
+    pub fn check(&self, bytes: &[u8], log: &[u8], lent_words: usize) -> Result<(Rule, Vec<Record>), u32> {
+        let rule = self.check_rule(bytes, lent_words)?;
         let records = log::parse(log)?;
         if records.len() < self.seen {
             return Err(13);
@@ -64,7 +97,7 @@ impl Point {
 
     /// "The first still wanted, which is d less k (0 when d is below k)": the records before it may be overwritten.
     pub fn wanted(&self, rule: &Rule) -> usize {
-        self.given.saturating_sub(rule.depth)
+        self.given().saturating_sub(rule.depth)
     }
 
     /// "Some record after position d has a time below that of the record before it, or the first new record's
@@ -86,14 +119,14 @@ impl Point {
     ) -> Result<Resumed, u32> {
         let (rule, records) = self.check(bytes, log, lent_words)?;
         let all = verdicts(&rule, records.len());
-        let d = self.given;
+        let d = self.given();
         let c = (all.len() - d).min(sheet_length);
-        self.given = d + c;
+        let written: Vec<u8> = all[d..d + c].iter().map(|&b| b as u8).collect();
+        self.sheet.extend(&written);
         if records.len() > self.seen {
             self.last = records[records.len() - 1].time;
         }
         self.seen = records.len();
-        let written = all[d..d + c].iter().map(|&b| b as u8).collect();
         Ok(Resumed { verdicts: written, more: all.len() > d + c })
     }
 }

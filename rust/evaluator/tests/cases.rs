@@ -1,6 +1,7 @@
 //! Document 01's worked cases, evaluated.
 
 use evaluator::log;
+use evaluator::model::Summary;
 use evaluator::rule::{self, Entry, Rule, NEXT, NO_END, NO_REACH};
 use evaluator::{cases, linear, model, reading};
 
@@ -36,8 +37,19 @@ fn worked_lists() {
             let got = point.resume(&bytes, &log::encode(&call.log), words, call.sheet, evaluate);
             assert_eq!(got.map(|given| (given.verdicts, given.more)), call.gives, "{}, call {at}", list.name);
             assert_eq!(point.wanted(&rule), call.wanted, "{}, call {at}", list.name);
+            let summary = point.summary(&bytes, words).unwrap();
+            assert_eq!((summary.no, summary.latest), call.no, "{}, call {at}", list.name);
         }
     }
+}
+
+#[test]
+fn a_fresh_point_has_no_no() {
+    let bytes = rule::encode(&cases::p1_entries());
+    let fresh = model::open(&bytes, 70).unwrap();
+    assert_eq!(fresh.summary(&bytes, 70), Ok(Summary { no: 0, latest: None }));
+    assert_eq!(fresh.summary(&bytes, 69), Err(9));
+    assert_eq!(fresh.summary(&rule::encode(&[]), 70), Err(10));
 }
 
 #[test]

@@ -37,6 +37,19 @@ extern "C" {
     /// See [`havdrims_measure`].
     pub fn havdrims_tally(sheet: *const u8, sheet_len: usize, no: *mut u64, yes: *mut u64) -> u32;
 
+    /// The count of no among the verdicts given, and the position of the latest.
+    ///
+    /// # Safety
+    /// See [`havdrims_measure`].
+    pub fn havdrims_summary(
+        rule: *const u8,
+        rule_len: usize,
+        point: *const u64,
+        point_len: usize,
+        no: *mut u64,
+        latest: *mut u64,
+    ) -> u32;
+
     /// The rule that a text says.
     ///
     /// # Safety

@@ -6,18 +6,18 @@
 //! words that the caller lends and keeps. A record that has its verdict is not read again, but for the last few where
 //! the rule looks back with previous, so the kiosk may overwrite it.
 //!
-//! The calls: [`measure`] (weigh), [`open`], [`resume`] (carry on) and [`tally`]; [`parse`], which writes a rule that is
-//! typed as text; and [`worst_log`] and [`simulate`], which write logs to try a kiosk or its settings with. Each yields
-//! its result or one [`Refusal`], and a refused call changes nothing. The checker is proved; this crate only hands
-//! slices on to it. Nothing here allocates, and a thread with [`MOST_STACK`] bytes of stack can make every call but
-//! `parse`, which takes [`PARSE_STACK`].
+//! The calls: [`measure`] (weigh), [`open`], [`resume`] (carry on), [`summary`] and [`tally`]; [`parse`], which writes a
+//! rule that is typed as text; and [`worst_log`] and [`simulate`], which write logs to try a kiosk or its settings with.
+//! Each yields its result or one [`Refusal`], and a refused call changes nothing. The checker is proved; this crate only
+//! hands slices on to it. Nothing here allocates, and a thread with [`MOST_STACK`] bytes of stack can make every call
+//! but `parse`, which takes [`PARSE_STACK`].
 //!
 //! # Example
 //!
 //! Letter 0 until letter 1, within two seconds, over a log that grows:
 //!
 //! ```
-//! use havdrims::{measure, open, parse, resume, tally, Refusal, MOST_RULE};
+//! use havdrims::{measure, open, parse, resume, summary, tally, Refusal, MOST_RULE};
 //!
 //! # fn main() -> Result<(), Refusal> {
 //! let mut buffer = [0; MOST_RULE];
@@ -42,6 +42,8 @@
 //!
 //! let counts = tally(&sheet[..second.verdicts])?;
 //! assert_eq!((counts.no, counts.yes), (1, 2));
+//! let so_far = summary(rule, &checkpoint)?;
+//! assert_eq!((so_far.no, so_far.latest), (1, Some(0))); // the same without any sheet: one no, at record 0
 //! # Ok(())
 //! # }
 //! ```
@@ -79,6 +81,14 @@ pub struct Resumed {
     pub verdicts: usize,
     /// The log settles further positions, which the sheet had no room for. Otherwise the checkpoint has caught up.
     pub more: bool,
+}
+
+/// The no among all verdicts given with a checkpoint.
+#[derive(Clone, Copy, Debug, PartialEq, Eq)]
+pub struct Summary {
+    pub no: u64,
+    /// The position of the latest of them.
+    pub latest: Option<u64>,
 }
 
 /// The counts of a sheet.
@@ -131,6 +141,18 @@ pub fn resume(rule: &[u8], log: &[u8], checkpoint: &mut [u64], sheet: &mut [u8])
     };
     refusal::checked(number)?;
     Ok(Resumed { verdicts: given as usize, more: more == 1 })
+}
+
+/// The count of no among all verdicts given with a checkpoint, and the position of the latest: what [`tally`] and a scan
+/// would give over all of them, laid end to end, without the sheets. Refusals: 1 to 11.
+pub fn summary(rule: &[u8], checkpoint: &[u64]) -> Result<Summary, Refusal> {
+    let (mut no, mut latest) = (0, 0);
+    // SAFETY: the pointers and lengths are those of two slices and of two numbers. The numbers overlap nothing.
+    let number = unsafe {
+        ffi::havdrims_summary(rule.as_ptr(), rule.len(), checkpoint.as_ptr(), checkpoint.len(), &mut no, &mut latest)
+    };
+    refusal::checked(number)?;
+    Ok(Summary { no, latest: Some(latest).filter(|&position| position != u64::MAX) })
 }
 
 /// Counts the no and the yes of a sheet. Refusal: 15.

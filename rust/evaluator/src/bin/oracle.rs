@@ -87,8 +87,7 @@ fn measured(rule: &[u8]) -> String {
 }
 
 fn judged(rule: &[u8], log: &[u8]) -> String {
-    let fresh = model::Point { rule: rule.to_vec(), given: 0, seen: 0, last: 0 };
-    match fresh.check(rule, log, 8192) {
+    match model::open(rule, 8192).and_then(|fresh| fresh.check(rule, log, 8192)) {
         Err(n) => format!("refused {n}"),
         Ok((rule, records)) => {
             let plain = records.len() <= PLAIN_RECORDS;

@@ -1,6 +1,7 @@
-//! The four functions called on guarded buffers, with what every call keeps checked after it.
+//! The functions called on guarded buffers, with what every call keeps checked after it.
 
 use crate::guard::{Lent, Side};
+use evaluator::model::Summary;
 use evaluator::random::Random;
 use havdrims::ffi;
 use std::cell::Cell;
@@ -120,6 +121,25 @@ impl Checkpoint {
         } else {
             Err(number)
         }
+    }
+
+    /// havdrims_summary, lending the first `words` words: the count of no and the position of the latest. It keeps all.
+    pub fn summary(&mut self, rule: &[u8], words: usize, side: Side) -> Result<Summary, u32> {
+        let before = self.words().to_vec();
+        let mut copy = lent(rule, side);
+        copy.read_only_if(read_only_turn());
+        self.lent.read_only_if(read_only_turn());
+        let [mut no, mut latest] = KEPT;
+        let point = self.lent.pointer().cast();
+        // SAFETY: rule and words are lent for reading, the numbers are this function's own.
+        let number =
+            unsafe { ffi::havdrims_summary(copy.pointer(), copy.length(), point, words, &mut no, &mut latest) };
+        self.lent.read_only_if(false);
+        assert_eq!(copy.bytes(), rule, "summary changed the rule");
+        assert_eq!(self.words(), before, "summary changed the point");
+        assert!(self.lent.surroundings_kept(), "summary wrote outside the point");
+        let (no, latest) = answer(number, [no, latest])?;
+        Ok(Summary { no, latest: (latest != u64::MAX).then_some(latest) })
     }
 
     /// havdrims_resume on a guarded copy of the log.

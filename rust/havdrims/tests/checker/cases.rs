@@ -2,7 +2,7 @@
 
 use evaluator::rule::{Entry, NEXT, NO_END};
 use evaluator::{cases, log, rule};
-use havdrims::{measure, open, resume, tally, Needs, Refusal, Resumed, Tally};
+use havdrims::{measure, open, resume, summary, tally, Needs, Refusal, Resumed, Summary, Tally};
 
 fn fresh(rule: &[u8]) -> Vec<u64> {
     let mut point = vec![0; measure(rule).unwrap().words];
@@ -37,8 +37,19 @@ fn worked_lists() {
             assert_eq!(got, call.gives, "{}, call {at}", list.name);
             let c = got.map_or(0, |(verdicts, _)| verdicts.len());
             assert!(sheet[c..].iter().all(|&b| b == 7), "{}, call {at}", list.name);
+            let (no, latest) = call.no;
+            assert_eq!(summary(&rule, &point), Ok(Summary { no, latest }), "{}, call {at}", list.name);
         }
     }
+}
+
+#[test]
+fn a_fresh_checkpoint_has_no_no() {
+    let rule = rule::encode(&cases::p1_entries());
+    let point = fresh(&rule);
+    assert_eq!(summary(&rule, &point), Ok(Summary { no: 0, latest: None }));
+    assert_eq!(summary(&rule, &point[..69]), Err(Refusal::ShortPoint));
+    assert_eq!(summary(&rule::encode(&[]), &point), Err(Refusal::ForeignPoint));
 }
 
 #[test]

@@ -4,10 +4,11 @@ use crate::calls::{hex, side, Call, Checkpoint};
 use crate::lists::Kiosk;
 use crate::runner::{cases, Counts};
 use evaluator::log;
+use evaluator::model::Summary;
 use evaluator::random::{self, Random};
 
 /// The number of the checkpoint's format.
-const FORMAT: u64 = 3;
+const FORMAT: u64 = 4;
 
 /// The first word of a checkpoint of this format.
 fn mark(format: u64) -> u64 {
@@ -74,9 +75,12 @@ fn forged_points() {
                 alter(r, &mut log, 0);
             }
             let sheet = vec![5; r.below(50)];
+            let summary = kiosk.point.summary(&kiosk.rule, length, side(r));
             let call = Call { rule: &kiosk.rule, need: kiosk.need, words: length, side: side(r) };
             let number = kiosk.point.resume(&call, &log, &sheet).err().unwrap_or(0);
             counts.returned(number);
+            // Both calls have checks 1 to 11.
+            assert_eq!(summary.err(), Some(number).filter(|n| [10, 11].contains(n)), "{}point {words:?}", kiosk.story);
             let possible = [0, 10, 11, 13, 14].contains(&number);
             assert!(possible, "refused {number}\n{}point {words:?}\nlog {}", kiosk.story, hex(&log));
         }
@@ -84,6 +88,32 @@ fn forged_points() {
     cases("forged_points", 40_000, body, |counts| {
         ["accepted", "refused 10", "refused 11"].iter().all(|name| counts.get(name) > 0)
     });
+}
+
+/// The words of the count of no and of the latest no, in and out of their ranges (docs/CHECKPOINT.md).
+#[test]
+fn forged_counts() {
+    const NO: usize = 8;
+    const LATEST: usize = 9;
+    let body = |r: &mut Random, counts: &mut Counts| {
+        let (mut kiosk, n) = used(r);
+        let given = kiosk.model.given() as u64;
+        let near = [0, 1, given.saturating_sub(1), given, given + 1, u64::MAX];
+        let mut words = kiosk.point.words().to_vec();
+        (words[NO], words[LATEST]) = (r.pick(&near), r.pick(&near));
+        kiosk.point.set(&words, side(r));
+        let in_range = words[NO] <= given && words[LATEST] <= given && (words[NO] == 0) == (words[LATEST] == 0);
+        let expected =
+            if in_range { Ok(Summary { no: words[NO], latest: words[LATEST].checked_sub(1) }) } else { Err(11) };
+        let got = kiosk.point.summary(&kiosk.rule, words.len(), side(r));
+        assert_eq!(got, expected, "d {given}, {} and {}", words[NO], words[LATEST]);
+        let call = Call { rule: &kiosk.rule, need: kiosk.need, words: words.len(), side: side(r) };
+        let resumed = kiosk.point.resume(&call, &kiosk.brought(n), &[]).err();
+        assert_eq!(resumed, got.err(), "d {given}, {} and {}", words[NO], words[LATEST]);
+        counts.returned(resumed.unwrap_or(0));
+    };
+    let both = |counts: &Counts| counts.get("accepted") > 0 && counts.get("refused 11") > 0;
+    cases("forged_counts", 5_000, body, both);
 }
 
 /// Words that are no point: all the same, random, or a point of which only the beginning is left.
@@ -107,6 +137,7 @@ fn foreign_points() {
         if r.one_in(2) {
             random::damage(r, &mut log);
         }
+        assert_eq!(kiosk.point.summary(&kiosk.rule, words.len(), side(r)), Err(10), "{}point {words:?}", kiosk.story);
         let call = Call { rule: &kiosk.rule, need, words: words.len(), side: side(r) };
         let got = kiosk.point.resume(&call, &log, &[5; 20]);
         assert_eq!(got, Err(10), "{}point {words:?}\nlog {}", kiosk.story, hex(&log));
@@ -140,7 +171,7 @@ fn altered_open_records() {
             counts.returned(number);
             let Ok(given) = got else { continue };
             let records = log::parse(&log).unwrap();
-            kiosk.model.given += given.verdicts.len();
+            kiosk.model.sheet.extend(&given.verdicts);
             if records.len() > kiosk.model.seen {
                 kiosk.model.last = records[records.len() - 1].time;
             }

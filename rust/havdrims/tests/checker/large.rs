@@ -78,10 +78,12 @@ fn million_records_in_one_call() {
             log.place(&log::encode(&records), Side::Right);
             log.read_only_if(true);
             let call = Call { rule: &rule, need, words: need, side: Side::Right };
+            let mut point = open(&rule, need);
             let begun = Instant::now();
-            let given = open(&rule, need).resume_in_place(&call, &mut log, &vec![3; all.len()]).unwrap();
+            let given = point.resume_in_place(&call, &mut log, &vec![3; all.len()]).unwrap();
             let seconds = begun.elapsed().as_secs_f64();
             assert!(!given.more && given.verdicts == all, "{name}, seed {seed}");
+            assert_eq!(point.summary(&rule, need, Side::Left), Ok(model::summed(&all)), "{name}, seed {seed}");
             let yes = all.iter().filter(|&&b| b == 1).count();
             say(&format!("million_records_in_one_call: {name}, {} verdicts, {yes} yes ({seconds:.2} s)", all.len()));
         }
@@ -110,6 +112,7 @@ fn million_records_in_a_thousand_calls() {
         }
         let seconds = begun.elapsed().as_secs_f64();
         assert!(written == all, "{name}");
+        assert_eq!(point.summary(&rule, need, Side::Left), Ok(model::summed(&all)), "{name}");
         say(&format!("million_records_in_a_thousand_calls: {name}, {} verdicts ({seconds:.2} s)", written.len()));
     }
 }

@@ -36,7 +36,7 @@ struct Step {
 
 impl Story {
     pub fn add(&mut self, rule: &[u8], log: &[u8], words: usize, sheet: usize, before: &Point) {
-        let point = format!("d {}, seen {}, last {}", before.given, before.seen, before.last);
+        let point = format!("d {}, seen {}, last {}", before.given(), before.seen, before.last);
         self.0.push(Step { rule: rule.to_vec(), log: log.to_vec(), words, sheet, point });
     }
 }
@@ -100,11 +100,21 @@ impl Kiosk {
         let call = Call { rule, need: self.need, words, side: side(r) };
         let got = self.point.resume(&call, log, sheet);
         assert_eq!(got, expected, "{}", self.story);
+        self.summary(r, rule, words);
         got
     }
 
+    /// The summary with the rule and the words of this call, and with those that belong to the point.
+    fn summary(&mut self, r: &mut Random, rule: &[u8], words: usize) {
+        let own = self.rule.clone();
+        for (rule, words) in [(rule, words), (&own, r.from_to(self.need, self.point.words().len()))] {
+            let expected = self.model.summary(rule, words);
+            assert_eq!(self.point.summary(rule, words, side(r)), expected, "{}", self.story);
+        }
+    }
+
     fn sheet(&self, r: &mut Random) -> Vec<u8> {
-        let rest = self.untouched.len() - self.model.given;
+        let rest = self.untouched.len() - self.model.given();
         let length = r.pick(&[0, 1, 2, 5, 63, 64, 65, rest, rest, rest + 3]);
         let mut sheet = vec![0; length];
         r.fill(&mut sheet);
@@ -164,7 +174,7 @@ fn lists() {
         for _ in 0..r.from_to(0, 14) {
             if r.one_in(3) {
                 kiosk.overwrite(r);
-                counts.add("kept for previous", kiosk.model.given - kiosk.wanted());
+                counts.add("kept for previous", kiosk.model.given() - kiosk.wanted());
             }
             if r.one_in(3) {
                 let n = r.from_to(n, total);

@@ -138,6 +138,9 @@ fn nothing_lent() {
         let log = empty.as_ptr();
         assert_eq!(ffi::havdrims_resume(rule.as_ptr(), 38, log, 8, p, 70, null_mut(), 0, &mut a, &mut b), 0);
         assert_eq!((a, b), (0, 0));
+        assert_eq!(ffi::havdrims_summary(null(), 0, null(), 0, &mut a, &mut b), 1);
+        assert_eq!(ffi::havdrims_summary(rule.as_ptr(), 38, null(), 0, &mut a, &mut b), 9);
+        assert_eq!((a, b), (0, 0));
         assert_eq!(ffi::havdrims_tally(null(), 0, &mut a, &mut b), 0);
         assert_eq!((a, b), (0, 0));
     }

@@ -3,8 +3,8 @@ use borrow.Author.Needs.{needs}
 use Rattle.monitor.proofs.check.check_point.Statement.{statement}
 use Rattle.monitor.proofs.check.check_point.Tie as tie
 
-shared-slice-read-first-wanted : tie.Need-shared-slice-read-first-wanted
-shared-slice-read-first-wanted c = search needs
+shared-slice-read-given : tie.Need-shared-slice-read-given
+shared-slice-read-given c = search needs
 
 first-wanted-requires : tie.Need-first-wanted-requires
 first-wanted-requires c κs = search needs
@@ -23,4 +23,4 @@ returns c = simp (c .checked-by .ensures, c .before .words-reason .ensures, c .b
 
 pub check-point-spec : {M : Type 1} → statement M
 check-point-spec =
-    tie.close (tie.spec shared-slice-read-first-wanted first-wanted-requires log-reason-requires words-reason-requires checked-by-requires returns)
+    tie.close (tie.spec shared-slice-read-given first-wanted-requires log-reason-requires words-reason-requires checked-by-requires returns)
