@@ -76,10 +76,14 @@ pub extern "C" fn havdrims_close(
     ensures { λ r. ⌜ ResumeCall true (now (rule .entry)) (now (log .entry)) (now (point .entry)) (now (sheet .entry)) (now (given .entry)) (now (more .entry)) r (now (point .exit)) (now (sheet .exit)) (now (given .exit)) (now (more .exit)) ⌝ }
 {
     let closed = monitor::close(rule, log, point, sheet);
-    let Resumed::Given { count, more: left } = closed else {
+    let Resumed::Given {
+        count: written,
+        more: left,
+    } = closed
+    else {
         return closed.number();
     };
-    *given = count as u64;
+    *given = written as u64;
     *more = left as u64;
     0
 }
