@@ -24,8 +24,8 @@ extern "C" {
  * A length counts the elements of its buffer: bytes, or 64-bit words for a point. A buffer of length 0 is not
  * touched, and its pointer may be null. Words are aligned as uint64_t is.
  *
- * The last two pointers of measure, resume, summary and tally, the last of parse and of worst_log, and the last four of
- * simulate each point to a number of the caller's and are never null.
+ * The last two pointers of measure, resume, close, summary and tally, the last of parse and of worst_log, and the last
+ * four of simulate each point to a number of the caller's and are never null.
  *
  * What a call writes (point, sheet, a rule or log that it makes, the numbers behind its last pointers) shares no byte with
  * anything else that the call is given. What it only reads may overlap.
@@ -64,6 +64,9 @@ enum havdrims_refusal {
     HAVDRIMS_SHORT_RULE = 18,     /* the lent rule buffer is short */
     HAVDRIMS_LOG_ROOM = 19,       /* the number of records is above 1,000,000, or the lent log buffer is under
                                      8 + 8 * records bytes */
+    HAVDRIMS_POINT_CLOSED = 20,   /* resume is given a closed point */
+    HAVDRIMS_MORE_RECORDS = 21,   /* closing is repeated with more records than at its first call that was not
+                                     refused */
     HAVDRIMS_SETTINGS = 26        /* a setting, the seconds or the seed given to simulate is outside its range, or the
                                      lent log buffer is short */
 };
@@ -126,11 +129,25 @@ uint32_t havdrims_open(const uint8_t *rule, size_t rule_len, uint64_t *point, si
  * *given becomes the number of verdicts written. *more becomes 1 if the log settles further records, for which the
  * sheet had no room, and 0 if the point has caught up.
  *
- * Refusals: 1 to 14.
+ * Refusals: 1 to 11, then 20, then 12 to 14.
  */
 uint32_t havdrims_resume(const uint8_t *rule, size_t rule_len, const uint8_t *log, size_t log_len,
                          uint64_t *point, size_t point_len, uint8_t *sheet, size_t sheet_len,
                          uint64_t *given, uint64_t *more);
+
+/*
+ * Closes the month: says that no record will follow the log. Every remaining record gets its verdict on the log as it
+ * ends: an until whose end never came is no, and so is next at the last record.
+ *
+ * It writes and answers as havdrims_resume does, and is called again where the sheet had no room for all; records before
+ * the first still wanted may be overwritten between. The first closing that is not refused closes the point, whatever
+ * the length of its sheet: from then on havdrims_resume is refused with 20, and a closing with more records with 21.
+ *
+ * Refusals: 1 to 13, then 21, then 14.
+ */
+uint32_t havdrims_close(const uint8_t *rule, size_t rule_len, const uint8_t *log, size_t log_len,
+                        uint64_t *point, size_t point_len, uint8_t *sheet, size_t sheet_len,
+                        uint64_t *given, uint64_t *more);
 
 /*
  * What the point itself knows of the verdicts given with it, all calls together: *no becomes the count of no among them,

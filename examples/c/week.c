@@ -1,5 +1,5 @@
 /*
- * A week of one kiosk in C: a log that grows, a point that carries on, and a card that is overwritten.
+ * A week of one kiosk in C: a log that grows, a point that carries on, a card that is overwritten, and the month's end.
  *
  *     cc -Wall -Wextra -Iinclude examples/c/week.c target/staticlib/libhavdrims.a -o week && ./week
  *
@@ -114,6 +114,15 @@ int main(void) {
                                       &given, &more);
     printf("with a record removed: refused %u\n", (unsigned)number);
     check(number == HAVDRIMS_FEWER_RECORDS, "the refusal");
+
+    /* The month's end: no record will follow, so the last one has its verdict too. From then on the point is closed. */
+    accepted("close", havdrims_close(rule, sizeof rule, log_file, log_length, point, words, sheet + all,
+                                     sizeof sheet - all, &given, &more));
+    print("Closed", sheet + all, all, given, more);
+    check(given == 1 && more == 0 && sheet[all] == 0, "the last verdict");
+    number = havdrims_resume(rule, sizeof rule, log_file, log_length, point, words, sheet, sizeof sheet, &given, &more);
+    printf("once closed: refused %u\n", (unsigned)number);
+    check(number == HAVDRIMS_POINT_CLOSED, "the refusal once closed");
 
     free(point);
     return 0;

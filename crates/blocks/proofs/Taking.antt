@@ -1,13 +1,13 @@
 -- An operator's block after positions were taken out of its buffers, whatever else its operator stored. Assumes nothing.
 use Prim.Native.Nat.{ℕ, _+_, _-_, _/_, _≤_, _<_, _^_, min}
 use native.Mathlib.Omega.{arith}
-use mathlib.Core.Bool.{false, false≢true}
+use mathlib.Core.Bool.{Bool, false, false≢true}
 use mathlib.Core.List.{List, [], _∷_}
 use mathlib.Core.Path.{_≡_, sym, _∙_}
 use Rattle.mtl.specs.Formula.{Formula}
 use Rattle.mtl.specs.Log.{Log}
 use Rattle.mtl.specs.Satisfaction.{sat}
-use Rattle.mtl.specs.Progress.{progress}
+use Rattle.mtl.specs.Progress.{settled-to}
 use Rattle.bits.specs.Packed.{Packed}
 use Rattle.bits.proofs.Laws.{packed-first}
 use Rattle.trace.specs.Format.{record-count}
@@ -30,7 +30,7 @@ pub both-keeps : (n : ℕ) (b : List ℕ) → KeptBlock b (took-both n b)
 both-keeps n b = stores-keep (both-stores n b []) b (omega arith)
 
 -- `available` gives all of a buffer
-pub all-of : {s : List ℕ} {φ : Formula} {L : Log} {g p count bits : ℕ} → Agrees s L g → Buffer φ L p count bits →
+pub all-of : {closed : Bool} {s : List ℕ} {φ : Formula} {L : Log} {g p count bits : ℕ} → Agrees closed s L g → Buffer φ L p count bits →
     (n : ℕ) → n ≡ min (min count (record-count s - p)) 64 → n ≡ count
 all-of agrees buffer n e =
     let size = agrees .size in
@@ -68,7 +68,7 @@ pub record TookBoth (n : ℕ) (b b′ : List ℕ) : Type 0 where
   pub bits : left-bits b′ ≡ left-bits b / 2 ^ n
 
 -- φ stands at g′ then, if what is its own says so
-module _ (φ : Formula) {L : Log} (b : List ℕ) (n g′ : ℕ) (b′ : List ℕ) (reached : g′ ≤ progress φ L)
+module _ (φ : Formula) {L : Log} (b : List ℕ) (n g′ : ℕ) (b′ : List ℕ) (reached : g′ ≤ settled-to φ L)
     (range : InRange (L .size) (cells-of (kind-of φ) (high-of φ)) b′) (own : Own φ L g′ b′) where
   -- ψ is the only operand
   pub taken-right : {ψ : Formula} → has-left φ ≡ false → (RightBuffer ψ L b′ → Buffers φ L b′) → n ≤ right-count b → TookRight n b b′ → RightBuffer ψ L b →

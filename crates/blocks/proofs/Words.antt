@@ -11,8 +11,8 @@ use borrow.Author.Tests.{eqb-true, eqb-false}
 use Rattle.mtl.specs.Formula.{Formula}
 use Rattle.mtl.specs.Log.{Log}
 use Rattle.mtl.specs.Satisfaction.{sat}
-use Rattle.mtl.specs.Progress.{progress}
-use Rattle.mtl.proofs.Until.{progress-le-size}
+use Rattle.mtl.specs.Progress.{settled-to}
+use Rattle.mtl.proofs.Closing.{settled-le-size}
 use Rattle.bits.proofs.Laws.{packed-none, packed-rest}
 use Rattle.trace.specs.Format.{record-count}
 use Rattle.blocks.specs.Block.{word, taken, left-count, right-count, KeptBlock, Buffer}
@@ -78,12 +78,12 @@ later {φ = φ} {L = L} {p = p} {count = count} {bits = bits} n h at less rest b
     record { within = omega arith; packed = rw (at, less, rest) (packed-rest (sat φ L) p count bits n h (b .packed)) }
 
 -- an empty buffer
-pub empty-buffer : (φ : Formula) (L : Log) (p count bits : ℕ) → p ≤ progress φ L → count ≡ 0 → Buffer φ L p count bits
+pub empty-buffer : (φ : Formula) (L : Log) (p count bits : ℕ) → p ≤ settled-to φ L → count ≡ 0 → Buffer φ L p count bits
 empty-buffer φ L p count bits h e = record { within = omega arith; packed = rw e (packed-none (sat φ L) p bits) }
 
 -- a buffer's positions lie within the log
 pub fits : {φ : Formula} {L : Log} {p count bits : ℕ} → Buffer φ L p count bits → p + count ≤ L .size
-fits {φ = φ} {L = L} b = omega (arith, b .within, progress-le-size φ L)
+fits {φ = φ} {L = L} b = omega (arith, b .within, settled-le-size φ L)
 
 empty-most : (n : ℕ) → empty n ≤ 1
 empty-most zero = omega arith

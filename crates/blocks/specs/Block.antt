@@ -3,13 +3,14 @@ use Prim.Native.Nat.{ℕ, _+_, _-_, _/_, _≤_, _<_, _^_}
 use mathlib.Core.Bool.{Bool, true, cond}
 use mathlib.Core.Path.{_≡_}
 use mathlib.Core.List.{List}
+use mathlib.Core.Logic.{_⊎_}
 use lib.ListN.{getD, set}
 use lib.Dec.{eqb}
 use Rattle.mtl.specs.Formula.{Formula}
 use Rattle.mtl.specs.Formula.Formula.{letter, not, or, previous, next, since, until}
 use Rattle.mtl.specs.Log.{Log}
 use Rattle.mtl.specs.Satisfaction.{sat}
-use Rattle.mtl.specs.Progress.{progress}
+use Rattle.mtl.specs.Progress.{settled-to}
 use Rattle.bits.specs.Packed.{Packed}
 use Rattle.rule.specs.Words.{ring-words}
 use Rattle.blocks.specs.Ring.{Ring, Witnesses}
@@ -35,7 +36,7 @@ right-count b = word b 3
 abbrev pub right-bits : List ℕ → ℕ
 right-bits b = word b 4
 
--- previous and until: the next position to answer
+-- previous, next and until: the next position to answer
 abbrev pub answered : List ℕ → ℕ
 answered b = word b 5
 
@@ -110,6 +111,10 @@ pub record InRange (size cells : ℕ) (b : List ℕ) : Type 0 where
   pub start : word b 9 ≤ cells
   pub count : word b 10 ≤ cells
 
+-- next: g is the position before the next to take, p; the last position of a closed log is answered without the operand
+abbrev pub Trails : Log → (g p : ℕ) → Type 0
+Trails L g p = (g ≡ p - 1) ⊎ ((L .closed ≡ true) × (p ≡ L .size) × (g ≡ L .size))
+
 -- since: the ring holds the times of the witnesses still alive
 pub record Since (high : ℕ) (time : ℕ → ℕ) (left right : ℕ → Bool) (g : ℕ) (b : List ℕ) : Type 0 where
   pub at : taken b ≡ g
@@ -134,7 +139,7 @@ Own (letter k) L g b = taken b ≡ g
 Own (not φ) L g b = taken b ≡ g
 Own (or φ ψ) L g b = taken b ≡ g
 Own (previous low high φ) L g b = (answered b ≡ g) × (taken b ≡ g - 1)
-Own (next low high φ) L g b = g ≡ taken b - 1
+Own (next low high φ) L g b = (answered b ≡ g) × Trails L g (taken b)
 Own (since low high φ ψ) L g b = Since high (L .time) (sat φ L) (sat ψ L) g b
 Own (until low high φ ψ) L g b =
     (answered b ≡ g) ×
@@ -142,13 +147,13 @@ Own (until low high φ ψ) L g b =
 
 -- an operator's own block stands at g
 pub record Core (φ : Formula) (L : Log) (g : ℕ) (b : List ℕ) : Type 0 where
-  pub reached : g ≤ progress φ L
+  pub reached : g ≤ settled-to φ L
   pub range : InRange (L .size) (cells-of (kind-of φ) (high-of φ)) b
   pub own : Own φ L g b
 
 -- a buffered operand: the word has its answers at the count positions from p on, and it has answered that far
 pub record Buffer (φ : Formula) (L : Log) (p count bits : ℕ) : Type 0 where
-  pub within : p + count ≤ progress φ L
+  pub within : p + count ≤ settled-to φ L
   pub packed : Packed (sat φ L) p count bits
 
 -- the buffers of an operator's block

@@ -6,15 +6,17 @@ use mathlib.Core.List.{List}
 use Rattle.mtl.specs.Formula.{Formula}
 use Rattle.mtl.specs.Formula.Formula.{letter, not, or, previous, next, since, until}
 use Rattle.mtl.specs.Log.{Log, NeverFalls, Agree}
-use Rattle.mtl.specs.Progress.{progress}
+use Rattle.mtl.specs.Progress.{settled-to}
 use Rattle.trace.specs.Format.{record-count}
 use Rattle.trace.specs.Log.{log-of}
 use Rattle.blocks.specs.Block.{taken, left-count, right-count, answered, KeptBlock, Buffer, Ready}
 use Rattle.blocks.specs.declared.Step.{Step}
 use Rattle.blocks.specs.declared.Step.the-variants.{Batch, Left, Right, Again, Open}
 
--- the lent records are those of the log from position g on: earlier ones may hold any bytes
-pub record Agrees (s : List ℕ) (L : Log) (g : ℕ) : Type 0 where
+-- the lent records are those of the log from position g on: earlier ones may hold any bytes; and the log is closed if the call
+-- says so
+pub record Agrees (closed : Bool) (s : List ℕ) (L : Log) (g : ℕ) : Type 0 where
+  pub ends : L .closed ≡ closed
   pub size : record-count s ≡ L .size
   pub same : Agree (log-of s) L g (L .size)
 
@@ -73,9 +75,9 @@ abbrev pub Stepped : Formula → Log → ℕ → List ℕ → Step → List ℕ 
 Stepped φ L g b (Batch bits count) b′ = Batched φ L g bits count × Ready φ L (g + count) b′ × Moved φ b b′
 Stepped φ L g b Again b′ = Ready φ L g b′ × Moved φ b b′
 -- an operand is wanted; if it has no more answers, neither has the operator
-Stepped φ L g b Left b′ = (has-left φ ≡ true) × (progress (left-of φ) L ≡ taken b → progress φ L ≡ g)
-Stepped φ L g b Right b′ = (has-right φ ≡ true) × (progress (right-of φ) L ≡ taken b → progress φ L ≡ g)
-Stepped φ L g b Open b′ = progress φ L ≡ g
+Stepped φ L g b Left b′ = (has-left φ ≡ true) × (settled-to (left-of φ) L ≡ taken b → settled-to φ L ≡ g)
+Stepped φ L g b Right b′ = (has-right φ ≡ true) × (settled-to (right-of φ) L ≡ taken b → settled-to φ L ≡ g)
+Stepped φ L g b Open b′ = settled-to φ L ≡ g
 
 -- the first record that a step at g may read: previous looks at the time of the position before
 abbrev pub reads-from : Formula → ℕ → ℕ
@@ -88,8 +90,9 @@ reads-from (since low high φ ψ) g = g
 reads-from (until low high φ ψ) g = g
 
 -- what a step promises where its block stands for the formula on some log
-abbrev pub Steps : Formula → List ℕ → List ℕ → Step → List ℕ → Type 0
-Steps φ s b r b′ = (L : Log) (g : ℕ) → NeverFalls L → Agrees s L (reads-from φ g) → Ready φ L g b → Stepped φ L g b r b′
+abbrev pub Steps : Bool → Formula → List ℕ → List ℕ → Step → List ℕ → Type 0
+Steps closed φ s b r b′ =
+    (L : Log) (g : ℕ) → NeverFalls L → Agrees closed s L (reads-from φ g) → Ready φ L g b → Stepped φ L g b r b′
 
 -- 1 for an empty buffer
 abbrev pub empty : ℕ → ℕ

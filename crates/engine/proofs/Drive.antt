@@ -9,7 +9,7 @@ use native.Mathlib.Nat.{zero-add, pos-of-ne-zero}
 use lib.ListN.{length, drop, length-drop}
 use Rattle.mtl.specs.Formula.{Formula}
 use Rattle.mtl.specs.Log.{Log, NeverFalls}
-use Rattle.mtl.specs.Progress.{progress}
+use Rattle.mtl.specs.Progress.{settled-to}
 use Rattle.mtl.proofs.Bounded.{true-and-false}
 use Rattle.trace.specs.Format.{record-count}
 use Rattle.rule.specs.Words.{own-words}
@@ -31,13 +31,13 @@ use Rattle.engine.proofs.Kept.{kept-refl, kept-trans, KeptAt, kept-of}
 use Rattle.engine.proofs.Fill.{stored-at, stored-keeps, stored-count, stored-count-other, ready-filled}
 
 -- the blocks' words 12 to 15 are those of the loop's start, and the words stand for whatever formula they stood for then
-abbrev pub Stands : (t s : List ℕ) → ℕ → (ws₀ ws : List ℕ) → Type 0
-Stands t s k ws₀ ws =
+abbrev pub Stands : (t s : List ℕ) → Bool → ℕ → (ws₀ ws : List ℕ) → Type 0
+Stands t s closed k ws₀ ws =
     Keeps t k ws₀ ws ×
-    ((φ : Formula) (L : Log) (g : ℕ) → Has φ t k → NeverFalls L → Agrees s L (first-read φ g) → State φ L g ws₀ → State φ L g ws)
+    ((φ : Formula) (L : Log) (g : ℕ) → Has φ t k → NeverFalls L → Agrees closed s L (first-read φ g) → State φ L g ws₀ → State φ L g ws)
 
-pub stands-first : (t s : List ℕ) (k : ℕ) (ws : List ℕ) → Stands t s k ws ws
-stands-first t s k ws = (λ φ entered. kept-refl φ ws, λ φ L g entered never agrees state. state)
+pub stands-first : (t s : List ℕ) (closed : Bool) (k : ℕ) (ws : List ℕ) → Stands t s closed k ws ws
+stands-first t s closed k ws = (λ φ entered. kept-refl φ ws, λ φ L g entered never agrees state. state)
 
 -- the row of entry k as it is read: its operands have a and c words, and it has `end` in all
 pub record Reading (t : List ℕ) (k kind letter low high left a c end : ℕ) : Type 0 where
@@ -53,14 +53,14 @@ pub record Reading (t : List ℕ) (k kind letter low high left a c end : ℕ) : 
   pub all : end ≡ column 7 t k
 
 -- one step of entry k, from words ws to block b′
-pub record Turn (t s : List ℕ) (k left a c end : ℕ) (ws₀ ws : List ℕ) (r : Step) (b′ : List ℕ) : Type 0 where
+pub record Turn (t s : List ℕ) (closed : Bool) (k left a c end : ℕ) (ws₀ ws : List ℕ) (r : Step) (b′ : List ℕ) : Type 0 where
   pub is-left : left ≡ column 4 t k
   pub is-a : a ≡ column 5 t k
   pub is-c : c ≡ column 6 t k
   pub last : length ws ≡ end
   pub room : a + c + 16 ≤ end
-  pub stands : Stands t s k ws₀ ws
-  pub steps : (φ : Formula) → Row φ t k → Steps φ s (drop (a + c) ws) r b′
+  pub stands : Stands t s closed k ws₀ ws
+  pub steps : (φ : Formula) → Row φ t k → Steps closed φ s (drop (a + c) ws) r b′
   pub ends : Ends (takes-left (column 0 t k)) (takes-right (column 0 t k)) s (drop (a + c) ws) r b′
   pub size : length b′ ≡ end - (a + c)
 
@@ -119,11 +119,11 @@ module _ {t : List ℕ} {k kind letter low high left a c end : ℕ} (read : Read
       (e .0, omega arith, λ j le. read .rows j (omega arith), e .1)
 
   -- what a step gives
-  pub turn-of : (s ws₀ ws : List ℕ) (r : Step) (b′ : List ℕ) → length ws ≡ end → Stands t s k ws₀ ws →
+  pub turn-of : (s : List ℕ) (closed : Bool) (ws₀ ws : List ℕ) (r : Step) (b′ : List ℕ) → length ws ≡ end → Stands t s closed k ws₀ ws →
       Ends (takes-left kind) (takes-right kind) s (part (a + c) end ws) r b′ →
-      ((φ : Formula) → Fields φ kind letter low high → Steps φ s (part (a + c) end ws) r b′) →
-      length b′ ≡ length (part (a + c) end ws) → Turn t s k left a c end ws₀ ws r b′
-  turn-of s ws₀ ws r b′ last stands ends steps size =
+      ((φ : Formula) → Fields φ kind letter low high → Steps closed φ s (part (a + c) end ws) r b′) →
+      length b′ ≡ length (part (a + c) end ws) → Turn t s closed k left a c end ws₀ ws r b′
+  turn-of s closed ws₀ ws r b′ last stands ends steps size =
       let e = part-end (a + c) end ws last in
       record {
         is-left = read .is-left;
@@ -153,12 +153,12 @@ same-words a c end ws b′ room last e =
     ap (λ (l : List ℕ). put-back (a + c) end l ws) (e ∙ sym (part-end (a + c) end ws last)) ∙
     back-same (a + c) end ws (omega arith) last
 
-module _ {t s : List ℕ} {k left a c end : ℕ} {ws₀ ws b′ : List ℕ} where
+module _ {t s : List ℕ} {closed : Bool} {k left a c end : ℕ} {ws₀ ws b′ : List ℕ} where
   -- the outcome as it was told
-  pub told : {r r′ : Step} → r ≡ r′ → Turn t s k left a c end ws₀ ws r b′ → Turn t s k left a c end ws₀ ws r′ b′
+  pub told : {r r′ : Step} → r ≡ r′ → Turn t s closed k left a c end ws₀ ws r b′ → Turn t s closed k left a c end ws₀ ws r′ b′
   told e turn = rw e at turn
 
-  module _ {r : Step} (turn : Turn t s k left a c end ws₀ ws r b′) where
+  module _ {r : Step} (turn : Turn t s closed k left a c end ws₀ ws r b′) where
     own-put : drop (a + c) (put-back (a + c) end b′ ws) ≡ b′
     own-put =
         let inside : a + c ≤ end = omega (arith, turn .room) in
@@ -182,7 +182,7 @@ module _ {t s : List ℕ} {k left a c end : ℕ} {ws₀ ws b′ : List ℕ} wher
         keeps-from (put-back (a + c) end b′ ws) (rw own-put own) (λ φ entered x e. rw (stay x) (kept-refl (of x φ) (lent x a c ws)))
 
     module _ (φ : Formula) (L : Log) (g : ℕ) (entered : Has φ t k) where
-      viewed : NeverFalls L → Agrees s L (first-read φ g) → State φ L g ws₀ → View a c φ L g ws
+      viewed : NeverFalls L → Agrees closed s L (first-read φ g) → State φ L g ws₀ → View a c φ L g ws
       viewed never agrees state =
           let e = row φ t k entered in
           view φ L g ws (turn .is-a ∙ e .left-words) (turn .is-c ∙ e .right-words) (turn .stands .1 φ L g entered never agrees state)
@@ -193,7 +193,7 @@ module _ {t s : List ℕ} {k left a c end : ℕ} {ws₀ ws b′ : List ℕ} wher
           let e = row φ t k entered in
           unview φ L p ws′ (turn .is-a ∙ e .left-words) (turn .is-c ∙ e .right-words) (view-of a c φ L p ws′ b own ready parts)
 
-      stepped : NeverFalls L → Agrees s L (first-read φ g) → View a c φ L g ws → Stepped φ L g (drop (a + c) ws) r b′
+      stepped : NeverFalls L → Agrees closed s L (first-read φ g) → View a c φ L g ws → Stepped φ L g (drop (a + c) ws) r b′
       stepped never agrees v = turn .steps φ (row φ t k entered) L g never (agrees-later agrees (step-from φ g)) (v .own)
 
       -- the operands stay where they stand
@@ -212,8 +212,8 @@ module _ {t s : List ℕ} {k left a c end : ℕ} {ws₀ ws b′ : List ℕ} wher
           (λ e. rw (stay on-left, moved .left e) (operand v on-left e))
           (λ e. rw (stay on-right, moved .right e) (operand v on-right e)))
 
-  pub batch-turn : {bits n : ℕ} → Turn t s k left a c end ws₀ ws (Batch bits n) b′ →
-      Answers t s k ws₀ (Answered bits n) (put-back (a + c) end b′ ws)
+  pub batch-turn : {bits n : ℕ} → Turn t s closed k left a c end ws₀ ws (Batch bits n) b′ →
+      Answers t s closed k ws₀ (Answered bits n) (put-back (a + c) end b′ ws)
   batch-turn {bits} {n} turn = (
     keeps-on turn (turn .ends),
     λ φ L g entered never agrees state.
@@ -222,7 +222,7 @@ module _ {t s : List ℕ} {k left a c end : ℕ} {ws₀ ws b′ : List ℕ} wher
         (st .0, moved-on turn φ L g entered (g + n) v (st .1) (st .2)),
   )
 
-  pub again-turn : Turn t s k left a c end ws₀ ws Again b′ → Stands t s k ws₀ (put-back (a + c) end b′ ws)
+  pub again-turn : Turn t s closed k left a c end ws₀ ws Again b′ → Stands t s closed k ws₀ (put-back (a + c) end b′ ws)
   again-turn turn = (
     keeps-on turn (turn .ends .1),
     λ φ L g entered never agrees state.
@@ -231,11 +231,11 @@ module _ {t s : List ℕ} {k left a c end : ℕ} {ws₀ ws b′ : List ℕ} wher
         moved-on turn φ L g entered g v (st .0) (st .1),
   )
 
-  pub again-less : Turn t s k left a c end ws₀ ws Again b′ →
+  pub again-less : Turn t s closed k left a c end ws₀ ws Again b′ →
       left-to-do s (drop (a + c) (put-back (a + c) end b′ ws)) < left-to-do s (drop (a + c) ws)
   again-less turn = rw (own-put turn) (turn .ends .0)
 
-  pub open-turn : Turn t s k left a c end ws₀ ws Open b′ → Answers t s k ws₀ Unanswered (put-back (a + c) end b′ ws)
+  pub open-turn : Turn t s closed k left a c end ws₀ ws Open b′ → Answers t s closed k ws₀ Unanswered (put-back (a + c) end b′ ws)
   open-turn turn =
       let same = same-words a c end ws b′ (turn .room) (turn .last) (turn .ends) in (
         rw same (turn .stands .0),
@@ -254,7 +254,7 @@ empty-some zero le = omega arith
 empty-some (suc n) le = refl
 
 -- an operand is wanted
-module _ {t s : List ℕ} {k left a c end : ℕ} {ws₀ ws b′ : List ℕ} (side : Side) (turn : Turn t s k left a c end ws₀ ws (wants side) b′) where
+module _ {t s : List ℕ} {closed : Bool} {k left a c end : ℕ} {ws₀ ws b′ : List ℕ} (side : Side) (turn : Turn t s closed k left a c end ws₀ ws (wants side) b′) where
   -- its buffer is empty, and the block as it was
   ended : (side : Side) → Ends (takes-left (column 0 t k)) (takes-right (column 0 t k)) s (drop (a + c) ws) (wants side) b′ →
       (takes side (column 0 t k) ≡ true) × (b′ ≡ drop (a + c) ws) × (word (drop (a + c) ws) (slot side) ≡ 0)
@@ -277,15 +277,15 @@ module _ {t s : List ℕ} {k left a c end : ℕ} {ws₀ ws b′ : List ℕ} (sid
   long = simp length-drop (omega (arith, turn .room, turn .last))
 
   wanting : (side : Side) (φ : Formula) (L : Log) (g : ℕ) (b : List ℕ) → Stepped φ L g b (wants side) b′ →
-      (has side φ ≡ true) × (progress (of side φ) L ≡ taken b → progress φ L ≡ g)
+      (has side φ ≡ true) × (settled-to (of side φ) L ≡ taken b → settled-to φ L ≡ g)
   wanting on-left φ L g b st = st
   wanting on-right φ L g b st = st
 
   -- what the operand is asked, it is asked at the next position to take
   ask-at : (P : Formula → Log → ℕ → Type 0) →
-      ((φ : Formula) (L : Log) (q : ℕ) → Has φ t (entry side left k) → NeverFalls L → Agrees s L (first-read φ q) →
+      ((φ : Formula) (L : Log) (q : ℕ) → Has φ t (entry side left k) → NeverFalls L → Agrees closed s L (first-read φ q) →
       State φ L q (lent side a c ws) → P φ L q) →
-      (φ : Formula) (L : Log) (g : ℕ) → Has φ t k → NeverFalls L → Agrees s L (first-read φ g) → View a c φ L g ws → has side φ ≡ true →
+      (φ : Formula) (L : Log) (g : ℕ) → Has φ t k → NeverFalls L → Agrees closed s L (first-read φ g) → View a c φ L g ws → has side φ ≡ true →
       P (of side φ) L (taken (drop (a + c) ws))
   ask-at P promise φ L g entered never agrees v e =
       let b = drop (a + c) ws in
@@ -301,11 +301,11 @@ module _ {t s : List ℕ} {k left a c end : ℕ} {ws₀ ws b′ : List ℕ} (sid
 
   -- the words after the question
   asks-same : (x : Bool) (ws′ : List ℕ) →
-      Asks t s (entry side left k) (start side a) (stop side a c) (a + c + slot side) (put-back (a + c) end b′ ws) x ws′ →
-      Asks t s (entry side left k) (start side a) (stop side a c) (a + c + slot side) ws x ws′
+      Asks t s closed (entry side left k) (start side a) (stop side a c) (a + c + slot side) (put-back (a + c) end b′ ws) x ws′ →
+      Asks t s closed (entry side left k) (start side a) (stop side a c) (a + c + slot side) ws x ws′
   asks-same x ws′ asks =
       subst
-      (λ (l : List ℕ). Asks t s (entry side left k) (start side a) (stop side a c) (a + c + slot side) l x ws′)
+      (λ (l : List ℕ). Asks t s closed (entry side left k) (start side a) (stop side a c) (a + c + slot side) l x ws′)
       unchanged
       asks
 
@@ -344,8 +344,8 @@ module _ {t s : List ℕ} {k left a c end : ℕ} {ws₀ ws b′ : List ℕ} (sid
       (λ e. rw (frame .there) (kept-refl (of (other side) φ) (lent (other side) a c ws))))
 
   pub open-asked : (x : Bool) (ws′ : List ℕ) → negate x ≡ true →
-      Asks t s (entry side left k) (start side a) (stop side a c) (a + c + slot side) (put-back (a + c) end b′ ws) x ws′ →
-      Answers t s k ws₀ Unanswered ws′
+      Asks t s closed (entry side left k) (start side a) (stop side a c) (a + c + slot side) (put-back (a + c) end b′ ws) x ws′ →
+      Answers t s closed k ws₀ Unanswered ws′
   open-asked true ws′ e asks = absurd (true-and-false e refl)
   open-asked false ws′ e asks =
       let got = asks-same false ws′ asks in
@@ -358,7 +358,7 @@ module _ {t s : List ℕ} {k left a c end : ℕ} {ws₀ ws b′ : List ℕ} (sid
         λ φ L g entered never agrees state.
             let v = viewed turn φ L g entered never agrees state in
             let st = wanting side φ L g b (stepped turn φ L g entered never agrees v) in
-            let it = ask-at (λ φ L q. (progress φ L ≡ q) × State φ L q ys) (got .3 .1) φ L g entered never agrees v (st .0) in (
+            let it = ask-at (λ φ L q. (settled-to φ L ≡ q) × State φ L q ys) (got .3 .1) φ L g entered never agrees v (st .0) in (
               st .1 (it .0),
               rw (got .3 .0)
                   (state-of
@@ -381,8 +381,8 @@ module _ {t s : List ℕ} {k left a c end : ℕ} {ws₀ ws b′ : List ℕ} (sid
       )
 
   pub filled : (x : Bool) (ws′ : List ℕ) → negate x ≡ false →
-      Asks t s (entry side left k) (start side a) (stop side a c) (a + c + slot side) (put-back (a + c) end b′ ws) x ws′ →
-      Stands t s k ws₀ ws′
+      Asks t s closed (entry side left k) (start side a) (stop side a c) (a + c + slot side) (put-back (a + c) end b′ ws) x ws′ →
+      Stands t s closed k ws₀ ws′
   filled false ws′ e asks = absurd (true-and-false refl e)
   filled true ws′ e asks =
       let got = asks-same true ws′ asks in
@@ -419,7 +419,7 @@ module _ {t s : List ℕ} {k left a c end : ℕ} {ws₀ ws b′ : List ℕ} (sid
       )
 
   pub filled-less : (x : Bool) (ws′ : List ℕ) → negate x ≡ false →
-      Asks t s (entry side left k) (start side a) (stop side a c) (a + c + slot side) (put-back (a + c) end b′ ws) x ws′ →
+      Asks t s closed (entry side left k) (start side a) (stop side a c) (a + c + slot side) (put-back (a + c) end b′ ws) x ws′ →
       left-to-do s (drop (a + c) ws′) < left-to-do s (drop (a + c) ws)
   filled-less false ws′ e asks = absurd (true-and-false refl e)
   filled-less true ws′ e asks =
@@ -441,12 +441,12 @@ module _ {t s : List ℕ} {k left a c end : ℕ} {ws₀ ws b′ : List ℕ} (sid
       (omega arith)
 
 -- an operand's answer, as what was asked for: its words are ys now
-module _ (t s : List ℕ) (o from to slot : ℕ) (ws ys : List ℕ) (ordered : from ≤ to) (inside : to ≤ length ws) (kept : length ys ≡ length (part from to ws)) where
-  pub asked-open : Answers t s o (part from to ws) Unanswered ys → Asks t s o from to slot ws false (put-back from to ys ws)
+module _ (t s : List ℕ) (closed : Bool) (o from to slot : ℕ) (ws ys : List ℕ) (ordered : from ≤ to) (inside : to ≤ length ws) (kept : length ys ≡ length (part from to ws)) where
+  pub asked-open : Answers t s closed o (part from to ws) Unanswered ys → Asks t s closed o from to slot ws false (put-back from to ys ws)
   asked-open answers = (ys, kept ∙ length-part from to ws inside, answers .0, (back-from from to ys ws ordered, answers .1))
 
-  pub asked-none : (bits n : ℕ) → n ≡ 0 → Answers t s o (part from to ws) (Answered bits n) ys →
-      Asks t s o from to slot ws false (put-back from to ys ws)
+  pub asked-none : (bits n : ℕ) → n ≡ 0 → Answers t s closed o (part from to ws) (Answered bits n) ys →
+      Asks t s closed o from to slot ws false (put-back from to ys ws)
   asked-none bits n e answers = (
     ys,
     kept ∙ length-part from to ws inside,
@@ -459,8 +459,8 @@ module _ (t s : List ℕ) (o from to slot : ℕ) (ws ys : List ℕ) (ordered : f
     ),
   )
 
-  pub asked-batch : (bits n : ℕ) → (n ≡ 0 → ⊥) → Answers t s o (part from to ws) (Answered bits n) ys → (ws′ : List ℕ) →
-      ws′ ≡ stored (put-back from to ys ws) slot bits n → Asks t s o from to slot ws true ws′
+  pub asked-batch : (bits n : ℕ) → (n ≡ 0 → ⊥) → Answers t s closed o (part from to ws) (Answered bits n) ys → (ws′ : List ℕ) →
+      ws′ ≡ stored (put-back from to ys ws) slot bits n → Asks t s closed o from to slot ws true ws′
   asked-batch bits n some answers ws′ e = (
     ys,
     kept ∙ length-part from to ws inside,

@@ -1,7 +1,7 @@
 -- A subformula's words entry by entry: the block of entry j stands at `offset t j` in the words W behind the checkpoint's header.
 use Prim.Native.Nat.{ℕ, zero, suc, _+_, _-_, _≤_, _<_}
 use mathlib.Core.Bool.{Bool, true, false, cond}
-use mathlib.Core.Logic.{⊎-elim}
+use mathlib.Core.Logic.{inl, ⊎-elim}
 use mathlib.Core.Path.{_≡_, refl, sym, _∙_, ap, ap₂, subst}
 use mathlib.Core.List.{List, [], _∷_}
 use native.Mathlib.Nat.{not-suc-le-zero}
@@ -125,7 +125,7 @@ fresh-own (letter k) L b zeros room = zeros 0 (omega arith)
 fresh-own (not φ) L b zeros room = zeros 0 (omega arith)
 fresh-own (or φ ψ) L b zeros room = zeros 0 (omega arith)
 fresh-own (previous low high φ) L b zeros room = (zeros 5 (omega arith), zeros 0 (omega arith))
-fresh-own (next low high φ) L b zeros room = let z = zeros 0 (omega arith) in omega arith
+fresh-own (next low high φ) L b zeros room = let z = zeros 0 (omega arith) in (zeros 5 (omega arith), inl (omega arith))
 fresh-own (since low high φ ψ) L b zeros room =
     let z = zeros 9 (omega arith) in
     let r = ring-least high in

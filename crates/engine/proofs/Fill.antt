@@ -27,7 +27,7 @@ own-kept (letter k) L g b b′ e o = e .at ∙ o
 own-kept (not φ) L g b b′ e o = e .at ∙ o
 own-kept (or φ ψ) L g b b′ e o = e .at ∙ o
 own-kept (previous low high φ) L g b b′ e o = (e .rest 5 (lit≤ tt) ∙ o .0, e .at ∙ o .1)
-own-kept (next low high φ) L g b b′ e o = o ∙ ap (λ (n : ℕ). n - 1) (sym (e .at))
+own-kept (next low high φ) L g b b′ e o = (e .rest 5 (lit≤ tt) ∙ o .0, rw (e .at) (o .1))
 own-kept (since low high φ ψ) L g b b′ e o =
     record {
       at = e .at ∙ o .at;

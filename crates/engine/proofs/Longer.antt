@@ -1,6 +1,7 @@
 -- The state survives a longer log: what the words say of the records so far stays true when records are added.
 use Prim.Native.Nat.{ℕ, _+_, _-_, _≤_, _<_}
 use mathlib.Core.Bool.{Bool}
+use mathlib.Core.Logic.{inl, inr, ⊎-elim}
 use mathlib.Core.Path.{_≡_, sym, _∙_}
 use mathlib.Core.List.{List}
 use native.Mathlib.Omega.{arith}
@@ -8,9 +9,8 @@ use Rattle.mtl.specs.Formula.{Formula}
 use Rattle.mtl.specs.Formula.Formula.{letter, not, or, previous, next, since, until}
 use Rattle.mtl.specs.Log.{Log, NeverFalls, Continues}
 use Rattle.mtl.specs.Satisfaction.{sat}
-use Rattle.mtl.specs.Progress.{progress}
-use Rattle.mtl.proofs.Until.{progress-le-size}
-use Rattle.mtl.proofs.Lengthening.{progress-grows, answers-stay}
+use Rattle.mtl.specs.Progress.{settled-to}
+use Rattle.mtl.proofs.Closing.{settled-le-size, settled-since, settled-grows, settled-stays}
 use Rattle.bits.proofs.Laws.{packed-same}
 use Rattle.blocks.specs.Ring.{Witness, Witnesses}
 use Rattle.blocks.specs.Block.{taken, kind-of, high-of, cells-of, InRange, Until, Own, Buffer, Buffers, Ready}
@@ -69,21 +69,21 @@ module _ (time time′ : ℕ → ℕ) (n : ℕ) (times : (k : ℕ) → k < n →
       }
 
 module _ (K L : Log) (longer : Continues K L) (falls : NeverFalls L) where
-  time-stays : (φ : Formula) (n : ℕ) → n ≤ progress φ K → (k : ℕ) → k < n → K .time k ≡ L .time k
+  time-stays : (φ : Formula) (n : ℕ) → n ≤ settled-to φ K → (k : ℕ) → k < n → K .time k ≡ L .time k
   time-stays φ n h k l =
-      let s = progress-le-size φ K in
+      let s = settled-le-size φ K in
       longer .same k (omega arith) (omega arith) .time
 
-  sat-stays : (φ : Formula) (n : ℕ) → n ≤ progress φ K → (k : ℕ) → k < n → sat φ K k ≡ sat φ L k
-  sat-stays φ n h k l = answers-stay φ K L longer falls k (omega arith)
+  sat-stays : (φ : Formula) (n : ℕ) → n ≤ settled-to φ K → (k : ℕ) → k < n → sat φ K k ≡ sat φ L k
+  sat-stays φ n h k l = settled-stays φ K L longer falls k (omega arith)
 
   pub buffer-longer : (φ : Formula) (p count bits : ℕ) → Buffer φ K p count bits → Buffer φ L p count bits
   buffer-longer φ p count bits b =
-      let g = progress-grows φ K L longer falls in
+      let g = settled-grows φ K L longer falls in
       let w = b .within in
       record {
         within = omega arith;
-        packed = packed-same (sat φ K) (sat φ L) p p count bits (λ i l. sym (answers-stay φ K L longer falls (p + i) (omega arith))) (b .packed);
+        packed = packed-same (sat φ K) (sat φ L) p p count bits (λ i l. sym (settled-stays φ K L longer falls (p + i) (omega arith))) (b .packed);
       }
 
   range-longer : (cells : ℕ) (b : List ℕ) → InRange (K .size) cells b → InRange (L .size) cells b
@@ -98,16 +98,18 @@ module _ (K L : Log) (longer : Continues K L) (falls : NeverFalls L) where
   buffers-longer (since low high φ ψ) b x = (buffer-longer φ _ _ _ (x .0), buffer-longer ψ _ _ _ (x .1))
   buffers-longer (until low high φ ψ) b x = (buffer-longer φ _ _ _ (x .0), buffer-longer ψ _ _ _ (x .1))
 
-  own-longer : (φ : Formula) (g : ℕ) (b : List ℕ) → g ≤ progress φ K → Buffers φ K b → Own φ K g b → Own φ L g b
-  unfolding progress
+  own-longer : (φ : Formula) (g : ℕ) (b : List ℕ) → g ≤ settled-to φ K → Buffers φ K b → Own φ K g b → Own φ L g b
   own-longer (letter k) g b h x o = o
   own-longer (not φ) g b h x o = o
   own-longer (or φ ψ) g b h x o = o
   own-longer (previous low high φ) g b h x o = o
-  own-longer (next low high φ) g b h x o = o
+  own-longer (next low high φ) g b h x o = (
+    o .0,
+    ⊎-elim inl (λ e. let kept = longer .ended (e .0) in inr (kept .0, e .1 ∙ sym (kept .1), e .2 ∙ sym (kept .1))) (o .1),
+  )
   own-longer (since low high φ ψ) g b h x o =
-      let l : g ≤ progress φ K = omega arith in
-      let r : g ≤ progress ψ K = omega arith in
+      let l : g ≤ settled-to φ K = omega (arith, settled-since K φ ψ low high) in
+      let r : g ≤ settled-to ψ K = omega (arith, settled-since K φ ψ low high) in
       record {
         at = o .at;
         times = o .times;
@@ -116,8 +118,8 @@ module _ (K L : Log) (longer : Continues K L) (falls : NeverFalls L) where
             (sat-stays φ g l) (sat-stays ψ g r) high (o .times) (o .alive);
       }
   own-longer (until low high φ ψ) g b h x o =
-      let l : taken b ≤ progress φ K = (let w = x .0 .within in omega arith) in
-      let r : taken b ≤ progress ψ K = (let w = x .1 .within in omega arith) in (
+      let l : taken b ≤ settled-to φ K = (let w = x .0 .within in omega arith) in
+      let r : taken b ≤ settled-to ψ K = (let w = x .1 .within in omega arith) in (
         o .0,
         until-same (K .time) (L .time) (taken b) (time-stays φ (taken b) l) (sat φ K) (sat ψ K) (sat φ L) (sat ψ L)
             (sat-stays φ (taken b) l) (sat-stays ψ (taken b) r) low high g _ _ _ (o .1),
@@ -126,7 +128,7 @@ module _ (K L : Log) (longer : Continues K L) (falls : NeverFalls L) where
   ready-longer : (φ : Formula) (g : ℕ) (b : List ℕ) → Ready φ K g b → Ready φ L g b
   ready-longer φ g b r =
       let c = r .core in
-      let p = progress-grows φ K L longer falls in
+      let p = settled-grows φ K L longer falls in
       let h = c .reached in
       record {
         core = record {

@@ -1,6 +1,7 @@
 -- The seven kinds seen alike: the state of a formula, its buffers, and its rows in the table.
 use Prim.Native.Nat.{ℕ, _+_, _-_, _≤_}
 use mathlib.Core.Bool.{Bool, true, false}
+use mathlib.Core.Logic.{⊎-elim}
 use mathlib.Core.Path.{_≡_, refl, sym, _∙_}
 use mathlib.Core.List.{List}
 use native.Mathlib.Omega.{arith}
@@ -136,8 +137,8 @@ all-buffered (since low high φ ψ) L b s = (s on-left refl, s on-right refl)
 all-buffered (until low high φ ψ) L b s = (s on-left refl, s on-right refl)
 
 -- records that are a log's own from one position on are its own from a later one on
-pub agrees-later : {s : List ℕ} {L : Log} {a b : ℕ} → Agrees s L a → a ≤ b → Agrees s L b
-agrees-later agrees later = record { size = agrees .size; same = λ i low high. agrees .same i (omega arith) high }
+pub agrees-later : {closed : Bool} {s : List ℕ} {L : Log} {a b : ℕ} → Agrees closed s L a → a ≤ b → Agrees closed s L b
+agrees-later agrees later = record { ends = agrees .ends; size = agrees .size; same = λ i low high. agrees .same i (omega arith) high }
 
 -- a step reads no earlier record
 pub step-from : (φ : Formula) (g : ℕ) → first-read φ g ≤ reads-from φ g
@@ -160,7 +161,9 @@ operand-from (letter k) L g b o = by-side (FromOperand (letter k) g b) on-left (
 operand-from (not φ) L g b o = by-side (FromOperand (not φ) g b) on-left (omega arith) (omega arith)
 operand-from (or φ ψ) L g b o = by-side (FromOperand (or φ ψ) g b) on-left (omega arith) (omega arith)
 operand-from (previous low high φ) L g b o = by-side (FromOperand (previous low high φ) g b) on-left (omega arith) (omega arith)
-operand-from (next low high φ) L g b o = by-side (FromOperand (next low high φ) g b) on-left (omega arith) (omega arith)
+operand-from (next low high φ) L g b o =
+    let behind : g ≤ taken b = ⊎-elim (λ e. omega arith) (λ e. let all = e .1 in let end = e .2 in omega arith) (o .1) in
+    by-side (FromOperand (next low high φ) g b) on-left (omega arith) (omega arith)
 operand-from (since low high φ ψ) L g b o =
     let at = o .at in by-side (FromOperand (since low high φ ψ) g b) on-left (omega arith) (omega arith)
 operand-from (until low high φ ψ) L g b o =

@@ -1,10 +1,11 @@
 -- What an entry asked for its next batch of answers promises.
 use Prim.Native.Nat.{ℕ, _+_, _-_}
+use mathlib.Core.Bool.{Bool}
 use mathlib.Core.Path.{_≡_}
 use mathlib.Core.List.{List}
 use Rattle.mtl.specs.Formula.{Formula}
 use Rattle.mtl.specs.Log.{Log, NeverFalls}
-use Rattle.mtl.specs.Progress.{progress}
+use Rattle.mtl.specs.Progress.{settled-to}
 use Rattle.mtl.specs.Wanted.{depth}
 use Rattle.blocks.specs.Step.{Agrees, Batched}
 use Rattle.engine.specs.State.{State, Kept}
@@ -12,10 +13,10 @@ use Rattle.engine.specs.Table.{Has}
 use Rattle.engine.specs.declared.Reply.{Reply}
 use Rattle.engine.specs.declared.Reply.the-variants.{Batch, Open}
 
--- the reply at g, and what the words stand for after it: a batch below progress; open, where progress is g
+-- the reply at g, and what the words stand for after it: a batch below the answered number; open, where that is g
 abbrev pub Replied : Formula → Log → ℕ → Reply → List ℕ → Type 0
 Replied φ L g (Batch bits count) ws′ = Batched φ L g bits count × State φ L (g + count) ws′
-Replied φ L g Open ws′ = (progress φ L ≡ g) × State φ L g ws′
+Replied φ L g Open ws′ = (settled-to φ L ≡ g) × State φ L g ws′
 
 -- words 12 to 15 of the blocks of entry k's subformula are kept, on any words
 abbrev pub Keeps : List ℕ → ℕ → List ℕ → List ℕ → Type 0
@@ -26,8 +27,8 @@ Keeps t k ws ws′ = (φ : Formula) → Has φ t k → Kept φ ws ws′
 abbrev pub first-read : Formula → (g : ℕ) → ℕ
 first-read φ g = g - depth φ
 
--- the promise of `answer` for entry k of table t, on records s, from words ws to words ws′
-abbrev pub Answers : List ℕ → List ℕ → ℕ → List ℕ → Reply → List ℕ → Type 0
-Answers t s k ws r ws′ =
+-- the promise of `answer` for entry k of table t, on records s, closed or open, from words ws to words ws′
+abbrev pub Answers : List ℕ → List ℕ → Bool → ℕ → List ℕ → Reply → List ℕ → Type 0
+Answers t s closed k ws r ws′ =
     Keeps t k ws ws′ ×
-    ((φ : Formula) (L : Log) (g : ℕ) → Has φ t k → NeverFalls L → Agrees s L (first-read φ g) → State φ L g ws → Replied φ L g r ws′)
+    ((φ : Formula) (L : Log) (g : ℕ) → Has φ t k → NeverFalls L → Agrees closed s L (first-read φ g) → State φ L g ws → Replied φ L g r ws′)

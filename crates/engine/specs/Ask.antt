@@ -6,7 +6,7 @@ use mathlib.Core.List.{List, _++_}
 use lib.ListN.{length, take, drop, set}
 use Rattle.mtl.specs.Formula.{Formula}
 use Rattle.mtl.specs.Log.{Log, NeverFalls}
-use Rattle.mtl.specs.Progress.{progress}
+use Rattle.mtl.specs.Progress.{settled-to}
 use Rattle.blocks.specs.Step.{Agrees, Batched}
 use Rattle.engine.specs.State.{State}
 use Rattle.engine.specs.Table.{Has}
@@ -24,16 +24,16 @@ abbrev pub stored : List ℕ → (slot bits count : ℕ) → List ℕ
 stored ws slot bits count = set (set ws slot count) (slot + 1) bits
 
 -- the operand's own words are ys afterwards; filled: its batch stands in the buffer; not filled: it is open
-abbrev pub Filled : List ℕ → List ℕ → ℕ → (from to slot : ℕ) → List ℕ → Bool → List ℕ → List ℕ → Type 0
-Filled t s o from to slot ws true ws′ ys =
+abbrev pub Filled : List ℕ → List ℕ → Bool → ℕ → (from to slot : ℕ) → List ℕ → Bool → List ℕ → List ℕ → Type 0
+Filled t s closed o from to slot ws true ws′ ys =
     (bits : ℕ) × (count : ℕ) × (1 ≤ count) × (ws′ ≡ stored (back from to ys ws) slot bits count) ×
-    ((φ : Formula) (L : Log) (q : ℕ) → Has φ t o → NeverFalls L → Agrees s L (first-read φ q) → State φ L q (part from to ws) →
+    ((φ : Formula) (L : Log) (q : ℕ) → Has φ t o → NeverFalls L → Agrees closed s L (first-read φ q) → State φ L q (part from to ws) →
     Batched φ L q bits count × State φ L (q + count) ys)
-Filled t s o from to slot ws false ws′ ys =
+Filled t s closed o from to slot ws false ws′ ys =
     (ws′ ≡ back from to ys ws) ×
-    ((φ : Formula) (L : Log) (q : ℕ) → Has φ t o → NeverFalls L → Agrees s L (first-read φ q) → State φ L q (part from to ws) →
-    (progress φ L ≡ q) × State φ L q ys)
+    ((φ : Formula) (L : Log) (q : ℕ) → Has φ t o → NeverFalls L → Agrees closed s L (first-read φ q) → State φ L q (part from to ws) →
+    (settled-to φ L ≡ q) × State φ L q ys)
 
-abbrev pub Asks : List ℕ → List ℕ → ℕ → (from to slot : ℕ) → List ℕ → Bool → List ℕ → Type 0
-Asks t s o from to slot ws r ws′ =
-    (ys : List ℕ) × (length ys ≡ to - from) × Keeps t o (part from to ws) ys × Filled t s o from to slot ws r ws′ ys
+abbrev pub Asks : List ℕ → List ℕ → Bool → ℕ → (from to slot : ℕ) → List ℕ → Bool → List ℕ → Type 0
+Asks t s closed o from to slot ws r ws′ =
+    (ys : List ℕ) × (length ys ≡ to - from) × Keeps t o (part from to ws) ys × Filled t s closed o from to slot ws r ws′ ys

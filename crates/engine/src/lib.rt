@@ -28,10 +28,16 @@ fn store(words: &mut [u64], slot: usize, bits: u64, count: u64)
     words[slot + 1] = bits;
 }
 
-// Asks entry k for its next batch of answers. Its words are its operands' words, left then right, and its own block.
-pub fn answer(table: &[u64; 1024], records: &[u8], k: usize, words: &mut [u64]) -> Reply
+// Asks entry k for its next batch of answers, on a log that is closed or open. Its words are its operands' words, left then right, and its own block.
+pub fn answer(
+    table: &[u64; 1024],
+    records: &[u8],
+    closed: bool,
+    k: usize,
+    words: &mut [u64],
+) -> Reply
     requires { ⌜ (k < 128) × RowsOk (now table) k × (length (now words) ≡ column 7 (now table) k) ⌝ }
-    ensures { λ r. ⌜ Answers (now (table .entry)) (now (records .entry)) k (now (words .entry)) r (now (words .exit)) ⌝ }
+    ensures { λ r. ⌜ Answers (now (table .entry)) (now (records .entry)) closed k (now (words .entry)) r (now (words .exit)) ⌝ }
 {
     let kind = table::field(table, k, table::KIND);
     let letter = table::field(table, k, table::LETTER);
@@ -42,7 +48,15 @@ pub fn answer(table: &[u64; 1024], records: &[u8], k: usize, words: &mut [u64]) 
     let own = middle + table::field(table, k, table::RIGHT_WORDS) as usize;
     let end = words.len();
     loop {
-        let step = operators::advance(kind, letter, low, high, records, &mut words[own..end]);
+        let step = operators::advance(
+            kind,
+            letter,
+            low,
+            high,
+            records,
+            closed,
+            &mut words[own..end],
+        );
         match step {
             Step::Batch { bits, count } => {
                 return Reply::Batch { bits, count };
@@ -55,6 +69,7 @@ pub fn answer(table: &[u64; 1024], records: &[u8], k: usize, words: &mut [u64]) 
                 let filled = ask(
                     table,
                     records,
+                    closed,
                     left,
                     0,
                     middle,
@@ -69,6 +84,7 @@ pub fn answer(table: &[u64; 1024], records: &[u8], k: usize, words: &mut [u64]) 
                 let filled = ask(
                     table,
                     records,
+                    closed,
                     k - 1,
                     middle,
                     own,
@@ -87,6 +103,7 @@ pub fn answer(table: &[u64; 1024], records: &[u8], k: usize, words: &mut [u64]) 
 pub fn ask(
     table: &[u64; 1024],
     records: &[u8],
+    closed: bool,
     operand: usize,
     from: usize,
     to: usize,
@@ -94,9 +111,9 @@ pub fn ask(
     words: &mut [u64],
 ) -> bool
     requires { ⌜ (operand < 128) × RowsOk (now table) operand × (from + column 7 (now table) operand ≡ to) × (to ≤ length (now words)) × (slot + 1 < length (now words)) ⌝ }
-    ensures { λ r. ⌜ Asks (now (table .entry)) (now (records .entry)) operand from to slot (now (words .entry)) r (now (words .exit)) ⌝ }
+    ensures { λ r. ⌜ Asks (now (table .entry)) (now (records .entry)) closed operand from to slot (now (words .entry)) r (now (words .exit)) ⌝ }
 {
-    let reply = answer(table, records, operand, &mut words[from..to]);
+    let reply = answer(table, records, closed, operand, &mut words[from..to]);
     let Reply::Batch { bits, count } = reply else {
         return false;
     };

@@ -78,10 +78,10 @@ module _ (s : List ℕ) (words reach : ℕ) (o : Measured) (e : measure-of o ≡
 pub opening : (s p : List ℕ) (o : Opened) (p′ : List ℕ) → Opens s p o p′ → (n : ℕ) → n ≡ opened-number o → OpenCall s p n p′
 opening s p o p′ h n is = record { outcome = o; opens = h; number = is }
 
-module _ (s log p sheet : List ℕ) (given more : ℕ) (o : Resumed) (p′ sheet′ : List ℕ) (h : Resumes s log p sheet o p′ sheet′) where
-  pub not-resumed : (n : ℕ) → o ≡ Refused n → (r : ℕ) → r ≡ resumed-number o → ResumeCall s log p sheet given more r p′ sheet′ given more
+module _ (closing : Bool) (s log p sheet : List ℕ) (given more : ℕ) (o : Resumed) (p′ sheet′ : List ℕ) (h : Resumes closing s log p sheet o p′ sheet′) where
+  pub not-resumed : (n : ℕ) → o ≡ Refused n → (r : ℕ) → r ≡ resumed-number o → ResumeCall closing s log p sheet given more r p′ sheet′ given more
   not-resumed n is r number =
-      let q : Resumes s log p sheet (Refused n) p′ sheet′ = subst (λ (r : Resumed). Resumes s log p sheet r p′ sheet′) is h in
+      let q : Resumes closing s log p sheet (Refused n) p′ sheet′ = subst (λ (r : Resumed). Resumes closing s log p sheet r p′ sheet′) is h in
       let some : 0 < n = q .words .0 in
       let same : r ≡ n = number ∙ ap resumed-number is in
       let z : r ≡ 0 → ⊥ = λ e. omega arith in
@@ -93,7 +93,7 @@ module _ (s log p sheet : List ℕ) (given more : ℕ) (o : Resumed) (p′ sheet
         more = kept r more (flag (resumed-more o)) z;
       }
 
-  pub is-resumed : (c : ℕ) (m : Bool) → o ≡ Given c m → ResumeCall s log p sheet given more 0 p′ sheet′ c (boolByte m)
+  pub is-resumed : (c : ℕ) (m : Bool) → o ≡ Given c m → ResumeCall closing s log p sheet given more 0 p′ sheet′ c (boolByte m)
   is-resumed c m is =
       record {
         outcome = o;

@@ -38,9 +38,10 @@ pub record OpenCall (rule p : List ℕ) (r : ℕ) (p′ : List ℕ) : Type 0 whe
   pub opens : Opens rule p outcome p′
   pub number : r ≡ opened-number outcome
 
-pub record ResumeCall (rule log p sheet : List ℕ) (c m r : ℕ) (p′ sheet′ : List ℕ) (c′ m′ : ℕ) : Type 0 where
+-- a resume, or a closing
+pub record ResumeCall (closing : Bool) (rule log p sheet : List ℕ) (c m r : ℕ) (p′ sheet′ : List ℕ) (c′ m′ : ℕ) : Type 0 where
   pub outcome : Resumed
-  pub resumes : Resumes rule log p sheet outcome p′ sheet′
+  pub resumes : Resumes closing rule log p sheet outcome p′ sheet′
   pub number : r ≡ resumed-number outcome
   pub given : c′ ≡ or-kept r c (resumed-count outcome)
   pub more : m′ ≡ or-kept r m (flag (resumed-more outcome))

@@ -1,5 +1,6 @@
 // The C interface: the library's calls under plain names. Each answers 0, or the refusal's number, and then every number
 // behind a pointer is as it was. include/havdrims.h says what a C programmer needs to know.
+ghost use mathlib.Core.Bool.{true, false};
 ghost use Rattle.havdrims.specs.Interface.{MeasureCall, OpenCall, ResumeCall, TallyCall, SummaryCall, ParseCall, WorstLogCall, settings, SimulateCall};
 use monitor::Opened;
 use monitor::Resumed;
@@ -51,13 +52,38 @@ pub extern "C" fn havdrims_resume(
     given: &mut u64,
     more: &mut u64,
 ) -> u32
-    ensures { λ r. ⌜ ResumeCall (now (rule .entry)) (now (log .entry)) (now (point .entry)) (now (sheet .entry)) (now (given .entry)) (now (more .entry)) r (now (point .exit)) (now (sheet .exit)) (now (given .exit)) (now (more .exit)) ⌝ }
+    ensures { λ r. ⌜ ResumeCall false (now (rule .entry)) (now (log .entry)) (now (point .entry)) (now (sheet .entry)) (now (given .entry)) (now (more .entry)) r (now (point .exit)) (now (sheet .exit)) (now (given .exit)) (now (more .exit)) ⌝ }
 {
     let resumed = monitor::resume(rule, log, point, sheet);
     let Resumed::Given { count, more: left } = resumed else {
         return resumed.number();
     };
     *given = count as u64;
+    *more = left as u64;
+    0
+}
+
+// Says that no record will follow, and writes the verdicts on the log as it ends. `more` becomes 1 or 0.
+#[no_mangle]
+pub extern "C" fn havdrims_close(
+    rule: &[u8],
+    log: &[u8],
+    point: &mut [u64],
+    sheet: &mut [u8],
+    given: &mut u64,
+    more: &mut u64,
+) -> u32
+    ensures { λ r. ⌜ ResumeCall true (now (rule .entry)) (now (log .entry)) (now (point .entry)) (now (sheet .entry)) (now (given .entry)) (now (more .entry)) r (now (point .exit)) (now (sheet .exit)) (now (given .exit)) (now (more .exit)) ⌝ }
+{
+    let closed = monitor::close(rule, log, point, sheet);
+    let Resumed::Given {
+        count: written,
+        more: left,
+    } = closed
+    else {
+        return closed.number();
+    };
+    *given = written as u64;
     *more = left as u64;
     0
 }

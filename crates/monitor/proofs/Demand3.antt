@@ -1,6 +1,6 @@
 -- The theorem of demand 3, stated in specs/Calls.antt, by induction on the list of calls. Assumes nothing.
-use Prim.Native.Nat.{ℕ, _+_, _*_, _-_, _≤_, _<_}
-use mathlib.Core.Bool.{Bool, false}
+use Prim.Native.Nat.{ℕ, suc, _+_, _*_, _-_, _≤_, _<_}
+use mathlib.Core.Bool.{Bool, true, false, cond, false≢true}
 use mathlib.Core.Logic.{⊎-elim}
 use mathlib.Core.Path.{_≡_, refl, sym, _∙_, ap, subst}
 use mathlib.Core.List.{List, [], _∷_, _++_}
@@ -8,13 +8,13 @@ use native.Mathlib.Nat.{le-of-eq}
 use native.Mathlib.Omega.{arith}
 use lib.ListN.{length, getD, take, drop, length-drop, take-append-drop}
 use lib.Seq.{getD-take, getD-drop, length-take-le, take-take, take-all}
-use lib.Dec.{ltb}
-use borrow.Author.Tests.{le-ltb, lt-ltb, ltb-false, eq-eqb, ne-eqb}
-use Rattle.mtl.specs.Log.{Log, NeverFalls, Continues}
+use lib.Dec.{leb, ltb}
+use borrow.Author.Tests.{le-leb, leb-true, le-ltb, lt-ltb, ltb-true, ltb-false, eq-eqb, ne-eqb}
+use Rattle.mtl.specs.Log.{Log, closing, NeverFalls, Agree, Continues}
 use Rattle.mtl.specs.Wanted.{wanted}
-use Rattle.mtl.proofs.Bounded.{le-or-lt}
+use Rattle.mtl.proofs.Bounded.{same-test, le-or-lt}
 use Rattle.rule.specs.Entries.{count, decoded}
-use Rattle.rule.specs.Refusal.{refusal}
+use Rattle.rule.specs.Refusal.{first, refusal}
 use Rattle.rule.specs.Measure.{measured}
 use Rattle.rule.proofs.Headers.{first-zero, before-none}
 use Rattle.trace.specs.Format.{record-count, time-at, records-of, malformed}
@@ -22,14 +22,14 @@ use Rattle.trace.specs.Log.{log-of}
 use Rattle.trace.specs.Order.{disordered}
 use Rattle.trace.proofs.Laws.{well-formed-iff, well-formed-records, ordered-iff, agree, keeps-agreed, prefix-continues, count-prefix}
 use Rattle.blocks.specs.Step.{Agrees}
-use Rattle.monitor.specs.Checkpoint.{given, seen, last, need, foreign, outside}
-use Rattle.monitor.specs.Refusal.{open-refusal, resume-refusal}
+use Rattle.monitor.specs.Checkpoint.{given, seen, last, closed-with, need, foreign, outside}
+use Rattle.monitor.specs.Refusal.{open-refusal, resumes-closed, closes-more, resume-refusal}
 use Rattle.monitor.specs.Verdicts.{formulas-of, verdicts, first-records, answered, all-verdicts}
 use Rattle.monitor.specs.Stands.{Stands}
 use Rattle.monitor.specs.Open.{Opens}
 use Rattle.monitor.specs.Resume.{resumed-number, Gives, Resumes}
 use Rattle.monitor.specs.Summary.{noes-in, told, summarized}
-use Rattle.monitor.specs.Calls.{Untouched, Call, given-by, brought-by, laid, the-call, Brings, BringsAfter, Lends, point-after, OneCall, Calls, Each, AllWhenCaughtUp, OneRun, Keeps, Demand3}
+use Rattle.monitor.specs.Calls.{Untouched, Call, given-by, brought-by, closed-by, closed-at, laid, the-call, Brings, BringsAfter, Lends, point-after, OneCall, Calls, Each, AllWhenCaughtUp, OneRun, Keeps, expected-refusal, Demand3}
 use Rattle.monitor.specs.Calls.OneCall.{refused, accepted}
 use Rattle.monitor.specs.Calls.Calls.{opened, and-then}
 use Rattle.monitor.specs.declared.Opened.{Opened}
@@ -64,16 +64,48 @@ enough-words : (rule : List ℕ) (lent : ℕ) → open-refusal rule lent ≡ 0 �
 enough-words rule lent none = ltb-false lent (need rule) (first-zero 8 (ltb lent (need rule)) 0 (before-none (refusal rule) _ none .1) .0)
 
 -- refusal 9 is met before what the words, the log and the sheet hold is looked at
-nine : (rule log p sheet : List ℕ) (r : Resumed) (p′ sheet′ : List ℕ) → refusal rule ≡ 0 → length p < need rule →
-    Resumes rule log p sheet r p′ sheet′ → r ≡ Refused 9
-nine rule log p sheet r p′ sheet′ fine short resumes = go r (resumes .number ∙ is-nine)
+nine : (closing : Bool) (rule log p sheet : List ℕ) (r : Resumed) (p′ sheet′ : List ℕ) → refusal rule ≡ 0 → length p < need rule →
+    Resumes closing rule log p sheet r p′ sheet′ → r ≡ Refused 9
+nine closing rule log p sheet r p′ sheet′ fine short resumes = go r (resumes .number ∙ is-nine)
   where
-    is-nine : resume-refusal rule log p ≡ 9
+    is-nine : resume-refusal closing rule log p ≡ 9
     is-nine = rw (eq-eqb (refusal rule) 0 fine, lt-ltb (length p) (need rule) short)
 
     go : (r : Resumed) → resumed-number r ≡ 9 → r ≡ Refused 9
     go (Given c more) e = absurd (omega arith)
     go (Refused n) e = ap Refused e
+
+-- 20 and 21 of a point that stands for m records, closed or open, where n records are brought and no other refusal applies
+number-by : (closing was : Bool) (m n w records : ℕ) → w ≡ cond was (suc m) 0 → records ≡ n →
+    first 20 (resumes-closed closing w) (first 21 (closes-more closing w records) 0) ≡ expected-refusal closing was m n
+number-by false false m n w records e f = rw e
+number-by false true m n w records e f = rw (e, lt-ltb 0 (suc m) (omega arith))
+number-by true false m n w records e f = rw e
+number-by true true m n w records e f = rw (e, f, lt-ltb 0 (suc m) (omega arith), same-test (leb (suc m) n) (ltb m n) (λ h. lt-ltb m n (leb-true (suc m) n h), λ h. le-leb (suc m) n (ltb-true m n h)))
+
+-- what is not refused brings as many records to a closed point, and closes
+allowed-by : (closing was : Bool) (m n : ℕ) → m ≤ n → expected-refusal closing was m n ≡ 0 → was ≡ true → (closing ≡ true) × (m ≡ n)
+allowed-by closing false m n le e c = absurd (false≢true c)
+allowed-by false true m n le e c = absurd (omega arith)
+allowed-by true true m n le e c =
+    ⊎-elim
+    (λ (some : n ≤ m). (refl, omega arith))
+    (λ (more : m < n). let met : _≡_ {A = ℕ} 21 0 = rw (lt-ltb m n more) at e in absurd (omega arith))
+    (le-or-lt n m)
+
+-- an open point
+fresh-allowed : (closing : Bool) (m n : ℕ) → expected-refusal closing false m n ≡ 0
+fresh-allowed false m n = refl
+fresh-allowed true m n = refl
+
+expected-at : (closing was : Bool) (a m n : ℕ) → (was ≡ true → a ≡ m) → expected-refusal closing was m n ≡ expected-refusal closing was a n
+expected-at closing true a m n same = rw (same refl)
+expected-at false false a m n same = refl
+expected-at true false a m n same = refl
+
+-- logs of the same records, closed or open
+closings-agree : {K L : Log} {a b : ℕ} (was closed : Bool) → Agree K L a b → Agree (closing was K) (closing closed L) a b
+closings-agree was closed same i lo hi = let at = same i lo hi in record { time = at .time; letters = at .letters }
 
 -- THE UNTOUCHED LOG
 
@@ -85,16 +117,23 @@ module _ (rule log : List ℕ) (untouched : Untouched log) where
   eight : (n : ℕ) → 8 * n ≡ n * 8
   eight n = omega arith
 
-  first-size : (n : ℕ) → n ≤ record-count records → first-records log n .size ≡ n
+  first-size : (n : ℕ) → n ≤ record-count records → first-records false log n .size ≡ n
   first-size n h = ap (λ k. record-count (take k records)) (eight n) ∙ count-prefix records n h
 
-  first-longer : (m n : ℕ) → m ≤ n → Continues (first-records log m) (first-records log n)
-  first-longer m n h =
-      subst (λ s. Continues (log-of s) (first-records log n)) (take-take (8 * m) (8 * n) records (omega arith))
-      (prefix-continues (take (8 * n) records) (8 * m))
+  first-longer : (was closed : Bool) (m n : ℕ) → m ≤ n → (was ≡ true → (closed ≡ true) × (m ≡ n)) →
+      Continues (first-records was log m) (first-records closed log n)
+  first-longer was closed m n h allowed =
+      let grown =
+      subst (λ s. Continues (log-of s) (first-records false log n)) (take-take (8 * m) (8 * n) records (omega arith))
+      (prefix-continues (take (8 * n) records) (8 * m)) in
+      record {
+        longer = grown .longer;
+        same = closings-agree was closed (grown .same);
+        ended = λ e. let only = allowed e in (only .0, ap (λ k. first-records false log k .size) (sym (only .1)));
+      }
 
-  first-falls : (n : ℕ) → NeverFalls (first-records log n)
-  first-falls n i j le h =
+  first-falls : (closed : Bool) (n : ℕ) → NeverFalls (first-records closed log n)
+  first-falls closed n i j le h =
       let c = prefix-continues records (8 * n) in
       let l = c .longer in
       let kept = untouched .never-falls i j le (omega arith) in
@@ -103,7 +142,7 @@ module _ (rule log : List ℕ) (untouched : Untouched log) where
       omega arith
 
   -- a call's log, where d verdicts were given
-  module _ (d n : ℕ) (log′ : List ℕ) (brings : Brings log (wanted (formulas-of rule) d) n log′) where
+  module _ (closed : Bool) (d n : ℕ) (log′ : List ℕ) (brings : Brings log (wanted (formulas-of rule) d) n log′) where
     -- the first record still wanted
     abbrev from : ℕ
     from = wanted (formulas-of rule) d
@@ -116,13 +155,16 @@ module _ (rule log : List ℕ) (untouched : Untouched log) where
         getD-drop 8 log′ k 0 ∙ brings .same (8 + k) (omega arith) (omega arith) ∙ sym (getD-drop 8 log k 0) ∙
         sym (getD-take (8 * n) records k 0 (omega arith))
 
-    brought-agrees : Agrees (records-of log′) (first-records log n) from
+    brought-agrees : Agrees closed (records-of log′) (first-records closed log n) from
     brought-agrees =
         let size = brought-size in
         let first = first-size n (brings .within) in
         record {
+          ends = refl;
           size = omega arith;
-          same = agree (records-of log′) (take (8 * n) records) from (first-records log n .size) (λ k lo hi. same-byte k lo (omega arith));
+          same =
+              closings-agree false closed
+              (agree (records-of log′) (take (8 * n) records) from (first-records closed log n .size) (λ k lo hi. same-byte k lo (omega arith)));
         }
 
     -- refusal 12 is not met
@@ -141,12 +183,16 @@ module _ (rule log : List ℕ) (untouched : Untouched log) where
         ))
 
     -- a checkpoint that stands for fewer records, or as many
-    module _ (m : ℕ) (p : List ℕ) (more : m ≤ n) (fine : refusal rule ≡ 0) (stands : Stands rule (first-records log m) d p) where
+    module _ (was : Bool) (m : ℕ) (p : List ℕ) (more : m ≤ n) (fine : refusal rule ≡ 0) (stands : Stands rule (first-records was log m) d p) where
       abbrev old : Log
-      old = first-records log m
+      old = first-records was log m
 
       abbrev new : Log
-      new = first-records log n
+      new = first-records closed log n
+
+      -- the records alone
+      grown : Continues (first-records false log m) (first-records false log n)
+      grown = first-longer false false m n more (λ e. absurd (false≢true e))
 
       -- "the first new record's time" is not below "the last time seen"
       last-not-above : seen p < record-count (records-of log′) → last p ≤ time-at (records-of log′) (seen p)
@@ -159,8 +205,8 @@ module _ (rule log : List ℕ) (untouched : Untouched log) where
           ⊎-elim
           (λ (some : 1 ≤ old .size).
           let last-is : last p ≡ old .time (old .size - 1) = rw (ne-eqb (old .size) 0 (λ e. omega arith)) at time in
-          let kept = first-longer m n more .same (old .size - 1) (omega arith) (omega arith) .time in
-          let grows = first-falls n (old .size - 1) (seen p) (omega arith) (omega arith) in
+          let kept = grown .same (old .size - 1) (omega arith) (omega arith) .time in
+          let grows = first-falls closed n (old .size - 1) (seen p) (omega arith) (omega arith) in
           let lent = agrees .same (seen p) (omega arith) (omega arith) .time in
           omega arith)
           (λ (none : old .size < 1).
@@ -176,17 +222,19 @@ module _ (rule log : List ℕ) (untouched : Untouched log) where
           let same = own-given rule old d p fine stands in
           let start = wanted (formulas-of rule) (given p) in
           ordered-iff (records-of log′) start (seen p) (last p) .1 (
-            keeps-agreed (records-of log′) (take (8 * n) records) start (first-falls n) (le-of-eq counts)
-                (λ i lo hi. agrees .same i (omega arith) (omega arith)),
+            keeps-agreed (records-of log′) (take (8 * n) records) start (first-falls false n) (le-of-eq counts)
+                (λ i lo hi. let at = agrees .same i (omega arith) (omega arith) in record { time = at .time; letters = at .letters }),
             last-not-above,
           )
 
-      -- no refusal is met
-      none-met : resume-refusal rule log′ p ≡ 0
-      none-met =
+      -- no refusal is met but 20 and 21
+      number-met : resume-refusal closed rule log′ p ≡ expected-refusal closed was m n
+      number-met =
           let counts = brought-agrees .size in
           let size = stands .size in
-          let longer = first-longer m n more .longer in
+          let longer = grown .longer in
+          let few = brings .within in
+          let first = first-size m (omega arith) in
           rw (
             open-enough rule (length p) fine (stands .enough),
             stands .own,
@@ -195,35 +243,36 @@ module _ (rule log : List ℕ) (untouched : Untouched log) where
             le-ltb (record-count (records-of log′)) (seen p) (omega arith),
             brought-ordered,
           )
+          (number-by closed was m n (closed-with p) (record-count (records-of log′))
+          (stands .closed ∙ ap (λ k. cond was (suc k) 0) first)
+          (counts ∙ first-size n few))
 
-      -- "A call that brings rule and log in this way is not refused."
-      never-refused : (sheet : List ℕ) (number : ℕ) (p′ sheet′ : List ℕ) → Resumes rule log′ p sheet (Refused number) p′ sheet′ → ⊥
-      never-refused sheet number p′ sheet′ resumes =
-          let none = none-met in
-          let is = resumes .number in
-          let some = resumes .words .0 in
-          omega arith
+      allowed : resume-refusal closed rule log′ p ≡ 0 → was ≡ true → (closed ≡ true) × (m ≡ n)
+      allowed none = allowed-by closed was m n more (sym number-met ∙ none)
 
-      gives : (sheet : List ℕ) (c : ℕ) (b : Bool) (p′ sheet′ : List ℕ) → Resumes rule log′ p sheet (Given c b) p′ sheet′ → Gives rule new d sheet c b p′ sheet′
-      gives sheet c b p′ sheet′ resumes = resumes .words .meaning old new d stands (first-longer m n more) (first-falls n) brought-agrees
+      gives : (sheet : List ℕ) (c : ℕ) (b : Bool) (p′ sheet′ : List ℕ) → Resumes closed rule log′ p sheet (Given c b) p′ sheet′ →
+          Gives rule new d sheet c b p′ sheet′
+      gives sheet c b p′ sheet′ resumes =
+          resumes .words .meaning old new d stands (first-longer was closed m n more (allowed (sym (resumes .number)))) (first-falls closed n) brought-agrees
 
       -- the bytes of an accepted call, behind those of the verdicts before it
-      gives-bytes : (sheet : List ℕ) (c : ℕ) (b : Bool) (p′ sheet′ : List ℕ) → Resumes rule log′ p sheet (Given c b) p′ sheet′ →
+      gives-bytes : (sheet : List ℕ) (c : ℕ) (b : Bool) (p′ sheet′ : List ℕ) → Resumes closed rule log′ p sheet (Given c b) p′ sheet′ →
           verdicts (formulas-of rule) old d ++ take c sheet′ ≡ verdicts (formulas-of rule) new (d + c)
       gives-bytes sheet c b p′ sheet′ resumes =
           let within = stands .top .held .within in
           let room = resumes .words .room in
           let kept = resumes .sheet-length in
           let bytes = gives sheet c b p′ sheet′ resumes .bytes in
-          ap (λ vs. vs ++ take c sheet′) (verdicts-stay (formulas-of rule) old new (first-longer m n more) (first-falls n) d (omega arith)) ∙
+          ap (λ vs. vs ++ take c sheet′) (verdicts-stay (formulas-of rule) old new (first-longer was closed m n more (allowed (sym (resumes .number)))) (first-falls closed n) d (omega arith)) ∙
           verdicts-more (formulas-of rule) new d c sheet′ (omega arith) bytes
 
   -- what holds after every list of calls
   pub record Invariant (h : List Call) (point : List ℕ) : Type 0 where
     pub fine : refusal rule ≡ 0
     pub size : length point ≡ need rule
-    pub stands : Stands rule (first-records log (brought-by h)) (given-by h) point
-    pub bytes : laid h ≡ verdicts (formulas-of rule) (first-records log (brought-by h)) (given-by h)
+    pub stands : Stands rule (first-records (closed-by h) log (brought-by h)) (given-by h) point
+    pub bytes : laid h ≡ verdicts (formulas-of rule) (first-records (closed-by h) log (brought-by h)) (given-by h)
+    pub at-first : closed-by h ≡ true → closed-at h ≡ brought-by h
     pub all : AllWhenCaughtUp rule log h
     pub each : Each rule log h
 
@@ -232,48 +281,61 @@ module _ (rule log : List ℕ) (untouched : Untouched log) where
     opened-fine : refusal rule ≡ 0
     opened-fine = before-none (refusal rule) _ (sym (opens .number)) .0
 
-    opened-stands : Stands rule (first-records log 0) 0 p
-    opened-stands = opens .words .1 (first-records log 0) (first-size 0 (omega arith))
+    opened-stands : Stands rule (first-records false log 0) 0 p
+    opened-stands = opens .words .1 (first-records false log 0) (first-size 0 (omega arith)) refl
 
     after-open : Invariant [] (take (measured rule .words) p)
-    unfolding given-by brought-by laid Each AllWhenCaughtUp verdicts
+    unfolding given-by brought-by closed-by closed-at laid Each AllWhenCaughtUp verdicts
     after-open =
         rw (exactly-enough rule opened-fine .1)
         (record {
           fine = opened-fine;
           size = length-take-le (need rule) p (opened-stands .enough);
-          stands = stands-alone rule (first-records log 0) 0 p opened-stands;
+          stands = stands-alone rule (first-records false log 0) 0 p opened-stands;
           bytes = refl;
+          at-first = λ e. absurd (false≢true e);
           all = refl;
           each = tt;
         })
 
   -- after an accepted call on the words p
   module _ (h : List Call) (point p : List ℕ) (before : Invariant h point) (lends : Lends point p)
-      (n : ℕ) (log′ sheet : List ℕ) (c : ℕ) (more : Bool) (p′ sheet′ : List ℕ)
-      (brought : BringsAfter rule log h n log′) (resumes : Resumes rule log′ p sheet (Given c more) p′ sheet′) where
+      (closed : Bool) (n : ℕ) (log′ sheet : List ℕ) (c : ℕ) (more : Bool) (p′ sheet′ : List ℕ)
+      (brought : BringsAfter rule log h n log′) (resumes : Resumes closed rule log′ p sheet (Given c more) p′ sheet′) where
     accepted-whole : length point ≤ length p
     accepted-whole =
         let size = before .size in
         let enough = enough-words rule (length p) (before-none (open-refusal rule (length p)) _ (sym (resumes .number)) .0) in
         omega arith
 
-    accepted-stands : Stands rule (first-records log (brought-by h)) (given-by h) p
+    accepted-stands : Stands rule (first-records (closed-by h) log (brought-by h)) (given-by h) p
     accepted-stands =
-        stands-lent rule (first-records log (brought-by h)) (given-by h) point p (before .size) lends accepted-whole (before .stands)
+        stands-lent rule (first-records (closed-by h) log (brought-by h)) (given-by h) point p (before .size) lends accepted-whole (before .stands)
 
-    after-accepted : Invariant (the-call n sheet c more sheet′ ∷ h) (point-after point p′)
-    unfolding given-by brought-by laid Each AllWhenCaughtUp
+    -- the first closing brought as many records
+    accepted-at : cond (closed-by h) (closed-at h) n ≡ n
+    accepted-at =
+        by (closed-by h) refl
+      where
+        by : (was : Bool) → closed-by h ≡ was → cond was (closed-at h) n ≡ n
+        by false e = refl
+        by true e =
+            before .at-first e ∙
+            allowed closed (given-by h) n log′ (brought .brings) (closed-by h) (brought-by h) p (brought .no-fewer) (before .fine) accepted-stands
+            (sym (resumes .number)) e .1
+
+    after-accepted : Invariant (the-call closed n sheet c more sheet′ ∷ h) (point-after point p′)
+    unfolding given-by brought-by closed-by closed-at laid Each AllWhenCaughtUp
     after-accepted =
         let old = brought-by h in
         let d = given-by h in
         let fs = formulas-of rule in
-        let all = answered rule log n in
-        let new = first-records log n in
-        let step = gives d n log′ (brought .brings) old p (brought .no-fewer) (before .fine) accepted-stands sheet c more p′ sheet′ resumes in
+        let all = answered closed rule log n in
+        let new = first-records closed log n in
+        let step = gives closed d n log′ (brought .brings) (closed-by h) old p (brought .no-fewer) (before .fine) accepted-stands sheet c more p′ sheet′ resumes in
         let bytes : laid h ++ take c sheet′ ≡ verdicts fs new (d + c) =
         ap (λ vs. vs ++ take c sheet′) (before .bytes) ∙
-        gives-bytes d n log′ (brought .brings) old p (brought .no-fewer) (before .fine) accepted-stands sheet c more p′ sheet′ resumes in
+        gives-bytes closed d n log′ (brought .brings) (closed-by h) old p (brought .no-fewer) (before .fine) accepted-stands sheet c more p′ sheet′ resumes in
         let within = step .stands .top .held .within in
         let same-length = resumes .sheet-length in
         let whole = accepted-whole in
@@ -286,6 +348,7 @@ module _ (rule log : List ℕ) (untouched : Untouched log) where
           size = length-take-le (need rule) p′ (step .stands .enough);
           stands = stands-alone rule new (d + c) p′ (step .stands);
           bytes = bytes;
+          at-first = λ e. accepted-at;
           all = (
             λ e.
                 let lengths = ap length (sym bytes ∙ e) in
@@ -305,10 +368,10 @@ module _ (rule log : List ℕ) (untouched : Untouched log) where
 
   after-call : {h h′ : List Call} {p′ : List ℕ} (point p : List ℕ) → Invariant h point → Lends point p → OneCall rule log h p h′ p′ →
       Invariant h′ (point-after point p′)
-  after-call point p before lends (refused rule′ log′ sheet number p′ sheet′ resumes) =
+  after-call point p before lends (refused closed rule′ log′ sheet number p′ sheet′ resumes) =
       rw (resumes .words .1, after-unchanged point p lends) before
-  after-call {h} point p before lends (accepted n log′ sheet c more p′ sheet′ brought resumes) =
-      after-accepted h point p before lends n log′ sheet c more p′ sheet′ brought resumes
+  after-call {h} point p before lends (accepted closed n log′ sheet c more p′ sheet′ brought resumes) =
+      after-accepted h point p before lends closed n log′ sheet c more p′ sheet′ brought resumes
 
   pub invariant : {h : List Call} {point : List ℕ} → Calls rule log h point → Invariant h point
   invariant (opened lent p opens) = after-open lent p opens
@@ -320,21 +383,27 @@ module _ (rule log : List ℕ) (untouched : Untouched log) where
       record { size = brings .size; within = brings .within; header = brings .header; same = λ i lo hi. brings .same i (omega arith) hi }
 
   -- "One run is a carry on from a fresh point with a sheet of A bytes, and it writes just these."
-  one-run-writes : (n : ℕ) (r : Resumed) (sheet′ : List ℕ) → OneRun rule log n r sheet′ →
-      (r ≡ Given (answered rule log n) false) × (sheet′ ≡ all-verdicts rule log n)
+  one-run-writes : (closed : Bool) (n : ℕ) (r : Resumed) (sheet′ : List ℕ) → OneRun closed rule log n r sheet′ →
+      (r ≡ Given (answered closed rule log n) false) × (sheet′ ≡ all-verdicts closed rule log n)
   unfolding verdicts
-  one-run-writes n (Refused number) sheet′ run =
+  one-run-writes closed n (Refused number) sheet′ run =
       let fine = opened-fine (run .lent) (run .fresh) (run .opens) in
       let stands = opened-stands (run .lent) (run .fresh) (run .opens) in
-      absurd (never-refused 0 n (run .brought) (brings-whole 0 n (run .brought) (run .brings)) 0 (run .fresh) (omega arith) fine stands (run .sheet) number (run .left) sheet′ (run .resumes))
-  one-run-writes n (Given c more) sheet′ run =
+      let whole = brings-whole 0 n (run .brought) (run .brings) in
+      let number-is = number-met closed 0 n (run .brought) whole false 0 (run .fresh) (omega arith) fine stands in
+      let none = fresh-allowed closed 0 n in
+      let is = run .resumes .number in
+      let some = run .resumes .words .0 in
+      absurd (omega arith)
+  one-run-writes closed n (Given c more) sheet′ run =
       let fine = opened-fine (run .lent) (run .fresh) (run .opens) in
       let stands = opened-stands (run .lent) (run .fresh) (run .opens) in
       let fs = formulas-of rule in
-      let all = answered rule log n in
-      let step = gives 0 n (run .brought) (brings-whole 0 n (run .brought) (run .brings)) 0 (run .fresh) (omega arith) fine stands (run .sheet) c more (run .left) sheet′ (run .resumes) in
+      let all = answered closed rule log n in
+      let brings = brings-whole 0 n (run .brought) (run .brings) in
+      let step = gives closed 0 n (run .brought) brings false 0 (run .fresh) (omega arith) fine stands (run .sheet) c more (run .left) sheet′ (run .resumes) in
       let bytes =
-      gives-bytes 0 n (run .brought) (brings-whole 0 n (run .brought) (run .brings)) 0 (run .fresh) (omega arith) fine stands (run .sheet) c more (run .left) sheet′ (run .resumes) in
+      gives-bytes closed 0 n (run .brought) brings false 0 (run .fresh) (omega arith) fine stands (run .sheet) c more (run .left) sheet′ (run .resumes) in
       let count = step .count in
       let room = run .room in
       let kept = run .resumes .sheet-length in
@@ -342,7 +411,7 @@ module _ (rule log : List ℕ) (untouched : Untouched log) where
       let sum : 0 + c ≡ all = omega arith in
       let caught-up : more ≡ false = step .more ∙ le-ltb (0 + c) all (omega arith) in (
         rw (whole, caught-up),
-        sym (take-all c sheet′ (omega arith)) ∙ bytes ∙ ap (verdicts fs (first-records log n)) sum,
+        sym (take-all c sheet′ (omega arith)) ∙ bytes ∙ ap (verdicts fs (first-records closed log n)) sum,
       )
 
 -- the count of no and the latest of them, as a checkpoint has them
@@ -362,9 +431,9 @@ open-keeps rule words Done fresh fine opens = record { behind = rw (exactly-enou
 open-keeps rule words (OpenRefused n) fresh fine opens = record { behind = ap (drop (measured rule .words)) (opens .words .1); number = opens .length }
 
 call-keeps : (rule log : List ℕ) {h h′ : List Call} (p : List ℕ) {p′ : List ℕ} → refusal rule ≡ 0 → OneCall rule log h p h′ p′ → Keeps rule p p′
-call-keeps rule log p fine (refused rule′ log′ sheet number p′ sheet′ resumes) =
+call-keeps rule log p fine (refused closed rule′ log′ sheet number p′ sheet′ resumes) =
     record { behind = ap (drop (measured rule .words)) (resumes .words .1); number = resumes .point-length }
-call-keeps rule log p fine (accepted n log′ sheet c more p′ sheet′ brought resumes) =
+call-keeps rule log p fine (accepted closed n log′ sheet c more p′ sheet′ brought resumes) =
     record { behind = rw (exactly-enough rule fine .1) (resumes .words .beyond); number = resumes .point-length }
 
 -- THE THEOREM
@@ -372,17 +441,19 @@ pub demand-3 : (rule log : List ℕ) → Untouched log → (h : List Call) (poin
 demand-3 rule log untouched h point calls =
     let i = invariant rule log untouched calls in
     let fs = formulas-of rule in
-    let L = first-records log (brought-by h) in
+    let L = first-records (closed-by h) log (brought-by h) in
     let within = i .stands .top .held .within in
     let size = i .size in
     record {
-      first = rw (i .bytes, length-verdicts fs L (given-by h)) (sym (take-verdicts fs L (given-by h) (answered rule log (brought-by h)) (omega arith)));
+      first = rw (i .bytes, length-verdicts fs L (given-by h)) (sym (take-verdicts fs L (given-by h) (answered (closed-by h) rule log (brought-by h)) (omega arith)));
       all = i .all;
       each = i .each;
-      not-refused = λ p lends whole n log′ sheet brought.
-          never-refused rule log untouched (given-by h) n log′ (brought .brings) (brought-by h) p (brought .no-fewer) (i .fine)
-          (stands-lent rule L (given-by h) point p size lends whole (i .stands)) sheet;
-      too-few = λ p short log′ sheet r p′ sheet′. nine rule log′ p sheet r p′ sheet′ (i .fine) (omega arith);
+      not-refused = λ p lends whole closed n log′ sheet brought r p′ sheet′ resumes.
+          resumes .number ∙
+          number-met rule log untouched closed (given-by h) n log′ (brought .brings) (closed-by h) (brought-by h) p (brought .no-fewer) (i .fine)
+          (stands-lent rule L (given-by h) point p size lends whole (i .stands)) ∙
+          expected-at closed (closed-by h) (closed-at h) (brought-by h) n (i .at-first);
+      too-few = λ p short closed log′ sheet r p′ sheet′. nine closed rule log′ p sheet r p′ sheet′ (i .fine) (omega arith);
       size = size ∙ sym (exactly-enough rule (i .fine) .1);
       enough = λ words r fresh size opens.
           open-accepts rule words r fresh (i .fine) (le-of-eq (sym (size ∙ exactly-enough rule (i .fine) .1))) opens;
@@ -398,10 +469,10 @@ demand-3 rule log untouched h point calls =
 
 -- the bytes of every list are the first bytes of one run
 pub bytes-of-one-run : (rule log : List ℕ) → Untouched log → (h : List Call) (point : List ℕ) → Calls rule log h point →
-    (r : Resumed) (sheet′ : List ℕ) → OneRun rule log (brought-by h) r sheet′ → laid h ≡ take (length (laid h)) sheet′
+    (r : Resumed) (sheet′ : List ℕ) → OneRun (closed-by h) rule log (brought-by h) r sheet′ → laid h ≡ take (length (laid h)) sheet′
 bytes-of-one-run rule log untouched h point calls r sheet′ run =
     let claim = demand-3 rule log untouched h point calls in
-    rw (claim .one-run (brought-by h) r sheet′ run .1) (claim .first)
+    rw (claim .one-run (closed-by h) (brought-by h) r sheet′ run .1) (claim .first)
 
 -- "a point that this library left never meets" refusal 11, nor 10 with its rule: in no words that hold it whole
 pub own-checkpoint : (rule log : List ℕ) → Untouched log → (h : List Call) (point : List ℕ) → Calls rule log h point →
@@ -409,6 +480,6 @@ pub own-checkpoint : (rule log : List ℕ) → Untouched log → (h : List Call)
     (foreign (decoded rule) (count rule) p ≡ false) × (outside (decoded rule) (count rule) p ≡ false)
 own-checkpoint rule log untouched h point calls p lends whole =
     let i = invariant rule log untouched calls in
-    let L = first-records log (brought-by h) in
+    let L = first-records (closed-by h) log (brought-by h) in
     let stands = stands-lent rule L (given-by h) point p (i .size) lends whole (i .stands) in
     (stands .own, not-outside rule L (given-by h) p (i .fine) stands)

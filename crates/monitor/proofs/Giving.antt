@@ -29,12 +29,12 @@ use Rattle.monitor.proofs.Noes.{noes, count-le, behind-none, noes-same,
 use Rattle.monitor.proofs.Written.{byte-at, written, length-written, drop-written, written-before, written-at}
 
 -- what is held is not counted yet
-pub noes-held : {t s : List ℕ} {k : ℕ} {ws : List ℕ} {r : Bool} {ws′ : List ℕ} → Holds t s k ws r ws′ → stored-noes ws′ ≡ stored-noes ws
+pub noes-held : {t s : List ℕ} {closed : Bool} {k : ℕ} {ws : List ℕ} {r : Bool} {ws′ : List ℕ} → Holds t s closed k ws r ws′ → stored-noes ws′ ≡ stored-noes ws
 noes-held held =
     rw (held .header 8 (omega arith) (λ e. omega arith) (λ e. omega arith), held .header 9 (omega arith) (λ e. omega arith) (λ e. omega arith))
 
 -- after `done` verdicts
-pub record Going (t s : List ℕ) (k : ℕ) (ws sheet : List ℕ) (done : ℕ) (ws′ sheet′ : List ℕ) : Type 0 where
+pub record Going (t s : List ℕ) (closed : Bool) (k : ℕ) (ws sheet : List ℕ) (done : ℕ) (ws′ sheet′ : List ℕ) : Type 0 where
   pub room : done ≤ length sheet
   pub rest : drop done sheet′ ≡ drop done sheet
   pub sheet-length : length sheet′ ≡ length sheet
@@ -43,12 +43,12 @@ pub record Going (t s : List ℕ) (k : ℕ) (ws sheet : List ℕ) (done : ℕ) (
   pub header : (i : ℕ) → i < 8 → (i ≡ 1 → ⊥) → (i ≡ 4 → ⊥) → (i ≡ 5 → ⊥) → word ws′ i ≡ word ws i
   pub noes : stored-noes ws′ ≡ laid-behind (stored-noes ws) (given ws) (noes-in sheet′ done)
   pub kept : KeptBlocks t k ws ws′
-  pub meaning : (fs : List Formula) (L : Log) (d : ℕ) → Tops fs t k → NeverFalls L → Agrees s L (wanted fs d) → Top fs L d ws →
+  pub meaning : (fs : List Formula) (L : Log) (d : ℕ) → Tops fs t k → NeverFalls L → Agrees closed s L (wanted fs d) → Top fs L d ws →
       Giving fs L d done ws′ sheet′
 
-pub going-none : (t s : List ℕ) (k : ℕ) (ws sheet : List ℕ) → Going t s k ws sheet 0 ws sheet
+pub going-none : (t s : List ℕ) (closed : Bool) (k : ℕ) (ws sheet : List ℕ) → Going t s closed k ws sheet 0 ws sheet
 unfolding count-of latest-no
-going-none t s k ws sheet =
+going-none t s closed k ws sheet =
     record {
       noes = behind-none (stored-noes ws) (given ws);
       room = zero-le;
@@ -64,8 +64,8 @@ going-none t s k ws sheet =
     }
 
 -- no more of them are no
-pub counted-so-far : {t s : List ℕ} {k : ℕ} {ws sheet : List ℕ} {done : ℕ} {ws′ sheet′ : List ℕ} →
-    Going t s k ws sheet done ws′ sheet′ → no-count ws′ ≤ no-count ws + done
+pub counted-so-far : {t s : List ℕ} {closed : Bool} {k : ℕ} {ws sheet : List ℕ} {done : ℕ} {ws′ sheet′ : List ℕ} →
+    Going t s closed k ws sheet done ws′ sheet′ → no-count ws′ ≤ no-count ws + done
 counted-so-far {done = done} {sheet′ = sheet′} going = omega (arith, ap (λ (x : Noes). x .count) (going .noes), count-le 0 sheet′ done)
 
 -- the stores of `spend`
@@ -111,10 +111,10 @@ module _ (n : ℕ) (ws : List ℕ) (room : 16 ≤ length ws) where
         state = rw (word-spent 4, drop-spent) (rw place at (top .state));
       }
 
-module _ {t s : List ℕ} {k : ℕ} {ws sheet : List ℕ} {done : ℕ} {ws₁ sheet₁ ws₂ : List ℕ}
-    (going : Going t s k ws sheet done ws₁ sheet₁) where
+module _ {t s : List ℕ} {closed : Bool} {k : ℕ} {ws sheet : List ℕ} {done : ℕ} {ws₁ sheet₁ ws₂ : List ℕ}
+    (going : Going t s closed k ws sheet done ws₁ sheet₁) where
   -- the no of one portion more
-  noes-portion : (n : ℕ) → 16 ≤ length ws → Holds t s k ws₁ true ws₂ → done + n ≤ length sheet →
+  noes-portion : (n : ℕ) → 16 ≤ length ws → Holds t s closed k ws₁ true ws₂ → done + n ≤ length sheet →
       stored-noes (spent n ws₂) ≡
       laid-behind (stored-noes ws) (given ws) (noes-in (written done n (held-bits ws₂) sheet₁) (done + n))
   noes-portion n room held fits =
@@ -135,8 +135,8 @@ module _ {t s : List ℕ} {k : ℕ} {ws sheet : List ℕ} {done : ℕ} {ws₁ sh
       sym (noes-behind sheet₂ (bytes-of n bits) done n (λ i h. written-at done n bits sheet₁ inside i h ∙ sym (byte-at n bits i h))))
 
   -- one portion more
-  pub portion-more : (n : ℕ) → 16 ≤ length ws → Holds t s k ws₁ true ws₂ → n ≤ held-count ws₂ → done + n ≤ length sheet →
-      Going t s k ws sheet (done + n) (spent n ws₂) (written done n (held-bits ws₂) sheet₁)
+  pub portion-more : (n : ℕ) → 16 ≤ length ws → Holds t s closed k ws₁ true ws₂ → n ≤ held-count ws₂ → done + n ≤ length sheet →
+      Going t s closed k ws sheet (done + n) (spent n ws₂) (written done n (held-bits ws₂) sheet₁)
   portion-more n room held some fits =
       let wide : 16 ≤ length ws₂ = omega (arith, held .words-length, going .words-length) in
       let inside : done + n ≤ length sheet₁ = omega (arith, going .sheet-length) in
@@ -183,7 +183,7 @@ module _ {t s : List ℕ} {k : ℕ} {ws sheet : List ℕ} {done : ℕ} {ws₁ sh
       }
 
   -- nothing more is settled
-  pub gave-open : Holds t s k ws₁ false ws₂ → Gave t s k ws sheet done ws₂ sheet₁
+  pub gave-open : Holds t s closed k ws₁ false ws₂ → Gave t s closed k ws sheet done ws₂ sheet₁
   gave-open held =
       record {
         room = going .room;
@@ -202,8 +202,8 @@ module _ {t s : List ℕ} {k : ℕ} {ws sheet : List ℕ} {done : ℕ} {ws₁ sh
       }
 
 -- the sheet is full
-pub gave-full : {t s : List ℕ} {k : ℕ} {ws sheet : List ℕ} {done : ℕ} {ws′ sheet′ : List ℕ} →
-    Going t s k ws sheet done ws′ sheet′ → length sheet ≤ done → Gave t s k ws sheet done ws′ sheet′
+pub gave-full : {t s : List ℕ} {closed : Bool} {k : ℕ} {ws sheet : List ℕ} {done : ℕ} {ws′ sheet′ : List ℕ} →
+    Going t s closed k ws sheet done ws′ sheet′ → length sheet ≤ done → Gave t s closed k ws sheet done ws′ sheet′
 gave-full going full =
     record {
       room = going .room;

@@ -40,8 +40,8 @@ module _ (t : List ℕ) (n : ℕ) where
       kept-trans φ (drop 16 ws) (drop 16 ws′) (drop 16 ws″) (a some φ has) (b some φ has)
 
 -- nothing to do where something is held
-pub already-held : (t s : List ℕ) (n : ℕ) (ws : List ℕ) → 0 < held-count ws → Holds t s n ws true ws
-already-held t s n ws held =
+pub already-held : (t s : List ℕ) (closed : Bool) (n : ℕ) (ws : List ℕ) → 0 < held-count ws → Holds t s closed n ws true ws
+already-held t s closed n ws held =
     record {
       words-length = refl;
       header = λ i low ne ne′. refl;
@@ -109,9 +109,9 @@ unfolding deepest
 reads-wanted φ d = omega arith
 
 -- what asking the last entry does to the header
-pub asked-holds : (t s : List ℕ) (n : ℕ) (ws : List ℕ) (r : Bool) (ws′ : List ℕ) → 16 ≤ length ws → 0 < n → held-count ws ≡ 0 →
-    Asks t s (n - 1) 16 (length ws) 4 ws r ws′ → Holds t s n ws r ws′
-asked-holds t s n ws true ws′ room entries empty (ys, kept, keeps, (bits, count, some, is, means)) =
+pub asked-holds : (t s : List ℕ) (closed : Bool) (n : ℕ) (ws : List ℕ) (r : Bool) (ws′ : List ℕ) → 16 ≤ length ws → 0 < n → held-count ws ≡ 0 →
+    Asks t s closed (n - 1) 16 (length ws) 4 ws r ws′ → Holds t s closed n ws r ws′
+asked-holds t s closed n ws true ws′ room entries empty (ys, kept, keeps, (bits, count, some, is, means)) =
     rw is
     (record {
       words-length = length-filled ws ys room kept bits count;
@@ -120,7 +120,7 @@ asked-holds t s n ws true ws′ room entries empty (ys, kept, keeps, (bits, coun
       some = λ e. omega (arith, count-filled ws ys room kept bits count);
       none = λ e. let z : _≡_ {A = ℕ} 0 1 = cc in absurd (omega arith);
       meaning = λ fs L d tops never.
-          one-top (λ gs. Agrees s L (wanted gs d) → Top gs L d ws → Top gs L d (filled ws ys room kept bits count)) t n entries fs tops
+          one-top (λ gs. Agrees closed s L (wanted gs d) → Top gs L d ws → Top gs L d (filled ws ys room kept bits count)) t n entries fs tops
           (λ φ has agrees top.
           let place : d + held-count ws ≡ d = omega arith in
           let at : State φ L d (part 16 (length ws) ws) = rw (part-end 16 (length ws) ws refl) (rw place at (top .state)) in
@@ -131,7 +131,7 @@ asked-holds t s n ws true ws′ room entries empty (ys, kept, keeps, (bits, coun
             state = rw (count-filled ws ys room kept bits count, drop-filled ws ys room kept bits count) next;
           });
     })
-asked-holds t s n ws false ws′ room entries empty (ys, kept, keeps, (is, means)) =
+asked-holds t s closed n ws false ws′ room entries empty (ys, kept, keeps, (is, means)) =
     rw is
     (record {
       words-length = length-asked ws ys room kept;
@@ -140,7 +140,7 @@ asked-holds t s n ws false ws′ room entries empty (ys, kept, keeps, (is, means
       some = λ e. let z : _≡_ {A = ℕ} 0 1 = cc in absurd (omega arith);
       none = λ e. header-asked ws ys room kept 4 (omega arith) ∙ empty;
       meaning = λ fs L d tops never.
-          one-top (λ gs. Agrees s L (wanted gs d) → Top gs L d ws → Holding gs L d false (asked ws ys room kept)) t n entries fs tops
+          one-top (λ gs. Agrees closed s L (wanted gs d) → Top gs L d ws → Holding gs L d false (asked ws ys room kept)) t n entries fs tops
           (λ φ has agrees top.
           let place : d + held-count ws ≡ d = omega arith in
           let at : State φ L d (part 16 (length ws) ws) = rw (part-end 16 (length ws) ws refl) (rw place at (top .state)) in
@@ -190,9 +190,9 @@ some-left given size =
     (le-or-lt size given)
 
 -- what a rule with no entry holds
-pub yes-holds : (t s : List ℕ) (n : ℕ) (ws : List ℕ) (r : Bool) → 16 ≤ length ws → n ≡ 0 → r ≡ ltb (given ws) (record-count s) →
-    Holds t s n ws r (all-yes s ws)
-yes-holds t s n ws r room none is =
+pub yes-holds : (t s : List ℕ) (closed : Bool) (n : ℕ) (ws : List ℕ) (r : Bool) → 16 ≤ length ws → n ≡ 0 → r ≡ ltb (given ws) (record-count s) →
+    Holds t s closed n ws r (all-yes s ws)
+yes-holds t s closed n ws r room none is =
     record {
       words-length = simp length-set;
       header = λ i low ne ne′. word-yes s ws room i ∙ rw (ne-eqb i 4 ne, ne-eqb i 5 ne′) refl;

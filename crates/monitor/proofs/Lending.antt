@@ -38,6 +38,7 @@ module _ (rule : List ℕ) (K : Log) (d : ℕ) where
         few = stands .few;
         time = same 3 (omega arith) ∙ stands .time;
         fits = omega (arith, same 3 (omega arith), stands .fits);
+        closed = same 7 (omega arith) ∙ stands .closed;
         top = subst (Top (formulas-of rule) K d) e (stands .top);
         noes = rw (same 8 (omega arith), same 9 (omega arith)) (stands .noes);
       }

@@ -1,14 +1,14 @@
 -- A checkpoint that stands for its rule and a log never meets refusal 11 with that rule. Assumes nothing.
 -- (Examples is named first so that the table of worked examples is checked before any theorem.)
 use Rattle.monitor.specs.Examples
-use Prim.Native.Nat.{ℕ, _+_, _-_, _≤_, _<_, _^_}
-use mathlib.Core.Bool.{true, false}
+use Prim.Native.Nat.{ℕ, suc, _+_, _-_, _≤_, _<_, _^_}
+use mathlib.Core.Bool.{Bool, true, false, cond}
 use mathlib.Core.Path.{_≡_, sym, _∙_}
 use mathlib.Core.List.{List, [], _∷_}
 use native.Mathlib.Omega.{arith}
 use lib.ListN.{take, drop, length-drop}
 use lib.Seq.{getD-take, getD-drop, length-take-le, take-all}
-use borrow.Author.Tests.{le-leb, lt-ltb}
+use borrow.Author.Tests.{le-leb, lt-ltb, eq-eqb, ne-eqb}
 use Rattle.mtl.specs.Formula.{Formula}
 use Rattle.mtl.specs.Log.{Log}
 use Rattle.mtl.proofs.Bounded.{any-false-iff}
@@ -21,12 +21,16 @@ use Rattle.rule.proofs.Acceptance.{accepted}
 use Rattle.blocks.specs.Block.{word, cells-of}
 use Rattle.engine.specs.State.{words}
 use Rattle.engine.proofs.Entries.{Ranged, rule-size, rule-ranges}
-use Rattle.monitor.specs.Checkpoint.{given, seen, last, held-count, no-count, after-latest, need, block-at, block-outside, noes-in-range, outside}
+use Rattle.monitor.specs.Checkpoint.{given, seen, last, closed-with, held-count, no-count, after-latest, need, block-at, block-outside, noes-in-range, closed-in-range, outside}
 use Rattle.monitor.specs.Verdicts.{formulas-of, verdicts}
 use Rattle.monitor.specs.Stands.{States, Stands}
 use Rattle.monitor.proofs.Noes.{noes-ranged}
 use Rattle.monitor.proofs.Offsets.{in-block, block-fits}
 use Rattle.monitor.proofs.Meaning.{rule-whole}
+
+closed-ranged : (b : Bool) (w m seen : ℕ) → w ≡ cond b (suc m) 0 → seen ≡ m → closed-in-range w seen ≡ true
+closed-ranged true w m seen e f = rw (e, f, ne-eqb (suc m) 0 (λ z. omega arith), eq-eqb (suc m - 1) m (omega arith))
+closed-ranged false w m seen e f = rw e
 
 module _ (rule : List ℕ) (K : Log) (d : ℕ) (p : List ℕ) (fine : refusal rule ≡ 0) (stands : Stands rule K d p) where
   -- the rule's own words, and those behind the header
@@ -95,6 +99,10 @@ module _ (rule : List ℕ) (K : Log) (d : ℕ) (p : List ℕ) (fine : refusal ru
   own-noes : noes-in-range (given p) (no-count p) (after-latest p) ≡ true
   own-noes = rw own-given (noes-ranged (verdicts (formulas-of rule) K d) d (no-count p) (after-latest p) (stands .noes))
 
+  -- a closing was accepted of the records seen, or none
+  own-closed : closed-in-range (closed-with p) (seen p) ≡ true
+  own-closed = closed-ranged (K .closed) (closed-with p) (K .size) (seen p) (stands .closed) (stands .size)
+
   -- refusal 11 is not met
   pub not-outside : outside (decoded rule) (count rule) p ≡ false
   not-outside =
@@ -111,5 +119,6 @@ module _ (rule : List ℕ) (K : Log) (d : ℕ) (p : List ℕ) (fine : refusal ru
         le-leb (given p) (seen p - held-count p) (omega (arith, own-word 1 (omega arith), own-word 4 (omega arith))),
         lt-ltb (last p) (2 ^ 32) (stands .fits),
         own-noes,
+        own-closed,
         any-false-iff (count rule) (block-outside (decoded rule) p) .1 in-range,
       )

@@ -1,6 +1,6 @@
 -- One accepted call on exactly the words that its entries need: their table, and the header once the log's end is noted.
-use Prim.Native.Nat.{ℕ, _+_, _-_, _≤_, _<_, min}
-use mathlib.Core.Bool.{Bool, true, false}
+use Prim.Native.Nat.{ℕ, suc, _+_, _-_, _≤_, _<_, min}
+use mathlib.Core.Bool.{Bool, true, false, cond}
 use mathlib.Core.Path.{_≡_, refl, sym, _∙_}
 use mathlib.Core.List.{List, [], _∷_}
 use mathlib.Core.Logic.{⊎-elim}
@@ -8,7 +8,7 @@ use native.Mathlib.Omega.{arith}
 use borrow.Author.Tests.{lt-ltb, le-ltb}
 use lib.Dec.{ltb}
 use lib.ListN.{length, getD, drop, set, length-set, length-drop}
-use lib.Seq.{take-all, drop-set-lt, getD-set-same, getD-set-other}
+use lib.Seq.{take-all, drop-set-lt}
 use Rattle.mtl.specs.Formula.{Formula}
 use Rattle.mtl.specs.Log.{Log}
 use Rattle.mtl.specs.Progress.{joint-progress}
@@ -20,6 +20,7 @@ use Rattle.trace.specs.Format.{record-count}
 use Rattle.trace.specs.Order.{last-time}
 use Rattle.trace.proofs.Laws.{last-time-bound}
 use Rattle.blocks.specs.Block.{word}
+use Rattle.blocks.proofs.Words.{Store, put, stores, after, word-stores}
 use Rattle.engine.specs.Layout.{Laid}
 use Rattle.engine.specs.State.{words as words-of}
 use Rattle.engine.proofs.Uniform.{agrees-later}
@@ -82,38 +83,35 @@ tabled t n table ready laid =
       kept = kept-of t n (ready .well-formed) table laid (ready .few) (ready .the-formulas) (ready .whole);
     }
 
--- the header once the last time and the number of records are noted
-abbrev pub noted : (time size : ℕ) → List ℕ → List ℕ
-noted time size ws = set (set ws 3 time) 2 size
+-- the header once the last time, the number of records and whether the log is closed are noted
+abbrev noted-stores : (time size ended : ℕ) → List Store
+noted-stores time size ended = put 3 time ∷ put 2 size ∷ put 7 ended ∷ []
 
-module _ (time size : ℕ) (ws : List ℕ) (room : 16 ≤ length ws) where
-  pub length-noted : length (noted time size ws) ≡ length ws
+abbrev pub noted : (time size ended : ℕ) → List ℕ → List ℕ
+noted time size ended ws = stores (noted-stores time size ended) ws
+
+module _ (time size ended : ℕ) (ws : List ℕ) (room : 16 ≤ length ws) where
+  pub length-noted : length (noted time size ended ws) ≡ length ws
   length-noted = simp length-set
 
-  noted-other : (i : ℕ) → (i ≡ 2 → ⊥) → (i ≡ 3 → ⊥) → word (noted time size ws) i ≡ word ws i
-  noted-other i ne ne′ = getD-set-other (set ws 3 time) 2 i size 0 ne ∙ getD-set-other ws 3 i time 0 ne′
+  noted-word : (i : ℕ) → word (noted time size ended ws) i ≡ after (noted-stores time size ended) (word ws) i
+  noted-word = word-stores (noted-stores time size ended) ws (omega arith) room
 
-  noted-size : word (noted time size ws) 2 ≡ size
-  noted-size = getD-set-same (set ws 3 time) 2 size 0 (simp length-set (omega arith))
+  noted-noes : stored-noes (noted time size ended ws) ≡ stored-noes ws
+  noted-noes = rw (noted-word 8, noted-word 9)
 
-  noted-time : word (noted time size ws) 3 ≡ time
-  noted-time =
-      getD-set-other (set ws 3 time) 2 3 size 0 (λ e. omega arith) ∙ getD-set-same ws 3 time 0 (omega arith)
+  drop-noted : drop 16 (noted time size ended ws) ≡ drop 16 ws
+  drop-noted =
+      drop-set-lt 16 (set (set ws 3 time) 2 size) 7 ended (omega arith) ∙
+      drop-set-lt 16 (set ws 3 time) 2 size (omega arith) ∙
+      drop-set-lt 16 ws 3 time (omega arith)
 
-  noted-noes : stored-noes (noted time size ws) ≡ stored-noes ws
-  noted-noes = rw (noted-other 8 (λ e. omega arith) (λ e. omega arith), noted-other 9 (λ e. omega arith) (λ e. omega arith))
-
-  drop-noted : drop 16 (noted time size ws) ≡ drop 16 ws
-  drop-noted = drop-set-lt 16 (set ws 3 time) 2 size (omega arith) ∙ drop-set-lt 16 ws 3 time (omega arith)
-
-  top-noted : (fs : List Formula) (L : Log) (d : ℕ) → Top fs L d ws → Top fs L d (noted time size ws)
+  top-noted : (fs : List Formula) (L : Log) (d : ℕ) → Top fs L d ws → Top fs L d (noted time size ended ws)
   top-noted fs L d top =
-      let held = noted-other 4 (λ e. omega arith) (λ e. omega arith) in
-      let bits = noted-other 5 (λ e. omega arith) (λ e. omega arith) in
       record {
-        at = noted-other 1 (λ e. omega arith) (λ e. omega arith) ∙ top .at;
-        held = rw (held, bits) (top .held);
-        state = rw (held, drop-noted) (top .state);
+        at = noted-word 1 ∙ top .at;
+        held = rw (noted-word 4, noted-word 5) (top .held);
+        state = rw (noted-word 4, drop-noted) (top .state);
       }
 
 -- c and "more", from what was given and what is held then
@@ -131,14 +129,15 @@ counted fs L d c room true ws′ fits short some top =
 counted fs L d c room false ws′ fits short some (top, is-open) =
     record { top = top; count = omega arith; more = sym (le-ltb (d + c) (joint-progress fs L) (omega arith)) }
 
-pub proceeded : (t : List Entry) (table s : List ℕ) (k : ℕ) (ws sheet : List ℕ) (c : ℕ) (ws₁ sheet₁ : List ℕ) (more : Bool) (ws₂ : List ℕ)
-    (time size : ℕ) → Tabled t table k → length ws ≡ words t k → ((i : ℕ) → getD s i 0 < 256) →
-    Gave table s k ws sheet c ws₁ sheet₁ → Holds table s k ws₁ more ws₂ →
-    time ≡ last-time s (word ws₂ 2) (word ws₂ 3) → size ≡ record-count s →
-    Proceeded t k s ws sheet c more (noted time size ws₂) sheet₁
-proceeded t table s k ws sheet c ws₁ sheet₁ more ws₂ time size tab room byte gave held timed sized =
+pub proceeded : (t : List Entry) (table s : List ℕ) (closed : Bool) (k : ℕ) (ws sheet : List ℕ) (c : ℕ) (ws₁ sheet₁ : List ℕ) (more : Bool) (ws₂ : List ℕ)
+    (time size ended : ℕ) → Tabled t table k → length ws ≡ words t k → ((i : ℕ) → getD s i 0 < 256) →
+    Gave table s closed k ws sheet c ws₁ sheet₁ → Holds table s closed k ws₁ more ws₂ →
+    time ≡ last-time s (word ws₂ 2) (word ws₂ 3) → size ≡ record-count s → ended ≡ cond closed (suc size) 0 →
+    Proceeded closed t k s ws sheet c more (noted time size ended ws₂) sheet₁
+proceeded t table s closed k ws sheet c ws₁ sheet₁ more ws₂ time size ended tab room byte gave held timed sized noting =
     let long : length ws₂ ≡ words t k = held .words-length ∙ gave .words-length ∙ room in
     let wide : 16 ≤ length ws₂ = omega arith in
+    let word-now = noted-word time size ended ws₂ wide in
     let seen-same = kept 2 (omega arith) (λ e. omega arith) (λ e. omega arith) (λ e. omega arith) in
     let last-same = kept 3 (omega arith) (λ e. omega arith) (λ e. omega arith) (λ e. omega arith) in
     let now : time ≡ last-time s (word ws 2) (word ws 3) = rw (seen-same, last-same) at timed in
@@ -146,32 +145,33 @@ proceeded t table s k ws sheet c ws₁ sheet₁ more ws₂ time size tab room by
       room = gave .room;
       rest = gave .rest;
       sheet-length = gave .sheet-length;
-      words-length = length-noted time size ws₂ wide ∙ held .words-length ∙ gave .words-length;
+      words-length = length-noted time size ended ws₂ wide ∙ held .words-length ∙ gave .words-length;
       first-word =
-          noted-other time size ws₂ wide 0 (λ e. omega arith) (λ e. omega arith) ∙
+          word-now 0 ∙
           kept 0 (omega arith) (λ e. omega arith) (λ e. omega arith) (λ e. omega arith);
       count =
-          noted-other time size ws₂ wide 1 (λ e. omega arith) (λ e. omega arith) ∙
+          word-now 1 ∙
           held .header 1 (omega arith) (λ e. omega arith) (λ e. omega arith) ∙
           gave .count;
-      size = noted-size time size ws₂ wide ∙ sized;
-      time = noted-time time size ws₂ wide ∙ now;
+      size = word-now 2 ∙ sized;
+      time = word-now 3 ∙ now;
       fits = λ small.
-          rw (noted-time time size ws₂ wide, now) (last-time-bound s (word ws 2) (word ws 3) byte small);
-      noes = noted-noes time size ws₂ wide ∙ noes-held held ∙ gave .noes;
+          rw (word-now 3, now) (last-time-bound s (word ws 2) (word ws 3) byte small);
+      ended = word-now 7 ∙ rw (sized) at noting;
+      noes = noted-noes time size ended ws₂ wide ∙ noes-held held ∙ gave .noes;
       entries =
-          noted-other time size ws₂ wide 6 (λ e. omega arith) (λ e. omega arith) ∙
+          word-now 6 ∙
           kept 6 (omega arith) (λ e. omega arith) (λ e. omega arith) (λ e. omega arith);
       kept =
-          tab .kept ws (noted time size ws₂) room (length-noted time size ws₂ wide ∙ long)
-          (kept-then table k ws ws₁ (noted time size ws₂) (gave .kept)
-          (kept-then table k ws₁ ws₂ (noted time size ws₂) (held .kept) (kept-same table k ws₂ (noted time size ws₂) (drop-noted time size ws₂ wide))));
+          tab .kept ws (noted time size ended ws₂) room (length-noted time size ended ws₂ wide ∙ long)
+          (kept-then table k ws ws₁ (noted time size ended ws₂) (gave .kept)
+          (kept-then table k ws₁ ws₂ (noted time size ended ws₂) (held .kept) (kept-same table k ws₂ (noted time size ended ws₂) (drop-noted time size ended ws₂ wide))));
       meaning = λ fs L d whole never agrees top.
           let tops = tab .tops fs whole in
           let (giving, short) = gave .meaning fs L d tops never agrees top in
           let after = held .meaning fs L (d + c) tops never (agrees-later agrees (omega arith)) (giving .top) in
           let n = counted fs L d c (length sheet) more ws₂ (gave .room) short (held .some) after in (
-            record { top = top-noted time size ws₂ wide fs L (d + c) (n .top); bytes = giving .bytes },
+            record { top = top-noted time size ended ws₂ wide fs L (d + c) (n .top); bytes = giving .bytes },
             n .count,
             n .more,
           );

@@ -29,8 +29,8 @@ use Rattle.blocks.specs.Block.{word}
 use Rattle.blocks.specs.Step.{Agrees}
 use Rattle.engine.specs.Ask.{part}
 use Rattle.engine.proofs.Parts.{put-back}
-use Rattle.monitor.specs.Checkpoint.{given, seen, last, held-count, held-bits, no-count, after-latest, need, room, foreign, block-outside, noes-in-range, outside, header-in-range}
-use Rattle.monitor.specs.Refusal.{open-refusal, point-refusal}
+use Rattle.monitor.specs.Checkpoint.{given, seen, last, closed-with, held-count, held-bits, no-count, after-latest, need, room, foreign, block-outside, noes-in-range, closed-in-range, outside, header-in-range}
+use Rattle.monitor.specs.Refusal.{open-refusal, resumes-closed, point-refusal}
 use Rattle.monitor.specs.Verdicts.{formulas-of}
 use Rattle.monitor.specs.Stands.{Top, last-of, Stands}
 use Rattle.monitor.specs.Resume.{Resumes}
@@ -94,9 +94,9 @@ failed rule p number w r m n sized checked fails numbered =
     record { number = numbered ∙ ap checked-number checked ∙ checked-is number ∙ sym (not-stopped rule p number w sized); some = omega arith }
 
 -- nothing is written then
-pub resume-refused : (rule log p sheet : List ℕ) (n : ℕ) → Met rule p (point-refusal (decoded rule) (count rule) log p) n →
-    Resumes rule log p sheet (Refused n) p sheet
-resume-refused rule log p sheet n met =
+pub resume-refused : (closing : Bool) (rule log p sheet : List ℕ) (n : ℕ) → Met rule p (point-refusal closing (decoded rule) (count rule) log p) n →
+    Resumes closing rule log p sheet (Refused n) p sheet
+resume-refused closing rule log p sheet n met =
     record { number = met .number; point-length = refl; sheet-length = refl; words = (met .some, refl, refl) }
 
 -- what the refusals that are not met tell
@@ -107,7 +107,7 @@ pub record Passes (log p : List ℕ) : Type 0 where
 
 header-given : (p : List ℕ) → header-in-range p ≡ true → (no-count p ≤ given p) × (given p ≤ 1000000)
 header-given p fits =
-    let ends = and-iff _ (noes-in-range (given p) (no-count p) (after-latest p)) .0 fits in
+    let ends = and-iff _ (noes-in-range (given p) (no-count p) (after-latest p)) .0 (and-iff _ (closed-in-range (closed-with p) (seen p)) .0 fits .0) in
     let halves = and-iff (leb (seen p) 1000000 && leb (held-count p) 64) (room (given p) (held-count p) (seen p)) .0 (and-iff _ (ltb (last p) (2 ^ 32)) .0 (ends .0) .0) in
     let rooms = and-iff (leb (held-count p) (seen p)) (leb (given p) (seen p - held-count p)) .0 (halves .1) in
     let few = leb-iff (seen p) 1000000 .0 (and-iff (leb (seen p) 1000000) (leb (held-count p) 64) .0 (halves .0) .0) in
@@ -115,13 +115,14 @@ header-given p fits =
     let noes = leb-iff (no-count p) (given p) .0 (and-iff (leb (no-count p) (given p)) (leb (after-latest p) (given p)) .0 (and-iff _ _ .0 (ends .1) .0) .0) in
     (noes, omega arith)
 
-pub passes : (rule log p : List ℕ) → point-refusal (decoded rule) (count rule) log p ≡ 0 → Passes log p
-passes rule log p none =
+pub passes : (closing : Bool) (rule log p : List ℕ) → point-refusal closing (decoded rule) (count rule) log p ≡ 0 → Passes log p
+passes closing rule log p none =
     let t = decoded rule in
     let n = count rule in
     let tenth = first-zero 9 (foreign t n p) _ none in
     let eleventh = first-zero 10 (outside t n p) _ (tenth .1) in
-    let twelfth = first-zero 11 (malformed log) _ (eleventh .1) in
+    let twentieth = first-zero 19 (resumes-closed closing (closed-with p)) _ (eleventh .1) in
+    let twelfth = first-zero 11 (malformed log) _ (twentieth .1) in
     let (noes, few) = header-given p (not-false (header-in-range p) (or-left (negate (header-in-range p)) (any n (block-outside t p)) (eleventh .0))) in
     record {
       given = few;
@@ -143,7 +144,7 @@ cond-same true x y e = refl
 cond-same false x y e = e refl
 
 -- the last time seen, once the lent records are seen
-module _ (s : List ℕ) (K L : Log) (first : ℕ) (longer : Continues K L) (agrees : Agrees s L first) (given : first ≤ K .size) where
+module _ {closed : Bool} (s : List ℕ) (K L : Log) (first : ℕ) (longer : Continues K L) (agrees : Agrees closed s L first) (given : first ≤ K .size) where
   time-new : K .size < record-count s → last-time s (K .size) (last-of K) ≡ last-of L
   time-new new =
       let size = agrees .size in
@@ -167,9 +168,9 @@ module _ (s : List ℕ) (K L : Log) (first : ℕ) (longer : Continues K L) (agre
   time-seen = ⊎-elim time-kept time-new (le-or-lt (record-count s) (K .size))
 
 -- an accepted call: the words that the rule needs are ws′ then, the others are kept
-module _ (rule log p sheet : List ℕ) (ok : refusal rule ≡ 0) (room : need rule ≤ length p)
-    (none : point-refusal (decoded rule) (count rule) log p ≡ 0) (c : ℕ) (more : Bool) (ws′ sheet′ : List ℕ)
-    (done : Proceeded (decoded rule) (count rule) (records-of log) (take (need rule) p) sheet c more ws′ sheet′) where
+module _ (closing : Bool) (rule log p sheet : List ℕ) (ok : refusal rule ≡ 0) (room : need rule ≤ length p)
+    (none : point-refusal closing (decoded rule) (count rule) log p ≡ 0) (c : ℕ) (more : Bool) (ws′ sheet′ : List ℕ)
+    (done : Proceeded closing (decoded rule) (count rule) (records-of log) (take (need rule) p) sheet c more ws′ sheet′) where
   size : length ws′ ≡ need rule
   size = done .words-length ∙ length-take-le (need rule) p room
 
@@ -196,7 +197,7 @@ module _ (rule log p sheet : List ℕ) (ok : refusal rule ≡ 0) (room : need ru
   noes-now : stored-noes (ws′ ++ drop (need rule) p) ≡ laid-behind (stored-noes p) (given p) (noes-in sheet′ c)
   noes-now = rw (now 8 (omega arith), now 9 (omega arith), ← was 1 (omega arith), ← was 8 (omega arith), ← was 9 (omega arith)) (done .noes)
 
-  stands-now : (K L : Log) (d : ℕ) → Stands rule K d p → Continues K L → NeverFalls L → Agrees (records-of log) L (wanted (formulas-of rule) d) →
+  stands-now : (K L : Log) (d : ℕ) → Stands rule K d p → Continues K L → NeverFalls L → Agrees closing (records-of log) L (wanted (formulas-of rule) d) →
       Giving (formulas-of rule) L d c ws′ sheet′ → Stands rule L (d + c) (ws′ ++ drop (need rule) p)
   stands-now K L d stands longer never agrees giving =
       let fs = formulas-of rule in
@@ -212,9 +213,10 @@ module _ (rule log p sheet : List ℕ) (ok : refusal rule ≡ 0) (room : need ru
         enough = omega (arith, length-now);
         own = foreign-now ∙ stands .own;
         size = now 2 (omega arith) ∙ done .size ∙ agrees .size;
-        few = omega (arith, passes rule log p none .records, agrees .size);
+        few = omega (arith, passes closing rule log p none .records, agrees .size);
         time = now 3 (omega arith) ∙ done .time ∙ before;
         fits = rw (now 3 (omega arith)) (done .fits (rw (was 3 (omega arith)) (stands .fits)));
+        closed = now 7 (omega arith) ∙ done .ended ∙ rw (agrees .ends, agrees .size);
         top = rw (take-at ws′ (drop (need rule) p) (need rule) size) (giving .top);
         noes =
             noes-now ∙
@@ -222,7 +224,7 @@ module _ (rule log p sheet : List ℕ) (ok : refusal rule ≡ 0) (room : need ru
             noes-more fs L d c sheet′ (giving .bytes);
       }
 
-  pub resumed : Resumes rule log p sheet (Given c more) (ws′ ++ drop (need rule) p) sheet′
+  pub resumed : Resumes closing rule log p sheet (Given c more) (ws′ ++ drop (need rule) p) sheet′
   resumed =
       record {
         number = rw (ok, le-ltb (length p) (need rule) room) (sym none);
@@ -239,6 +241,7 @@ module _ (rule log p sheet : List ℕ) (ok : refusal rule ≡ 0) (room : need ru
                   now 3 (omega arith) ∙
                   done .time ∙
                   rw (was 2 (omega arith), was 3 (omega arith));
+              closed = now 7 (omega arith) ∙ done .ended;
               noes = noes-now;
               meaning = λ K L d stands longer never agrees.
                   let top = top-longer (formulas-of rule) K L d (take (need rule) p) longer never (stands .top) in
@@ -260,11 +263,11 @@ ready-of rule t n ok d =
     (record { few = a .few-entries; well-formed = a .well-formed; the-formulas = a .the-formulas; whole = a .whole })
 
 -- the entries as they were decoded, the records and the words as they were lent, and the words as they came back
-pub resume-given : (rule log p sheet : List ℕ) (t : List Entry) (n : ℕ) (records : List ℕ) (w : ℕ) (r : Resumed) (ws′ sheet′ : List ℕ) →
-    Words w ≡ sized-of rule (length p) → Decoded rule t n → point-refusal (decoded rule) (count rule) log p ≡ 0 → records ≡ records-of log →
-    Proceeds t n records (part 0 w p) sheet r ws′ sheet′ → Resumes rule log p sheet r (put-back 0 w ws′ p) sheet′
-resume-given rule log p sheet t n records w (Given c more) ws′ sheet′ sized d none handed done =
+pub resume-given : (closing : Bool) (rule log p sheet : List ℕ) (t : List Entry) (n : ℕ) (records : List ℕ) (w : ℕ) (r : Resumed) (ws′ sheet′ : List ℕ) →
+    Words w ≡ sized-of rule (length p) → Decoded rule t n → point-refusal closing (decoded rule) (count rule) log p ≡ 0 → records ≡ records-of log →
+    Proceeds closing t n records (part 0 w p) sheet r ws′ sheet′ → Resumes closing rule log p sheet r (put-back 0 w ws′ p) sheet′
+resume-given closing rule log p sheet t n records w (Given c more) ws′ sheet′ sized d none handed done =
     let e = enough rule (length p) w sized in
     let is : w - 0 ≡ need rule = sub-zero w ∙ e .words-are in
-    rw is (resumed rule log p sheet (e .accepted) (e .room) none c more ws′ sheet′ (rw (is, handed, d .entries-are, d .count-is) at done))
-resume-given rule log p sheet t n records w (Refused m) ws′ sheet′ sized d none handed done = absurd done
+    rw is (resumed closing rule log p sheet (e .accepted) (e .room) none c more ws′ sheet′ (rw (is, handed, d .entries-are, d .count-is) at done))
+resume-given closing rule log p sheet t n records w (Refused m) ws′ sheet′ sized d none handed done = absurd done

@@ -1,6 +1,7 @@
 -- A fresh checkpoint stands for its rule on a log with no record.
 use Prim.Native.Nat.{ℕ, _+_, _≤_, _<_, zero-le}
 use native.Mathlib.Omega.{arith}
+use mathlib.Core.Bool.{false}
 use mathlib.Core.Path.{_≡_, sym, ap, subst, _∙_}
 use mathlib.Core.List.{List, [], _∷_, _++_}
 use lib.ListN.{length, take, drop, length-drop}
@@ -54,9 +55,9 @@ module _ (rule ws : List ℕ) (a : Accepted rule) (size : length ws ≡ need rul
       }
 
 pub fresh-stands : (rule p : List ℕ) → refusal rule ≡ 0 → need rule ≤ length p →
-    Fresh (decoded rule) (count rule) (take (need rule) p) → (L : Log) → L .size ≡ 0 → Stands rule L 0 p
+    Fresh (decoded rule) (count rule) (take (need rule) p) → (L : Log) → L .size ≡ 0 → L .closed ≡ false → Stands rule L 0 p
 unfolding count-of latest-no
-fresh-stands rule p ok room f L none =
+fresh-stands rule p ok room f L none is-open =
     let at : (i : ℕ) → i < need rule → word p i ≡ word (take (need rule) p) i = λ i h. sym (getD-take (need rule) p i 0 h) in
     let clear : (i : ℕ) → 0 < i → i < 16 → (i ≡ 6 → ⊥) → word p i ≡ 0 = λ i h l ne. at i (omega arith) ∙ f .header i h l ne in
     let two = clear 2 (omega arith) (omega arith) (omega arith) in
@@ -70,6 +71,7 @@ fresh-stands rule p ok room f L none =
       few = omega arith;
       time = rw (eq-eqb (L .size) 0 none) three;
       fits = omega arith;
+      closed = clear 7 (omega arith) (omega arith) (omega arith) ∙ rw is-open;
       top = fresh-top rule (take (need rule) p) (accepted rule ok) (length-take-le (need rule) p room) f L (formulas-of rule) (rule-whole rule ok);
       noes = rw (clear 8 (omega arith) (omega arith) (omega arith), clear 9 (omega arith) (omega arith) (omega arith));
     }

@@ -13,7 +13,7 @@ use Rattle.blocks.specs.Block.{word, cells-of}
 
 -- the number in a checkpoint's first word: the bytes HAVD, and the format's number
 abbrev pub format : ℕ
-format = 0x4841564400000004
+format = 0x4841564400000005
 
 -- "the verdicts given d, the records seen, and the last time seen"
 abbrev pub given : List ℕ → ℕ
@@ -31,6 +31,10 @@ held-count p = word p 4
 
 abbrev pub held-bits : List ℕ → ℕ
 held-bits p = word p 5
+
+-- the records at the first accepted closing, and 1; 0 while no closing was accepted
+abbrev pub closed-with : List ℕ → ℕ
+closed-with p = word p 7
 
 -- how many of the verdicts given are no, and one more than the position of the latest of them: 0 where none is
 abbrev pub no-count : List ℕ → ℕ
@@ -83,11 +87,15 @@ block-outside t p k =
 abbrev pub noes-in-range : (d count after : ℕ) → Bool
 noes-in-range d count after = leb count d && leb after d && Bool·beq (eqb count 0) (eqb after 0)
 
+-- after an accepted closing no call that brings more records is accepted, nor one that brings fewer
+abbrev pub closed-in-range : (closed-with seen : ℕ) → Bool
+closed-in-range closed-with seen = eqb closed-with 0 || eqb (closed-with - 1) seen
+
 -- "at most 1,000,000 records", "d above the records seen"
 abbrev pub header-in-range : List ℕ → Bool
 header-in-range p =
     leb (seen p) 1000000 && leb (held-count p) 64 && room (given p) (held-count p) (seen p) && ltb (last p) (2 ^ 32)
-    && noes-in-range (given p) (no-count p) (after-latest p)
+    && noes-in-range (given p) (no-count p) (after-latest p) && closed-in-range (closed-with p) (seen p)
 
 -- refusal 11: "A word of the point is outside its range"
 abbrev pub outside : List Entry → ℕ → List ℕ → Bool

@@ -23,7 +23,7 @@ use Rattle.engine.specs.Table.{RowsOk, column, Has}
 use Rattle.engine.specs.Answer.{Keeps}
 use Rattle.trace.specs.Format.{record-count}
 use Rattle.trace.specs.Order.{last-time}
-use Rattle.monitor.specs.Checkpoint.{format, given, seen, last, held-count, held-bits, no-count, after-latest, need, block-at, copy-head, copy-ends}
+use Rattle.monitor.specs.Checkpoint.{format, given, seen, last, closed-with, held-count, held-bits, no-count, after-latest, need, block-at, copy-head, copy-ends}
 use Rattle.monitor.specs.Verdicts.{verdict}
 use Rattle.monitor.specs.Stands.{Top}
 use Rattle.monitor.specs.Summary.{noes-in, laid-behind, stored-noes}
@@ -52,7 +52,7 @@ abbrev pub checked-number : Checked → ℕ
 checked-number Passed = 0
 checked-number (Failed n) = n
 
--- refusals 10 to 14 by their number, which is 0 where none applies
+-- refusals 10 to 14, 20 and 21 by their number, which is 0 where none applies
 abbrev pub checked-by : ℕ → Checked
 checked-by number = cond (eqb number 0) Passed (Failed number)
 
@@ -95,13 +95,13 @@ abbrev pub Holding : List Formula → Log → ℕ → Bool → List ℕ → Type
 Holding fs L d true ws′ = Top fs L d ws′
 Holding fs L d false ws′ = Top fs L d ws′ × (joint-progress fs L ≡ d)
 
-pub record Holds (t s : List ℕ) (n : ℕ) (ws : List ℕ) (r : Bool) (ws′ : List ℕ) : Type 0 where
+pub record Holds (t s : List ℕ) (closed : Bool) (n : ℕ) (ws : List ℕ) (r : Bool) (ws′ : List ℕ) : Type 0 where
   pub words-length : length ws′ ≡ length ws
   pub header : (i : ℕ) → i < 16 → (i ≡ 4 → ⊥) → (i ≡ 5 → ⊥) → word ws′ i ≡ word ws i
   pub kept : KeptBlocks t n ws ws′
   pub some : r ≡ true → 0 < held-count ws′
   pub none : r ≡ false → held-count ws′ ≡ 0
-  pub meaning : (fs : List Formula) (L : Log) (d : ℕ) → Tops fs t n → NeverFalls L → Agrees s L (wanted fs d) → Top fs L d ws →
+  pub meaning : (fs : List Formula) (L : Log) (d : ℕ) → Tops fs t n → NeverFalls L → Agrees closed s L (wanted fs d) → Top fs L d ws →
       Holding fs L d r ws′
 
 -- the copies of the first n entries, written into their blocks
@@ -123,7 +123,7 @@ pub record Giving (fs : List Formula) (L : Log) (d c : ℕ) (ws′ sheet′ : Li
   pub bytes : (i : ℕ) → i < c → getD sheet′ i 0 ≡ verdict fs L (d + i)
 
 -- `give` writes c verdicts: as many as the sheet holds, or as there are
-pub record Gave (t s : List ℕ) (n : ℕ) (ws sheet : List ℕ) (c : ℕ) (ws′ sheet′ : List ℕ) : Type 0 where
+pub record Gave (t s : List ℕ) (closed : Bool) (n : ℕ) (ws sheet : List ℕ) (c : ℕ) (ws′ sheet′ : List ℕ) : Type 0 where
   pub room : c ≤ length sheet
   pub rest : drop c sheet′ ≡ drop c sheet
   pub sheet-length : length sheet′ ≡ length sheet
@@ -132,7 +132,7 @@ pub record Gave (t s : List ℕ) (n : ℕ) (ws sheet : List ℕ) (c : ℕ) (ws�
   pub header : (i : ℕ) → i < 8 → (i ≡ 1 → ⊥) → (i ≡ 4 → ⊥) → (i ≡ 5 → ⊥) → word ws′ i ≡ word ws i
   pub noes : stored-noes ws′ ≡ laid-behind (stored-noes ws) (given ws) (noes-in sheet′ c)
   pub kept : KeptBlocks t n ws ws′
-  pub meaning : (fs : List Formula) (L : Log) (d : ℕ) → Tops fs t n → NeverFalls L → Agrees s L (wanted fs d) → Top fs L d ws →
+  pub meaning : (fs : List Formula) (L : Log) (d : ℕ) → Tops fs t n → NeverFalls L → Agrees closed s L (wanted fs d) → Top fs L d ws →
       Giving fs L d c ws′ sheet′ × (c < length sheet → joint-progress fs L ≡ d + c)
 
 -- the decoded entries of an accepted rule
@@ -147,7 +147,7 @@ abbrev pub KeptEntries : List Entry → (n : ℕ) → List ℕ → List ℕ → 
 KeptEntries t n ws ws′ = (k i : ℕ) → k < n → 12 ≤ i → i < 16 → word ws′ (block-at t k + i) ≡ word ws (block-at t k + i)
 
 -- an accepted call on exactly the words that the n entries of t need
-pub record Proceeded (t : List Entry) (n : ℕ) (s ws sheet : List ℕ) (c : ℕ) (more : Bool) (ws′ sheet′ : List ℕ) : Type 0 where
+pub record Proceeded (closed : Bool) (t : List Entry) (n : ℕ) (s ws sheet : List ℕ) (c : ℕ) (more : Bool) (ws′ sheet′ : List ℕ) : Type 0 where
   pub room : c ≤ length sheet
   pub rest : drop c sheet′ ≡ drop c sheet
   pub sheet-length : length sheet′ ≡ length sheet
@@ -157,13 +157,14 @@ pub record Proceeded (t : List Entry) (n : ℕ) (s ws sheet : List ℕ) (c : ℕ
   pub size : seen ws′ ≡ record-count s
   pub time : last ws′ ≡ last-time s (seen ws) (last ws)
   pub fits : last ws < 2 ^ 32 → last ws′ < 2 ^ 32
+  pub ended : closed-with ws′ ≡ cond closed (suc (record-count s)) 0
   pub noes : stored-noes ws′ ≡ laid-behind (stored-noes ws) (given ws) (noes-in sheet′ c)
   pub entries : word ws′ 6 ≡ word ws 6
   pub kept : KeptEntries t n ws ws′
-  pub meaning : (fs : List Formula) (L : Log) (d : ℕ) → Whole t n fs → NeverFalls L → Agrees s L (wanted fs d) → Top fs L d ws →
+  pub meaning : (fs : List Formula) (L : Log) (d : ℕ) → Whole t n fs → NeverFalls L → Agrees closed s L (wanted fs d) → Top fs L d ws →
       Giving fs L d c ws′ sheet′ × (c ≡ min (joint-progress fs L - d) (length sheet)) ×
       (more ≡ ltb (d + c) (joint-progress fs L))
 
-abbrev pub Proceeds : List Entry → (n : ℕ) → (s ws sheet : List ℕ) → Resumed → (ws′ sheet′ : List ℕ) → Type 0
-Proceeds t n s ws sheet (Given c more) ws′ sheet′ = Proceeded t n s ws sheet c more ws′ sheet′
-Proceeds t n s ws sheet (Refused m) ws′ sheet′ = ⊥
+abbrev pub Proceeds : Bool → List Entry → (n : ℕ) → (s ws sheet : List ℕ) → Resumed → (ws′ sheet′ : List ℕ) → Type 0
+Proceeds closed t n s ws sheet (Given c more) ws′ sheet′ = Proceeded closed t n s ws sheet c more ws′ sheet′
+Proceeds closed t n s ws sheet (Refused m) ws′ sheet′ = ⊥

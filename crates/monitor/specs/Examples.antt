@@ -10,7 +10,7 @@ use lib.Dec.{eqb, ltb}
 use lib.ListN.{length, take, drop, replicate}
 use Rattle.mtl.specs.Formula.{has-next, reach}
 use Rattle.mtl.specs.Satisfaction.{any, all, sat}
-use Rattle.mtl.specs.Progress.{run, progress, joint-progress}
+use Rattle.mtl.specs.Progress.{run, progress, settled-to, joint-progress}
 use Rattle.mtl.specs.Wanted.{depth, deepest, wanted}
 use Rattle.rule.specs.Entries.{first-entries}
 use Rattle.rule.specs.Words.{offset}
@@ -112,9 +112,9 @@ on-fresh rule log words reach answered verdicts =
       more = false;
     }
 
--- the same call with a sheet that is too short
-abbrev on-short : Row → (room : ℕ) (verdicts : List ℕ) → Row
-on-short r room verdicts =
+-- the same call with a sheet of so much room
+abbrev with-room : Row → (room : ℕ) (verdicts : List ℕ) (more : Bool) → Row
+with-room r room verdicts more =
     record {
       rule = r .rule;
       untouched = r .untouched;
@@ -128,8 +128,12 @@ on-short r room verdicts =
       reach = r .reach;
       answered = r .answered;
       verdicts = verdicts;
-      more = true;
+      more = more;
     }
+
+-- the same call with a sheet that is too short
+abbrev on-short : Row → (room : ℕ) (verdicts : List ℕ) → Row
+on-short r room verdicts = with-room r room verdicts true
 
 -- the next call with the same rule, accepted, with room for all verdicts: "The point then has d + c verdicts given, N records seen,
 -- and the last record's time"
@@ -196,10 +200,12 @@ same [] (y ∷ ys) = false
 same (x ∷ xs) [] = false
 same (x ∷ xs) (y ∷ ys) = eqb x y && same xs ys
 
--- the number with which the call stops, 14 from the first record still wanted on, and what weighing gives
-unfoldable pub computes-refusal : Row → Bool
-computes-refusal r =
-    eqb (before (refusal (r .rule)) (log-refusal (r .brought) (wanted (formulas-of (r .rule)) (r .given)) (r .seen) (r .last))) (r .number)
+-- the number with which the call stops, a resume or a closing, on a checkpoint with this word of its first closing, 14 from the first
+-- record still wanted on, and what weighing gives
+unfoldable pub computes-refusal : (closing : Bool) (closed-with : ℕ) → Row → Bool
+computes-refusal closing closed-with r =
+    let from = wanted (formulas-of (r .rule)) (r .given) in
+    eqb (before (refusal (r .rule)) (log-refusal closing (r .brought) from (r .seen) (r .last) closed-with)) (r .number)
     && (eqb (measured (r .rule) .words) (r .words) && eqb (measured (r .rule) .reach) (r .reach))
 
 -- two answers are the same
@@ -207,19 +213,20 @@ abbrev agree : Bool → Bool → Bool
 agree x y = cond x y (negate y)
 
 -- the answered number, the verdicts from `given` on as far as the sheet goes, "judged on the untouched log", and "'more' if A > d + c"
-unfoldable pub computes-verdicts : Row → Bool
-computes-verdicts r =
+unfoldable pub computes-verdicts : (closing : Bool) → Row → Bool
+computes-verdicts closing r =
     let n = record-count (records-of (r .brought)) in
-    eqb (answered (r .rule) (r .untouched) n) (r .answered)
-    && (same (take (r .room) (drop (r .given) (all-verdicts (r .rule) (r .untouched) n))) (r .verdicts)
+    eqb (answered closing (r .rule) (r .untouched) n) (r .answered)
+    && (same (take (r .room) (drop (r .given) (all-verdicts closing (r .rule) (r .untouched) n))) (r .verdicts)
     && agree (ltb (r .given + length (r .verdicts)) (r .answered)) (r .more))
 
-unfoldable pub computes : Row → Bool
-computes r = computes-refusal r && cond (eqb (r .number) 0) (computes-verdicts r) true
+unfoldable pub computes : (closing : Bool) (closed-with : ℕ) → Row → Bool
+computes closing closed-with r =
+    computes-refusal closing closed-with r && cond (eqb (r .number) 0) (computes-verdicts closing r) true
 
 -- 0, or the number n of a row that does not compute
 unfoldable pub wrong : ℕ → Row → ℕ
-wrong n r = cond (computes r) 0 n
+wrong n r = cond (computes false 0 r) 0 n
 
 -- none of the rows is wrong, the first of them having number n
 unfoldable pub Right : ℕ → List Row → Type 0
@@ -335,8 +342,76 @@ rows =
 
 -- every row computes; an edit of the definitions that breaks a row has its number in an error
 pub every-row : Right 1 rows
-unfolding Right wrong rows computes computes-refusal computes-verdicts same event-set first-entries offset push-kind read header-refusal entries-refusal has-next reach any all sat run progress farthest depth deepest joint-progress byte-of verdicts
+unfolding Right wrong rows computes computes-refusal computes-verdicts same event-set first-entries offset push-kind read header-refusal entries-refusal has-next reach any all sat run progress settled-to farthest depth deepest joint-progress byte-of verdicts
 every-row = (refl, (refl, (refl, (refl, (refl, (refl, (refl, (refl, (refl, (refl, (refl, (refl, (refl, (refl, (refl, (refl, (refl, (refl, (refl, (refl, (refl, (refl, (refl, (refl, (refl, (refl, tt))))))))))))))))))))))))))
+
+-- CLOSINGS: document 02, paper 9
+
+-- a call, whether it is a closing, and the word of the first closing in its checkpoint
+pub record ClosingRow : Type 0 where
+  pub closing : Bool
+  pub closed-with : ℕ
+  pub call : Row
+
+unfoldable pub AllClose : ℕ → List ClosingRow → Type 0
+AllClose n [] = Unit {0}
+AllClose n (r ∷ rs) = (cond (computes (r .closing) (r .closed-with) (r .call)) 0 n ≡ 0) × AllClose (suc n) rs
+
+-- a closing of an open point
+abbrev closes : Row → ClosingRow
+closes r = record { closing = true; closed-with = 0; call = r }
+
+-- a closing again after one of three records, and a resume then
+abbrev closes-again : Row → ClosingRow
+closes-again r = record { closing = true; closed-with = 4; call = r }
+
+abbrev resumes-then : Row → ClosingRow
+resumes-then r = record { closing = false; closed-with = 4; call = r }
+
+-- P7's three records, closed with a sheet of one byte three times, those with verdicts overwritten
+abbrev records-7 : List ℕ
+records-7 = at 10 (0 ∷ []) ++ at 12 (0 ∷ []) ++ at 13 (0 ∷ [])
+
+abbrev close-7 : Row
+close-7 = on-fresh rule-1 (log records-7) 70 2 3 (no ∷ no ∷ no ∷ [])
+
+abbrev first-of-3 : Row
+first-of-3 = on-short close-7 1 (no ∷ [])
+
+abbrev second-of-3 : Row
+second-of-3 =
+    with-room (after first-of-3 (log records-7) (log (replicate 8 255 ++ at 12 (0 ∷ []) ++ at 13 (0 ∷ []))) 3 []) 1 (no ∷ []) true
+
+abbrev third-of-3 : Row
+third-of-3 = with-room (after second-of-3 (log records-7) (log (replicate 16 255 ++ at 13 (0 ∷ []))) 3 []) 1 (no ∷ []) false
+
+unfoldable pub closing-rows : List ClosingRow
+closing-rows =
+    -- 1: P6 closed: the until is no on the log as it ends
+    closes (on-fresh (rule 1 4 (letter 0 ++ letter 1 ++ until 0 2 ++ negation)) (log (at 10 (0 ∷ []))) 86 2 1 (yes ∷ []))
+    -- 2: P7's second log closed
+    ∷ closes close-7
+    -- 3: P5 closed: no position stands after the last
+    ∷ closes (on-fresh (rule 1 2 (letter 0 ++ next 1 1)) (log (at 5 [] ++ at 6 (0 ∷ []) ++ at 8 (0 ∷ []))) 48 no-end 3 (yes ∷ no ∷ no ∷ []))
+    -- 4: P8 closed
+    ∷ closes (on-fresh (rule 1 5 (letter 0 ++ letter 2 ++ letter 3 ++ until 0 5 ++ until 0 5))
+    (log (at 0 (0 ∷ 2 ∷ []) ++ at 11 (2 ∷ []))) 120 10 2 (no ∷ no ∷ []))
+    -- 5 to 7: a sheet of one byte three times
+    ∷ closes first-of-3
+    ∷ closes-again second-of-3
+    ∷ closes-again third-of-3
+    -- 8 to 10: then a resume is 20, before a log of 7 bytes is 12; a closing with a record more is 21, with one fewer 13
+    ∷ resumes-then (stopped (after close-7 (log records-7) (log records-7) 0 []) 20)
+    ∷ resumes-then (stopped (after close-7 (log records-7) (take 7 (log records-7)) 0 []) 20)
+    ∷ closes-again (stopped (after close-7 (log records-7) (log (records-7 ++ at 13 [])) 0 []) 21)
+    ∷ closes-again (stopped (after close-7 (log records-7) (log (at 10 (0 ∷ []) ++ at 12 (0 ∷ []))) 0 []) 13)
+    -- 12: an empty log closed: 0 verdicts, caught up
+    ∷ closes (on-fresh rule-1 (log []) 70 2 0 [])
+    ∷ []
+
+pub every-closing : AllClose 1 closing-rows
+unfolding AllClose closing-rows computes computes-refusal computes-verdicts same event-set first-entries offset push-kind read header-refusal entries-refusal has-next reach any all sat run progress settled-to farthest depth deepest joint-progress byte-of verdicts
+every-closing = (refl, (refl, (refl, (refl, (refl, (refl, (refl, (refl, (refl, (refl, (refl, (refl, tt))))))))))))
 
 -- THE COUNT OF NO
 
@@ -354,7 +429,7 @@ unfoldable pub Counts : SummaryRow → Type 0
 Counts s =
     let c = length (s .call .verdicts) in
     let d = s .call .given in
-    let all = all-verdicts (s .call .rule) (s .call .untouched) (record-count (records-of (s .call .brought))) in
+    let all = all-verdicts false (s .call .rule) (s .call .untouched) (record-count (records-of (s .call .brought))) in
     (laid-behind (s .before) d (noes-in (s .call .verdicts) c) ≡ s .after) × (noes-in all (d + c) ≡ s .after)
 
 unfoldable pub AllCount : List SummaryRow → Type 0
@@ -372,5 +447,5 @@ summary-rows =
     ∷ []
 
 pub every-summary : AllCount summary-rows
-unfolding AllCount Counts summary-rows count-of latest-no event-set first-entries offset push-kind read any all sat run progress joint-progress byte-of verdicts
+unfolding AllCount Counts summary-rows count-of latest-no event-set first-entries offset push-kind read any all sat run progress settled-to joint-progress byte-of verdicts
 every-summary = ((refl, refl), ((refl, refl), ((refl, refl), tt)))

@@ -1,6 +1,6 @@
--- What `resume` (document 01's carry on) promises, for every rule, log, checkpoint and verdict buffer (sheet).
-use Prim.Native.Nat.{ℕ, _+_, _-_, _≤_, _<_, min}
-use mathlib.Core.Bool.{Bool, false}
+-- What `resume` (document 01's carry on) and `close` (document 02, paper 9) promise, for every rule, log, checkpoint and verdict buffer (sheet).
+use Prim.Native.Nat.{ℕ, suc, _+_, _-_, _≤_, _<_, min}
+use mathlib.Core.Bool.{Bool, false, cond}
 use mathlib.Core.Path.{_≡_}
 use mathlib.Core.List.{List}
 use lib.ListN.{length, getD, drop}
@@ -11,7 +11,7 @@ use Rattle.mtl.specs.Wanted.{wanted}
 use Rattle.trace.specs.Format.{record-count, records-of}
 use Rattle.trace.specs.Order.{last-time}
 use Rattle.blocks.specs.Step.{Agrees}
-use Rattle.monitor.specs.Checkpoint.{given, seen, last, need}
+use Rattle.monitor.specs.Checkpoint.{given, seen, last, closed-with, need}
 use Rattle.monitor.specs.Refusal.{resume-refusal}
 use Rattle.monitor.specs.Verdicts.{formulas-of, verdict}
 use Rattle.monitor.specs.Stands.{Stands}
@@ -42,25 +42,26 @@ pub record Gives (rule : List ℕ) (L : Log) (d : ℕ) (sheet : List ℕ) (c : �
 -- an accepted call: what holds on any words, and `meaning`, where the checkpoint stands for the rule and a log as it was last
 -- seen, the log brought continues it, and the lent records are its own from the first still wanted on: those before may have been
 -- overwritten
-pub record Accepted (rule log p sheet : List ℕ) (c : ℕ) (more : Bool) (p′ sheet′ : List ℕ) : Type 0 where
+pub record Accepted (closing : Bool) (rule log p sheet : List ℕ) (c : ℕ) (more : Bool) (p′ sheet′ : List ℕ) : Type 0 where
   pub room : c ≤ length sheet
   pub rest : drop c sheet′ ≡ drop c sheet
   pub beyond : drop (need rule) p′ ≡ drop (need rule) p
   pub count : given p′ ≡ given p + c
   pub size : seen p′ ≡ record-count (records-of log)
   pub time : last p′ ≡ last-time (records-of log) (seen p) (last p)
+  pub closed : closed-with p′ ≡ cond closing (suc (record-count (records-of log))) 0
   -- the no among the bytes written, behind those from before
   pub noes : stored-noes p′ ≡ laid-behind (stored-noes p) (given p) (noes-in sheet′ c)
-  pub meaning : (K L : Log) (d : ℕ) → Stands rule K d p → Continues K L → NeverFalls L → Agrees (records-of log) L (wanted (formulas-of rule) d) →
+  pub meaning : (K L : Log) (d : ℕ) → Stands rule K d p → Continues K L → NeverFalls L → Agrees closing (records-of log) L (wanted (formulas-of rule) d) →
       Gives rule L d sheet c more p′ sheet′
 
-abbrev pub Resuming : (rule log p sheet : List ℕ) → Resumed → (p′ sheet′ : List ℕ) → Type 0
-Resuming rule log p sheet (Given c more) p′ sheet′ = Accepted rule log p sheet c more p′ sheet′
+abbrev pub Resuming : (closing : Bool) (rule log p sheet : List ℕ) → Resumed → (p′ sheet′ : List ℕ) → Type 0
+Resuming closing rule log p sheet (Given c more) p′ sheet′ = Accepted closing rule log p sheet c more p′ sheet′
 -- "rule, log, point and sheet keep their bytes"
-Resuming rule log p sheet (Refused n) p′ sheet′ = (0 < n) × (p′ ≡ p) × (sheet′ ≡ sheet)
+Resuming closing rule log p sheet (Refused n) p′ sheet′ = (0 < n) × (p′ ≡ p) × (sheet′ ≡ sheet)
 
-pub record Resumes (rule log p sheet : List ℕ) (r : Resumed) (p′ sheet′ : List ℕ) : Type 0 where
-  pub number : resumed-number r ≡ resume-refusal rule log p
+pub record Resumes (closing : Bool) (rule log p sheet : List ℕ) (r : Resumed) (p′ sheet′ : List ℕ) : Type 0 where
+  pub number : resumed-number r ≡ resume-refusal closing rule log p
   pub point-length : length p′ ≡ length p
   pub sheet-length : length sheet′ ≡ length sheet
-  pub words : Resuming rule log p sheet r p′ sheet′
+  pub words : Resuming closing rule log p sheet r p′ sheet′

@@ -1,6 +1,6 @@
 -- A checkpoint stands for a rule, the log that it has seen, and the number of verdicts given. What the inside of a checkpoint means
 -- is said here and in the engine alone.
-use Prim.Native.Nat.{ℕ, _+_, _-_, _≤_, _<_, _^_}
+use Prim.Native.Nat.{ℕ, suc, _+_, _-_, _≤_, _<_, _^_}
 use mathlib.Core.Bool.{false, cond}
 use mathlib.Core.Path.{_≡_}
 use mathlib.Core.List.{List, [], _∷_}
@@ -12,7 +12,7 @@ use Rattle.mtl.specs.Progress.{joint-progress}
 use Rattle.bits.specs.Packed.{bit, number}
 use Rattle.rule.specs.Entries.{count, decoded}
 use Rattle.engine.specs.State.{State}
-use Rattle.monitor.specs.Checkpoint.{given, seen, last, held-count, held-bits, need, foreign}
+use Rattle.monitor.specs.Checkpoint.{given, seen, last, closed-with, held-count, held-bits, need, foreign}
 use Rattle.monitor.specs.Verdicts.{formulas-of, verdict, verdicts}
 use Rattle.monitor.specs.Summary.{noes-in, stored-noes}
 
@@ -38,7 +38,8 @@ pub record Top (fs : List Formula) (L : Log) (d : ℕ) (ws : List ℕ) : Type 0 
 abbrev pub last-of : Log → ℕ
 last-of L = cond (eqb (L .size) 0) 0 (L .time (L .size - 1))
 
--- the checkpoint's words stand for the rule, which they have a copy of, the log as it was last seen, and d verdicts given
+-- the checkpoint's words stand for the rule, which they have a copy of, the log as it was last seen, closed or open, and d verdicts
+-- given
 pub record Stands (rule : List ℕ) (L : Log) (d : ℕ) (p : List ℕ) : Type 0 where
   pub enough : need rule ≤ length p
   pub own : foreign (decoded rule) (count rule) p ≡ false
@@ -46,6 +47,7 @@ pub record Stands (rule : List ℕ) (L : Log) (d : ℕ) (p : List ℕ) : Type 0 
   pub few : L .size ≤ 1000000
   pub time : last p ≡ last-of L
   pub fits : last p < 2 ^ 32
+  pub closed : closed-with p ≡ cond (L .closed) (suc (L .size)) 0
   pub top : Top (formulas-of rule) L d (take (need rule) p)
   -- of the verdicts given
   pub noes : stored-noes p ≡ noes-in (verdicts (formulas-of rule) L d) d

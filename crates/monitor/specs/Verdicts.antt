@@ -5,7 +5,7 @@ use mathlib.Core.Bool.{Bool}
 use mathlib.Core.List.{List, [], _∷_, _++_}
 use lib.ListN.{take}
 use Rattle.mtl.specs.Formula.{Formula}
-use Rattle.mtl.specs.Log.{Log}
+use Rattle.mtl.specs.Log.{Log, closing}
 use Rattle.mtl.specs.Satisfaction.{sat}
 use Rattle.mtl.specs.Progress.{joint-progress}
 use Rattle.bits.specs.Packed.{bit, number}
@@ -39,14 +39,14 @@ unfoldable pub bytes-of : (n bits : ℕ) → List ℕ
 bytes-of zero bits = []
 bytes-of (suc n) bits = bytes-of n bits ++ (number (bit bits n) ∷ [])
 
--- the log that the first n records of a log's bytes are
-abbrev pub first-records : List ℕ → ℕ → Log
-first-records log n = log-of (take (8 * n) (records-of log))
+-- the log that the first n records of a log's bytes are, closed or open
+abbrev pub first-records : (closed : Bool) → List ℕ → ℕ → Log
+first-records closed log n = closing closed (log-of (take (8 * n) (records-of log)))
 
 -- the answered number A of a rule on the first n records
-abbrev pub answered : (rule log : List ℕ) → ℕ → ℕ
-answered rule log n = joint-progress (formulas-of rule) (first-records log n)
+abbrev pub answered : (closed : Bool) (rule log : List ℕ) → ℕ → ℕ
+answered closed rule log n = joint-progress (formulas-of rule) (first-records closed log n)
 
 -- "The verdicts of an untouched log are A bytes": all verdicts of a rule on the first n records
-abbrev pub all-verdicts : (rule log : List ℕ) → ℕ → List ℕ
-all-verdicts rule log n = verdicts (formulas-of rule) (first-records log n) (answered rule log n)
+abbrev pub all-verdicts : (closed : Bool) (rule log : List ℕ) → ℕ → List ℕ
+all-verdicts closed rule log n = verdicts (formulas-of rule) (first-records closed log n) (answered closed rule log n)

@@ -1,4 +1,4 @@
-// Refusals 1 to 14 (3 no longer occurs): each check over all entries before the next begins. Nothing is written.
+// Refusals 1 to 14 (3 no longer occurs), 20 and 21: each check over all entries before the next begins. Nothing is written.
 ghost use mathlib.Core.Path.{_≡_};
 ghost use Prim.Native.Nat.{_+_, _≤_, _<_};
 ghost use lib.ListN.{length, drop};
@@ -7,7 +7,7 @@ ghost use Rattle.mtl.specs.Wanted.{wanted};
 ghost use Rattle.rule.specs.Postfix.{formulas, formulas-or};
 ghost use Rattle.rule.specs.Refusal.{first};
 ghost use Rattle.rule.specs.Words.{offset};
-ghost use Rattle.monitor.specs.Checkpoint.{given, seen, last, copy-head, copy-ends, copy-differs, foreign, room, block-in-range, block-outside, noes-in-range, outside};
+ghost use Rattle.monitor.specs.Checkpoint.{seen, last, closed-with, copy-head, copy-ends, copy-differs, foreign, room, block-in-range, block-outside, noes-in-range, closed-in-range, outside};
 ghost use Rattle.monitor.specs.Code.{sized-by, sized-number, checked-by, checked-number};
 ghost use Rattle.monitor.specs.Refusal.{log-refusal, words-refusal, point-refusal};
 ghost use Rattle.blocks.specs.Block.{cells-of};
@@ -17,7 +17,7 @@ use rule::Entry;
 use rule::Measured;
 
 // The number in a checkpoint's first word: the bytes HAVD, and the format's number.
-pub const FORMAT: u64 = 5206537494274768900;
+pub const FORMAT: u64 = 5206537494274768901;
 
 // Refusals 1 to 9, or the words that the rule needs.
 pub enum Sized {
@@ -36,7 +36,7 @@ impl Sized {
     }
 }
 
-// Refusals 10 to 14, or none of them.
+// Refusals 10 to 14, 20 and 21, or none of them.
 pub enum Checked {
     Passed,
     Failed(u32),
@@ -178,6 +178,13 @@ fn noes_fit(given: u64, count: u64, after: u64) -> bool
     (count <= given) & (after <= given) & ((count == 0) == (after == 0))
 }
 
+// No closing was accepted, or one of as many records as were seen.
+fn closed_fits(noted: u64, seen: u64) -> bool
+    ensures { λ r. ⌜ r ≡ closed-in-range noted seen ⌝ }
+{
+    if noted == 0 { true } else { noted - 1 == seen }
+}
+
 // Refusal 11.
 fn is_outside(entries: [Entry; 128], count: usize, point: &[u64]) -> bool
     requires { ⌜ (count ≤ 128) × (16 + offset entries count ≤ length (now point)) ⌝ }
@@ -192,7 +199,8 @@ fn is_outside(entries: [Entry; 128], count: usize, point: &[u64]) -> bool
             point[header::GIVEN],
             point[header::NO_COUNT],
             point[header::AFTER_LATEST],
-        );
+        )
+        & closed_fits(point[header::CLOSED_WITH], seen);
     !fits | blocks_outside(entries, count, point)
 }
 
@@ -205,19 +213,26 @@ fn first_wanted(entries: [Entry; 128], count: usize, given: usize) -> usize
     if depth <= given { given - depth } else { 0 }
 }
 
-// The number of the first of refusals 12 to 14 that applies, or 0.
-fn log_reason(log: &[u8], point: &[u64], from: usize) -> u32
+// The number of the first of refusals 20, 12, 13, 21 and 14 that applies, or 0.
+fn log_reason(log: &[u8], closing: bool, point: &[u64], from: usize) -> u32
     requires { ⌜ 16 ≤ length (now point) ⌝ }
-    ensures { λ r. ⌜ r ≡ log-refusal (now (log .entry)) from (seen (now (point .entry))) (last (now (point .entry))) ⌝ }
+    ensures { λ r. ⌜ r ≡ log-refusal closing (now (log .entry)) from (seen (now (point .entry))) (last (now (point .entry))) (closed-with (now (point .entry))) ⌝ }
 {
     let records = trace::records(log);
     let seen = point[header::SEEN] as usize;
     let disordered = trace::is_disordered(records, from, seen, point[header::LAST]);
-    let fewer = trace::count(records) < seen;
+    let total = trace::count(records);
+    let closed_with = point[header::CLOSED_WITH];
+    let more = closing & ((0 < closed_with) & (closed_with <= total as u64));
+    let after = refuse(
+        13,
+        total < seen,
+        refuse(21, more, refuse(14, disordered, 0)),
+    );
     refuse(
-        12,
-        trace::is_malformed(log),
-        refuse(13, fewer, refuse(14, disordered, 0)),
+        20,
+        !closing & (0 < closed_with),
+        refuse(12, trace::is_malformed(log), after),
     )
 }
 
@@ -251,12 +266,23 @@ pub fn check_words(entries: [Entry; 128], count: usize, point: &[u64]) -> Checke
     checked_by(words_reason(entries, count, point, 0))
 }
 
-// Refusals 10 to 14.
-pub fn check_point(entries: [Entry; 128], count: usize, log: &[u8], point: &[u64]) -> Checked
+// Refusals 10 to 14, and 20 or 21.
+pub fn check_point(
+    entries: [Entry; 128],
+    count: usize,
+    log: &[u8],
+    closing: bool,
+    point: &[u64],
+) -> Checked
     requires { ⌜ (count ≤ 128) × (16 + offset entries count ≤ length (now point)) ⌝ }
-    ensures { λ r. ⌜ r ≡ checked-by (point-refusal entries count (now (log .entry)) (now (point .entry))) ⌝ }
+    ensures { λ r. ⌜ r ≡ checked-by (point-refusal closing entries count (now (log .entry)) (now (point .entry))) ⌝ }
 {
     let given = point[header::GIVEN] as usize;
     let wanted = first_wanted(entries, count, given);
-    checked_by(words_reason(entries, count, point, log_reason(log, point, wanted)))
+    checked_by(words_reason(
+        entries,
+        count,
+        point,
+        log_reason(log, closing, point, wanted),
+    ))
 }

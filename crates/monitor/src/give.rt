@@ -1,8 +1,8 @@
 // The verdicts of one call: the last entry is asked for its answers, and what does not fit into the sheet is held. Where the rule
 // has no entry nothing is asked, and every record is a yes.
 ghost use mathlib.Core.Path.{_≡_};
-ghost use mathlib.Core.Bool.{true};
-ghost use Prim.Native.Nat.{_+_, _-_, _/_, _≤_, _<_, _^_, min};
+ghost use mathlib.Core.Bool.{true, cond};
+ghost use Prim.Native.Nat.{suc, _+_, _-_, _/_, _≤_, _<_, _^_, min};
 ghost use lib.ListN.{length};
 ghost use lib.Dec.{ltb};
 ghost use Rattle.rule.specs.Words.{words as needed};
@@ -42,9 +42,9 @@ fn hold_yes(records: &[u8], words: &mut [u64]) -> bool
 }
 
 // Asks the last of count entries where nothing is held. False where nothing more is settled.
-fn hold(table: &[u64; 1024], count: usize, records: &[u8], words: &mut [u64]) -> bool
+fn hold(table: &[u64; 1024], count: usize, records: &[u8], closed: bool, words: &mut [u64]) -> bool
     requires { ⌜ Fits (now table) count (length (now words)) ⌝ }
-    ensures { λ r. ⌜ Holds (now (table .entry)) (now (records .entry)) count (now (words .entry)) r (now (words .exit)) ⌝ }
+    ensures { λ r. ⌜ Holds (now (table .entry)) (now (records .entry)) closed count (now (words .entry)) r (now (words .exit)) ⌝ }
 {
     if count == 0 {
         return hold_yes(records, words);
@@ -55,6 +55,7 @@ fn hold(table: &[u64; 1024], count: usize, records: &[u8], words: &mut [u64]) ->
     engine::ask(
         table,
         records,
+        closed,
         count - 1,
         16,
         words.len(),
@@ -95,15 +96,16 @@ fn give(
     table: &[u64; 1024],
     entries: usize,
     records: &[u8],
+    closed: bool,
     words: &mut [u64],
     sheet: &mut [u8],
 ) -> usize
     requires { ⌜ Fits (now table) entries (length (now words)) × (given (now words) ≤ 1000000) × (no-count (now words) ≤ 1000000) ⌝ }
-    ensures { λ r. ⌜ Gave (now (table .entry)) (now (records .entry)) entries (now (words .entry)) (now (sheet .entry)) r (now (words .exit)) (now (sheet .exit)) ⌝ }
+    ensures { λ r. ⌜ Gave (now (table .entry)) (now (records .entry)) closed entries (now (words .entry)) (now (sheet .entry)) r (now (words .exit)) (now (sheet .exit)) ⌝ }
 {
     let mut done: usize = 0;
     while done < sheet.len() {
-        if !hold(table, entries, records, words) {
+        if !hold(table, entries, records, closed, words) {
             return done;
         }
         let room = sheet.len() as u64;
@@ -115,25 +117,36 @@ fn give(
     done
 }
 
+// What a checkpoint notes of a log of so many records: their number and 1 where it is closed, 0 where it is open.
+fn closed_with(closed: bool, total: u64) -> u64
+    requires { ⌜ total < 2 ^ 63 ⌝ }
+    ensures { λ r. ⌜ r ≡ cond closed (suc total) 0 ⌝ }
+{
+    if closed { total + 1 } else { 0 }
+}
+
 // Gives the verdicts that are settled, as far as the sheet goes, and notes what was seen of the log.
 pub fn proceed(
     entries: [Entry; 128],
     count: usize,
     records: &[u8],
+    closed: bool,
     words: &mut [u64],
     sheet: &mut [u8],
 ) -> Resumed
     requires { ⌜ Ready entries count × (length (now words) ≡ needed entries count) × (given (now words) ≤ 1000000) × (no-count (now words) ≤ 1000000) ⌝ }
-    ensures { λ r. ⌜ Proceeds entries count (now (records .entry)) (now (words .entry)) (now (sheet .entry)) r (now (words .exit)) (now (sheet .exit)) ⌝ }
+    ensures { λ r. ⌜ Proceeds closed entries count (now (records .entry)) (now (words .entry)) (now (sheet .entry)) r (now (words .exit)) (now (sheet .exit)) ⌝ }
 {
     let table = engine::layout::lay_out(entries, count);
-    let given = give(&table, count, records, words, sheet);
-    let more = hold(&table, count, records, words);
+    let given = give(&table, count, records, closed, words, sheet);
+    let more = hold(&table, count, records, closed, words);
     words[header::LAST] = trace::last_time(
         records,
         words[header::SEEN] as usize,
         words[header::LAST],
     );
-    words[header::SEEN] = trace::count(records) as u64;
+    let total = trace::count(records) as u64;
+    words[header::SEEN] = total;
+    words[header::CLOSED_WITH] = closed_with(closed, total);
     Resumed::Given { count: given, more }
 }

@@ -13,6 +13,8 @@ pub const HELD_BITS: usize = 5;
 
 pub const ENTRIES: usize = 6;
 
+pub const CLOSED_WITH: usize = 7;
+
 pub const NO_COUNT: usize = 8;
 
 pub const AFTER_LATEST: usize = 9;

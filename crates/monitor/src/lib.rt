@@ -1,4 +1,5 @@
 // Checkpoints over a growing log: open one for a rule, resume from it with the records at hand, and count the verdicts.
+ghost use mathlib.Core.Bool.{true, false};
 ghost use mathlib.Core.Path.{_≡_};
 ghost use Rattle.monitor.specs.Open.{Opens, opened-number};
 ghost use Rattle.monitor.specs.Resume.{Resumes, resumed-number};
@@ -32,7 +33,7 @@ impl Opened {
     }
 }
 
-// What `resume` answers: how many verdicts it gave, and whether more are settled.
+// What `resume` and `close` answer: how many verdicts it gave, and whether more are settled.
 pub enum Resumed {
     Given { count: usize, more: bool },
     Refused(u32),
@@ -116,9 +117,15 @@ pub fn open(rule: &[u8], point: &mut [u64]) -> Opened
     Opened::Done
 }
 
-// Carry on: takes rule and log as far as the log goes, and writes the verdicts that are settled and not yet given.
-pub fn resume(rule: &[u8], log: &[u8], point: &mut [u64], sheet: &mut [u8]) -> Resumed
-    ensures { λ r. ⌜ Resumes (now (rule .entry)) (now (log .entry)) (now (point .entry)) (now (sheet .entry)) r (now (point .exit)) (now (sheet .exit)) ⌝ }
+// Takes rule and log as far as the log goes, and writes the verdicts that are settled and not yet given: on a closed log all.
+fn resume_or_close(
+    rule: &[u8],
+    log: &[u8],
+    closing: bool,
+    point: &mut [u64],
+    sheet: &mut [u8],
+) -> Resumed
+    ensures { λ r. ⌜ Resumes closing (now (rule .entry)) (now (log .entry)) (now (point .entry)) (now (sheet .entry)) r (now (point .exit)) (now (sheet .exit)) ⌝ }
 {
     let header = rule::check_header(rule);
     let count = header.count();
@@ -127,7 +134,7 @@ pub fn resume(rule: &[u8], log: &[u8], point: &mut [u64], sheet: &mut [u8]) -> R
     let Sized::Words(words) = sized else {
         return Resumed::Refused(sized.number());
     };
-    let checked = check::check_point(entries, count, log, point);
+    let checked = check::check_point(entries, count, log, closing, point);
     let Checked::Passed = checked else {
         return Resumed::Refused(checked.number());
     };
@@ -135,9 +142,24 @@ pub fn resume(rule: &[u8], log: &[u8], point: &mut [u64], sheet: &mut [u8]) -> R
         entries,
         count,
         trace::records(log),
+        closing,
         &mut point[0..words],
         sheet,
     )
+}
+
+// Carry on: writes the verdicts that are settled and not yet given.
+pub fn resume(rule: &[u8], log: &[u8], point: &mut [u64], sheet: &mut [u8]) -> Resumed
+    ensures { λ r. ⌜ Resumes false (now (rule .entry)) (now (log .entry)) (now (point .entry)) (now (sheet .entry)) r (now (point .exit)) (now (sheet .exit)) ⌝ }
+{
+    resume_or_close(rule, log, false, point, sheet)
+}
+
+// Says that no record will follow: writes the verdicts that are not yet given, on the log as it ends.
+pub fn close(rule: &[u8], log: &[u8], point: &mut [u64], sheet: &mut [u8]) -> Resumed
+    ensures { λ r. ⌜ Resumes true (now (rule .entry)) (now (log .entry)) (now (point .entry)) (now (sheet .entry)) r (now (point .exit)) (now (sheet .exit)) ⌝ }
+{
+    resume_or_close(rule, log, true, point, sheet)
 }
 
 // Counts the verdicts of a sheet.

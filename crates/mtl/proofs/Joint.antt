@@ -5,9 +5,8 @@ use mathlib.Core.Path.{_≡_, refl}
 use mathlib.Core.List.{List, [], _∷_}
 use Rattle.mtl.specs.Formula.{Formula}
 use Rattle.mtl.specs.Log.{Log, NeverFalls, Continues}
-use Rattle.mtl.specs.Progress.{progress, joint-progress}
-use Rattle.mtl.proofs.Until.{progress-le-size}
-use Rattle.mtl.proofs.Lengthening.{progress-grows}
+use Rattle.mtl.specs.Progress.{settled-to, joint-progress}
+use Rattle.mtl.proofs.Closing.{settled-le-size, settled-grows}
 
 pub joint-le-size : (fs : List Formula) (L : Log) → joint-progress fs L ≤ L .size
 unfolding joint-progress
@@ -20,11 +19,11 @@ unfolding joint-progress
 joint-none L = refl
 
 -- of one formula, its own
-pub joint-one : (φ : Formula) (L : Log) → joint-progress (φ ∷ []) L ≡ progress φ L
+pub joint-one : (φ : Formula) (L : Log) → joint-progress (φ ∷ []) L ≡ settled-to φ L
 unfolding joint-progress
-joint-one φ L = omega (arith, progress-le-size φ L)
+joint-one φ L = omega (arith, settled-le-size φ L)
 
 pub joint-grows : (fs : List Formula) (K L : Log) → Continues K L → NeverFalls L → joint-progress fs K ≤ joint-progress fs L
 unfolding joint-progress
 joint-grows [] K L longer falls = longer .longer
-joint-grows (φ ∷ fs) K L longer falls = omega (arith, progress-grows φ K L longer falls, joint-grows fs K L longer falls)
+joint-grows (φ ∷ fs) K L longer falls = omega (arith, settled-grows φ K L longer falls, joint-grows fs K L longer falls)

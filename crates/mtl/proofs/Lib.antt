@@ -4,5 +4,6 @@ pub mod Printed
 pub mod Until
 pub mod Streams
 pub mod Lengthening
+pub mod Closing
 pub mod Joint
 pub mod Reach

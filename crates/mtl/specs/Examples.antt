@@ -7,9 +7,9 @@ use lib.Dec.{eqb}
 use lib.ListN.{length, getD}
 use Rattle.mtl.specs.Formula.{Formula, unbounded}
 use Rattle.mtl.specs.Formula.Formula.{letter, not, or, previous, next, since, until}
-use Rattle.mtl.specs.Log.{Log}
+use Rattle.mtl.specs.Log.{Log, closing}
 use Rattle.mtl.specs.Satisfaction.{any, all, sat}
-use Rattle.mtl.specs.Progress.{run, progress}
+use Rattle.mtl.specs.Progress.{run, progress, settled-to}
 use Rattle.mtl.specs.Wanted.{depth, deepest, wanted}
 
 -- "time in seconds (32 bits), event set (32 bits, letter k is the bit worth 2 to the k)", from position 0 on
@@ -25,6 +25,7 @@ log-of-list rs = record {
   size = length rs;
   time = λ (i : ℕ). getD rs i past-end .0;
   letters = λ (i k : ℕ). eqb (getD rs i past-end .1 / 2 ^ k % 2) 1;
+  closed = false;
 }
 
 -- a formula and a log, how many positions are answered, and the verdict at each of these
@@ -39,16 +40,16 @@ unfoldable pub matches : (ℕ → Bool) → ℕ → List Bool → Bool
 matches p i [] = true
 matches p i (v ∷ vs) = Bool·beq (p i) v && matches p (suc i) vs
 
--- the row has the progress and the verdicts that the definitions give
-unfoldable pub computes : Row → Bool
-computes r =
-    let L = log-of-list (r .records) in
-    eqb (progress (r .formula) L) (r .answered) && (eqb (length (r .verdicts)) (r .answered) && matches (sat (r .formula) L) 0 (r .verdicts))
+-- the row has the answered number and the verdicts that the definitions give, its log being closed or open
+unfoldable pub computes : Bool → Row → Bool
+computes closed r =
+    let L = closing closed (log-of-list (r .records)) in
+    eqb (settled-to (r .formula) L) (r .answered) && (eqb (length (r .verdicts)) (r .answered) && matches (sat (r .formula) L) 0 (r .verdicts))
 
 -- the numbers of the rows that do not compute, the first of the list having number n
-unfoldable pub wrong : ℕ → List Row → List ℕ
-wrong n [] = []
-wrong n (r ∷ rs) = cond (computes r) (wrong (suc n) rs) (n ∷ wrong (suc n) rs)
+unfoldable pub wrong : Bool → ℕ → List Row → List ℕ
+wrong closed n [] = []
+wrong closed n (r ∷ rs) = cond (computes closed r) (wrong closed (suc n) rs) (n ∷ wrong closed (suc n) rs)
 
 -- letters 0 to 3; in an event set a is worth 1, b 2, c 4, d 8
 abbrev a : Formula
@@ -122,10 +123,27 @@ rows =
     }
     ∷ []
 
+-- the logs as they end: document 02, paper 9
+unfoldable pub closed-rows : List Row
+closed-rows =
+    -- 1: P6: the until is no on the log as it ends
+    record { formula = not (until 0 2 a b); records = (10, 1) ∷ []; answered = 1; verdicts = true ∷ [] }
+    -- 2: P7's second log: no record will follow
+    ∷ record { formula = until 0 2 a b; records = (10, 1) ∷ (12, 1) ∷ (13, 1) ∷ []; answered = 3; verdicts = false ∷ false ∷ false ∷ [] }
+    -- 3: P5: no position stands after the last
+    ∷ record { formula = next 1 1 a; records = (5, 0) ∷ (6, 1) ∷ (8, 1) ∷ []; answered = 3; verdicts = true ∷ false ∷ false ∷ [] }
+    -- 4: P8
+    ∷ record { formula = until 0 5 a (until 0 5 c d); records = (0, 5) ∷ (11, 4) ∷ []; answered = 2; verdicts = false ∷ false ∷ [] }
+    -- 5: an open until that is met at its last position is yes
+    ∷ record { formula = until 0 9 a (not (next 0 9 a)); records = (0, 1) ∷ (1, 1) ∷ []; answered = 2; verdicts = true ∷ true ∷ [] }
+    -- 6: no record
+    ∷ record { formula = next 1 1 a; records = []; answered = 0; verdicts = [] }
+    ∷ []
+
 -- every row computes; an edit of the definitions that breaks rows has their numbers in its error
-pub every-row : wrong 1 rows ≡ []
-unfolding wrong rows computes matches progress run sat any all
-every-row = refl
+pub every-row : (wrong false 1 rows ≡ []) × (wrong true 1 closed-rows ≡ [])
+unfolding wrong rows closed-rows computes matches progress settled-to run sat any all
+every-row = (refl, refl)
 
 -- the first record still wanted for a formula, with 1, 2, 3 and 4 verdicts given
 abbrev wanted-after : Formula → List ℕ

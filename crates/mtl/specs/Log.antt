@@ -1,13 +1,19 @@
 -- Logs and streams: times and letters by position. "Every record is a position, counted from 0."
 use Prim.Native.Nat.{ℕ, _≤_, _<_}
-use mathlib.Core.Bool.{Bool}
+use mathlib.Core.Bool.{Bool, true}
 use mathlib.Core.Path.{_≡_}
 
--- a finite log: how many records, the time of each, and whether letter k stands in the record at position i
+-- a finite log: how many records, the time of each, and whether letter k stands in the record at position i; it is closed
+-- where "no record will follow" (document 02, paper 9)
 pub record Log : Type 0 where
   pub size : ℕ
   pub time : ℕ → ℕ
   pub letters : (i k : ℕ) → Bool
+  pub closed : Bool
+
+-- the log of the same records, closed or open
+abbrev pub closing : Bool → Log → Log
+closing closed L = record { size = L .size; time = L .time; letters = L .letters; closed = closed }
 
 -- document 002's stream, an infinite sequence of events
 pub record Stream : Type 0 where
@@ -30,10 +36,11 @@ pub record SameAt (K L : Log) (i : ℕ) : Type 0 where
 abbrev pub Agree : Log → Log → ℕ → ℕ → Type 0
 Agree K L a b = (i : ℕ) → a ≤ i → i < b → SameAt K L i
 
--- L is K, lengthened by any number of records
+-- L is K, lengthened by any number of records; a closed log is lengthened by none, and stays closed
 pub record Continues (K L : Log) : Type 0 where
   pub longer : K .size ≤ L .size
   pub same : Agree K L 0 (K .size)
+  pub ended : K .closed ≡ true → (L .closed ≡ true) × (L .size ≡ K .size)
 
 -- the stream begins with the log's records
 pub record Begins (σ : Stream) (L : Log) : Type 0 where

@@ -50,8 +50,13 @@ progress (next low high φ) L = progress φ L - 1
 progress (since low high φ ψ) L = min (progress φ L) (progress ψ L)
 progress (until low high φ ψ) L = until-progress low high (L .time) (sat φ L) (sat ψ L) (L .size) (min (progress φ L) (progress ψ L))
 
+-- "A closing call says that no record will follow: every remaining position gets the plain reading's value on the log as it
+-- ends. A is then N." (document 02, paper 9)
+unfoldable pub settled-to : Formula → Log → ℕ
+settled-to φ L = cond (L .closed) (L .size) (progress φ L)
+
 -- "The rule's answered number A is that of its last entry." A rule with no entry has no formula, and "A equals N". Of several
 -- formulas, which no rule has yet, it is as many positions as each of them has answered.
 unfoldable pub joint-progress : List Formula → Log → ℕ
 joint-progress [] L = L .size
-joint-progress (φ ∷ fs) L = min (progress φ L) (joint-progress fs L)
+joint-progress (φ ∷ fs) L = min (settled-to φ L) (joint-progress fs L)

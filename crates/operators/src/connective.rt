@@ -1,5 +1,5 @@
 // not and or, on whole words of answers.
-ghost use mathlib.Core.Bool.{true, false};
+ghost use mathlib.Core.Bool.{Bool, true, false};
 ghost use Prim.Native.Nat.{_≤_};
 ghost use lib.ListN.{length};
 ghost use Rattle.mtl.specs.Formula.{Formula};
@@ -12,7 +12,7 @@ use blocks::word;
 pub fn step_not(records: &[u8], block: &mut [u64]) -> Step
     requires { ⌜ 16 ≤ length (now block) ⌝ }
     ensures { λ r. ⌜ Ends false true (now (records .entry)) (now (block .entry)) r (now (block .exit)) ⌝ }
-    ensures { λ r. ⌜ ((φ : Formula) → Steps (not-formula φ) (now (records .entry)) (now (block .entry)) r (now (block .exit))) ⌝ }
+    ensures { λ r. ⌜ ((closed : Bool) (φ : Formula) → Steps closed (not-formula φ) (now (records .entry)) (now (block .entry)) r (now (block .exit))) ⌝ }
 {
     if block[word::RIGHT_COUNT] == 0 {
         return Step::Right;
@@ -34,7 +34,7 @@ pub fn step_not(records: &[u8], block: &mut [u64]) -> Step
 pub fn step_or(records: &[u8], block: &mut [u64]) -> Step
     requires { ⌜ 16 ≤ length (now block) ⌝ }
     ensures { λ r. ⌜ Ends true true (now (records .entry)) (now (block .entry)) r (now (block .exit)) ⌝ }
-    ensures { λ r. ⌜ ((φ ψ : Formula) → Steps (or-formula φ ψ) (now (records .entry)) (now (block .entry)) r (now (block .exit))) ⌝ }
+    ensures { λ r. ⌜ ((closed : Bool) (φ ψ : Formula) → Steps closed (or-formula φ ψ) (now (records .entry)) (now (block .entry)) r (now (block .exit))) ⌝ }
 {
     if block[word::LEFT_COUNT] == 0 {
         return Step::Left;

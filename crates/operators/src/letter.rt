@@ -1,5 +1,5 @@
 // A letter: a reading head.
-ghost use mathlib.Core.Bool.{false};
+ghost use mathlib.Core.Bool.{Bool, false};
 ghost use Prim.Native.Nat.{_≤_, _<_};
 ghost use lib.ListN.{length};
 ghost use Rattle.mtl.specs.Formula.Formula.{letter as letter-formula};
@@ -11,7 +11,7 @@ use blocks::word;
 pub fn step_letter(letter: u64, records: &[u8], block: &mut [u64]) -> Step
     requires { ⌜ (letter < 32) × (16 ≤ length (now block)) ⌝ }
     ensures { λ r. ⌜ Ends false false (now (records .entry)) (now (block .entry)) r (now (block .exit)) ⌝ }
-    ensures { λ r. ⌜ Steps (letter-formula letter) (now (records .entry)) (now (block .entry)) r (now (block .exit)) ⌝ }
+    ensures { λ r. ⌜ ((closed : Bool) → Steps closed (letter-formula letter) (now (records .entry)) (now (block .entry)) r (now (block .exit))) ⌝ }
 {
     let at = block[word::TAKEN];
     let count = blocks::available(at, 64, trace::count(records) as u64);

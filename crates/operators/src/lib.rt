@@ -18,19 +18,20 @@ pub fn advance(
     low: u64,
     high: u64,
     records: &[u8],
+    closed: bool,
     block: &mut [u64],
 ) -> Step
     requires { ⌜ (kind ≤ 6) × (letter < 32) × (high < 2 ^ 32) × (own-words kind high ≤ length (now block)) ⌝ }
     ensures { λ r. ⌜ Ends (takes-left kind) (takes-right kind) (now (records .entry)) (now (block .entry)) r (now (block .exit)) ⌝ }
-    ensures { λ r. ⌜ ((φ : Formula) → Fields φ kind letter low high → Steps φ (now (records .entry)) (now (block .entry)) r (now (block .exit))) ⌝ }
+    ensures { λ r. ⌜ ((φ : Formula) → Fields φ kind letter low high → Steps closed φ (now (records .entry)) (now (block .entry)) r (now (block .exit))) ⌝ }
 {
     match kind {
         0 => letter::step_letter(letter, records, block),
         1 => connective::step_not(records, block),
         2 => connective::step_or(records, block),
         3 => neighbour::step_previous(low, high, records, block),
-        4 => neighbour::step_next(low, high, records, block),
+        4 => neighbour::step_next(low, high, records, closed, block),
         5 => since::step_since(low, high, records, block),
-        _ => until::step_until(low, high, records, block),
+        _ => until::step_until(low, high, records, closed, block),
     }
 }

@@ -1,7 +1,7 @@
 -- What one call of `open` and one of `resume` on the fresh checkpoint come to: a refusal by rule and log alone, or all verdicts.
 -- Assumes nothing.
 use Prim.Native.Nat.{ℕ, _+_, _*_, _≤_}
-use mathlib.Core.Bool.{Bool, true, false, cond}
+use mathlib.Core.Bool.{Bool, true, false, cond, false≢true}
 use mathlib.Core.Path.{_≡_, refl, sym, _∙_, ap, subst}
 use mathlib.Core.List.{List, [], _++_}
 use native.Mathlib.Omega.{arith}
@@ -82,10 +82,10 @@ module _ (rule log : List ℕ) (short : too-long rule log ≡ false) where
     fine = sym opens-by ∙ ap (open-refusal rule) (sym size) ∙ sym (opens .number)
 
     stands : Stands rule none-yet 0 p
-    stands = opens .words .1 none-yet refl
+    stands = opens .words .1 none-yet refl refl
 
     -- 9, 10, 11 and 13 are not met
-    resumes-by : resume-refusal rule log p ≡ run-refusal rule log
+    resumes-by : resume-refusal false rule log p ≡ run-refusal rule log
     resumes-by =
         let all-wanted : wanted (formulas-of rule) 0 ≡ 0 = omega arith in
         rw (
@@ -97,31 +97,32 @@ module _ (rule log : List ℕ) (short : too-long rule log ≡ false) where
           all-wanted,
           stands .size,
           stands .time,
+          stands .closed,
         )
 
-    module _ (sheet : List ℕ) (r : Resumed) (p′ sheet′ : List ℕ) (resumes : Resumes rule log p sheet r p′ sheet′) where
+    module _ (sheet : List ℕ) (r : Resumed) (p′ sheet′ : List ℕ) (resumes : Resumes false rule log p sheet r p′ sheet′) where
       -- `resume` refuses
       pub not-resumed : (n number : ℕ) → r ≡ NotResumed n → number ≡ resumed-number r → report rule log ≡ refused-text number
       not-resumed n number is same =
-          let q : Resumes rule log p sheet (NotResumed n) p′ sheet′ = subst (λ a. Resumes rule log p sheet a p′ sheet′) is resumes in
+          let q : Resumes false rule log p sheet (NotResumed n) p′ sheet′ = subst (λ a. Resumes false rule log p sheet a p′ sheet′) is resumes in
           let some = q .words .0 in
           let e : number ≡ n = same ∙ ap resumed-number is in
           refused-with number (sym resumes-by ∙ sym (resumes .number) ∙ sym same) (λ z. omega arith)
 
       -- `resume` gives verdicts
       module _ (c : ℕ) (more : Bool) (is : r ≡ Given c more) (room : length sheet ≡ 8191) where
-        gave : Resumes rule log p sheet (Given c more) p′ sheet′
-        gave = subst (λ a. Resumes rule log p sheet a p′ sheet′) is resumes
+        gave : Resumes false rule log p sheet (Given c more) p′ sheet′
+        gave = subst (λ a. Resumes false rule log p sheet a p′ sheet′) is resumes
 
         unrefused : run-refusal rule log ≡ 0
         unrefused = sym resumes-by ∙ sym (gave .number)
 
         -- 12 and 14 are not met
-        log-fine : log-refusal log 0 0 0 ≡ 0
-        log-fine = before-none (refusal rule) (log-refusal log 0 0 0) unrefused .1
+        log-fine : log-refusal false log 0 0 0 0 ≡ 0
+        log-fine = before-none (refusal rule) (log-refusal false log 0 0 0 0) unrefused .1
 
         well-formed : malformed log ≡ false
-        well-formed = first-zero 11 (malformed log) _ log-fine .0
+        well-formed = first-zero 11 (malformed log) _ (first-zero 19 false _ log-fine .1) .0
 
         ordered : disordered (records-of log) 0 0 0 ≡ false
         ordered =
@@ -129,7 +130,7 @@ module _ (rule log : List ℕ) (short : too-long rule log ≡ false) where
             let after-13 = first 14 (disordered (records-of log) 0 0 0) 0 in
             let after-12 = first 13 fewer after-13 in
             first-zero 13 (disordered (records-of log) 0 0 0) 0
-            (first-zero 12 fewer after-13 (first-zero 11 (malformed log) after-12 log-fine .1) .1) .0
+            (first-zero 12 fewer after-13 (first-zero 11 (malformed log) after-12 (first-zero 19 false _ log-fine .1) .1) .1) .0
 
         abbrev L : Log
         L = log-of (records-of log)
@@ -137,7 +138,7 @@ module _ (rule log : List ℕ) (short : too-long rule log ≡ false) where
         never-falls : NeverFalls L
         never-falls i j le h = ordered-iff (records-of log) 0 0 0 .0 ordered .0 i j (omega arith) le h
 
-        whole : first-records log (L .size) ≡ L
+        whole : first-records false log (L .size) ≡ L
         whole =
             let bytes = well-formed-records log well-formed .1 .whole in
             ap log-of (take-all (8 * L .size) (records-of log) (omega arith))
@@ -145,9 +146,9 @@ module _ (rule log : List ℕ) (short : too-long rule log ≡ false) where
         gives : Gives rule L 0 sheet c more p′ sheet′
         gives =
             gave .words .meaning none-yet L 0 stands
-            (record { longer = omega arith; same = λ i lo hi. absurd (omega arith) })
+            (record { longer = omega arith; same = λ i lo hi. absurd (omega arith); ended = λ e. absurd (false≢true e) })
             never-falls
-            (record { size = refl; same = λ i lo hi. record { time = refl; letters = λ k. refl } })
+            (record { ends = refl; size = refl; same = λ i lo hi. record { time = refl; letters = λ k. refl } })
 
         -- a log of 65,536 bytes has 8,191 records
         few-records : L .size ≤ 8191
@@ -173,7 +174,7 @@ module _ (rule log : List ℕ) (short : too-long rule log ≡ false) where
             let sum : 0 + c ≡ c = omega arith in
             verdicts-more (formulas-of rule) L 0 c sheet′ given-fits (gives .bytes) ∙ ap (verdicts (formulas-of rule) L) sum
 
-        all : all-verdicts rule log (L .size) ≡ take c sheet′
+        all : all-verdicts false rule log (L .size) ≡ take c sheet′
         all =
             ap (λ K. verdicts (formulas-of rule) K (joint-progress (formulas-of rule) K)) whole ∙
             ap (verdicts (formulas-of rule) L) (sym all-given) ∙ sym bytes

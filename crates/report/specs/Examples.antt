@@ -3,7 +3,7 @@ use Prim.Native.Nat.{ℕ}
 use mathlib.Core.List.{List, [], _∷_, _++_}
 use mathlib.Core.Path.{_≡_, refl}
 use Rattle.mtl.specs.Satisfaction.{any, all, sat}
-use Rattle.mtl.specs.Progress.{run, progress, joint-progress}
+use Rattle.mtl.specs.Progress.{run, progress, settled-to, joint-progress}
 use Rattle.rule.specs.Entries.{first-entries}
 use Rattle.rule.specs.Words.{offset}
 use Rattle.rule.specs.Postfix.{push-kind, read}
@@ -34,12 +34,12 @@ log =
 
 -- "Output, all of it"
 pub full-run : report rule log ≡ ascii "verdicts 5 of 6\n0 no\n1 no\n2 no\n3 yes\n4 yes\n"
-unfolding ascii decimal-in lines first-entries offset push-kind read header-refusal entries-refusal any all sat run progress joint-progress byte-of verdicts
+unfolding ascii decimal-in lines first-entries offset push-kind read header-refusal entries-refusal any all sat run progress settled-to joint-progress byte-of verdicts
 full-run = refl
 
 -- request 3: an empty rule over the same log
 pub empty-rule : report (0x4B ∷ 0x52 ∷ 0x4C ∷ 0 ∷ 1 ∷ 0 ∷ 0 ∷ 0 ∷ []) log ≡ ascii "verdicts 6 of 6\n0 yes\n1 yes\n2 yes\n3 yes\n4 yes\n5 yes\n"
-unfolding ascii decimal-in lines first-entries offset read header-refusal entries-refusal any joint-progress byte-of verdicts
+unfolding ascii decimal-in lines first-entries offset read header-refusal entries-refusal any settled-to joint-progress byte-of verdicts
 empty-rule = refl
 
 -- the same log with no rule

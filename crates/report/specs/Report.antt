@@ -3,7 +3,7 @@ use Prim.Native.Nat.{ℕ, zero, suc, _+_, _/_, _%_}
 use Prim.Native.Char.{code}
 use Prim.Native.String.{String}
 use Prim.Native.String.{[] as no-more, _∷_ as _then_}
-use mathlib.Core.Bool.{Bool, cond, _||_}
+use mathlib.Core.Bool.{Bool, false, cond, _||_}
 use mathlib.Core.Path.{_≡_}
 use mathlib.Core.List.{List, [], _∷_, _++_}
 use lib.ListN.{length, getD, take, drop}
@@ -50,7 +50,7 @@ verdicts-text records verdicts = first-line (length verdicts) records ++ lines v
 -- "opens, carries on": the first refusal that applies. The checkpoint is fresh, with nothing given or seen, and has room for
 -- every rule that passes 8. So 9, 10, 11 and 13 are never met
 abbrev pub run-refusal : (rule log : List ℕ) → ℕ
-run-refusal rule log = before (refusal rule) (log-refusal log 0 0 0)
+run-refusal rule log = before (refusal rule) (log-refusal false log 0 0 0 0)
 
 -- "a file above 65,536 bytes prints `too long` before all else"
 abbrev pub too-long : (rule log : List ℕ) → Bool
@@ -60,7 +60,7 @@ too-long rule log = ltb 65536 (length rule) || ltb 65536 (length log)
 abbrev pub run-text : (rule log : List ℕ) → List ℕ
 run-text rule log =
     cond (eqb (run-refusal rule log) 0)
-    (verdicts-text (record-count (records-of log)) (all-verdicts rule log (record-count (records-of log))))
+    (verdicts-text (record-count (records-of log)) (all-verdicts false rule log (record-count (records-of log))))
     (refused-text (run-refusal rule log))
 
 abbrev pub report : (rule log : List ℕ) → List ℕ

@@ -13,6 +13,7 @@ use Rattle.mtl.specs.Formula.Formula.{letter, not, or, previous, next, since, u
 use Rattle.mtl.specs.Log.{Log, NeverFalls}
 use Rattle.mtl.specs.Progress.{joint-progress}
 use Rattle.mtl.proofs.Bounded.{and-iff, not-iff}
+use Rattle.mtl.proofs.Closing.{progress-le-settled}
 use Rattle.mtl.proofs.Joint.{joint-none, joint-one}
 use Rattle.mtl.proofs.Reach.{reach-answered}
 use Rattle.rule.specs.declared.Entry.{Entry}
@@ -67,7 +68,7 @@ module _ (t : List Entry) (n : ℕ) (ok : WellFormed t n) where
       let last = one .some-entries in
       let ends = untils t n (ok .in-range) φ (n - 1) (omega arith) (one .at-last) in
       let answered = reach-answered φ L own ends falls i h (omega arith) in
-      omega (arith, joint-one φ L)
+      omega (arith, joint-one φ L, progress-le-settled φ L)
   farthest-answered (φ ∷ (ψ ∷ fs)) several free L falls i h far = absurd several
 
 -- THEOREM, of every rule that is not refused. "For rules without next, position i is answered whenever the last record lies

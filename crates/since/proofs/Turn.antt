@@ -12,7 +12,8 @@ use Rattle.mtl.specs.Formula.{Formula, unbounded}
 use Rattle.mtl.specs.Formula.Formula.{since}
 use Rattle.mtl.specs.Log.{Log, NeverFalls}
 use Rattle.mtl.specs.Satisfaction.{sat, since-at}
-use Rattle.mtl.specs.Progress.{progress}
+use Rattle.mtl.specs.Progress.{settled-to}
+use Rattle.mtl.proofs.Closing.{settled-since}
 use Rattle.bits.specs.Packed.{bit, with-bit, Packed}
 use Rattle.bits.proofs.Laws.{with-bit-lt, packed-none, packed-push, packed-same}
 use Rattle.rule.specs.Words.{ring-words}
@@ -112,20 +113,24 @@ pub since-keeps : {cells : ℕ} {f : List ℕ → List ℕ} {b d : List ℕ} (n 
 since-keeps {d = d} n turn i h l = both-keeps n d i h l ∙ turn .others i l (λ e. omega arith) (λ e. omega arith)
 
 module _ (low high : ℕ) (s b : List ℕ) where
-  pub since-left : (φ ψ : Formula) → Steps (since low high φ ψ) s b Left b
-  unfolding progress
-  since-left φ ψ L g falls agrees ready = (refl, λ e. let h = ready .core .reached in let at = ready .core .own .at in omega arith)
+  pub since-left : (closed : Bool) (φ ψ : Formula) → Steps closed (since low high φ ψ) s b Left b
+  since-left closed φ ψ L g falls agrees ready = (
+    refl,
+    λ e. let h = ready .core .reached in let at = ready .core .own .at in omega (arith, settled-since L φ ψ low high),
+  )
 
-  pub since-right : (φ ψ : Formula) → Steps (since low high φ ψ) s b Right b
-  unfolding progress
-  since-right φ ψ L g falls agrees ready = (refl, λ e. let h = ready .core .reached in let at = ready .core .own .at in omega arith)
+  pub since-right : (closed : Bool) (φ ψ : Formula) → Steps closed (since low high φ ψ) s b Right b
+  since-right closed φ ψ L g falls agrees ready = (
+    refl,
+    λ e. let h = ready .core .reached in let at = ready .core .own .at in omega (arith, settled-since L φ ψ low high),
+  )
 
   -- n positions are taken: as many as both buffers have
   module _ (n : ℕ) (some-left : 0 < left-count b) (some-right : 0 < right-count b) (room : 16 ≤ length b)
       (av : Available (taken b) (min (left-count b) (right-count b)) (record-count s) n) where
     -- no buffer reaches past the log
-    pub since-open : n ≡ 0 → (φ ψ : Formula) → Steps (since low high φ ψ) s b Open b
-    since-open none φ ψ L g falls agrees ready =
+    pub since-open : n ≡ 0 → (closed : Bool) (φ ψ : Formula) → Steps closed (since low high φ ψ) s b Open b
+    since-open none closed φ ψ L g falls agrees ready =
         let size = agrees .size in
         let inside = fits (ready .buffers .0) in
         let all = av .all (omega (arith, ready .buffers .0 .packed .few)) (omega arith) in
@@ -158,10 +163,11 @@ module _ (low high : ℕ) (s b : List ℕ) where
       module _ (byte : (i : ℕ) → getD s i 0 < 256) (answers : ℕ)
           (packed : (qs : List ℕ) → Ring (ring-words high) b qs →
           Packed (reached low (ring-words high) high s (taken b) (left-bits b) (right-bits b) qs) 0 n answers) where
-        module _ (φ ψ : Formula) (L : Log) (falls : NeverFalls L) (agrees : Agrees s L (taken b)) (ready : Ready (since low high φ ψ) L (taken b) b) where
-          within-progress : taken b + n ≤ progress (since low high φ ψ) L
-          unfolding progress
-          within-progress = let most = av .most in omega (arith, ready .buffers .0 .within, ready .buffers .1 .within)
+        module _ (closed : Bool) (φ ψ : Formula) (L : Log) (falls : NeverFalls L) (agrees : Agrees closed s L (taken b)) (ready : Ready (since low high φ ψ) L (taken b) b) where
+          within-settled : taken b + n ≤ settled-to (since low high φ ψ) L
+          within-settled =
+              let most = av .most in
+              omega (arith, ready .buffers .0 .within, ready .buffers .1 .within, settled-since L φ ψ low high)
 
           at-taken : Stepped (since low high φ ψ) L (taken b) b (Batch answers n) (took-both n d)
           unfolding sat
@@ -195,7 +201,7 @@ module _ (low high : ℕ) (s b : List ℕ) where
               let count = ring .count in
               let cells = ring .fits in
               let moved =
-              taken-both (since low high φ ψ) b n (taken b + n) (took-both n d) within-progress
+              taken-both (since low high φ ψ) b n (taken b + n) (took-both n d) within-settled
               (omega (arith, kept 5 (omega arith), kept 6 (omega arith), kept 7 (omega arith), kept 8 (omega arith)))
               (record { at = at; times = _; ring = ring; alive = alive })
               (λ x. x) (omega arith) (omega arith)
@@ -210,8 +216,8 @@ module _ (low high : ℕ) (s b : List ℕ) where
                 bits = words 2 ∙ ap (λ (x : ℕ). x / 2 ^ n) (turned-word 2 (omega arith));
               })
               left right
-              in (record { some = some; buffer = record { within = within-progress; packed = answer } }, moved .0, moved .1)
+              in (record { some = some; buffer = record { within = within-settled; packed = answer } }, moved .0, moved .1)
 
-        pub since-batch : (φ ψ : Formula) → Steps (since low high φ ψ) s b (Batch answers n) (took-both n d)
-        since-batch φ ψ L g falls agrees ready =
-            let at = ready .core .own .at in rw (← at) (at-taken φ ψ L falls (rw (← at) at agrees) (rw (← at) at ready))
+        pub since-batch : (closed : Bool) (φ ψ : Formula) → Steps closed (since low high φ ψ) s b (Batch answers n) (took-both n d)
+        since-batch closed φ ψ L g falls agrees ready =
+            let at = ready .core .own .at in rw (← at) (at-taken closed φ ψ L falls (rw (← at) at agrees) (rw (← at) at ready))

@@ -1,5 +1,5 @@
 // since: the times of the witnesses still alive, in a ring.
-ghost use mathlib.Core.Bool.{true};
+ghost use mathlib.Core.Bool.{Bool, true};
 ghost use mathlib.Core.List.{List};
 ghost use Prim.Native.Nat.{ℕ, _+_, _≤_, _<_, _^_};
 ghost use lib.ListN.{length};
@@ -49,7 +49,7 @@ fn turn_all(
 pub fn step_since(low: u64, high: u64, records: &[u8], block: &mut [u64]) -> Step
     requires { ⌜ (high < 2 ^ 32) × (16 + ring-words high ≤ length (now block)) ⌝ }
     ensures { λ r. ⌜ Ends true true (now (records .entry)) (now (block .entry)) r (now (block .exit)) ⌝ }
-    ensures { λ r. ⌜ ((φ ψ : Formula) → Steps (since low high φ ψ) (now (records .entry)) (now (block .entry)) r (now (block .exit))) ⌝ }
+    ensures { λ r. ⌜ ((closed : Bool) (φ ψ : Formula) → Steps closed (since low high φ ψ) (now (records .entry)) (now (block .entry)) r (now (block .exit))) ⌝ }
 {
     let at = block[word::TAKEN];
     if block[word::LEFT_COUNT] == 0 {

@@ -13,9 +13,19 @@ use Rattle.mtl.specs.Formula.{Formula}
 use Rattle.mtl.specs.Formula.Formula.{until}
 use Rattle.mtl.specs.Log.{Log, NeverFalls}
 use Rattle.mtl.specs.Satisfaction.{sat}
-use Rattle.mtl.specs.Progress.{progress}
+use Rattle.mtl.specs.Progress.{settled-to}
 use Rattle.mtl.proofs.Bounded.{and-iff, or-iff, le-or-lt, Above, above-small}
-use Rattle.mtl.proofs.Until.{answered-operands, answered-fits, until-answered, until-yes, until-no}
+use Rattle.mtl.proofs.Closing.{
+  settled-closed,
+  by-closed,
+  both-settled,
+  both-fit,
+  until-open,
+  until-settles,
+  until-met,
+  until-unmet,
+  until-ends,
+}
 use Rattle.bits.specs.Packed.{number, with-bit}
 use Rattle.bits.proofs.Laws.{number-lt, packed-none, packed-push}
 use Rattle.trace.specs.Format.{record-count, time-at}
@@ -37,7 +47,7 @@ use Rattle.blocks.specs.Block.{
   Ready,
 }
 use Rattle.blocks.specs.Step.{Agrees, Moved, Stepped, Ends}
-use Rattle.until.specs.Settle.{pick, is-met, is-over, next-time, look-spec, take-spec, Reached, Walks, Limits, Waiting, walked, Wants}
+use Rattle.until.specs.Settle.{pick, is-met, is-over, next-time, has-ended, look-spec, take-spec, Reached, Walks, Limits, Waiting, walked, Wants}
 use Rattle.until.specs.declared.Last.{Last}
 use Rattle.until.specs.declared.Walked.{Walked}
 use Rattle.until.specs.declared.Settled.{Settled}
@@ -63,27 +73,46 @@ neither true y e = absurd (true≢false e)
 neither false y e = (refl, e)
 
 -- what was found, by the tests of `look-spec`
-abbrev Because : (fresh met over : Bool) → Settled → Type 0
-Because fresh met over (Known true) = (fresh ≡ false) × (met ≡ true)
-Because fresh met over (Known false) = (fresh ≡ false) × (met ≡ false) × (over ≡ true)
-Because fresh met over Unknown = (fresh ≡ true) ⊎ ((fresh ≡ false) × (met ≡ false) × (over ≡ false))
+abbrev Because : (fresh met over ended : Bool) → Settled → Type 0
+Because fresh met over ended (Known true) = (fresh ≡ false) × (met ≡ true)
+Because fresh met over ended (Known false) = (fresh ≡ false) × (met ≡ false) × ((over ≡ true) ⊎ ((over ≡ false) × (ended ≡ true)))
+Because fresh met over ended Unknown = (fresh ≡ true) ⊎ ((fresh ≡ false) × (met ≡ false) × (over ≡ false) × (ended ≡ false))
 
-because : (fresh met over : Bool) → Because fresh met over (pick fresh Unknown (pick (met || over) (Known met) Unknown))
-because true met over = inl refl
-because false true over = (refl, refl)
-because false false true = (refl, refl, refl)
-because false false false = inr (refl, refl, refl)
+because : (fresh met over ended : Bool) →
+    Because fresh met over ended (pick fresh Unknown (pick (met || (over || ended)) (Known met) Unknown))
+because true met over ended = inl refl
+because false true over ended = (refl, refl)
+because false false true ended = (refl, refl, inl refl)
+because false false false true = (refl, refl, inr (refl, refl))
+because false false false false = inr (refl, refl, refl, refl)
 
 -- the tests behind a finding
-found : (low high : ℕ) (s : List ℕ) (g p : ℕ) (last : Last) (r : Settled) → look-spec low high s g p last ≡ r →
-    Because (leb p g) (is-met low (time-at s g) last) (is-over high (time-at s g) last (next-time s p last)) r
-found low high s g p last r e =
-    rw e at (because (leb p g) (is-met low (time-at s g) last) (is-over high (time-at s g) last (next-time s p last)))
+found : (low high : ℕ) (s : List ℕ) (closed : Bool) (g p : ℕ) (last : Last) (r : Settled) → look-spec low high s closed g p last ≡ r →
+    Because (leb p g) (is-met low (time-at s g) last) (is-over high (time-at s g) last (next-time s p last)) (has-ended s closed p) r
+found low high s closed g p last r e =
+    rw e at
+    (because (leb p g) (is-met low (time-at s g) last) (is-over high (time-at s g) last (next-time s p last)) (has-ended s closed p))
 
 -- a position is known only behind those taken
-pub known-behind : (low high : ℕ) (s : List ℕ) (g p : ℕ) (last : Last) (v : Bool) → look-spec low high s g p last ≡ Known v → g < p
-known-behind low high s g p last true e = leb-false p g (found low high s g p last (Known true) e .0)
-known-behind low high s g p last false e = leb-false p g (found low high s g p last (Known false) e .0)
+pub known-behind : (low high : ℕ) (s : List ℕ) (closed : Bool) (g p : ℕ) (last : Last) (v : Bool) → look-spec low high s closed g p last ≡ Known v → g < p
+known-behind low high s closed g p last true e = leb-false p g (found low high s closed g p last (Known true) e .0)
+known-behind low high s closed g p last false e = leb-false p g (found low high s closed g p last (Known false) e .0)
+
+-- a closed log with no position p
+ended-is : (s : List ℕ) (closed : Bool) (p : ℕ) → has-ended s closed p ≡ true → (closed ≡ true) × (record-count s ≤ p)
+ended-is s closed p e =
+    ⊎-elim
+    (λ h. (rw (le-ltb p (record-count s) h) at e, h))
+    (λ h. absurd (true≢false (sym (rw (lt-ltb p (record-count s) h) at e))))
+    (le-or-lt (record-count s) p)
+
+-- behind the end of a closed log every position is known
+pub unknown-ahead : (low high : ℕ) (s : List ℕ) (g p : ℕ) (last : Last) → look-spec low high s true g p last ≡ Unknown → record-count s ≤ p → p ≤ g
+unknown-ahead low high s g p last e h =
+    ⊎-elim
+    (λ b. leb-true p g b)
+    (λ b. absurd (true≢false (rw (le-ltb p (record-count s) h) at (b .3))))
+    (found low high s true g p last Unknown e)
 
 -- the time that is tested besides
 next-is : (s : List ℕ) (p : ℕ) (last : Last) →
@@ -95,17 +124,17 @@ next-is s p last =
     (le-or-lt (record-count s) p)
 
 -- the heads stand at g and p, on a log that the records are from position `first` on
-module _ (low high : ℕ) (φ ψ : Formula) (s : List ℕ) (byte : (i : ℕ) → getD s i 0 < 256) (L : Log) (first : ℕ) (falls : NeverFalls L) (agrees : Agrees s L first)
-    (g p : ℕ) (from : first ≤ g) (behind : p ≤ answered-operands φ ψ L) (last : Last)
+module _ (low high : ℕ) (φ ψ : Formula) (s : List ℕ) (byte : (i : ℕ) → getD s i 0 < 256) (closed : Bool) (L : Log) (first : ℕ) (falls : NeverFalls L)
+    (agrees : Agrees closed s L first) (g p : ℕ) (from : first ≤ g) (behind : p ≤ both-settled φ ψ L) (last : Last)
     (u : Until low high (L .time) (sat φ L) (sat ψ L) g p (number (last .left)) (number (last .right)) (last .time)) where
   -- what each finding says of g
   abbrev pub Means : Settled → Type 0
-  Means (Known v) = (g < progress (until low high φ ψ) L) × (sat (until low high φ ψ) L g ≡ v)
+  Means (Known v) = (g < settled-to (until low high φ ψ) L) × (sat (until low high φ ψ) L g ≡ v)
   Means Unknown = logic.Waits low high (L .time) (sat φ L) (sat ψ L) (L .size) g p
 
   module _ (some : g < p) where
     begins : time-at s g ≡ L .time g
-    begins = agrees .same g from (omega (arith, answered-fits φ ψ L)) .time
+    begins = agrees .same g from (omega (arith, both-fit φ ψ L)) .time
 
     -- if the time tested lies more than high after g, it is that of position p, since the last one's does not
     late : is-over high (time-at s g) last (next-time s p last) ≡ true →
@@ -158,49 +187,65 @@ module _ (low high : ℕ) (φ ψ : Formula) (s : List ℕ) (byte : (i : ℕ) →
         let both = and-iff (last .right) (leb low (last .time - time-at s g)) .0 e in
         let h = both .1 in
         let b = begins in
-        let y = logic.met (answered-fits φ ψ L) falls behind u some (is-number (last .right) ∙ both .0) (omega (arith, leb-true)) in
-        let k : g < answered-operands φ ψ L = omega arith in
-        (until-answered low high φ ψ L falls g .1 (k, inl y), until-yes low high φ ψ L falls g k y)
+        let y = logic.met (both-fit φ ψ L) falls behind u some (is-number (last .right) ∙ both .0) (omega (arith, leb-true)) in
+        let k : g < both-settled φ ψ L = omega arith in
+        (until-settles low high φ ψ L falls g k (inl y), until-met low high φ ψ L falls g k y)
 
     no : is-met low (time-at s g) last ≡ false → is-over high (time-at s g) last (next-time s p last) ≡ true → Means (Known false)
     no e d =
-        let y = logic.over (answered-fits φ ψ L) falls behind u some (unmet e) (late d) in
-        let k : g < answered-operands φ ψ L = omega arith in
-        (until-answered low high φ ψ L falls g .1 (k, inr y), until-no low high φ ψ L falls g k y)
+        let y = logic.over (both-fit φ ψ L) falls behind u some (unmet e) (late d) in
+        let k : g < both-settled φ ψ L = omega arith in
+        (until-settles low high φ ψ L falls g k (inr y), until-unmet low high φ ψ L falls g k y)
 
     waits : is-met low (time-at s g) last ≡ false → is-over high (time-at s g) last (next-time s p last) ≡ false → Means Unknown
-    waits e d = logic.waits (answered-fits φ ψ L) falls behind u some (unmet e) (soon d .0) (soon d .1)
+    waits e d = logic.waits (both-fit φ ψ L) falls behind u some (unmet e) (soon d .0) (soon d .1)
+
+    -- no position follows the last one taken: what waits is no
+    ended : is-met low (time-at s g) last ≡ false → is-over high (time-at s g) last (next-time s p last) ≡ false →
+        has-ended s closed p ≡ true → Means (Known false)
+    ended e d end =
+        let (is, past) = ended-is s closed p end in
+        let c = agrees .ends ∙ is in
+        let size = agrees .size in
+        let whole = settled-closed (until low high φ ψ) L c in
+        let fit = both-fit φ ψ L in (
+          omega arith,
+          until-ends low high φ ψ L falls g c (λ y. logic.stuck fit falls behind (waits e d) (omega arith) (inl y)),
+        )
 
   fresh : p ≤ g → Means Unknown
-  fresh h = let a = u .ahead in logic.waits-fresh (answered-fits φ ψ L) falls behind (omega arith)
+  fresh h = let a = u .ahead in logic.waits-fresh (both-fit φ ψ L) falls behind (omega arith)
 
-  pub finds : (r : Settled) → look-spec low high s g p last ≡ r → Means r
-  finds (Known true) e = let b = found low high s g p last (Known true) e in yes (leb-false p g (b .0)) (b .1)
-  finds (Known false) e = let b = found low high s g p last (Known false) e in no (leb-false p g (b .0)) (b .1) (b .2)
+  pub finds : (r : Settled) → look-spec low high s closed g p last ≡ r → Means r
+  finds (Known true) e = let b = found low high s closed g p last (Known true) e in yes (leb-false p g (b .0)) (b .1)
+  finds (Known false) e =
+      let b = found low high s closed g p last (Known false) e in
+      let some = leb-false p g (b .0) in
+      ⊎-elim (λ d. no some (b .1) d) (λ d. ended some (b .1) (d .0) (d .1)) (b .2)
   finds Unknown e =
       ⊎-elim
       (λ b. fresh (leb-true p g b))
       (λ b. waits (leb-false p g (b .0)) (b .1) (b .2))
-      (found low high s g p last Unknown e)
+      (found low high s closed g p last Unknown e)
 
 -- one turn of a walk
-module _ (low high : ℕ) (s : List ℕ) (byte : (i : ℕ) → getD s i 0 < 256) (g at n left right : ℕ) (from : Last) (bits count took : ℕ) (last : Last)
-    (most : took ≤ n) where
+module _ (low high : ℕ) (s : List ℕ) (byte : (i : ℕ) → getD s i 0 < 256) (closed : Bool) (g at n left right : ℕ) (from : Last) (bits count took : ℕ)
+    (last : Last) (most : took ≤ n) where
   -- all n positions lie below the operands' numbers
-  operands : {φ ψ : Formula} {L : Log} → Buffer φ L at n left → Buffer ψ L at n right → at + took ≤ answered-operands φ ψ L
+  operands : {φ ψ : Formula} {L : Log} → Buffer φ L at n left → Buffer ψ L at n right → at + took ≤ both-settled φ ψ L
   operands a b = let x = a .within in let y = b .within in omega arith
 
-  pub walks-known : (v : Bool) → look-spec low high s (g + count) (at + took) last ≡ Known v → count < 64 → bits < 2 ^ count →
-      Walks low high s g at n left right from bits count took last →
-      Walks low high s g at n left right from (with-bit bits count v) (count + 1) took last
+  pub walks-known : (v : Bool) → look-spec low high s closed (g + count) (at + took) last ≡ Known v → count < 64 → bits < 2 ^ count →
+      Walks low high s closed g at n left right from bits count took last →
+      Walks low high s closed g at n left right from (with-bit bits count v) (count + 1) took last
   walks-known v e h small walks φ ψ L falls agrees a b start =
       let r = walks φ ψ L falls agrees a b start in
-      let m = finds low high φ ψ s byte L g falls agrees (g + count) (at + took) (omega arith) (operands a b) last (r .heads) (Known v) e in
-      let some = known-behind low high s (g + count) (at + took) last v e in
+      let m = finds low high φ ψ s byte closed L g falls agrees (g + count) (at + took) (omega arith) (operands a b) last (r .heads) (Known v) e in
+      let some = known-behind low high s closed (g + count) (at + took) last v e in
       let inside = m .0 in
       record {
         heads =
-            logic.answered-later (answered-fits φ ψ L) falls (operands a b) (r .heads) some (g + (count + 1)) (omega arith) (omega arith);
+            logic.answered-later (both-fit φ ψ L) falls (operands a b) (r .heads) some (g + (count + 1)) (omega arith) (omega arith);
         answers =
             record {
               within = omega arith;
@@ -208,12 +253,12 @@ module _ (low high : ℕ) (s : List ℕ) (byte : (i : ℕ) → getD s i 0 < 256)
             };
       }
 
-  pub walks-unknown : look-spec low high s (g + count) (at + took) last ≡ Unknown → took < n →
-      Walks low high s g at n left right from bits count took last →
-      Walks low high s g at n left right from bits count (took + 1) (take-spec s at took left right)
+  pub walks-unknown : look-spec low high s closed (g + count) (at + took) last ≡ Unknown → took < n →
+      Walks low high s closed g at n left right from bits count took last →
+      Walks low high s closed g at n left right from bits count (took + 1) (take-spec s at took left right)
   walks-unknown e h walks φ ψ L falls agrees a b start =
       let r = walks φ ψ L falls agrees a b start in
-      let w = finds low high φ ψ s byte L g falls agrees (g + count) (at + took) (omega arith) (operands a b) last (r .heads) Unknown e in
+      let w = finds low high φ ψ s byte closed L g falls agrees (g + count) (at + took) (omega arith) (operands a b) last (r .heads) Unknown e in
       let x = a .within in
       let y = b .within in
       let z = w .ahead in
@@ -221,7 +266,7 @@ module _ (low high : ℕ) (s : List ℕ) (byte : (i : ℕ) → getD s i 0 < 256)
       record {
         heads =
             rw next
-            (logic.taken-next (answered-fits φ ψ L) falls (operands a b) w (omega arith)
+            (logic.taken-next (both-fit φ ψ L) falls (operands a b) w (omega arith)
             (a .packed .same took h ∙ sym (is-number _))
             (b .packed .same took h ∙ sym (is-number _))
             (agrees .same (at + took) (omega arith) (omega (arith, fits a)) .time));
@@ -255,15 +300,15 @@ wanted-ends s b Right t = (refl, refl, t .1)
 wanted-ends s b Open t = refl
 
 -- a step on block b that has walked over n positions
-pub record Went (low high : ℕ) (s b : List ℕ) (n : ℕ) (w : Walked) : Type 0 where
+pub record Went (low high : ℕ) (s : List ℕ) (closed : Bool) (b : List ℕ) (n : ℕ) (w : Walked) : Type 0 where
   pub room : 16 ≤ length b
   pub byte : (i : ℕ) → getD s i 0 < 256
   pub some : Available (taken b) (min (left-count b) (right-count b)) (record-count s) n
   pub within : Limits (answered b) (taken b) n (w .bits) (w .count) (w .took) (last-of b) (w .last)
-  pub waiting : w .count < 64 → Waiting low high s (answered b) (taken b) n (w .count) (w .took) (w .last)
-  pub walks : Walks low high s (answered b) (taken b) n (left-bits b) (right-bits b) (last-of b) (w .bits) (w .count) (w .took) (w .last)
+  pub waiting : w .count < 64 → Waiting low high s closed (answered b) (taken b) n (w .count) (w .took) (w .last)
+  pub walks : Walks low high s closed (answered b) (taken b) n (left-bits b) (right-bits b) (last-of b) (w .bits) (w .count) (w .took) (w .last)
 
-module _ {low high : ℕ} {s b : List ℕ} {n : ℕ} {w : Walked} (went : Went low high s b n w) where
+module _ {low high : ℕ} {s : List ℕ} {closed : Bool} {b : List ℕ} {n : ℕ} {w : Walked} (went : Went low high s closed b n w) where
   abbrev b′ : List ℕ
   b′ = walked w b
 
@@ -287,7 +332,7 @@ module _ {low high : ℕ} {s b : List ℕ} {n : ℕ} {w : Walked} (went : Went l
   pub took-ends : 0 < w .took → Ends true true s b Again b′
   took-ends h = (less-to-do s b b′ (w .took) h (let i = went .some .inside (omega arith) in omega arith) (at 0), walked-keeps)
 
-  module _ (φ ψ : Formula) (L : Log) (g : ℕ) (falls : NeverFalls L) (agrees : Agrees s L g) (ready : Ready (until low high φ ψ) L g b) where
+  module _ (φ ψ : Formula) (L : Log) (g : ℕ) (falls : NeverFalls L) (agrees : Agrees closed s L g) (ready : Ready (until low high φ ψ) L g b) where
     -- the first n positions of a buffer
     first : {χ : Formula} {count bits : ℕ} → n ≤ count → Buffer χ L (taken b) count bits → Buffer χ L (taken b) n bits
     first h x = let i = x .within in record { within = omega arith; packed = first-of n h x }
@@ -338,17 +383,33 @@ module _ {low high : ℕ} {s b : List ℕ} {n : ℕ} {w : Walked} (went : Went l
 
     -- with nothing to take, g stays open
     module _ (none : w .count ≡ 0) (nothing : w .took ≡ 0) where
-      none-left : answered-operands φ ψ L ≡ taken b → progress (until low high φ ψ) L ≡ g
-      none-left e =
+      -- what is known of it
+      unknown : look-spec low high s closed (g + w .count) (taken b + w .took) (w .last) ≡ Unknown
+      unknown = rw (ready .core .own .0) at (went .waiting (omega arith) .unknown)
+
+      -- on a closed log it is the end
+      at-end : both-settled φ ψ L ≡ taken b → L .closed ≡ true → settled-to (until low high φ ψ) L ≡ g
+      at-end e c =
+          let size = agrees .size in
+          let ahead = ready .core .own .1 .ahead in
+          let is : closed ≡ true = sym (agrees .ends) ∙ c in
+          let past = unknown-ahead low high s (g + w .count) (taken b + w .took) (w .last) (rw is at unknown)
+          (omega (arith, settled-closed φ L c, settled-closed ψ L c)) in
+          omega (arith, settled-closed (until low high φ ψ) L c, settled-closed φ L c, settled-closed ψ L c)
+
+      -- on an open one it waits
+      waiting : both-settled φ ψ L ≡ taken b → L .closed ≡ false → settled-to (until low high φ ψ) L ≡ g
+      waiting e o =
           let r = ready .core .reached in
-          let behind : taken b + w .took ≤ answered-operands φ ψ L = omega arith in
+          let behind : taken b + w .took ≤ both-settled φ ψ L = omega arith in
           let waits =
-          finds low high φ ψ s (went .byte) L g falls agrees (g + w .count) (taken b + w .took) (omega arith) behind (w .last) (reached .heads) Unknown
-          (rw (ready .core .own .0) at (went .waiting (omega arith) .unknown)) in
-          let never : g + w .count < progress (until low high φ ψ) L → ⊥ =
-          λ l.
-          logic.stuck (answered-fits φ ψ L) falls behind waits (omega arith) (until-answered low high φ ψ L falls (g + w .count) .0 l .1) in
+          finds low high φ ψ s (went .byte) closed L g falls agrees (g + w .count) (taken b + w .took) (omega arith) behind (w .last) (reached .heads) Unknown unknown in
+          let never : g + w .count < settled-to (until low high φ ψ) L → ⊥ =
+          λ l. logic.stuck (both-fit φ ψ L) falls behind waits (omega arith) (until-open low high φ ψ L falls (g + w .count) o l) in
           omega arith
+
+      none-left : both-settled φ ψ L ≡ taken b → settled-to (until low high φ ψ) L ≡ g
+      none-left e = by-closed L (at-end e) (waiting e)
 
       pub wants : (r : Step) → Wants b r → Stepped (until low high φ ψ) L g b r b
       wants (Batch bits count) t = absurd t

@@ -33,18 +33,22 @@ is-met low start last = last .right && leb low (last .time - start)
 abbrev pub is-over : (high start : ℕ) → Last → (next : ℕ) → Bool
 is-over high start last next = negate (last .left) || ltb high (next - start)
 
-abbrev pub settle-spec : (low high start : ℕ) → Last → (next : ℕ) → Settled
-settle-spec low high start last next =
-    pick (is-met low start last || is-over high start last next) (Known (is-met low start last)) Unknown
+abbrev pub settle-spec : (low high start : ℕ) → Last → (next : ℕ) → (ended : Bool) → Settled
+settle-spec low high start last next ended =
+    pick (is-met low start last || (is-over high start last next || ended)) (Known (is-met low start last)) Unknown
 
 -- the time of position p, or the last one's where the log has no position p
 abbrev pub next-time : List ℕ → (p : ℕ) → Last → ℕ
 next-time s p last = cond (ltb p (record-count s)) (time-at s p) (last .time)
 
+-- the log is closed and has no position p
+abbrev pub has-ended : List ℕ → (closed : Bool) → (p : ℕ) → Bool
+has-ended s closed p = cond (ltb p (record-count s)) false closed
+
 -- what is known of position g, where p is the next to take
-abbrev pub look-spec : (low high : ℕ) → List ℕ → (g p : ℕ) → Last → Settled
-look-spec low high s g p last =
-    pick (leb p g) Unknown (settle-spec low high (time-at s g) last (next-time s p last))
+abbrev pub look-spec : (low high : ℕ) → List ℕ → (closed : Bool) → (g p : ℕ) → Last → Settled
+look-spec low high s closed g p last =
+    pick (leb p g) Unknown (settle-spec low high (time-at s g) last (next-time s p last) (has-ended s closed p))
 
 -- position i of those from `at` on, out of the operands' words
 abbrev pub take-spec : List ℕ → (at i left right : ℕ) → Last
@@ -57,9 +61,9 @@ pub record Reached (low high : ℕ) (φ ψ : Formula) (L : Log) (g at bits count
   pub answers : Buffer (until-formula low high φ ψ) L g count bits
 
 -- what a walk promises where it starts from a block that stands for the formula on some log
-abbrev pub Walks : (low high : ℕ) → List ℕ → (g at n left right : ℕ) → Last → (bits count took : ℕ) → Last → Type 0
-Walks low high s g at n left right from bits count took last =
-    (φ ψ : Formula) (L : Log) → NeverFalls L → Agrees s L g → Buffer φ L at n left → Buffer ψ L at n right →
+abbrev pub Walks : (low high : ℕ) → List ℕ → (closed : Bool) → (g at n left right : ℕ) → Last → (bits count took : ℕ) → Last → Type 0
+Walks low high s closed g at n left right from bits count took last =
+    (φ ψ : Formula) (L : Log) → NeverFalls L → Agrees closed s L g → Buffer φ L at n left → Buffer ψ L at n right →
     Reached low high φ ψ L g at 0 0 0 from → Reached low high φ ψ L g at bits count took last
 
 -- what it promises on any words
@@ -71,9 +75,9 @@ pub record Limits (g at n bits count took : ℕ) (from last : Last) : Type 0 whe
   pub bound : from .time < 2 ^ 32 → last .time < 2 ^ 32
 
 -- where a walk ends with fewer than 64 answers: all n positions are taken, and the next to answer waits
-pub record Waiting (low high : ℕ) (s : List ℕ) (g at n count took : ℕ) (last : Last) : Type 0 where
+pub record Waiting (low high : ℕ) (s : List ℕ) (closed : Bool) (g at n count took : ℕ) (last : Last) : Type 0 where
   pub all : took ≡ n
-  pub unknown : look-spec low high s (g + count) (at + took) last ≡ Unknown
+  pub unknown : look-spec low high s closed (g + count) (at + took) last ≡ Unknown
 
 -- the block after a walk
 abbrev pub walked : Walked → List ℕ → List ℕ

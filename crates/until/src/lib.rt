@@ -34,23 +34,23 @@ pub struct Walked {
     last: Last,
 }
 
-// Whether the last position taken, or the time of the next, settles the position whose time is `start`.
-fn settle(low: u64, high: u64, start: u64, last: Last, next: u64) -> Settled
-    ensures { λ r. ⌜ r ≡ settle-spec low high start last next ⌝ }
+// Whether the last position taken, the time of the next, or that none follows settles the position whose time is `start`.
+fn settle(low: u64, high: u64, start: u64, last: Last, next: u64, ended: bool) -> Settled
+    ensures { λ r. ⌜ r ≡ settle-spec low high start last next ended ⌝ }
 {
     let met = last.right & (low <= time::gap(start, last.time));
     let over = !last.left | (high < time::gap(start, next));
-    if met | over {
+    if met | (over | ended) {
         Settled::Known(met)
     } else {
         Settled::Unknown
     }
 }
 
-// What is known of position g, where `at` is the next to take.
-fn look(low: u64, high: u64, records: &[u8], g: u64, at: u64, last: Last) -> Settled
+// What is known of position g, where `at` is the next to take. Where the log is closed and has no position `at`, none follows.
+fn look(low: u64, high: u64, records: &[u8], closed: bool, g: u64, at: u64, last: Last) -> Settled
     requires { ⌜ at ≤ record-count (now records) ⌝ }
-    ensures { λ r. ⌜ r ≡ look-spec low high (now (records .entry)) g at last ⌝ }
+    ensures { λ r. ⌜ r ≡ look-spec low high (now (records .entry)) closed g at last ⌝ }
 {
     if at <= g {
         return Settled::Unknown;
@@ -58,9 +58,9 @@ fn look(low: u64, high: u64, records: &[u8], g: u64, at: u64, last: Last) -> Set
     let start = trace::time(records, g as usize);
     if at < trace::count(records) as u64 {
         let next = trace::time(records, at as usize);
-        return settle(low, high, start, last, next);
+        return settle(low, high, start, last, next, false);
     }
-    settle(low, high, start, last, last.time)
+    settle(low, high, start, last, last.time, closed)
 }
 
 // Position `at + i` out of the operands' words of answers.
@@ -80,6 +80,7 @@ fn walk(
     low: u64,
     high: u64,
     records: &[u8],
+    closed: bool,
     g: u64,
     at: u64,
     n: u64,
@@ -89,15 +90,15 @@ fn walk(
 ) -> Walked
     requires { ⌜ (at + n ≤ record-count (now records)) × (n ≤ 64) ⌝ }
     ensures { λ r. ⌜ Limits g at n (r .bits) (r .count) (r .took) from (r .last) ⌝ }
-    ensures { λ r. ⌜ (r .count < 64 → Waiting low high (now (records .entry)) g at n (r .count) (r .took) (r .last)) ⌝ }
-    ensures { λ r. ⌜ Walks low high (now (records .entry)) g at n left right from (r .bits) (r .count) (r .took) (r .last) ⌝ }
+    ensures { λ r. ⌜ (r .count < 64 → Waiting low high (now (records .entry)) closed g at n (r .count) (r .took) (r .last)) ⌝ }
+    ensures { λ r. ⌜ Walks low high (now (records .entry)) closed g at n left right from (r .bits) (r .count) (r .took) (r .last) ⌝ }
 {
     let mut last = from;
     let mut bits: u64 = 0;
     let mut count: u64 = 0;
     let mut took: u64 = 0;
     while count < 64 {
-        match look(low, high, records, g + count, at + took, last) {
+        match look(low, high, records, closed, g + count, at + took, last) {
             Settled::Known(holds) => {
                 bits = bits::push(bits, count, holds);
                 count += 1;
@@ -147,10 +148,10 @@ fn wanted(block: &[u64]) -> Step
 }
 
 // Walks over what both operands have answered, from the next position to answer and the next to take.
-pub fn step_until(low: u64, high: u64, records: &[u8], block: &mut [u64]) -> Step
+pub fn step_until(low: u64, high: u64, records: &[u8], closed: bool, block: &mut [u64]) -> Step
     requires { ⌜ 16 ≤ length (now block) ⌝ }
     ensures { λ r. ⌜ Ends true true (now (records .entry)) (now (block .entry)) r (now (block .exit)) ⌝ }
-    ensures { λ r. ⌜ ((φ ψ : Formula) → Steps (until low high φ ψ) (now (records .entry)) (now (block .entry)) r (now (block .exit))) ⌝ }
+    ensures { λ r. ⌜ ((φ ψ : Formula) → Steps closed (until low high φ ψ) (now (records .entry)) (now (block .entry)) r (now (block .exit))) ⌝ }
 {
     let at = block[word::TAKEN];
     let total = trace::count(records) as u64;
@@ -171,6 +172,7 @@ pub fn step_until(low: u64, high: u64, records: &[u8], block: &mut [u64]) -> Ste
         low,
         high,
         records,
+        closed,
         block[word::ANSWERED],
         at,
         n,

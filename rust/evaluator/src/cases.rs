@@ -59,6 +59,29 @@ fn sooner_previous() -> Vec<Case> {
     ]
 }
 
+/// Request 9: the verdicts of logs that are closed.
+pub fn closed() -> Vec<Case> {
+    let p1 = p1_entries();
+    let not_p1 = [p1.as_slice(), &[Entry::not()]].concat();
+    let next = [Entry::letter(0), Entry::timed(NEXT, 1, 1)];
+    let not_next = [next.as_slice(), &[Entry::not()]].concat();
+    let previous_of_next = [next.as_slice(), &[Entry::timed(PREVIOUS, 0, 9)]].concat();
+    let inner = [Entry::letter(2), Entry::letter(3), Entry::timed(UNTIL, 0, 5)];
+    let nested = [&[Entry::letter(0)], inner.as_slice(), &[Entry::timed(UNTIL, 0, 5)]].concat();
+    let p5: [(u32, &[u32]); 3] = [(5, &[]), (6, &[0]), (8, &[0])];
+    vec![
+        Case { name: "P1 closed", entries: p1.clone(), records: p1_records(), verdicts: vec![0, 0, 0, 1, 1, 0] },
+        case("P5 closed", &next, &p5, &[1, 0, 0]),
+        case("not of P5 closed", &not_next, &p5, &[0, 1, 1]),
+        case("previous of P5 closed", &previous_of_next, &p5, &[0, 1, 0]),
+        case("P6 closed", &not_p1, &[(10, &[0])], &[1]),
+        case("P7's second log closed", &p1, &[(10, &[0]), (12, &[0]), (13, &[0])], &[0, 0, 0]),
+        case("P8 closed", &nested, &[(0, &[0, 2]), (11, &[2])], &[0, 0]),
+        case("P9 closed", &p1, &[], &[]),
+        case("an empty rule closed", &[], &[(5, &[]), (5, &[0])], &[1, 1]),
+    ]
+}
+
 /// Request 3: a rule with nothing in it.
 fn empty_rule() -> Vec<Case> {
     vec![
@@ -109,6 +132,7 @@ fn document_01() -> Vec<Case> {
 
 /// One call of a list.
 pub struct Call {
+    pub closing: bool,
     /// What the call brings.
     pub log: Vec<Record>,
     /// The length of its sheet.
@@ -132,6 +156,7 @@ pub struct List {
 
 /// A call as it is written down.
 struct Step {
+    closing: bool,
     records: usize,
     replaced: Option<(usize, Record)>,
     sheet: usize,
@@ -143,7 +168,20 @@ struct Step {
 /// A carry on with the first `n` records of the list's log, and a sheet for all verdicts. It gives none and has caught
 /// up, unless another answer is said.
 fn resume(n: usize) -> Step {
-    Step { records: n, replaced: None, sheet: 100, gives: Ok((Vec::new(), false)), wanted: None, no: None }
+    Step {
+        closing: false,
+        records: n,
+        replaced: None,
+        sheet: 100,
+        gives: Ok((Vec::new(), false)),
+        wanted: None,
+        no: None,
+    }
+}
+
+/// A closing, likewise.
+fn close(n: usize) -> Step {
+    Step { closing: true, ..resume(n) }
 }
 
 impl Step {
@@ -178,18 +216,20 @@ impl Step {
     }
 }
 
+const ONES: Record = Record { time: u32::MAX, letters: u32::MAX };
+
 /// Before each call the records before the first wanted are overwritten with ones.
 fn list<const N: usize>(name: &'static str, entries: &[Entry], records: &[Record], steps: [Step; N]) -> List {
     let (mut wanted, mut no) = (0, (0, None));
     let calls = steps.map(|step| {
         let mut log = records[..step.records].to_vec();
-        log[..wanted].fill(Record { time: u32::MAX, letters: u32::MAX });
+        log.iter_mut().take(wanted).for_each(|record| *record = ONES);
         if let Some((at, record)) = step.replaced {
             log[at] = record;
         }
         wanted = step.wanted.unwrap_or(wanted);
         no = step.no.unwrap_or(no);
-        Call { log, sheet: step.sheet, gives: step.gives, wanted, no }
+        Call { closing: step.closing, log, sheet: step.sheet, gives: step.gives, wanted, no }
     });
     List { name, entries: entries.to_vec(), records: records.to_vec(), calls: calls.into() }
 }
@@ -226,7 +266,52 @@ pub fn lists() -> Vec<List> {
         resume(4).with_record(2, 5, 1).refused(14),
         resume(4),
     ];
+    let no_record = [close(0), resume(0).refused(20), close(0), close(1).refused(21)];
+    let closed = [
+        resume(6).gives(&[0, 0, 0, 1, 1]).wanted(5).no(3, 2),
+        close(5).refused(13),
+        close(6).gives(&[0]).wanted(6).no(4, 5),
+        resume(6).refused(20),
+        resume(7).refused(20),
+        close(7).refused(21),
+        close(5).refused(13),
+        close(6),
+    ];
+    let one_by_one = [
+        resume(2),
+        close(3).sheet(1).gives_and_more(&[0]).wanted(1).no(1, 0),
+        close(3).sheet(1).gives_and_more(&[0]).wanted(2).no(2, 1),
+        close(3).sheet(1).gives(&[0]).wanted(3).no(3, 2),
+        close(3).sheet(1),
+    ];
+    let closed_without_a_sheet = [
+        close(3).sheet(0).gives_and_more(&[]),
+        resume(3).refused(20),
+        close(4).refused(21),
+        close(3).sheet(2).gives_and_more(&[0, 0]).wanted(2).no(2, 1),
+        close(3).gives(&[0]).wanted(3).no(3, 2),
+    ];
+    let p7 = records(&[(10, &[0]), (12, &[0]), (13, &[0]), (14, &[1])]);
+    let next = [Entry::letter(0), Entry::timed(NEXT, 0, 9)];
+    let last_is_said_once = [
+        close(3).sheet(2).gives_and_more(&[1, 0]).wanted(2).no(1, 1),
+        close(3).sheet(2).gives(&[0]).wanted(3).no(2, 2),
+        close(3),
+    ];
+    let next_records = records(&[(1, &[]), (2, &[0]), (3, &[])]);
+    let kept_for_previous = [
+        close(6).sheet(4).gives_and_more(&[0, 0, 0, 1]).wanted(1).no(3, 2),
+        close(6).with_record(1, 4, 0).refused(14),
+        close(6).sheet(1).gives_and_more(&[0]).wanted(2).no(4, 4),
+        close(6).sheet(1).gives(&[1]).wanted(3),
+    ];
     vec![
+        list("no record, closed", &p1, &seven, no_record),
+        list("closed for good", &p1, &seven, closed),
+        list("closed with sheets of one byte", &p1, &p7, one_by_one),
+        list("closed with a sheet of no bytes", &p1, &p7, closed_without_a_sheet),
+        list("next closed: its last position is answered once", &next, &next_records, last_is_said_once),
+        list("three times previous, closed", &thrice, &six, kept_for_previous),
         list("P1, then P2", &p1, &seven, p1_then_p2),
         list("P9, then a sheet of no bytes", &p1, &seven, no_room),
         list("an empty rule with short sheets", &[], &three, all_yes),

@@ -13,16 +13,26 @@ struct Reading {
     answered: usize,
 }
 
-/// The verdicts of a log: A of them, each the plain reading at its position; yes at all N for an empty rule.
+/// The verdicts of a log: A of them, each the plain reading at its position.
 pub fn verdicts(rule: &Rule, log: &[Record]) -> Vec<bool> {
+    let Reading { mut holds, answered } = of_rule(rule, log);
+    holds.truncate(answered);
+    holds
+}
+
+/// The verdicts of a log that is closed: the plain reading at all N positions.
+pub fn closed_verdicts(rule: &Rule, log: &[Record]) -> Vec<bool> {
+    of_rule(rule, log).holds
+}
+
+/// The rule's last entry; for an empty rule, yes at all N.
+fn of_rule(rule: &Rule, log: &[Record]) -> Reading {
     let mut stack: Vec<Reading> = Vec::new();
     for e in &rule.entries {
         let ops = stack.split_off(stack.len() - e.operands());
         stack.push(evaluate(e, ops, log));
     }
-    let Some(mut last) = stack.pop() else { return vec![true; log.len()] };
-    last.holds.truncate(last.answered);
-    last.holds
+    stack.pop().unwrap_or(Reading { holds: vec![true; log.len()], answered: log.len() })
 }
 
 fn evaluate(e: &Entry, mut ops: Vec<Reading>, log: &[Record]) -> Reading {

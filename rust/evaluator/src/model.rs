@@ -11,6 +11,8 @@ pub struct Point {
     pub sheet: Vec<u8>,
     pub seen: usize,
     pub last: u32,
+    /// The records at the first closing that was not refused.
+    pub closed: Option<usize>,
 }
 
 /// "The count of no among verdicts given and the position of the latest, or none."
@@ -20,7 +22,7 @@ pub struct Summary {
     pub latest: Option<u64>,
 }
 
-/// What an accepted carry on gives: its c verdicts, and whether there are more.
+/// What an accepted carry on or closing gives: its c verdicts, and whether there are more.
 #[derive(Clone, Debug, PartialEq, Eq)]
 pub struct Resumed {
     pub verdicts: Vec<u8>,
@@ -37,7 +39,7 @@ pub fn open(bytes: &[u8], lent_words: usize) -> Result<Point, u32> {
     if rule::parse(bytes)?.words > lent_words as u64 {
         return Err(9);
     }
-    Ok(Point { rule: bytes.to_vec(), sheet: Vec::new(), seen: 0, last: 0 })
+    Ok(Point { rule: bytes.to_vec(), sheet: Vec::new(), seen: 0, last: 0, closed: None })
 }
 
 /// Tally: the count of no and of yes.
@@ -82,12 +84,26 @@ impl Point {
         Ok(summed(&self.sheet))
     }
 
-    /// The rule and the records of a carry on that is not refused, else its refusal.
-    pub fn check(&self, bytes: &[u8], log: &[u8], lent_words: usize) -> Result<(Rule, Vec<Record>), u32> {
+    /// The rule and the records of a carry on or a closing that is not refused, else its refusal. "The order of checks is
+    /// carry on's. 20 when carry on is given a closed point, after 11; 21 when closing is repeated with more records than
+    /// at its first call that was not refused, after 13."
+    pub fn check(
+        &self,
+        closing: bool,
+        bytes: &[u8],
+        log: &[u8],
+        lent_words: usize,
+    ) -> Result<(Rule, Vec<Record>), u32> {
         let rule = self.check_rule(bytes, lent_words)?;
+        if !closing && self.closed.is_some() {
+            return Err(20);
+        }
         let records = log::parse(log)?;
         if records.len() < self.seen {
             return Err(13);
+        }
+        if closing && self.closed.is_some_and(|at_first| records.len() > at_first) {
+            return Err(21);
         }
         if self.time_falls(&rule, &records) {
             return Err(14);
@@ -108,16 +124,18 @@ impl Point {
         after_wanted || first_new
     }
 
-    /// Carry on. `verdicts` gives the verdicts of the untouched log as far as this call brings it.
-    pub fn resume(
+    /// Carry on, or a closing. `verdicts` gives the verdicts of the untouched log as far as this call brings it, closed
+    /// if this is a closing.
+    pub fn carry_on(
         &mut self,
+        closing: bool,
         bytes: &[u8],
         log: &[u8],
         lent_words: usize,
         sheet_length: usize,
         verdicts: impl FnOnce(&Rule, usize) -> Vec<bool>,
     ) -> Result<Resumed, u32> {
-        let (rule, records) = self.check(bytes, log, lent_words)?;
+        let (rule, records) = self.check(closing, bytes, log, lent_words)?;
         let all = verdicts(&rule, records.len());
         let d = self.given();
         let c = (all.len() - d).min(sheet_length);
@@ -127,6 +145,9 @@ impl Point {
             self.last = records[records.len() - 1].time;
         }
         self.seen = records.len();
+        if closing {
+            self.closed = Some(records.len());
+        }
         Ok(Resumed { verdicts: written, more: all.len() > d + c })
     }
 }

@@ -13,9 +13,21 @@ struct Reading {
     answered: usize,
 }
 
-/// The verdicts of a log: A of them, each the plain reading at its position. "A count of 0 now means that every
-/// position is yes: 16 words, reach 0, A equals N."
+/// The verdicts of a log: A of them, each the plain reading at its position.
 pub fn verdicts(rule: &Rule, log: &[Record]) -> Vec<bool> {
+    let Reading { mut holds, answered } = of_rule(rule, log);
+    holds.truncate(answered);
+    holds
+}
+
+/// The verdicts of a log that is closed: "every remaining position gets the plain reading's value on the log as it ends.
+/// A is then N."
+pub fn closed_verdicts(rule: &Rule, log: &[Record]) -> Vec<bool> {
+    of_rule(rule, log).holds
+}
+
+/// The rule's last entry. "A count of 0 now means that every position is yes: 16 words, reach 0, A equals N."
+fn of_rule(rule: &Rule, log: &[Record]) -> Reading {
     let mut all: Vec<Reading> = Vec::new();
     for (e, ops) in rule.entries.iter().zip(&rule.operands) {
         let ops: Vec<&Reading> = ops.iter().map(|&o| &all[o]).collect();
@@ -23,10 +35,7 @@ pub fn verdicts(rule: &Rule, log: &[Record]) -> Vec<bool> {
         let answered = answered(e, &ops, log);
         all.push(Reading { holds, answered });
     }
-    match all.pop() {
-        Some(last) => last.holds[..last.answered].to_vec(),
-        None => vec![true; log.len()],
-    }
+    all.pop().unwrap_or(Reading { holds: vec![true; log.len()], answered: log.len() })
 }
 
 /// The plain reading of an entry at position i, given its operands' readings.

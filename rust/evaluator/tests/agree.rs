@@ -2,9 +2,14 @@
 //! asks to be proved of the definitions holds of them.
 
 use evaluator::log::{self, Record};
+use evaluator::model::Point;
 use evaluator::random::{self, Random};
 use evaluator::rule::{self, Rule, NO_REACH};
 use evaluator::{linear, model, reading};
+
+fn as_bytes(verdicts: Vec<bool>) -> Vec<u8> {
+    verdicts.into_iter().map(u8::from).collect()
+}
 
 fn drawn(seed: u64, entries: usize, records: usize) -> (Rule, Vec<Record>) {
     let mut r = Random::new(seed);
@@ -20,6 +25,9 @@ fn plain_and_linear_readings_agree() {
         let (rule, log) = drawn(seed, 12, 40);
         let plain = reading::verdicts(&rule, &log);
         assert_eq!(plain, linear::verdicts(&rule, &log), "seed {seed}: {rule:?} {log:?}");
+        let closed = reading::closed_verdicts(&rule, &log);
+        assert_eq!(closed, linear::closed_verdicts(&rule, &log), "seed {seed}, closed: {rule:?} {log:?}");
+        assert!(closed.starts_with(&plain) && closed.len() == log.len(), "seed {seed}: {rule:?} {log:?}");
         verdicts += plain.len();
         yes += plain.iter().filter(|&&b| b).count();
     }
@@ -61,26 +69,30 @@ fn reach_bounds_the_wait() {
     println!("{checked} positions beyond the reach");
 }
 
-/// The model's list of calls gives, laid end to end, the verdicts of one run.
+/// The model's list of calls gives, laid end to end, the verdicts of one run; those of a closing, if closings end it.
 #[test]
 fn calls_laid_end_to_end_are_one_run() {
     for seed in 0..2_000 {
         let (rule, log) = drawn(seed, 8, 40);
         let mut r = Random::new(!seed);
         let bytes = rule::encode(&rule.entries);
-        let mut point = model::open(&bytes, rule.words as usize).unwrap();
-        let (mut n, mut written) = (0, Vec::new());
-        let mut more = true;
-        while more || n < log.len() {
+        let words = rule.words as usize;
+        let mut point = model::open(&bytes, words).unwrap();
+        let call = |point: &mut Point, closing: bool, n: usize, sheet: usize| {
+            let verdicts = if closing { reading::closed_verdicts } else { reading::verdicts };
+            let evaluate = |rule: &Rule, n: usize| verdicts(rule, &log[..n]);
+            point.carry_on(closing, &bytes, &log::encode(&log[..n]), words, sheet, evaluate).unwrap().more
+        };
+        // A list that does not catch up is closed as well.
+        let (mut n, mut more, catches_up) = (0, true, !r.one_in(3));
+        while n < log.len() || (more && catches_up) {
             n = r.from_to(n, log.len());
-            let sheet = r.below(6);
-            let evaluate = |rule: &Rule, n: usize| reading::verdicts(rule, &log[..n]);
-            let file = log::encode(&log[..n]);
-            let got = point.resume(&bytes, &file, rule.words as usize, sheet, evaluate).unwrap();
-            written.extend(got.verdicts);
-            more = got.more;
+            more = call(&mut point, false, n, r.below(6));
         }
-        let one_run: Vec<u8> = reading::verdicts(&rule, &log).iter().map(|&b| b as u8).collect();
-        assert_eq!(written, one_run, "seed {seed}: {rule:?} {log:?}");
+        let one_run = as_bytes(reading::verdicts(&rule, &log));
+        assert!(one_run.starts_with(&point.sheet), "seed {seed}: {rule:?} {log:?}");
+        assert!(!catches_up || one_run == point.sheet, "seed {seed}: {rule:?} {log:?}");
+        while call(&mut point, true, n, r.below(6)) {}
+        assert_eq!(point.sheet, as_bytes(reading::closed_verdicts(&rule, &log)), "seed {seed}: {rule:?} {log:?}");
     }
 }

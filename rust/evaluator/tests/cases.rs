@@ -19,6 +19,15 @@ fn worked_cases() {
 }
 
 #[test]
+fn closed_cases() {
+    for case in cases::closed() {
+        let rule = rule::parse(&rule::encode(&case.entries)).unwrap();
+        assert_eq!(as_bytes(reading::closed_verdicts(&rule, &case.records)), case.verdicts, "{}", case.name);
+        assert_eq!(as_bytes(linear::closed_verdicts(&rule, &case.records)), case.verdicts, "{}", case.name);
+    }
+}
+
+#[test]
 fn p1_bytes_words_and_reach() {
     let bytes = rule::encode(&cases::p1_entries());
     assert_eq!(bytes.len(), 38);
@@ -33,8 +42,9 @@ fn worked_lists() {
         let words = rule.words as usize;
         let mut point = model::open(&bytes, words).unwrap();
         for (at, call) in list.calls.iter().enumerate() {
-            let evaluate = |rule: &Rule, n: usize| reading::verdicts(rule, &list.records[..n]);
-            let got = point.resume(&bytes, &log::encode(&call.log), words, call.sheet, evaluate);
+            let verdicts = if call.closing { reading::closed_verdicts } else { reading::verdicts };
+            let evaluate = |rule: &Rule, n: usize| verdicts(rule, &list.records[..n]);
+            let got = point.carry_on(call.closing, &bytes, &log::encode(&call.log), words, call.sheet, evaluate);
             assert_eq!(got.map(|given| (given.verdicts, given.more)), call.gives, "{}, call {at}", list.name);
             assert_eq!(point.wanted(&rule), call.wanted, "{}, call {at}", list.name);
             let summary = point.summary(&bytes, words).unwrap();

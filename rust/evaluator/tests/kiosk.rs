@@ -80,9 +80,9 @@ fn run(name: &str, files: &Files) -> String {
 /// The run on the evaluator: open, then carry on with a sheet of 8,191 bytes; verdicts given and records.
 fn full_run(rule: &[u8], log: &[u8]) -> Result<(Vec<u8>, usize), u32> {
     let mut point = model::open(rule, POINT_WORDS)?;
-    let (_, records) = point.check(rule, log, POINT_WORDS)?;
+    let (_, records) = point.check(false, rule, log, POINT_WORDS)?;
     let verdicts = |rule: &rule::Rule, n: usize| linear::verdicts(rule, &records[..n]);
-    let resumed = point.resume(rule, log, POINT_WORDS, MOST_RECORDS, verdicts)?;
+    let resumed = point.carry_on(false, rule, log, POINT_WORDS, MOST_RECORDS, verdicts)?;
     Ok((resumed.verdicts, records.len()))
 }
 

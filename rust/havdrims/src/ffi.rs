@@ -31,6 +31,23 @@ extern "C" {
         more: *mut u64,
     ) -> u32;
 
+    /// A closing.
+    ///
+    /// # Safety
+    /// See [`havdrims_measure`].
+    pub fn havdrims_close(
+        rule: *const u8,
+        rule_len: usize,
+        log: *const u8,
+        log_len: usize,
+        point: *mut u64,
+        point_len: usize,
+        sheet: *mut u8,
+        sheet_len: usize,
+        given: *mut u64,
+        more: *mut u64,
+    ) -> u32;
+
     /// Counts of no and of yes.
     ///
     /// # Safety

@@ -6,11 +6,11 @@
 //! words that the caller lends and keeps. A record that has its verdict is not read again, but for the last few where
 //! the rule looks back with previous, so the kiosk may overwrite it.
 //!
-//! The calls: [`measure`] (weigh), [`open`], [`resume`] (carry on), [`summary`] and [`tally`]; [`parse`], which writes a
-//! rule that is typed as text; and [`worst_log`] and [`simulate`], which write logs to try a kiosk or its settings with.
-//! Each yields its result or one [`Refusal`], and a refused call changes nothing. The checker is proved; this crate only
-//! hands slices on to it. Nothing here allocates, and a thread with [`MOST_STACK`] bytes of stack can make every call
-//! but `parse`, which takes [`PARSE_STACK`].
+//! The calls: [`measure`] (weigh), [`open`], [`resume`] (carry on), [`close`] at the month's end, [`summary`] and
+//! [`tally`]; [`parse`], which writes a rule that is typed as text; and [`worst_log`] and [`simulate`], which write logs
+//! to try a kiosk or its settings with. Each yields its result or one [`Refusal`], and a refused call changes nothing.
+//! The checker is proved; this crate only hands slices on to it. Nothing here allocates, and a thread with
+//! [`MOST_STACK`] bytes of stack can make every call but `parse`, which takes [`PARSE_STACK`].
 //!
 //! # Example
 //!
@@ -74,7 +74,7 @@ pub struct Needs {
     pub reach: Option<u32>,
 }
 
-/// What an accepted [`resume`] gave.
+/// What an accepted [`resume`] or [`close`] gave.
 #[derive(Clone, Copy, Debug, PartialEq, Eq)]
 pub struct Resumed {
     /// The verdicts written, from the sheet's first byte on.
@@ -120,13 +120,68 @@ pub fn open(rule: &[u8], checkpoint: &mut [u64]) -> Result<(), Refusal> {
 ///
 /// The log is the whole log from its header on; records before the first still wanted may have been overwritten with
 /// any bytes. That record is the number of verdicts given with this checkpoint so far, less k, or 0 where it is below k,
-/// k being the largest number of previous entries on a path from the rule's last entry to a letter. Refusals: 1 to 14.
+/// k being the largest number of previous entries on a path from the rule's last entry to a letter. Refusals: 1 to 11,
+/// then 20 if the checkpoint is closed, then 12 to 14.
 pub fn resume(rule: &[u8], log: &[u8], checkpoint: &mut [u64], sheet: &mut [u8]) -> Result<Resumed, Refusal> {
+    carry_on(ffi::havdrims_resume, rule, log, checkpoint, sheet)
+}
+
+/// Says that no record will follow: every remaining position gets its verdict on the log as it ends. It writes and
+/// answers as [`resume`] does, and is called again where the sheet had no room for all; records before the first still
+/// wanted may be overwritten between. From the first accepted call on, an empty sheet included, the checkpoint is closed:
+/// `resume` is refused with 20, and a closing that brings further records with 21.
+///
+/// ```
+/// use havdrims::{close, measure, open, parse, resume, Refusal, MOST_RULE};
+///
+/// # fn main() -> Result<(), Refusal> {
+/// let mut buffer = [0; MOST_RULE];
+/// let size = parse(b"e0 until[0,2] e1", &mut buffer)?;
+/// let rule = &buffer[..size];
+/// let mut checkpoint = vec![0; measure(rule)?.words];
+/// open(rule, &mut checkpoint)?;
+///
+/// let log = b"KLG\x00\x01\x00\x00\x00\x00\x00\x00\x0A\x00\x00\x00\x01"; // second 10: letter 0
+/// let mut sheet = [7; 4];
+/// assert_eq!(resume(rule, log, &mut checkpoint, &mut sheet)?.verdicts, 0); // open: letter 1 may still come
+/// assert_eq!(close(rule, log, &mut checkpoint, &mut sheet)?.verdicts, 1);
+/// assert_eq!(sheet, [0, 7, 7, 7]); // no: it never came
+/// assert_eq!(resume(rule, log, &mut checkpoint, &mut sheet), Err(Refusal::PointClosed));
+/// # Ok(())
+/// # }
+/// ```
+///
+/// Refusals: 1 to 13, then 21, then 14.
+pub fn close(rule: &[u8], log: &[u8], checkpoint: &mut [u64], sheet: &mut [u8]) -> Result<Resumed, Refusal> {
+    carry_on(ffi::havdrims_close, rule, log, checkpoint, sheet)
+}
+
+/// The parameters that resume and close share.
+type CarryOn = unsafe extern "C" fn(
+    *const u8,
+    usize,
+    *const u8,
+    usize,
+    *mut u64,
+    usize,
+    *mut u8,
+    usize,
+    *mut u64,
+    *mut u64,
+) -> u32;
+
+fn carry_on(
+    call: CarryOn,
+    rule: &[u8],
+    log: &[u8],
+    checkpoint: &mut [u64],
+    sheet: &mut [u8],
+) -> Result<Resumed, Refusal> {
     let (mut given, mut more) = (0, 0);
     // SAFETY: the pointers and lengths are those of four slices and of two numbers. What is written to is borrowed
     // for this call alone, so nothing overlaps.
     let number = unsafe {
-        ffi::havdrims_resume(
+        call(
             rule.as_ptr(),
             rule.len(),
             log.as_ptr(),

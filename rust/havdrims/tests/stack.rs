@@ -5,7 +5,7 @@ use evaluator::log;
 use evaluator::random::{self, LogShape, Random};
 use evaluator::rule::{self, Entry, NEXT, NO_END, PREVIOUS, SINCE, UNTIL};
 use evaluator::{cases, model, reading, typed};
-use havdrims::{measure, open, parse, resume, simulate, summary, tally, worst_log};
+use havdrims::{close, measure, open, parse, resume, simulate, summary, tally, worst_log};
 use havdrims::{Refusal, Resumed, Settings, Summary, Tally, MOST_RULE, MOST_STACK, PARSE_STACK};
 use std::ffi::{c_int, c_long, c_void};
 use std::io::Write;
@@ -128,7 +128,7 @@ fn every_call_on_a_small_stack() {
     let mut records = random::log(&mut Random::new(1), shape);
     records.last_mut().unwrap().time += 9_000;
     let file = log::encode(&records);
-    let mut most = [0; 5];
+    let mut most = [0; 6];
     for entries in rules() {
         let bytes = rule::encode(&entries);
         let (needs, measuring) = on_small_stack(|| measure(&bytes));
@@ -137,12 +137,15 @@ fn every_call_on_a_small_stack() {
         let mut point = vec![0; words];
         let (opened, opening) = on_small_stack(|| open(&bytes, &mut point));
         opened.unwrap();
-        let verdicts: Vec<u8> =
-            reading::verdicts(&rule::parse(&bytes).unwrap(), &records).iter().map(|&b| b as u8).collect();
+        let rule = rule::parse(&bytes).unwrap();
+        let settled = reading::verdicts(&rule, &records).len();
+        let verdicts: Vec<u8> = reading::closed_verdicts(&rule, &records).iter().map(|&b| b as u8).collect();
         let mut sheet = vec![7; records.len()];
         let (resumed, resuming) = on_small_stack(|| resume(&bytes, &file, &mut point, &mut sheet));
-        assert_eq!(resumed, Ok(Resumed { verdicts: verdicts.len(), more: false }));
-        assert_eq!(sheet[..verdicts.len()], verdicts);
+        assert_eq!(resumed, Ok(Resumed { verdicts: settled, more: false }));
+        let (closed, closing) = on_small_stack(|| close(&bytes, &file, &mut point, &mut sheet[settled..]));
+        assert_eq!(closed, Ok(Resumed { verdicts: verdicts.len() - settled, more: false }));
+        assert_eq!(sheet, verdicts);
         let (counts, tallying) = on_small_stack(|| tally(&verdicts));
         let yes = verdicts.iter().filter(|&&b| b == 1).count() as u64;
         let no = verdicts.len() as u64 - yes;
@@ -150,7 +153,7 @@ fn every_call_on_a_small_stack() {
         let latest = verdicts.iter().rposition(|&b| b == 0).map(|at| at as u64);
         let (summed, summing) = on_small_stack(|| summary(&bytes, &point));
         assert_eq!(summed, Ok(Summary { no, latest }));
-        for (most, now) in most.iter_mut().zip([measuring, opening, resuming, summing, tallying]) {
+        for (most, now) in most.iter_mut().zip([measuring, opening, resuming, closing, summing, tallying]) {
             *most = now.max(*most);
         }
     }
@@ -158,15 +161,15 @@ fn every_call_on_a_small_stack() {
     let mut made = vec![7; 8 + 8 * 3600];
     let (simulated, simulating) = on_small_stack(|| simulate(&settings, 3600, 1, &mut made));
     assert_eq!(simulated.map(|given| given.written), Ok(made.len()));
-    let [measuring, opening, resuming, summing, tallying] = most;
+    let [measuring, opening, resuming, closing, summing, tallying] = most;
     let mut made = vec![0; 8 + 8 * 5000];
     let (length, making) = on_small_stack(|| worst_log(0, 3600, 5000, &mut made));
     assert_eq!(length, Ok(made.len()));
     // Past the test harness, which would hold back what a passing test prints.
     let _ = writeln!(
         std::io::stderr(),
-        "most bytes of stack: measure {measuring}, open {opening}, resume {resuming}, summary {summing}, \
-         tally {tallying}, worst_log {making}, simulate {simulating}"
+        "most bytes of stack: measure {measuring}, open {opening}, resume {resuming}, close {closing}, \
+         summary {summing}, tally {tallying}, worst_log {making}, simulate {simulating}"
     );
     assert!(resuming > PAGE, "the stack was not measured");
     let header = include_str!("../../../include/havdrims.h");

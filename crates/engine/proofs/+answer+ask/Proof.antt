@@ -28,10 +28,10 @@ use Rattle.engine.proofs.+answer+ask.{statement}
 use Rattle.engine.proofs.+answer+ask.Tie.{close}
 
 abbrev μ-answer : Measures 3 answer-kinds.ps ℕ
-μ-answer κs a = a .1 .1 .0 * 2 + 1
+μ-answer κs a = a .1 .1 .1 .0 * 2 + 1
 
 abbrev μ-ask : Measures 3 ask-kinds.ps ℕ
-μ-ask κs a = a .1 .1 .0 * 2 + 2
+μ-ask κs a = a .1 .1 .1 .0 * 2 + 2
 
 abbrev answer-at : ℕ → In 3 answer-kinds.ps
 answer-at t = and 3 answer-kinds.ps (is 3 answer-kinds.ps μ-answer t) answer.Pre
@@ -46,11 +46,11 @@ abbrev ask-below : ℕ → In 3 ask-kinds.ps
 ask-below t = and 3 ask-kinds.ps (falls 3 ask-kinds.ps _<_ μ-ask t) ask.Pre
 
 abbrev answer-Inv-loop : answer-lts.InvT-loop
-answer-Inv-loop table records k words₀ kind letter low high left middle own end words =
-    (length words ≡ length words₀) × Stands table records k words₀ words
+answer-Inv-loop table records closed k words₀ kind letter low high left middle own end words =
+    (length words ≡ length words₀) × Stands table records closed k words₀ words
 
 abbrev answer-μ-loop : answer-lts.MeasureT-loop
-answer-μ-loop table records k words₀ kind letter low high left middle own end words =
+answer-μ-loop table records closed k words₀ kind letter low high left middle own end words =
     left-to-do records (drop own words)
 
 -- the row, once it is read
@@ -89,6 +89,7 @@ answer-turn : (t : ℕ) (c : answer-lts.After-slice-known2 (field-reads.Asked, f
     Turn
     (s .table .now)
     (s .records .now)
+    (s .closed)
     (s .k)
     (d .before .before .field5 .result)
     (d .before .field6 .result)
@@ -97,7 +98,7 @@ answer-turn : (t : ℕ) (c : answer-lts.After-slice-known2 (field-reads.Asked, f
     (s .words .now)
     (c .before .before .before .before .loop .words)
     (c .before .before .advance .result)
-    (c .before .before .advance .last .1 .1 .1 .1 .1 .0)
+    (c .before .before .advance .last .1 .1 .1 .1 .1 .1 .0)
 answer-turn t c =
     let l = c .before .before .before .before .loop in
     let a = c .before .before .advance in
@@ -105,15 +106,16 @@ answer-turn t c =
     turn-of
     (answer-reading t (c .before .before .before .before .before))
     (s .records .now)
+    (s .closed)
     (s .words .now)
     (l .words)
     (a .result)
-    (a .last .1 .1 .1 .1 .1 .0)
+    (a .last .1 .1 .1 .1 .1 .1 .0)
     (l .inv .0)
     (l .inv .1)
     (a .ensures .0)
     (a .ensures .1)
-    (a .kept .1 .1 .1 .1 .1 .0)
+    (a .kept .1 .1 .1 .1 .1 .1 .0)
 
 pub +answer+ask-spec : {M : Type 1} → statement M
 +answer+ask-spec =
@@ -136,7 +138,7 @@ pub +answer+ask-spec : {M : Type 1} → statement M
     (λ c κs. search needs)
     (λ c κs. search needs)
     (λ c. omega (arith, bound (answer-reading t c), room (answer-reading t c)))
-    (λ c. (refl, stands-first _ _ _ _))
+    (λ c. (refl, stands-first _ _ _ _ _))
     -- a step
     (λ c. omega (arith, bound (answer-reading t (c .before)), room (answer-reading t (c .before))))
     (λ c. omega (arith, bound (answer-reading t (c .before)), room (answer-reading t (c .before))))
@@ -164,10 +166,10 @@ pub +answer+ask-spec : {M : Type 1} → statement M
     let less : d .before .before .field5 .result * 2 + 2 < t = omega (arith, m .0, d .before .before .before .before .before .before .before .before .before .pre .0) in
     let fits = room (answer-reading t d) in
     (less, (m .1, m .2, m .3, omega arith, omega (arith, c .before .before .before .before .words .given .1, c .before .before .before .before .before .before .before .loop .inv .0))))
-    (λ c. c .before .before .before .ask .kept .1 .1 .1 .1 .1 .1 .0 ∙ c .before .before .before .before .before .before .before .before .words .given .1 ∙ c .before .before .before .before .before .before .before .before .before .before .before .loop .inv .0)
-    (λ c. open-asked on-left (told (c .before .before .before .before .before .enum-told3 .given .1) (answer-turn t (c .before .before .before .before .before .before .before))) (c .before .before .before .ask .result) (c .before .before .before .ask .last .1 .1 .1 .1 .1 .1 .0) (c .if1 .taken) (c .before .before .before .ask .ensures))
-    (λ c. filled-less on-left (told (c .before .before .before .before .before .enum-told3 .given .1) (answer-turn t (c .before .before .before .before .before .before .before))) (c .before .before .before .ask .result) (c .before .before .before .ask .last .1 .1 .1 .1 .1 .1 .0) (c .if1 .left) (c .before .before .before .ask .ensures))
-    (λ c. (c .before .before .before .ask .kept .1 .1 .1 .1 .1 .1 .0 ∙ c .before .before .before .before .before .before .before .before .words .given .1 ∙ c .before .before .before .before .before .before .before .before .before .before .before .loop .inv .0, filled on-left (told (c .before .before .before .before .before .enum-told3 .given .1) (answer-turn t (c .before .before .before .before .before .before .before))) (c .before .before .before .ask .result) (c .before .before .before .ask .last .1 .1 .1 .1 .1 .1 .0) (c .if1 .left) (c .before .before .before .ask .ensures)))
+    (λ c. c .before .before .before .ask .kept .1 .1 .1 .1 .1 .1 .1 .0 ∙ c .before .before .before .before .before .before .before .before .words .given .1 ∙ c .before .before .before .before .before .before .before .before .before .before .before .loop .inv .0)
+    (λ c. open-asked on-left (told (c .before .before .before .before .before .enum-told3 .given .1) (answer-turn t (c .before .before .before .before .before .before .before))) (c .before .before .before .ask .result) (c .before .before .before .ask .last .1 .1 .1 .1 .1 .1 .1 .0) (c .if1 .taken) (c .before .before .before .ask .ensures))
+    (λ c. filled-less on-left (told (c .before .before .before .before .before .enum-told3 .given .1) (answer-turn t (c .before .before .before .before .before .before .before))) (c .before .before .before .ask .result) (c .before .before .before .ask .last .1 .1 .1 .1 .1 .1 .1 .0) (c .if1 .left) (c .before .before .before .ask .ensures))
+    (λ c. (c .before .before .before .ask .kept .1 .1 .1 .1 .1 .1 .1 .0 ∙ c .before .before .before .before .before .before .before .before .words .given .1 ∙ c .before .before .before .before .before .before .before .before .before .before .before .loop .inv .0, filled on-left (told (c .before .before .before .before .before .enum-told3 .given .1) (answer-turn t (c .before .before .before .before .before .before .before))) (c .before .before .before .ask .result) (c .before .before .before .ask .last .1 .1 .1 .1 .1 .1 .1 .0) (c .if1 .left) (c .before .before .before .ask .ensures)))
     -- or the right one
     (λ c. search needs)
     (λ c. omega (arith, may-ask (answer-reading t (c .before .before .before .before .before .before .before)) on-right (taking on-right (told (c .enum-told4 .given .1) (answer-turn t (c .before .before)))) .0))
@@ -178,10 +180,10 @@ pub +answer+ask-spec : {M : Type 1} → statement M
     let less : (d .before .before .before .before .before .before .before .before .before .args .k - 1) * 2 + 2 < t = omega (arith, m .0, d .before .before .before .before .before .before .before .before .before .pre .0) in
     let fits = room (answer-reading t d) in
     (less, (m .1, m .2, m .3, omega arith, omega (arith, c .before .before .before .before .words .given .1, c .before .before .before .before .before .before .before .loop .inv .0))))
-    (λ c. c .before .before .before .ask2 .kept .1 .1 .1 .1 .1 .1 .0 ∙ c .before .before .before .before .before .before .before .before .words .given .1 ∙ c .before .before .before .before .before .before .before .before .before .before .before .loop .inv .0)
-    (λ c. open-asked on-right (told (c .before .before .before .before .before .enum-told4 .given .1) (answer-turn t (c .before .before .before .before .before .before .before))) (c .before .before .before .ask2 .result) (c .before .before .before .ask2 .last .1 .1 .1 .1 .1 .1 .0) (c .if2 .taken) (c .before .before .before .ask2 .ensures))
-    (λ c. filled-less on-right (told (c .before .before .before .before .before .enum-told4 .given .1) (answer-turn t (c .before .before .before .before .before .before .before))) (c .before .before .before .ask2 .result) (c .before .before .before .ask2 .last .1 .1 .1 .1 .1 .1 .0) (c .if2 .left) (c .before .before .before .ask2 .ensures))
-    (λ c. (c .before .before .before .ask2 .kept .1 .1 .1 .1 .1 .1 .0 ∙ c .before .before .before .before .before .before .before .before .words .given .1 ∙ c .before .before .before .before .before .before .before .before .before .before .before .loop .inv .0, filled on-right (told (c .before .before .before .before .before .enum-told4 .given .1) (answer-turn t (c .before .before .before .before .before .before .before))) (c .before .before .before .ask2 .result) (c .before .before .before .ask2 .last .1 .1 .1 .1 .1 .1 .0) (c .if2 .left) (c .before .before .before .ask2 .ensures))))
+    (λ c. c .before .before .before .ask2 .kept .1 .1 .1 .1 .1 .1 .1 .0 ∙ c .before .before .before .before .before .before .before .before .words .given .1 ∙ c .before .before .before .before .before .before .before .before .before .before .before .loop .inv .0)
+    (λ c. open-asked on-right (told (c .before .before .before .before .before .enum-told4 .given .1) (answer-turn t (c .before .before .before .before .before .before .before))) (c .before .before .before .ask2 .result) (c .before .before .before .ask2 .last .1 .1 .1 .1 .1 .1 .1 .0) (c .if2 .taken) (c .before .before .before .ask2 .ensures))
+    (λ c. filled-less on-right (told (c .before .before .before .before .before .enum-told4 .given .1) (answer-turn t (c .before .before .before .before .before .before .before))) (c .before .before .before .ask2 .result) (c .before .before .before .ask2 .last .1 .1 .1 .1 .1 .1 .1 .0) (c .if2 .left) (c .before .before .before .ask2 .ensures))
+    (λ c. (c .before .before .before .ask2 .kept .1 .1 .1 .1 .1 .1 .1 .0 ∙ c .before .before .before .before .before .before .before .before .words .given .1 ∙ c .before .before .before .before .before .before .before .before .before .before .before .loop .inv .0, filled on-right (told (c .before .before .before .before .before .enum-told4 .given .1) (answer-turn t (c .before .before .before .before .before .before .before))) (c .before .before .before .ask2 .result) (c .before .before .before .ask2 .last .1 .1 .1 .1 .1 .1 .1 .0) (c .if2 .left) (c .before .before .before .ask2 .ensures))))
     (λ t.
     ask-lts.spec
     (answer-below t, answer.Post, store-reads.Asked, store-reads.Learnt)
@@ -211,16 +213,17 @@ pub +answer+ask-spec : {M : Type 1} → statement M
     asked-open
     (a .table .now)
     (a .records .now)
+    (a .closed)
     (a .operand)
     (a .from)
     (a .to)
     (a .slot)
     (a .words .now)
-    (y .last .1 .1 .1 .0)
+    (y .last .1 .1 .1 .1 .0)
     (omega (arith, s .pre .1))
     (omega (arith, s .pre .1))
-    (y .kept .1 .1 .1 .0)
-    (subst (λ (r : Reply). Answers (a .table .now) (a .records .now) (a .operand) (part (a .from) (a .to) (a .words .now)) r (y .last .1 .1 .1 .0)) (c .enum-told .given .1) (y .ensures)))
+    (y .kept .1 .1 .1 .1 .0)
+    (subst (λ (r : Reply). Answers (a .table .now) (a .records .now) (a .closed) (a .operand) (part (a .from) (a .to) (a .words .now)) r (y .last .1 .1 .1 .1 .0)) (c .enum-told .given .1) (y .ensures)))
     (λ c. c .before .before .before .before .before .words .given .1)
     (λ c.
     let s = c .before .before .before .before .before .before .before .before .before .before in
@@ -229,16 +232,17 @@ pub +answer+ask-spec : {M : Type 1} → statement M
     asked-none
     (a .table .now)
     (a .records .now)
+    (a .closed)
     (a .operand)
     (a .from)
     (a .to)
     (a .slot)
     (a .words .now)
-    (y .last .1 .1 .1 .0)
+    (y .last .1 .1 .1 .1 .0)
     (omega (arith, s .pre .1))
     (omega (arith, s .pre .1))
-    (y .kept .1 .1 .1 .0)
-    (c .before .before .reply .given .0 .0) (c .before .before .reply .given .0 .1 .0) (c .if1 .taken) (subst (λ (r : Reply). Answers (a .table .now) (a .records .now) (a .operand) (part (a .from) (a .to) (a .words .now)) r (y .last .1 .1 .1 .0)) (c .before .before .reply .given .1) (y .ensures)))
+    (y .kept .1 .1 .1 .1 .0)
+    (c .before .before .reply .given .0 .0) (c .before .before .reply .given .0 .1 .0) (c .if1 .taken) (subst (λ (r : Reply). Answers (a .table .now) (a .records .now) (a .closed) (a .operand) (part (a .from) (a .to) (a .words .now)) r (y .last .1 .1 .1 .1 .0)) (c .before .before .reply .given .1) (y .ensures)))
     (λ c κs. omega (arith, c .before .before .before .before .before .before .before .before .before .before .before .pre .1, c .before .before .before .before .before .before .words .given .1))
     (λ c. c .before .before .store .kept .0 ∙ c .before .before .before .before .before .before .before .before .before .words .given .1)
     (λ c.
@@ -248,13 +252,14 @@ pub +answer+ask-spec : {M : Type 1} → statement M
     asked-batch
     (a .table .now)
     (a .records .now)
+    (a .closed)
     (a .operand)
     (a .from)
     (a .to)
     (a .slot)
     (a .words .now)
-    (y .last .1 .1 .1 .0)
+    (y .last .1 .1 .1 .1 .0)
     (omega (arith, s .pre .1))
     (omega (arith, s .pre .1))
-    (y .kept .1 .1 .1 .0)
-    (c .before .before .before .before .before .before .reply .given .0 .0) (c .before .before .before .before .before .before .reply .given .0 .1 .0) (c .before .before .before .before .if1 .left) (subst (λ (r : Reply). Answers (a .table .now) (a .records .now) (a .operand) (part (a .from) (a .to) (a .words .now)) r (y .last .1 .1 .1 .0)) (c .before .before .before .before .before .before .reply .given .1) (y .ensures)) (c .before .before .store .last .0) (c .before .before .store .ensures)))
+    (y .kept .1 .1 .1 .1 .0)
+    (c .before .before .before .before .before .before .reply .given .0 .0) (c .before .before .before .before .before .before .reply .given .0 .1 .0) (c .before .before .before .before .if1 .left) (subst (λ (r : Reply). Answers (a .table .now) (a .records .now) (a .closed) (a .operand) (part (a .from) (a .to) (a .words .now)) r (y .last .1 .1 .1 .1 .0)) (c .before .before .before .before .before .before .reply .given .1) (y .ensures)) (c .before .before .store .last .0) (c .before .before .store .ensures)))

@@ -1,4 +1,5 @@
 -- `havdrims::havdrims_resume` meets its contract: each outcome of `resume` by one law.
+use mathlib.Core.Bool.{false}
 use borrow.Author.Needs.{needs}
 use Rattle.havdrims.proofs.Outcomes.{not-resumed, is-resumed}
 use Rattle.havdrims.proofs.havdrims_resume.Statement.{statement}
@@ -28,6 +29,7 @@ returns c =
     let o = c .before .before .before .before .before .before .before .resume in
     let n = c .before .enum-told .given in
     not-resumed
+    false
     (a .rule .now)
     (a .log .now)
     (a .point .now)
@@ -58,6 +60,7 @@ returns-2 c =
     let o = c .before .before .before .before .before .before .before .resume in
     let n = c .before .resumed .given in
     is-resumed
+    false
     (a .rule .now)
     (a .log .now)
     (a .point .now)

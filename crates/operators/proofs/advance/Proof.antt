@@ -45,7 +45,7 @@ returns c =
     let step = c .before .before .step-letter in
     let kind = c .before .before .before .before .match .keys1 in (
       rw kind (step .ensures .0),
-      λ φ f. steps-of φ 0 (start .args .records .now) (start .args .block .now) (step .result) (step .last .1 .1 .0) kind f (step .ensures .1),
+      λ φ f. steps-of (start .args .closed) φ 0 (start .args .records .now) (start .args .block .now) (step .result) (step .last .1 .1 .0) kind f (step .ensures .1 (start .args .closed)),
     )
 
 same-length-2 : tie.Need-same-length-2
@@ -57,7 +57,7 @@ returns-2 c =
     let step = c .before .before .step-not in
     let kind = c .before .before .before .before .match .keys2 in (
       rw kind (step .ensures .0),
-      λ φ f. steps-of φ 1 (start .args .records .now) (start .args .block .now) (step .result) (step .last .1 .0) kind f (step .ensures .1 (right-of φ)),
+      λ φ f. steps-of (start .args .closed) φ 1 (start .args .records .now) (start .args .block .now) (step .result) (step .last .1 .0) kind f (step .ensures .1 (start .args .closed) (right-of φ)),
     )
 
 same-length-3 : tie.Need-same-length-3
@@ -69,7 +69,7 @@ returns-3 c =
     let step = c .before .before .step-or in
     let kind = c .before .before .before .before .match .keys3 in (
       rw kind (step .ensures .0),
-      λ φ f. steps-of φ 2 (start .args .records .now) (start .args .block .now) (step .result) (step .last .1 .0) kind f (step .ensures .1 (left-of φ) (right-of φ)),
+      λ φ f. steps-of (start .args .closed) φ 2 (start .args .records .now) (start .args .block .now) (step .result) (step .last .1 .0) kind f (step .ensures .1 (start .args .closed) (left-of φ) (right-of φ)),
     )
 
 same-length-4 : tie.Need-same-length-4
@@ -81,7 +81,7 @@ returns-4 c =
     let step = c .before .before .step-previous in
     let kind = c .before .before .before .before .match .keys4 in (
       rw kind (step .ensures .0),
-      λ φ f. steps-of φ 3 (start .args .records .now) (start .args .block .now) (step .result) (step .last .1 .1 .1 .0) kind f (step .ensures .1 (right-of φ)),
+      λ φ f. steps-of (start .args .closed) φ 3 (start .args .records .now) (start .args .block .now) (step .result) (step .last .1 .1 .1 .0) kind f (step .ensures .1 (start .args .closed) (right-of φ)),
     )
 
 same-length-5 : tie.Need-same-length-5
@@ -93,7 +93,7 @@ returns-5 c =
     let step = c .before .before .step-next in
     let kind = c .before .before .before .before .match .keys5 in (
       rw kind (step .ensures .0),
-      λ φ f. steps-of φ 4 (start .args .records .now) (start .args .block .now) (step .result) (step .last .1 .1 .1 .0) kind f (step .ensures .1 (right-of φ)),
+      λ φ f. steps-of (start .args .closed) φ 4 (start .args .records .now) (start .args .block .now) (step .result) (step .last .1 .1 .1 .1 .0) kind f (step .ensures .1 (right-of φ)),
     )
 
 same-length-6 : tie.Need-same-length-6
@@ -105,7 +105,7 @@ returns-6 c =
     let step = c .before .before .step-since in
     let kind = c .before .before .before .before .match .keys6 in (
       rw kind (step .ensures .0),
-      λ φ f. steps-of φ 5 (start .args .records .now) (start .args .block .now) (step .result) (step .last .1 .1 .1 .0) kind f (step .ensures .1 (left-of φ) (right-of φ)),
+      λ φ f. steps-of (start .args .closed) φ 5 (start .args .records .now) (start .args .block .now) (step .result) (step .last .1 .1 .1 .0) kind f (step .ensures .1 (start .args .closed) (left-of φ) (right-of φ)),
     )
 
 same-length-7 : tie.Need-same-length-7
@@ -117,7 +117,7 @@ returns-7 c =
     let step = c .before .before .step-until in
     let kind : start .args .kind ≡ 6 = omega arith in (
       rw kind (step .ensures .0),
-      λ φ f. steps-of φ 6 (start .args .records .now) (start .args .block .now) (step .result) (step .last .1 .1 .1 .0) kind f (step .ensures .1 (left-of φ) (right-of φ)),
+      λ φ f. steps-of (start .args .closed) φ 6 (start .args .records .now) (start .args .block .now) (step .result) (step .last .1 .1 .1 .1 .0) kind f (step .ensures .1 (left-of φ) (right-of φ)),
     )
 
 pub advance-spec : {M : Type 1} → statement M

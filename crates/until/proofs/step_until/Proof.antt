@@ -21,7 +21,7 @@ use Rattle.until.proofs.step_until.Tie as tie
 -- what is known after the walk
 went : (c : tie.After-walk) →
     let a = c .before .before .before .before .before .before .before .before .before .before .before .before .before .before .before .before .args in
-    Went (a .low) (a .high) (a .records .now) (a .block .now) (c .before .before .before .before .before .before .before .available .result) (c .walk .result)
+    Went (a .low) (a .high) (a .records .now) (a .closed) (a .block .now) (c .before .before .before .before .before .before .before .available .result) (c .walk .result)
 went c =
     let k = c .before .before .before .before .before .before .before in
     record {

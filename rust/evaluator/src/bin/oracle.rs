@@ -7,6 +7,7 @@
 //! postfix ENTRY..      the same, typed          words W reach R, or refused N
 //! log HEX              the verdicts of a log    A and A digits, 1 for yes, 0 for no; or refused N (1 to 8, 12, 14)
 //! records RECORD..     the same, typed          as for log
+//! close                the last log, closed     as for log: N and N digits
 //! tally HEX            a sheet                  no N yes Y, or refused 15
 //! bytes                                         the rule's bytes and the last log's in hexadecimal
 //! ```
@@ -86,12 +87,17 @@ fn measured(rule: &[u8]) -> String {
     }
 }
 
-fn judged(rule: &[u8], log: &[u8]) -> String {
-    match model::open(rule, 8192).and_then(|fresh| fresh.check(rule, log, 8192)) {
+fn judged(closing: bool, rule: &[u8], log: &[u8]) -> String {
+    match model::open(rule, 8192).and_then(|fresh| fresh.check(closing, rule, log, 8192)) {
         Err(n) => format!("refused {n}"),
         Ok((rule, records)) => {
-            let plain = records.len() <= PLAIN_RECORDS;
-            let all = if plain { reading::verdicts(&rule, &records) } else { linear::verdicts(&rule, &records) };
+            let evaluate = match (closing, records.len() <= PLAIN_RECORDS) {
+                (false, true) => reading::verdicts,
+                (false, false) => linear::verdicts,
+                (true, true) => reading::closed_verdicts,
+                (true, false) => linear::closed_verdicts,
+            };
+            let all = evaluate(&rule, &records);
             let digits: String = all.iter().map(|&b| if b { '1' } else { '0' }).collect();
             format!("{} {digits}", all.len()).trim_end().to_string()
         }
@@ -113,12 +119,13 @@ fn answer(line: &str, rule: &mut Vec<u8>, log: &mut Vec<u8>) -> Result<String, S
         "postfix" => *rule = rule::encode(&words().map(entry).collect::<Result<Vec<_>, _>>()?),
         "log" => *log = unhex(rest.trim())?,
         "records" => *log = log::encode(&words().map(record).collect::<Result<Vec<_>, _>>()?),
+        "close" => return Ok(judged(true, rule, log)),
         "tally" => return Ok(tallied(&unhex(rest.trim())?)),
         "bytes" => return Ok(format!("{} {}", hex(rule), hex(log))),
         _ => return Err(format!("unknown command {command}")),
     }
     let of_rule = command == "rule" || command == "postfix";
-    Ok(if of_rule { measured(rule) } else { judged(rule, log) })
+    Ok(if of_rule { measured(rule) } else { judged(false, rule, log) })
 }
 
 fn main() -> io::Result<()> {

@@ -81,7 +81,7 @@ pub struct Checkpoint {
     lent: Lent,
 }
 
-/// What an accepted carry on gave.
+/// What an accepted carry on or closing gave.
 #[derive(Debug, PartialEq)]
 pub struct Given {
     pub verdicts: Vec<u8>,
@@ -142,16 +142,16 @@ impl Checkpoint {
         Ok(Summary { no, latest: (latest != u64::MAX).then_some(latest) })
     }
 
-    /// havdrims_resume on a guarded copy of the log.
+    /// havdrims_resume or havdrims_close on a guarded copy of the log.
     pub fn resume(&mut self, call: &Call, log: &[u8], sheet: &[u8]) -> Result<Given, u32> {
         let mut copy = lent(log, call.side);
         copy.read_only_if(read_only_turn());
         let given = self.resume_in_place(call, &mut copy, sheet);
-        assert_eq!(copy.bytes(), log, "resume changed the log");
+        assert_eq!(copy.bytes(), log, "the call changed the log");
         given
     }
 
-    /// havdrims_resume, lending the first `words` words. Whatever the point and the log hold: a refusal changes
+    /// The same on this log, lending the first `words` words. Whatever the point and the log hold: a refusal changes
     /// nothing; an accepted call keeps the words behind the need and the sheet behind its verdicts.
     pub fn resume_in_place(&mut self, call: &Call, log: &mut Lent, sheet: &[u8]) -> Result<Given, u32> {
         let before = self.words().to_vec();
@@ -160,9 +160,10 @@ impl Checkpoint {
         written.place(sheet, call.side);
         let [mut given, mut more] = KEPT;
         rule.read_only_if(read_only_turn());
+        let function = if call.closing { ffi::havdrims_close } else { ffi::havdrims_resume };
         // SAFETY: all four buffers are lent, words and sheet for writing; the numbers are this function's own.
         let number = unsafe {
-            ffi::havdrims_resume(
+            function(
                 rule.pointer(),
                 rule.length(),
                 log.pointer(),
@@ -175,9 +176,9 @@ impl Checkpoint {
                 &mut more,
             )
         };
-        assert_eq!(rule.bytes(), call.rule, "resume changed the rule");
-        assert!(self.lent.surroundings_kept(), "resume wrote outside the point");
-        assert!(written.surroundings_kept(), "resume wrote outside the sheet");
+        assert_eq!(rule.bytes(), call.rule, "the call changed the rule");
+        assert!(self.lent.surroundings_kept(), "the call wrote outside the point");
+        assert!(written.surroundings_kept(), "the call wrote outside the sheet");
         let (given, more) = match answer(number, [given, more]) {
             Ok(numbers) => numbers,
             Err(number) => {
@@ -189,14 +190,15 @@ impl Checkpoint {
         assert!(given as usize <= sheet.len(), "more verdicts than the sheet takes");
         assert!(more <= 1, "more is {more}");
         let c = given as usize;
-        assert_eq!(written.bytes()[c..], sheet[c..], "resume changed the sheet behind its verdicts");
-        assert_eq!(self.words()[call.need..], before[call.need..], "resume changed words behind the need");
+        assert_eq!(written.bytes()[c..], sheet[c..], "the call changed the sheet behind its verdicts");
+        assert_eq!(self.words()[call.need..], before[call.need..], "the call changed words behind the need");
         Ok(Given { verdicts: written.bytes()[..c].to_vec(), more: more == 1 })
     }
 }
 
-/// A carry on, but for its log and its sheet.
+/// A carry on or a closing, but for its log and its sheet.
 pub struct Call<'a> {
+    pub closing: bool,
     pub rule: &'a [u8],
     /// The need of the rule that the point was opened for.
     pub need: usize,

@@ -2,7 +2,7 @@
 
 use evaluator::rule::{Entry, NEXT, NO_END};
 use evaluator::{cases, log, rule};
-use havdrims::{measure, open, resume, summary, tally, Needs, Refusal, Resumed, Summary, Tally};
+use havdrims::{close, measure, open, resume, summary, tally, Needs, Refusal, Resumed, Summary, Tally};
 
 fn fresh(rule: &[u8]) -> Vec<u64> {
     let mut point = vec![0; measure(rule).unwrap().words];
@@ -26,13 +26,26 @@ fn worked_cases() {
 }
 
 #[test]
+fn closed_cases() {
+    for case in cases::closed() {
+        let rule = rule::encode(&case.entries);
+        let mut sheet = [7; 100];
+        let got = close(&rule, &log::encode(&case.records), &mut fresh(&rule), &mut sheet).unwrap();
+        let c = case.verdicts.len();
+        assert_eq!(got, Resumed { verdicts: c, more: false }, "{}", case.name);
+        assert_eq!(sheet[..c], case.verdicts, "{}", case.name);
+    }
+}
+
+#[test]
 fn worked_lists() {
     for list in cases::lists() {
         let rule = rule::encode(&list.entries);
         let mut point = fresh(&rule);
         for (at, call) in list.calls.iter().enumerate() {
             let mut sheet = vec![7; call.sheet];
-            let got = resume(&rule, &log::encode(&call.log), &mut point, &mut sheet);
+            let function = if call.closing { close } else { resume };
+            let got = function(&rule, &log::encode(&call.log), &mut point, &mut sheet);
             let got = got.map(|given| (sheet[..given.verdicts].to_vec(), given.more)).map_err(Refusal::number);
             assert_eq!(got, call.gives, "{}, call {at}", list.name);
             let c = got.map_or(0, |(verdicts, _)| verdicts.len());

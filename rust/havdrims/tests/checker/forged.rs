@@ -8,7 +8,7 @@ use evaluator::model::Summary;
 use evaluator::random::{self, Random};
 
 /// The number of the checkpoint's format.
-const FORMAT: u64 = 4;
+const FORMAT: u64 = 5;
 
 /// The first word of a checkpoint of this format.
 fn mark(format: u64) -> u64 {
@@ -56,7 +56,10 @@ fn used(r: &mut Random) -> (Kiosk, usize) {
     let mut n = 0;
     for _ in 0..r.below(4) {
         n = r.from_to(n, kiosk.untouched.len());
-        kiosk.accepted(r, n);
+        kiosk.accepted(r, false, n);
+    }
+    if r.one_in(4) {
+        kiosk.accepted(r, true, n);
     }
     (kiosk, n)
 }
@@ -76,12 +79,13 @@ fn forged_points() {
             }
             let sheet = vec![5; r.below(50)];
             let summary = kiosk.point.summary(&kiosk.rule, length, side(r));
-            let call = Call { rule: &kiosk.rule, need: kiosk.need, words: length, side: side(r) };
+            let closing = r.one_in(2);
+            let call = Call { closing, rule: &kiosk.rule, need: kiosk.need, words: length, side: side(r) };
             let number = kiosk.point.resume(&call, &log, &sheet).err().unwrap_or(0);
             counts.returned(number);
             // Both calls have checks 1 to 11.
             assert_eq!(summary.err(), Some(number).filter(|n| [10, 11].contains(n)), "{}point {words:?}", kiosk.story);
-            let possible = [0, 10, 11, 13, 14].contains(&number);
+            let possible = [0, 10, 11, 13, 14, if closing { 21 } else { 20 }].contains(&number);
             assert!(possible, "refused {number}\n{}point {words:?}\nlog {}", kiosk.story, hex(&log));
         }
     };
@@ -107,13 +111,40 @@ fn forged_counts() {
             if in_range { Ok(Summary { no: words[NO], latest: words[LATEST].checked_sub(1) }) } else { Err(11) };
         let got = kiosk.point.summary(&kiosk.rule, words.len(), side(r));
         assert_eq!(got, expected, "d {given}, {} and {}", words[NO], words[LATEST]);
-        let call = Call { rule: &kiosk.rule, need: kiosk.need, words: words.len(), side: side(r) };
+        let closing = kiosk.model.closed.is_some();
+        let call = Call { closing, rule: &kiosk.rule, need: kiosk.need, words: words.len(), side: side(r) };
         let resumed = kiosk.point.resume(&call, &kiosk.brought(n), &[]).err();
         assert_eq!(resumed, got.err(), "d {given}, {} and {}", words[NO], words[LATEST]);
         counts.returned(resumed.unwrap_or(0));
     };
     let both = |counts: &Counts| counts.get("accepted") > 0 && counts.get("refused 11") > 0;
     cases("forged_counts", 5_000, body, both);
+}
+
+/// The word that says at how many records the point was closed: 0, or one more than the records seen.
+#[test]
+fn forged_closings() {
+    const CLOSED: usize = 7;
+    let body = |r: &mut Random, counts: &mut Counts| {
+        let (mut kiosk, n) = used(r);
+        let seen = kiosk.model.seen as u64;
+        let mut words = kiosk.point.words().to_vec();
+        words[CLOSED] = r.pick(&[0, seen + 1, seen + 2, r.clone().draw(), u64::MAX]);
+        kiosk.point.set(&words, side(r));
+        let closing = r.one_in(2);
+        let call = Call { closing, rule: &kiosk.rule, need: kiosk.need, words: words.len(), side: side(r) };
+        let got = kiosk.point.resume(&call, &kiosk.brought(n), &[]).err().unwrap_or(0);
+        let expected = match words[CLOSED] {
+            0 => 0,
+            closed if closed > seen + 1 => 11,
+            _ if closing => 0,
+            _ => 20,
+        };
+        assert_eq!(got, expected, "seen {seen}, {}", words[CLOSED]);
+        counts.returned(got);
+    };
+    let all = |counts: &Counts| ["accepted", "refused 11", "refused 20"].iter().all(|name| counts.get(name) > 0);
+    cases("forged_closings", 5_000, body, all);
 }
 
 /// Words that are no point: all the same, random, or a point of which only the beginning is left.
@@ -138,7 +169,7 @@ fn foreign_points() {
             random::damage(r, &mut log);
         }
         assert_eq!(kiosk.point.summary(&kiosk.rule, words.len(), side(r)), Err(10), "{}point {words:?}", kiosk.story);
-        let call = Call { rule: &kiosk.rule, need, words: words.len(), side: side(r) };
+        let call = Call { closing: r.one_in(2), rule: &kiosk.rule, need, words: words.len(), side: side(r) };
         let got = kiosk.point.resume(&call, &log, &[5; 20]);
         assert_eq!(got, Err(10), "{}point {words:?}\nlog {}", kiosk.story, hex(&log));
         counts.returned(10);
@@ -162,10 +193,11 @@ fn altered_open_records() {
                 sort_times(&mut log, wanted);
             }
             let sheet = vec![5; r.below(30)];
-            let call = Call { rule: &kiosk.rule, need: kiosk.need, words: length, side: side(r) };
+            let closing = r.one_in(4);
+            let call = Call { closing, rule: &kiosk.rule, need: kiosk.need, words: length, side: side(r) };
             let got = kiosk.point.resume(&call, &log, &sheet);
-            let expected = kiosk.model.check(&kiosk.rule, &log, length).map(|_| ());
-            kiosk.story.add(&kiosk.rule, &log, length, sheet.len(), &kiosk.model);
+            let expected = kiosk.model.check(closing, &kiosk.rule, &log, length).map(|_| ());
+            kiosk.story.add(closing, &kiosk.rule, &log, length, sheet.len(), &kiosk.model);
             let number = got.as_ref().err().copied().unwrap_or(0);
             assert_eq!(number, expected.err().unwrap_or(0), "{}", kiosk.story);
             counts.returned(number);
@@ -176,6 +208,7 @@ fn altered_open_records() {
                 kiosk.model.last = records[records.len() - 1].time;
             }
             kiosk.model.seen = records.len();
+            kiosk.model.closed = closing.then_some(records.len());
         }
     };
     cases("altered_open_records", 40_000, body, |counts| counts.get("accepted") > 0);
@@ -210,8 +243,9 @@ fn another_rule() {
         let need = evaluator::model::measure(&rule).map_or(0, |m| m.0 as usize);
         let mut point = Checkpoint::new(&vec![0; kiosk.need], side(r));
         point.open(&kiosk.rule, kiosk.need, side(r)).unwrap();
-        let call = Call { rule: &rule, need, words: kiosk.need, side: side(r) };
-        let expected = kiosk.model.check(&rule, &log::HEADER, kiosk.need).err().unwrap_or(0);
+        let closing = r.one_in(2);
+        let call = Call { closing, rule: &rule, need, words: kiosk.need, side: side(r) };
+        let expected = kiosk.model.check(closing, &rule, &log::HEADER, kiosk.need).err().unwrap_or(0);
         let got = point.resume(&call, &log::HEADER, &[]).err().unwrap_or(0);
         assert_eq!(got, expected, "opened for {}\nbrought {}", hex(&kiosk.rule), hex(&rule));
         counts.returned(got);

@@ -48,11 +48,13 @@ fn long_log(seed: u64, hold: usize, step: u32) -> Vec<Record> {
     random::log(&mut Random::new(seed), shape)
 }
 
-/// The verdicts and the point's words of a fresh point carried on to the end of the log.
-fn expected(entries: &[Entry], records: &[Record]) -> (Vec<u8>, Vec<u8>, usize) {
+/// The rule's bytes, the verdicts and the point's words of a fresh point carried on to the end of the log, or closed
+/// there.
+fn expected(closing: bool, entries: &[Entry], records: &[Record]) -> (Vec<u8>, Vec<u8>, usize) {
     let bytes = rule::encode(entries);
     let rule = rule::parse(&bytes).unwrap();
-    let all = linear::verdicts(&rule, records).iter().map(|&b| b as u8).collect();
+    let verdicts = if closing { linear::closed_verdicts } else { linear::verdicts };
+    let all = verdicts(&rule, records).iter().map(|&b| b as u8).collect();
     (bytes, all, rule.words as usize)
 }
 
@@ -71,13 +73,13 @@ fn open(rule: &[u8], need: usize) -> Checkpoint {
 #[test]
 fn million_records_in_one_call() {
     for (name, entries) in rules() {
-        for (seed, hold, step) in [(1, 40, 2), (2, 1, 3)] {
+        for (closing, seed, hold, step) in [(false, 1, 40, 2), (true, 2, 1, 3)] {
             let records = long_log(seed, hold, step);
-            let (rule, all, need) = expected(&entries, &records);
+            let (rule, all, need) = expected(closing, &entries, &records);
             let mut log = Lent::new(8 + 8 * MILLION);
             log.place(&log::encode(&records), Side::Right);
             log.read_only_if(true);
-            let call = Call { rule: &rule, need, words: need, side: Side::Right };
+            let call = Call { closing, rule: &rule, need, words: need, side: Side::Right };
             let mut point = open(&rule, need);
             let begun = Instant::now();
             let given = point.resume_in_place(&call, &mut log, &vec![3; all.len()]).unwrap();
@@ -94,15 +96,17 @@ fn million_records_in_one_call() {
 fn million_records_in_a_thousand_calls() {
     for (name, entries) in rules() {
         let records = long_log(3, 20, 2);
-        let (rule, all, need) = expected(&entries, &records);
+        let (rule, all, need) = expected(true, &entries, &records);
         let mut point = open(&rule, need);
         let mut log = Lent::new(8 + 8 * MILLION);
         log.place(&log::encode(&records), Side::Left);
         let mut written: Vec<u8> = Vec::new();
         let begun = Instant::now();
-        for n in (1..=1_000).map(|k| 1_000 * k) {
+        // A thousand calls, and at the end two closings.
+        for n in (1..=1_002).map(|k| (1_000 * k).min(MILLION)) {
             log.shorten(8 + 8 * n);
-            let call = Call { rule: &rule, need, words: need, side: Side::Left };
+            let closing = n == MILLION;
+            let call = Call { closing, rule: &rule, need, words: need, side: Side::Left };
             // Now and then the sheet is too short for all that is settled.
             let length = if n % 7_000 == 0 { 300 } else { 5_000 };
             let given = point.resume_in_place(&call, &mut log, &vec![3; length]).unwrap();
@@ -122,7 +126,7 @@ fn too_many_records() {
     let rule = rule::encode(&letters(&[0]));
     let mut file = log::HEADER.to_vec();
     file.resize(8 + 8 * (MILLION + 1), 0);
-    let call = Call { rule: &rule, need: 32, words: 32, side: Side::Right };
+    let call = Call { closing: false, rule: &rule, need: 32, words: 32, side: Side::Right };
     assert_eq!(open(&rule, 32).resume(&call, &file, &[]), Err(12));
     file.truncate(8 + 8 * MILLION);
     assert!(open(&rule, 32).resume(&call, &file, &[]).unwrap().more);
@@ -178,14 +182,20 @@ fn largest_rules() {
             records.iter_mut().enumerate().for_each(|(i, m)| m.time = shape.start.saturating_add(i as u32));
             records.iter_mut().for_each(|m| m.letters |= 3);
         }
-        let (rule, all, need) = expected(&entries, &records);
+        let (rule, all, need) = expected(true, &entries, &records);
         let mut point = open(&rule, need);
         let mut file = log::encode(&records);
         let (mut n, mut written) = (0, Vec::new());
-        while n < records.len() {
-            n = r.from_to(n + 1, records.len());
-            let call = Call { rule: &rule, need, words: need, side: side(r) };
-            written.extend(point.resume(&call, &file[..8 + 8 * n], &vec![3; records.len()]).unwrap().verdicts);
+        let mut more = true;
+        while more || n < records.len() {
+            n = r.from_to((n + 1).min(records.len()), records.len());
+            // Closed in the end, with a sheet that may be short.
+            let closing = n == records.len();
+            let sheet = vec![3; r.pick(&[200, 5_000, 9_000])];
+            let call = Call { closing, rule: &rule, need, words: need, side: side(r) };
+            let given = point.resume(&call, &file[..8 + 8 * n], &sheet).unwrap();
+            more = given.more;
+            written.extend(given.verdicts);
             file[free(&rule, written.len())].fill(r.pick(&[0, 255]));
         }
         assert!(written == all, "{entries:?}");
@@ -208,8 +218,9 @@ fn latest_times() {
         let mut times: Vec<u32> = (0..n).map(|_| r.pick(&points)).collect();
         times.sort();
         let records: Vec<Record> = times.iter().map(|&time| Record { time, letters: r.draw() as u32 }).collect();
-        let (rule, all, need) = expected(&entries, &records);
-        let call = Call { rule: &rule, need, words: need, side: side(r) };
+        let closing = r.one_in(2);
+        let (rule, all, need) = expected(closing, &entries, &records);
+        let call = Call { closing, rule: &rule, need, words: need, side: side(r) };
         let given = open(&rule, need).resume(&call, &log::encode(&records), &vec![3; n]).unwrap();
         assert!(!given.more);
         assert_eq!(given.verdicts, all, "{entries:?} {records:?}");

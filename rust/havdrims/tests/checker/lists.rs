@@ -1,4 +1,4 @@
-//! Lists of calls: growth, overwriting, refused calls between, sheets of all lengths, words behind the need.
+//! Lists of calls: growth, overwriting, closings, refused calls between, sheets of all lengths, words behind the need.
 
 use crate::calls::{hex, side, Call, Checkpoint, Given};
 use crate::runner::{cases, Counts};
@@ -27,6 +27,7 @@ pub struct Kiosk {
 pub struct Story(Vec<Step>);
 
 struct Step {
+    closing: bool,
     rule: Vec<u8>,
     log: Vec<u8>,
     words: usize,
@@ -35,16 +36,18 @@ struct Step {
 }
 
 impl Story {
-    pub fn add(&mut self, rule: &[u8], log: &[u8], words: usize, sheet: usize, before: &Point) {
-        let point = format!("d {}, seen {}, last {}", before.given(), before.seen, before.last);
-        self.0.push(Step { rule: rule.to_vec(), log: log.to_vec(), words, sheet, point });
+    pub fn add(&mut self, closing: bool, rule: &[u8], log: &[u8], words: usize, sheet: usize, before: &Point) {
+        let (d, seen, last, closed) = (before.given(), before.seen, before.last, before.closed);
+        let point = format!("d {d}, seen {seen}, last {last}, closed {closed:?}");
+        self.0.push(Step { closing, rule: rule.to_vec(), log: log.to_vec(), words, sheet, point });
     }
 }
 
 impl fmt::Display for Story {
     fn fmt(&self, f: &mut fmt::Formatter<'_>) -> fmt::Result {
         for (at, step) in self.0.iter().enumerate() {
-            writeln!(f, "call {at}: {} words, a sheet of {} bytes; {}", step.words, step.sheet, step.point)?;
+            let name = if step.closing { "close" } else { "resume" };
+            writeln!(f, "call {at}: {name}, {} words, a sheet of {} bytes; {}", step.words, step.sheet, step.point)?;
             writeln!(f, "  rule {}\n  log {}", hex(&step.rule), hex(&step.log))?;
         }
         Ok(())
@@ -91,13 +94,15 @@ impl Kiosk {
 
     /// Calls, and compares with the model. `log` agrees with the untouched one from the first record wanted on, or is
     /// refused.
-    fn resume(&mut self, r: &mut Random, rule: &[u8], log: &[u8], words: usize, sheet: &[u8]) -> Result<Given, u32> {
-        self.story.add(rule, log, words, sheet.len(), &self.model);
+    fn carry_on(&mut self, r: &mut Random, brought: Brought) -> Result<Given, u32> {
+        let Brought { closing, rule, log, words, sheet } = &brought;
+        let (closing, words) = (*closing, *words);
+        self.story.add(closing, rule, log, words, sheet.len(), &self.model);
         let untouched = &self.untouched;
-        let evaluate = |rule: &rule::Rule, n: usize| reading::verdicts(rule, &untouched[..n]);
-        let expected = self.model.resume(rule, log, words, sheet.len(), evaluate);
+        let evaluate = |rule: &rule::Rule, n: usize| one_run(closing, rule, &untouched[..n]);
+        let expected = self.model.carry_on(closing, rule, log, words, sheet.len(), evaluate);
         let expected = expected.map(|e| Given { verdicts: e.verdicts, more: e.more });
-        let call = Call { rule, need: self.need, words, side: side(r) };
+        let call = Call { closing, rule, need: self.need, words, side: side(r) };
         let got = self.point.resume(&call, log, sheet);
         assert_eq!(got, expected, "{}", self.story);
         self.summary(r, rule, words);
@@ -121,17 +126,22 @@ impl Kiosk {
         sheet
     }
 
+    /// A call that brings rule and log as it should: n records.
+    fn rightly(&mut self, r: &mut Random, closing: bool, n: usize) -> Result<Given, u32> {
+        let words = r.from_to(self.need, self.point.words().len());
+        let brought = Brought { closing, rule: self.rule.clone(), log: self.brought(n), words, sheet: self.sheet(r) };
+        self.carry_on(r, brought)
+    }
+
     /// A call that the list allows: n records.
-    pub fn accepted(&mut self, r: &mut Random, n: usize) -> Given {
-        let (rule, log, sheet) = (self.rule.clone(), self.brought(n), self.sheet(r));
-        let lent = self.point.words().len();
-        let words = r.from_to(self.need, lent);
-        let got = self.resume(r, &rule, &log, words, &sheet);
+    pub fn accepted(&mut self, r: &mut Random, closing: bool, n: usize) -> Given {
+        let got = self.rightly(r, closing, n);
         got.unwrap_or_else(|n| panic!("refused {n}\n{}", self.story))
     }
 
     /// A call with one or more faults, if they come to a refusal: its number.
     fn refused(&mut self, r: &mut Random, n: usize) -> Option<u32> {
+        let closing = r.one_in(2);
         let mut rule = self.rule.clone();
         let mut words = self.point.words().len();
         let mut log = self.brought(n);
@@ -158,9 +168,39 @@ impl Kiosk {
             }
             _ => {}
         }
-        self.model.check(&rule, &log, words).err()?;
+        self.model.check(closing, &rule, &log, words).err()?;
         let sheet = self.sheet(r);
-        self.resume(r, &rule, &log, words, &sheet).err()
+        self.carry_on(r, Brought { closing, rule, log, words, sheet }).err()
+    }
+
+    /// With a closed point: what brings rule and log as it should is refused with 20, or with 21 if it is a closing with
+    /// more records.
+    fn refused_since_closed(&mut self, r: &mut Random, n: usize) -> Option<u32> {
+        let at_first = self.model.closed?;
+        if n > at_first && r.one_in(2) {
+            assert_eq!(self.rightly(r, true, n), Err(21), "{}", self.story);
+            return Some(21);
+        }
+        assert_eq!(self.rightly(r, false, n), Err(20), "{}", self.story);
+        Some(20)
+    }
+}
+
+/// What a call brings.
+struct Brought {
+    closing: bool,
+    rule: Vec<u8>,
+    log: Vec<u8>,
+    words: usize,
+    sheet: Vec<u8>,
+}
+
+/// The verdicts of one run: of a closing, or of a carry on.
+pub fn one_run(closing: bool, rule: &rule::Rule, records: &[Record]) -> Vec<bool> {
+    if closing {
+        reading::closed_verdicts(rule, records)
+    } else {
+        reading::verdicts(rule, records)
     }
 }
 
@@ -170,7 +210,7 @@ fn lists() {
     let body = |r: &mut Random, counts: &mut Counts| {
         let mut kiosk = Kiosk::new(r, 10, 40);
         let total = kiosk.untouched.len();
-        let (mut n, mut written, mut caught_up) = (0, Vec::new(), None);
+        let (mut n, mut closed, mut written, mut caught_up) = (0, false, Vec::new(), None);
         for _ in 0..r.from_to(0, 14) {
             if r.one_in(3) {
                 kiosk.overwrite(r);
@@ -178,21 +218,25 @@ fn lists() {
             }
             if r.one_in(3) {
                 let n = r.from_to(n, total);
-                if let Some(number) = kiosk.refused(r, n) {
+                let number = if r.one_in(3) { kiosk.refused_since_closed(r, n) } else { kiosk.refused(r, n) };
+                if let Some(number) = number {
                     counts.returned(number);
                 }
                 continue;
             }
-            n = if r.one_in(3) { n } else { r.from_to(n, total) };
-            let given = kiosk.accepted(r, n);
+            n = if closed || r.one_in(3) { n } else { r.from_to(n, total) };
+            closed = closed || r.one_in(8);
+            let given = kiosk.accepted(r, closed, n);
             counts.returned(0);
             counts.add("verdicts", given.verdicts.len());
+            counts.add("of closings", if closed { given.verdicts.len() } else { 0 });
+            counts.add("closings with more", usize::from(closed && given.more));
             counts.add("of empty rules", if kiosk.rule.len() == 8 { given.verdicts.len() } else { 0 });
             written.extend(given.verdicts);
             caught_up = Some(!given.more);
         }
         let rule = rule::parse(&kiosk.rule).unwrap();
-        let one_run: Vec<u8> = reading::verdicts(&rule, &kiosk.untouched[..n]).iter().map(|&b| b as u8).collect();
+        let one_run: Vec<u8> = one_run(closed, &rule, &kiosk.untouched[..n]).iter().map(|&b| b as u8).collect();
         assert!(one_run.starts_with(&written), "{}", kiosk.story);
         if let Some(caught_up) = caught_up {
             assert_eq!(caught_up, one_run.len() == written.len(), "{}", kiosk.story);
@@ -200,7 +244,8 @@ fn lists() {
     };
     let shown = |counts: &Counts| {
         let met = |n: u32| counts.get(&format!("refused {n:02}")) > 0;
-        let reached = ["of empty rules", "kept for previous"].iter().all(|name| counts.get(name) > 0);
+        let names = ["of empty rules", "kept for previous", "of closings", "closings with more"];
+        let reached = names.iter().all(|name| counts.get(name) > 0) && met(20) && met(21);
         (1..=14).all(|n| met(n) || [3, 8, 11].contains(&n)) && reached
     };
     cases("lists", 30_000, body, shown);
@@ -212,18 +257,20 @@ fn sheets_of_all_lengths() {
     let body = |r: &mut Random, counts: &mut Counts| {
         let start = Kiosk::new(r, 7, 20);
         let rule = rule::parse(&start.rule).unwrap();
-        let all: Vec<u8> = reading::verdicts(&rule, &start.untouched).iter().map(|&b| b as u8).collect();
+        let closing = r.one_in(2);
+        let all: Vec<u8> = one_run(closing, &rule, &start.untouched).iter().map(|&b| b as u8).collect();
         let fresh = start.point.words().to_vec();
         let mut kiosk = start;
         for length in 0..=all.len() + 2 {
             kiosk.point.set(&fresh, side(r));
             kiosk.model = model::open(&kiosk.rule, fresh.len()).unwrap();
             kiosk.file = log::encode(&kiosk.untouched);
-            let (bytes, mut written) = (kiosk.rule.clone(), Vec::new());
+            let mut written = Vec::new();
             let mut next = length;
             loop {
-                let log = kiosk.brought(kiosk.untouched.len());
-                let given = kiosk.resume(r, &bytes, &log, fresh.len(), &vec![9; next]).unwrap();
+                let (rule, log) = (kiosk.rule.clone(), kiosk.brought(kiosk.untouched.len()));
+                let brought = Brought { closing, rule, log, words: fresh.len(), sheet: vec![9; next] };
+                let given = kiosk.carry_on(r, brought).unwrap();
                 counts.returned(0);
                 written.extend(given.verdicts);
                 kiosk.overwrite(r);

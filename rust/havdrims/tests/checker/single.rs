@@ -1,10 +1,11 @@
-//! Single calls: measure, open, tally, and one carry on from a fresh point.
+//! Single calls: measure, open, tally, and one carry on or closing from a fresh point.
 
 use crate::calls::{self, hex, side, Call, Checkpoint};
+use crate::lists::one_run;
 use crate::runner::{cases, Counts};
 use evaluator::log;
 use evaluator::random::{self, Random, RuleShape};
-use evaluator::{model, reading, rule};
+use evaluator::{model, rule};
 
 /// Rules without fault, rules above the limit, and damaged ones.
 fn any_rule(r: &mut Random) -> Vec<u8> {
@@ -80,9 +81,9 @@ fn tally() {
     cases("tally", 20_000, body, |counts| counts.get("refused 15") > 0);
 }
 
-/// One carry on from a fresh point, on logs without fault and on damaged ones.
+/// One carry on or closing from a fresh point, on logs without fault and on damaged ones.
 #[test]
-fn one_run() {
+fn one_call() {
     let body = |r: &mut Random, counts: &mut Counts| {
         let (rule_shape, log_shape) = random::shapes(r, 14, 60);
         let rule = rule::encode(&random::valid_entries(r, rule_shape));
@@ -102,9 +103,10 @@ fn one_run() {
         // A damaged log that is not refused is simply another log.
         let brought = log::parse(&file).unwrap_or_default();
         let sheet = vec![7; brought.len() + r.below(2)];
-        let evaluate = |rule: &rule::Rule, _| reading::verdicts(rule, &brought);
-        let expected = expected.resume(&rule, &file, need, sheet.len(), evaluate);
-        let call = Call { rule: &rule, need, words: need, side: side(r) };
+        let closing = r.one_in(3);
+        let evaluate = |rule: &rule::Rule, _| one_run(closing, rule, &brought);
+        let expected = expected.carry_on(closing, &rule, &file, need, sheet.len(), evaluate);
+        let call = Call { closing, rule: &rule, need, words: need, side: side(r) };
         let got = point.resume(&call, &file, &sheet);
         counts.returned(expected.as_ref().err().copied().unwrap_or(0));
         let expected = expected.map(|e| calls::Given { verdicts: e.verdicts, more: e.more });
@@ -114,7 +116,7 @@ fn one_run() {
             counts.add("yes", given.verdicts.iter().map(|&b| b as usize).sum());
         }
     };
-    cases("one_run", 60_000, body, |counts| all_refused(counts, 12..=12) && counts.get("refused 14") > 0);
+    cases("one_call", 60_000, body, |counts| all_refused(counts, 12..=12) && counts.get("refused 14") > 0);
 }
 
 /// A length of 0 lets the pointer be null.
@@ -137,6 +139,11 @@ fn nothing_lent() {
         assert_eq!((a, b), (9, 9));
         let log = empty.as_ptr();
         assert_eq!(ffi::havdrims_resume(rule.as_ptr(), 38, log, 8, p, 70, null_mut(), 0, &mut a, &mut b), 0);
+        assert_eq!((a, b), (0, 0));
+        (a, b) = (9, 9);
+        assert_eq!(ffi::havdrims_close(rule.as_ptr(), 38, null(), 0, p, 70, null_mut(), 0, &mut a, &mut b), 12);
+        assert_eq!((a, b), (9, 9));
+        assert_eq!(ffi::havdrims_close(rule.as_ptr(), 38, log, 8, p, 70, null_mut(), 0, &mut a, &mut b), 0);
         assert_eq!((a, b), (0, 0));
         assert_eq!(ffi::havdrims_summary(null(), 0, null(), 0, &mut a, &mut b), 1);
         assert_eq!(ffi::havdrims_summary(rule.as_ptr(), 38, null(), 0, &mut a, &mut b), 9);

@@ -13,11 +13,11 @@ use Rattle.monitor.proofs.give.give.Statement.{statement}
 use Rattle.monitor.proofs.give.give.Tie as tie
 
 abbrev Inv-loop : tie.InvT-loop
-Inv-loop table entries records words₀ sheet₀ done₀ words sheet done =
-    Going table records entries words₀ sheet₀ done words sheet
+Inv-loop table entries records closed words₀ sheet₀ done₀ words sheet done =
+    Going table records closed entries words₀ sheet₀ done words sheet
 
 abbrev μ-loop : tie.MeasureT-loop
-μ-loop table entries records words₀ sheet₀ done₀ words sheet done = length sheet₀ - done
+μ-loop table entries records closed words₀ sheet₀ done₀ words sheet done = length sheet₀ - done
 
 -- something is held
 held : (d : tie.Else1 Inv-loop μ-loop) →
@@ -25,23 +25,24 @@ held : (d : tie.Else1 Inv-loop μ-loop) →
     Holds
     (a .table .now)
     (a .records .now)
+    (a .closed)
     (a .entries)
     (d .before .before .before .before .before .before .loop .words)
     true
-    (d .before .before .before .hold .last .1 .1 .1 .0)
+    (d .before .before .before .hold .last .1 .1 .1 .1 .0)
 held d = rw (not-false (d .before .before .before .hold .result) (d .if1 .left)) at (d .before .before .before .hold .ensures)
 
 -- some of it goes into the sheet
 portion : (d : tie.After-available Inv-loop μ-loop) →
     let n = d .available .result in
     let l = d .before .before .before .before .before .before .before .before .loop in
-    (0 < n) × (n ≤ 64) × (n ≤ held-count (d .before .before .before .before .before .hold .last .1 .1 .1 .0)) × (l .done + n ≤ length (l .sheet))
+    (0 < n) × (n ≤ 64) × (n ≤ held-count (d .before .before .before .before .before .hold .last .1 .1 .1 .1 .0)) × (l .done + n ≤ length (l .sheet))
 portion d = omega (arith, d .available .ensures, held (d .before .before) .some refl)
 
 loop-holds : tie.Need-loop-holds Inv-loop μ-loop
 loop-holds c =
     let a = c .before .before .before .args in
-    going-none (a .table .now) (a .records .now) (a .entries) (a .words .now) (a .sheet .now)
+    going-none (a .table .now) (a .records .now) (a .closed) (a .entries) (a .words .now) (a .sheet .now)
 
 hold-requires : tie.Need-hold-requires Inv-loop μ-loop
 hold-requires c κs = rw (c .before .before .loop .inv .words-length) (c .before .before .before .before .before .before .pre .0)
@@ -62,7 +63,7 @@ spend-requires c κs =
     let n = portion (c .before .before .before .before .before .before) in
     let h = held d in
     let counted = counted-so-far (l .inv) in
-    let most = s .good .1 .1 .1 .1 .0 .1 in
+    let most = s .good .1 .1 .1 .1 .1 .0 .1 in
     let given-same = h .header 1 (omega arith) (λ e. omega arith) (λ e. omega arith) in
     let noes-same = h .header 8 (omega arith) (λ e. omega arith) (λ e. omega arith) in (
       omega (arith, h .words-length, l .inv .words-length, s .pre .0 .header),
@@ -76,7 +77,7 @@ spend-requires c κs =
 add-done : tie.Need-add-done Inv-loop μ-loop
 add-done c =
     let l = c .before .before .before .before .before .before .before .before .before .before .before .before .before .before .before .before .before .loop in
-    let most = c .before .before .before .before .before .before .before .before .before .before .before .before .before .before .before .before .before .before .before .before .before .good .1 .1 .1 .1 .0 .1 in
+    let most = c .before .before .before .before .before .before .before .before .before .before .before .before .before .before .before .before .before .before .before .before .before .good .1 .1 .1 .1 .1 .0 .1 in
     record { fits = omega (arith, portion (c .before .before .before .before .before .before .before .before .before) .3, l .inv .sheet-length) }
 
 loop-less : tie.Need-loop-less Inv-loop μ-loop

@@ -12,12 +12,12 @@ returns c =
     let a = s .args in
     let y = c .before .before .hold-yes in
     rw (y .ensures .0)
-    (yes-holds (a .table .now) (a .records .now) (a .count) (a .words .now) (y .result) (s .pre .header) (omega arith) (y .ensures .1))
+    (yes-holds (a .table .now) (a .records .now) (a .closed) (a .count) (a .words .now) (y .result) (s .pre .header) (omega arith) (y .ensures .1))
 
 returns-2 : tie.Need-returns-2
 returns-2 c =
     let a = c .before .before .before .before .before .args in
-    already-held (a .table .now) (a .records .now) (a .count) (a .words .now) (omega arith)
+    already-held (a .table .now) (a .records .now) (a .closed) (a .count) (a .words .now) (omega arith)
 
 ask-requires : tie.Need-ask-requires
 ask-requires c κs =
@@ -35,10 +35,11 @@ returns-3 c =
     asked-holds
     (a .table .now)
     (a .records .now)
+    (a .closed)
     (a .count)
     (a .words .now)
     (y .result)
-    (y .last .1 .1 .1 .1 .1 .1 .0)
+    (y .last .1 .1 .1 .1 .1 .1 .1 .0)
     (s .pre .header)
     (omega arith)
     (omega arith)

@@ -1,8 +1,8 @@
 -- `monitor::give::proceed` meets its contract: what `give` and `hold` promise for the rule's formulas, and the log's end noted.
 use borrow.Author.Needs.{needs}
-use mathlib.Core.Path.{_∙_}
+use mathlib.Core.Path.{_≡_, _∙_}
 use native.Mathlib.Omega.{arith}
-use lib.ListN.{length-set}
+use lib.ListN.{length, length-set}
 use Rattle.monitor.proofs.Proceeding.{Tabled, tabled, proceeded}
 use Rattle.monitor.proofs.give.proceed.Statement.{statement}
 use Rattle.monitor.proofs.give.proceed.Tie as tie
@@ -46,46 +46,53 @@ slice-write-words c = search needs
 count-requires : tie.Need-count-requires
 count-requires c κs = search needs
 
+-- the words as `hold` left them
+long : (c : tie.After-hold) → let s = c .before .before .before .before .before .before .before .before .before .before .before .before .before .before .before in length (c .hold .last .1 .1 .1 .1 .0) ≡ length (s .args .words .now)
+long c = c .hold .ensures .words-length ∙ c .before .before .before .before .before .before .before .give .ensures .words-length
+
 slice-write-words-2 : tie.Need-slice-write-words-2
-slice-write-words-2 c =
-    simp length-set
-    (omega (arith, c .before .before .before .before .before .before .hold .ensures .words-length, c .before .before .before .before .before .before .before .before .before .before .before .before .before .give .ensures .words-length, c .before .before .before .before .before .before .before .before .before .before .before .before .before .before .before .before .before .before .before .before .before .pre .1))
+slice-write-words-2 c = simp length-set (omega (arith, long (c .before .before .before .before .before .before), c .before .before .before .before .before .before .before .before .before .before .before .before .before .before .before .before .before .before .before .before .before .pre .1))
+
+closed-with-requires : tie.Need-closed-with-requires
+closed-with-requires c κs = omega (arith, c .count .ensures)
+
+slice-write-words-3 : tie.Need-slice-write-words-3
+slice-write-words-3 c = simp length-set (omega (arith, long (c .before .before .before .before .before .before .before), c .before .before .before .before .before .before .before .before .before .before .before .before .before .before .before .before .before .before .before .before .before .before .pre .1))
 
 same-length : tie.Need-same-length
-same-length c =
-    simp length-set (c .before .before .before .before .before .before .hold .ensures .words-length ∙ c .before .before .before .before .before .before .before .before .before .before .before .before .before .give .ensures .words-length)
-
-same-length-2 : tie.Need-same-length-2
-same-length-2 c = search needs
+same-length c = simp length-set (long (c .before .before .before .before .before .before .before))
 
 returns : tie.Need-returns
 returns c =
-    let s = c .before .before .before .before .before .before .before .before .before .before .before .before .before .before .before .before .before .before .before .before .before in
+    let s = c .before .before .before .before .before .before .before .before .before .before .before .before .before .before .before .before .before .before .before .before .before .before in
     let a = s .args in
-    let d = c .before .before .before .before .before .before .before .before .before .before .before .before .before .before .before .before .before in
-    let g = c .before .before .before .before .before .before .before .before .before .before .before .before .before .give in
-    let h = c .before .before .before .before .before .before .hold in
+    let d = c .before .before .before .before .before .before .before .before .before .before .before .before .before .before .before .before .before .before in
+    let g = c .before .before .before .before .before .before .before .before .before .before .before .before .before .before .give in
+    let h = c .before .before .before .before .before .before .before .hold in
     proceeded
     (a .entries)
     (d .lay-out .result)
     (a .records .now)
+    (a .closed)
     (a .count)
     (a .words .now)
     (a .sheet .now)
     (g .result)
-    (g .last .1 .1 .1 .0)
     (g .last .1 .1 .1 .1 .0)
+    (g .last .1 .1 .1 .1 .1 .0)
     (h .result)
-    (h .last .1 .1 .1 .0)
-    (c .before .last-time .result)
-    (c .count .result)
+    (h .last .1 .1 .1 .1 .0)
+    (c .before .before .last-time .result)
+    (c .before .count .result)
+    (c .closed-with .result)
     (table-of d)
     (s .pre .1)
-    (λ i. c .before .before .before .before .before .before .before .before .before .before .before .before .before .before .before .before .before .before .before .before .shared-slice-known .given i .fits)
+    (λ i. c .before .before .before .before .before .before .before .before .before .before .before .before .before .before .before .before .before .before .before .before .before .shared-slice-known .given i .fits)
     (g .ensures)
     (h .ensures)
-    (c .before .last-time .ensures)
-    (c .count .ensures)
+    (c .before .before .last-time .ensures)
+    (c .before .count .ensures)
+    (c .closed-with .ensures)
 
 pub proceed-spec : {M : Type 1} → statement M
 proceed-spec =
@@ -100,6 +107,8 @@ proceed-spec =
     slice-write-words
     count-requires
     slice-write-words-2
+    closed-with-requires
+    slice-write-words-3
     same-length
-    same-length-2
+    (λ c. search needs)
     returns)

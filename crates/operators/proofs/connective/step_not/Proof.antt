@@ -2,7 +2,7 @@
 use native.Mathlib.Omega.{arith}
 use mathlib.Core.Path.{refl, _∙_}
 use borrow.Author.Needs.{needs}
-use Rattle.mtl.specs.Progress.{progress}
+use Rattle.mtl.proofs.Closing.{settled-not}
 use Rattle.operators.proofs.Simple.{not-batch}
 use Rattle.blocks.proofs.Taking.{right-keeps, all-of}
 use Rattle.operators.proofs.connective.step_not.Statement.{statement}
@@ -12,8 +12,7 @@ slice-read-if1 : tie.Need-slice-read-if1
 slice-read-if1 c = search needs
 
 returns : tie.Need-returns
-unfolding progress
-returns c = ((refl, refl, c .if1 .taken), λ φ L g falls agrees ready. (refl, λ e. e ∙ ready .core .own))
+returns c = ((refl, refl, c .if1 .taken), λ closed φ L g falls agrees ready. (refl, λ e. settled-not L φ ∙ e ∙ ready .core .own))
 
 slice-read-available : tie.Need-slice-read-available
 slice-read-available c = search needs
@@ -28,7 +27,7 @@ available-requires : tie.Need-available-requires
 available-requires c κs = search needs
 
 returns-2 : tie.Need-returns-2
-returns-2 c = (refl, λ φ L g falls agrees ready. absurd (omega (arith, all-of agrees (ready .buffers) (c .before .available .result) (rw (c .before .before .count .ensures) at (c .before .available .ensures)))))
+returns-2 c = (refl, λ closed φ L g falls agrees ready. absurd (omega (arith, all-of agrees (ready .buffers) (c .before .available .result) (rw (c .before .before .count .ensures) at (c .before .available .ensures)))))
 
 slice-read-bits : tie.Need-slice-read-bits
 slice-read-bits c = search needs
@@ -43,7 +42,7 @@ returns-3 : tie.Need-returns-3
 returns-3 c =
     let start = c .before .before .before .before .before .before .before .before .before .before .before .before .before .before in (
       rw (c .before .before .take-right .ensures) (right-keeps (c .before .before .before .before .before .before .available .result) (start .args .block .now)),
-      λ φ L g falls agrees ready.
+      λ closed φ L g falls agrees ready.
           rw (c .before .before .take-right .ensures)
           (not-batch (start .args .records .now) (start .args .block .now) (start .pre) (c .before .before .before .before .before .before .available .result) (omega arith) L g
           φ (omega arith) (c .before .before .before .before .slice-known5 .given 4 .fits) ready),

@@ -3,7 +3,7 @@ use native.Mathlib.Nat.{lt-of-le-of-lt}
 use native.Mathlib.Omega.{arith}
 use mathlib.Core.Path.{refl}
 use borrow.Author.Needs.{needs}
-use Rattle.mtl.specs.Progress.{progress}
+use Rattle.mtl.proofs.Closing.{settled-or}
 use Rattle.blocks.specs.Block.{taken, left-count, right-count}
 use Rattle.blocks.proofs.Words.{fits}
 use Rattle.blocks.proofs.Taking.{both-keeps, Shared, shared}
@@ -21,20 +21,18 @@ slice-read-if1 : tie.Need-slice-read-if1
 slice-read-if1 c = search needs
 
 returns : tie.Need-returns
-unfolding progress
 returns c = (
   (refl, refl, c .if1 .taken),
-  λ φ ψ L g falls agrees ready. (refl, λ e. let core = ready .core in let w = ready .buffers .1 .within in omega arith),
+  λ closed φ ψ L g falls agrees ready. (refl, λ e. let core = ready .core in let w = ready .buffers .1 .within in omega (arith, settled-or L φ ψ)),
 )
 
 slice-read-if2 : tie.Need-slice-read-if2
 slice-read-if2 c = search needs
 
 returns-2 : tie.Need-returns-2
-unfolding progress
 returns-2 c = (
   (refl, refl, c .if2 .taken),
-  λ φ ψ L g falls agrees ready. (refl, λ e. let core = ready .core in let w = ready .buffers .0 .within in omega arith),
+  λ closed φ ψ L g falls agrees ready. (refl, λ e. let core = ready .core in let w = ready .buffers .0 .within in omega (arith, settled-or L φ ψ)),
 )
 
 slice-read-smaller : tie.Need-slice-read-smaller
@@ -59,7 +57,7 @@ returns-3 : tie.Need-returns-3
 returns-3 c =
     let start = c .before .before .before .before .before .before .before .before .before .before .before .before .before in (
       refl,
-      λ φ ψ L g falls agrees ready.
+      λ closed φ ψ L g falls agrees ready.
           let size = agrees .size in
           let l = ready .buffers .0 .packed .few in
           let r = ready .buffers .1 .packed .few in
@@ -85,7 +83,7 @@ returns-4 c =
     let start = c .before .before .before .before .before .before .before .before .before .before .before .before .before .before .before .before .before .before .before in
     let n = taking (c .before .before .before .before .before .before) in (
       rw (c .before .before .take-both .ensures) (both-keeps (c .before .before .before .before .before .before .before .available .result) (start .args .block .now)),
-      λ φ ψ L g falls agrees ready.
+      λ closed φ ψ L g falls agrees ready.
           rw (c .before .before .take-both .ensures)
           (or-batch (start .args .records .now) (start .args .block .now) (start .pre) (c .before .before .before .before .before .before .before .available .result) (n .some) L g
           φ ψ (n .left) (n .right) ready),

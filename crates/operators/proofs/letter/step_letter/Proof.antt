@@ -3,7 +3,7 @@ use native.Mathlib.Omega.{arith}
 use mathlib.Core.List.{[], _∷_}
 use mathlib.Core.Path.{refl}
 use borrow.Author.Needs.{needs}
-use Rattle.mtl.specs.Progress.{progress}
+use Rattle.mtl.proofs.Closing.{settled-letter}
 use Rattle.blocks.proofs.Words.{put, stores-keep}
 use Rattle.operators.proofs.Simple.{letter-batch}
 use Rattle.operators.proofs.letter.step_letter.Statement.{statement}
@@ -19,8 +19,7 @@ available-requires : tie.Need-available-requires
 available-requires c κs = search needs
 
 returns : tie.Need-returns
-unfolding progress
-returns c = (refl, λ L g falls agrees ready. let core = ready .core in let size = agrees .size in omega arith)
+returns c = (refl, λ closed L g falls agrees ready. let core = ready .core in let size = agrees .size in omega (arith, settled-letter L (c .before .before .before .before .before .before .args .letter)))
 
 letter-bits-requires : tie.Need-letter-bits-requires
 letter-bits-requires c κs = search needs
@@ -38,7 +37,7 @@ returns-2 : tie.Need-returns-2
 returns-2 c =
     let start = c .before .before .before .before .before .before .before in (
       stores-keep (put 0 _ ∷ []) (start .args .block .now) (omega arith),
-      λ L g falls agrees ready.
+      λ closed L g falls agrees ready.
           letter-batch (start .args .records .now) (start .args .block .now) (start .pre .1) (c .before .before .available .result) (omega arith) L g agrees
           (start .args .letter) (c .letter-bits .result) (omega arith) (c .letter-bits .ensures) ready,
     )

@@ -9,12 +9,12 @@ use mathlib.Core.Path.{_≡_, refl}
 use lib.Dec.{leb, ltb}
 use borrow.Author.Needs.{needs}
 use borrow.Author.Tests.{leb-false, ltb-false}
-use Rattle.mtl.specs.Progress.{progress}
+use Rattle.mtl.proofs.Closing.{settled-previous}
 use Rattle.trace.specs.Format.{record-count}
 use Rattle.trace.proofs.Laws.{neither}
 use Rattle.blocks.specs.Block.{taken, right-count, answered}
 use Rattle.blocks.proofs.Words.{put, stores-keep}
-use Rattle.operators.proofs.Simple.{previous-keeps, previous-open, previous-first, previous-batch}
+use Rattle.operators.proofs.Simple.{answered-keeps, previous-open, previous-first, previous-batch}
 use Rattle.operators.proofs.neighbour.step_previous.Statement.{statement}
 use Rattle.operators.proofs.neighbour.step_previous.Tie as tie
 
@@ -58,7 +58,7 @@ returns : tie.Need-returns
 returns c =
     let start = c .before .before .before .before .before .before in (
       refl,
-      λ φ L g falls agrees ready.
+      λ closed φ L g falls agrees ready.
           previous-open (start .args .records .now) (start .args .block .now) (start .args .low) (start .args .high) φ L g agrees ready
           (rw (c .before .before .count .ensures) at (c .if1 .taken)),
     )
@@ -75,7 +75,7 @@ returns-2 c =
     let b = start .args .block .now in
     let first = not-open (taken b) (answered b) (record-count (start .args .records .now)) (rw (c .before .before .before .count .ensures) at (c .before .if1 .left)) in (
       stores-keep (put 5 1 ∷ []) b (omega arith),
-      λ φ L g falls agrees ready.
+      λ closed φ L g falls agrees ready.
           previous-first (start .args .records .now) (start .args .block .now) (start .pre) (omega arith) (c .if2 .taken) (start .args .low) (start .args .high)
           φ L g agrees ready,
     )
@@ -84,10 +84,9 @@ slice-read-if3 : tie.Need-slice-read-if3
 slice-read-if3 c = search needs
 
 returns-3 : tie.Need-returns-3
-unfolding progress
 returns-3 c =
     let past = pos-of-ne-zero (c .before .before .if2 .left) in
-    ((refl, refl, c .if3 .taken), λ φ L g falls agrees ready. (refl, λ e. let reached = ready .core .reached in let own = ready .core .own in omega arith))
+    ((refl, refl, c .if3 .taken), λ closed φ L g falls agrees ready. (refl, λ e. let reached = ready .core .reached in let own = ready .core .own in omega (arith, settled-previous L (c .before .before .before .before .before .before .before .before .before .args .low) (c .before .before .before .before .before .before .before .before .before .args .high) φ)))
 
 slice-read-available : tie.Need-slice-read-available
 slice-read-available c = search needs
@@ -118,8 +117,8 @@ returns-4 c =
     let start = c .before .before .before .before .before .before .before .before .before .before .before .before .before .before .before .before .before in
     let near = c .before .before .before .before .before .near in
     let (past, (behind, some, most, few, inside)) = taking (c .before .before .before .before .before .before) in (
-      rw (c .before .before .take-right .ensures) (previous-keeps (c .before .before .before .before .before .before .available .result) (start .args .block .now)),
-      λ φ L g falls agrees ready.
+      rw (c .before .before .take-right .ensures) (answered-keeps (c .before .before .before .before .before .before .available .result) (start .args .block .now)),
+      λ closed φ L g falls agrees ready.
           rw (c .before .before .take-right .ensures)
           (previous-batch (start .args .records .now) (start .args .block .now) (start .pre) (c .before .before .before .before .before .before .available .result) some L g (start .args .low) (start .args .high)
           φ most agrees (near .result) past inside (near .ensures) ready),
