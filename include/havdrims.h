@@ -25,7 +25,7 @@ extern "C" {
  * touched, and its pointer may be null. Words are aligned as uint64_t is.
  *
  * The last two pointers of measure, resume, close, summary and tally, the last of parse and of worst_log, and the last
- * four of simulate each point to a number of the caller's and are never null.
+ * four of status and of simulate each point to a number of the caller's and are never null.
  *
  * What a call writes (point, sheet, a rule or log that it makes, the numbers behind its last pointers) shares no byte with
  * anything else that the call is given. What it only reads may overlap.
@@ -124,7 +124,7 @@ uint32_t havdrims_open(const uint8_t *rule, size_t rule_len, uint64_t *point, si
  *
  * The first record still wanted is the number of verdicts given with this point so far, less k, or 0 where it is below
  * k: k is the largest number of previous entries on a path from the rule's last entry to a letter. So a rule without
- * previous wants the records that have no verdict yet, and no others.
+ * previous wants the records that have no verdict yet, and no others. havdrims_status gives it.
  *
  * *given becomes the number of verdicts written. *more becomes 1 if the log settles further records, for which the
  * sheet had no room, and 0 if the point has caught up.
@@ -158,6 +158,16 @@ uint32_t havdrims_close(const uint8_t *rule, size_t rule_len, const uint8_t *log
  */
 uint32_t havdrims_summary(const uint8_t *rule, size_t rule_len, const uint64_t *point, size_t point_len,
                           uint64_t *no, uint64_t *latest);
+
+/*
+ * How far a point has come: *given becomes the number of verdicts given with it, all calls together, *seen the number of
+ * records that the last accepted call brought, *wanted the first record still wanted, before which all records may be
+ * overwritten, and *closed 1 if the point is closed and else 0. The point is not changed.
+ *
+ * Refusals: 1 to 11.
+ */
+uint32_t havdrims_status(const uint8_t *rule, size_t rule_len, const uint64_t *point, size_t point_len,
+                         uint64_t *given, uint64_t *seen, uint64_t *wanted, uint64_t *closed);
 
 /*
  * Counts the verdicts of a sheet of sheet_len bytes: *no becomes the number of bytes 0, *yes that of bytes 1.

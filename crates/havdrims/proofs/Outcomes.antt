@@ -32,6 +32,11 @@ use Rattle.monitor.specs.declared.Summarized.the-variants.{Refused as Unsummari
 use Rattle.monitor.specs.Refusal.{summary-refusal}
 use Rattle.monitor.specs.Summary.{Noes, stored-noes, told, refused-with, position, position-or, summarized}
 use Rattle.monitor.specs.Summary.{Answer as Summary, answer as summary-of}
+use Rattle.monitor.specs.declared.Standing.{Standing}
+use Rattle.monitor.specs.declared.Standing.the-variants.{Known}
+use Rattle.monitor.specs.declared.Standing.the-variants.{Refused as Unknown}
+use Rattle.monitor.specs.Status.{Facts, stored-facts, known}
+use Rattle.monitor.specs.Status.{Answer as Status, answer as standing-of, told as known-told, refused-with as known-refused}
 use Rattle.text.specs.declared.Parsed.{Parsed}
 use Rattle.text.specs.declared.Parsed.the-variants.{Written}
 use Rattle.text.specs.declared.Parsed.the-variants.{Refused as Unparsed}
@@ -44,7 +49,7 @@ use Rattle.worst.specs.declared.Made.the-variants.{Refused as Unmade}
 use Rattle.worst.specs.Call.{answered, Writes}
 use Rattle.worst.specs.Call.{Answer as Making, answer as made-of}
 use Rattle.worst.proofs.Outcome.{not-zero}
-use Rattle.havdrims.specs.Interface.{or-kept, flag, no-position, MeasureCall, OpenCall, ResumeCall, TallyCall, SummaryCall, ParseCall, WorstLogCall}
+use Rattle.havdrims.specs.Interface.{or-kept, flag, no-position, MeasureCall, OpenCall, ResumeCall, TallyCall, SummaryCall, StatusCall, ParseCall, WorstLogCall}
 
 -- a number that is not 0 keeps what stood behind the pointer
 pub kept : (n old new : ℕ) → (n ≡ 0 → ⊥) → old ≡ or-kept n old new
@@ -161,6 +166,37 @@ module _ (s p : List ℕ) (noes latest : ℕ) (o : Summarized) (e : summary-of o
         number = ap (λ (a : Summary). a .number) q;
         no-count = ap (λ (a : Summary). a .noes .count) q;
         latest = value ∙ ap (λ (a : Summary). position-or (a .noes .latest) no-position) q;
+      }
+
+-- a refused status has another number than 0
+not-known-by : (b : Bool) (k n : ℕ) (facts : Facts) → eqb k 0 ≡ b → known-refused n ≡ cond b (known-told facts) (known-refused k) → n ≡ 0 → ⊥
+not-known-by true k n facts t e z = true≢false (ap (λ (a : Status). a .refused) e)
+not-known-by false k n facts t e z = omega (arith, ap (λ (a : Status). a .number) e, eqb-false k 0 t)
+
+module _ (s p : List ℕ) (d n w ended : ℕ) (o : Standing) (e : standing-of o ≡ known s p) where
+  pub not-known : (k : ℕ) → o ≡ Unknown k → (r : ℕ) → r ≡ standing-of o .number → StatusCall s p d n w ended r d n w ended
+  not-known k is r number =
+      let q : standing-of (Unknown k) ≡ known s p = ap standing-of (sym is) ∙ e in
+      let same : r ≡ k = number ∙ ap (λ (a : Standing). standing-of a .number) is in
+      let z : r ≡ 0 → ⊥ =
+      λ g. not-known-by (eqb (summary-refusal s p) 0) (summary-refusal s p) k (stored-facts s p) refl q (sym same ∙ g) in
+      record {
+        number = same ∙ ap (λ (a : Status). a .number) q;
+        given = kept r d (known s p .facts .given) z;
+        seen = kept r n (known s p .facts .seen) z;
+        wanted = kept r w (known s p .facts .wanted) z;
+        closed = kept r ended (flag (known s p .facts .closed)) z;
+      }
+
+  pub is-known : (d′ n′ w′ : ℕ) (b : Bool) → o ≡ Known d′ n′ w′ b → StatusCall s p d n w ended 0 d′ n′ w′ (boolByte b)
+  is-known d′ n′ w′ b is =
+      let q : standing-of (Known d′ n′ w′ b) ≡ known s p = ap standing-of (sym is) ∙ e in
+      record {
+        number = ap (λ (a : Status). a .number) q;
+        given = ap (λ (a : Status). a .facts .given) q;
+        seen = ap (λ (a : Status). a .facts .seen) q;
+        wanted = ap (λ (a : Status). a .facts .wanted) q;
+        closed = byte-is b ∙ ap (λ (a : Status). flag (a .facts .closed)) q;
       }
 
 module _ (text rule : List ℕ) (old : ℕ) (o : Parsed) (rule′ : List ℕ) (h : Parses text rule o rule′) where

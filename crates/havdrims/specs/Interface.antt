@@ -12,6 +12,7 @@ use Rattle.monitor.specs.Open.{Opens, opened-number}
 use Rattle.monitor.specs.Resume.{Resumes, resumed-number, resumed-count, resumed-more}
 use Rattle.monitor.specs.Tally.{tallied}
 use Rattle.monitor.specs.Summary.{position-or, summarized}
+use Rattle.monitor.specs.Status.{known}
 use Rattle.monitor.specs.declared.Opened.{Opened}
 use Rattle.monitor.specs.declared.Resumed.{Resumed}
 use Rattle.text.specs.declared.Parsed.{Parsed}
@@ -24,7 +25,7 @@ use Rattle.simulation.specs.declared.Settings.{Settings}
 abbrev pub or-kept : (number old new : ℕ) → ℕ
 or-kept number old new = cond (eqb number 0) new old
 
--- 1 for more, 0 for caught up
+-- 1 for more, 0 for caught up; 1 for closed, 0 for open
 abbrev pub flag : Bool → ℕ
 flag more = number more
 
@@ -59,6 +60,13 @@ pub record SummaryCall (rule p : List ℕ) (noes at r noes′ at′ : ℕ) : Typ
   pub number : r ≡ summarized rule p .number
   pub no-count : noes′ ≡ or-kept r noes (summarized rule p .noes .count)
   pub latest : at′ ≡ or-kept r at (position-or (summarized rule p .noes .latest) no-position)
+
+pub record StatusCall (rule p : List ℕ) (d n w ended r d′ n′ w′ ended′ : ℕ) : Type 0 where
+  pub number : r ≡ known rule p .number
+  pub given : d′ ≡ or-kept r d (known rule p .facts .given)
+  pub seen : n′ ≡ or-kept r n (known rule p .facts .seen)
+  pub wanted : w′ ≡ or-kept r w (known rule p .facts .wanted)
+  pub closed : ended′ ≡ or-kept r ended (flag (known rule p .facts .closed))
 
 pub record ParseCall (text rule : List ℕ) (n r : ℕ) (rule′ : List ℕ) (n′ : ℕ) : Type 0 where
   pub outcome : Parsed

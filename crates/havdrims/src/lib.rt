@@ -1,9 +1,10 @@
 // The C interface: the library's calls under plain names. Each answers 0, or the refusal's number, and then every number
 // behind a pointer is as it was. include/havdrims.h says what a C programmer needs to know.
 ghost use mathlib.Core.Bool.{true, false};
-ghost use Rattle.havdrims.specs.Interface.{MeasureCall, OpenCall, ResumeCall, TallyCall, SummaryCall, ParseCall, WorstLogCall, settings, SimulateCall};
+ghost use Rattle.havdrims.specs.Interface.{MeasureCall, OpenCall, ResumeCall, TallyCall, SummaryCall, StatusCall, ParseCall, WorstLogCall, settings, SimulateCall};
 use monitor::Opened;
 use monitor::Resumed;
+use monitor::Standing;
 use monitor::Summarized;
 use monitor::Tallied;
 use rule::Measured;
@@ -122,6 +123,35 @@ pub extern "C" fn havdrims_summary(
     };
     *no = count;
     *latest = position.or(u64::MAX);
+    0
+}
+
+// What a card has to know of a checkpoint (point). `closed` becomes 1 or 0.
+#[no_mangle]
+pub extern "C" fn havdrims_status(
+    rule: &[u8],
+    point: &[u64],
+    given: &mut u64,
+    seen: &mut u64,
+    wanted: &mut u64,
+    closed: &mut u64,
+) -> u32
+    ensures { λ r. ⌜ StatusCall (now (rule .entry)) (now (point .entry)) (now (given .entry)) (now (seen .entry)) (now (wanted .entry)) (now (closed .entry)) r (now (given .exit)) (now (seen .exit)) (now (wanted .exit)) (now (closed .exit)) ⌝ }
+{
+    let standing = monitor::status(rule, point);
+    let Standing::Known {
+        given: verdicts,
+        seen: records,
+        wanted: first,
+        closed: ended,
+    } = standing
+    else {
+        return standing.number();
+    };
+    *given = verdicts;
+    *seen = records;
+    *wanted = first;
+    *closed = ended as u64;
     0
 }
 

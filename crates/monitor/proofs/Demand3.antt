@@ -16,19 +16,21 @@ use Rattle.mtl.proofs.Bounded.{same-test, le-or-lt}
 use Rattle.rule.specs.Entries.{count, decoded}
 use Rattle.rule.specs.Refusal.{first, refusal}
 use Rattle.rule.specs.Measure.{measured}
-use Rattle.rule.proofs.Headers.{first-zero, before-none}
+use Rattle.rule.proofs.Headers.{before-none}
 use Rattle.trace.specs.Format.{record-count, time-at, records-of, malformed}
 use Rattle.trace.specs.Log.{log-of}
 use Rattle.trace.specs.Order.{disordered}
 use Rattle.trace.proofs.Laws.{well-formed-iff, well-formed-records, ordered-iff, agree, keeps-agreed, prefix-continues, count-prefix}
 use Rattle.blocks.specs.Step.{Agrees}
 use Rattle.monitor.specs.Checkpoint.{given, seen, last, closed-with, need, foreign, outside}
-use Rattle.monitor.specs.Refusal.{open-refusal, resumes-closed, closes-more, resume-refusal}
+use Rattle.monitor.specs.Refusal.{open-refusal, resumes-closed, closes-more, resume-refusal, summary-refusal}
 use Rattle.monitor.specs.Verdicts.{formulas-of, verdicts, first-records, answered, all-verdicts}
 use Rattle.monitor.specs.Stands.{Stands}
 use Rattle.monitor.specs.Open.{Opens}
 use Rattle.monitor.specs.Resume.{resumed-number, Gives, Resumes}
 use Rattle.monitor.specs.Summary.{noes-in, told, summarized}
+use Rattle.monitor.specs.Status.{facts, known}
+use Rattle.monitor.specs.Status.{told as known-told}
 use Rattle.monitor.specs.Calls.{Untouched, Call, given-by, brought-by, closed-by, closed-at, laid, the-call, Brings, BringsAfter, Lends, point-after, OneCall, Calls, Each, AllWhenCaughtUp, OneRun, Keeps, expected-refusal, Demand3}
 use Rattle.monitor.specs.Calls.OneCall.{refused, accepted}
 use Rattle.monitor.specs.Calls.Calls.{opened, and-then}
@@ -37,6 +39,7 @@ use Rattle.monitor.specs.declared.Opened.the-variants.{Done}
 use Rattle.monitor.specs.declared.Opened.the-variants.{Refused as OpenRefused}
 use Rattle.monitor.specs.declared.Resumed.{Resumed}
 use Rattle.monitor.specs.declared.Resumed.the-variants.{Given, Refused}
+use Rattle.monitor.proofs.Sizes.{enough-words}
 use Rattle.monitor.proofs.OwnCheckpoint.{own-given, own-within, not-outside}
 use Rattle.monitor.proofs.Lending.{after-unchanged, after-whole, stands-alone, stands-lent}
 use Rattle.monitor.proofs.VerdictBytes.{length-verdicts, verdicts-more, take-verdicts, verdicts-stay}
@@ -58,10 +61,6 @@ open-accepts rule lent (OpenRefused n) p fine enough opens =
     let number = opens .number in
     let some = opens .words .0 in
     absurd (omega arith)
-
--- and no other number of words than enough
-enough-words : (rule : List ℕ) (lent : ℕ) → open-refusal rule lent ≡ 0 → need rule ≤ lent
-enough-words rule lent none = ltb-false lent (need rule) (first-zero 8 (ltb lent (need rule)) 0 (before-none (refusal rule) _ none .1) .0)
 
 -- refusal 9 is met before what the words, the log and the sheet hold is looked at
 nine : (closing : Bool) (rule log p sheet : List ℕ) (r : Resumed) (p′ sheet′ : List ℕ) → refusal rule ≡ 0 → length p < need rule →
@@ -270,6 +269,7 @@ module _ (rule log : List ℕ) (untouched : Untouched log) where
   pub record Invariant (h : List Call) (point : List ℕ) : Type 0 where
     pub fine : refusal rule ≡ 0
     pub size : length point ≡ need rule
+    pub within : brought-by h ≤ record-count (records-of log)
     pub stands : Stands rule (first-records (closed-by h) log (brought-by h)) (given-by h) point
     pub bytes : laid h ≡ verdicts (formulas-of rule) (first-records (closed-by h) log (brought-by h)) (given-by h)
     pub at-first : closed-by h ≡ true → closed-at h ≡ brought-by h
@@ -291,6 +291,7 @@ module _ (rule log : List ℕ) (untouched : Untouched log) where
         (record {
           fine = opened-fine;
           size = length-take-le (need rule) p (opened-stands .enough);
+          within = omega arith;
           stands = stands-alone rule (first-records false log 0) 0 p opened-stands;
           bytes = refl;
           at-first = λ e. absurd (false≢true e);
@@ -346,6 +347,7 @@ module _ (rule log : List ℕ) (untouched : Untouched log) where
         (record {
           fine = before .fine;
           size = length-take-le (need rule) p′ (step .stands .enough);
+          within = brought .brings .within;
           stands = stands-alone rule new (d + c) p′ (step .stands);
           bytes = bytes;
           at-first = λ e. accepted-at;
@@ -414,15 +416,35 @@ module _ (rule log : List ℕ) (untouched : Untouched log) where
         sym (take-all c sheet′ (omega arith)) ∙ bytes ∙ ap (verdicts fs (first-records closed log n)) sum,
       )
 
--- the count of no and the latest of them, as a checkpoint has them
-own-summary : (rule : List ℕ) (K : Log) (d : ℕ) (p : List ℕ) → refusal rule ≡ 0 → Stands rule K d p →
-    summarized rule p ≡ told (noes-in (verdicts (formulas-of rule) K d) d)
-own-summary rule K d p fine stands =
+-- a checkpoint that stands for its rule meets none of refusals 1 to 11
+none-met : (rule : List ℕ) (K : Log) (d : ℕ) (p : List ℕ) → refusal rule ≡ 0 → Stands rule K d p → summary-refusal rule p ≡ 0
+none-met rule K d p fine stands =
     rw (
       open-enough rule (length p) fine (stands .enough),
       stands .own,
       not-outside rule K d p fine stands,
-    ) (ap told (stands .noes))
+    )
+
+-- the count of no and the latest of them, as a checkpoint has them
+own-summary : (rule : List ℕ) (K : Log) (d : ℕ) (p : List ℕ) → refusal rule ≡ 0 → Stands rule K d p →
+    summarized rule p ≡ told (noes-in (verdicts (formulas-of rule) K d) d)
+own-summary rule K d p fine stands = rw (eq-eqb (summary-refusal rule p) 0 (none-met rule K d p fine stands)) (ap told (stands .noes))
+
+-- a closing was accepted exactly where its records were noted
+closed-told : (b : Bool) (n w : ℕ) → w ≡ cond b (suc n) 0 → ltb 0 w ≡ b
+closed-told true n w e = lt-ltb 0 w (omega arith)
+closed-told false n w e = le-ltb 0 w (omega arith)
+
+-- what it tells of the log that it stands for
+own-status : (rule : List ℕ) (K : Log) (d : ℕ) (p : List ℕ) → refusal rule ≡ 0 → Stands rule K d p →
+    known rule p ≡ known-told (facts rule d (K .size) (K .closed))
+own-status rule K d p fine stands =
+    rw (
+      eq-eqb (summary-refusal rule p) 0 (none-met rule K d p fine stands),
+      own-given rule K d p fine stands,
+      stands .size,
+      closed-told (K .closed) (K .size) (closed-with p) (stands .closed),
+    )
 
 -- WORDS BEHIND THE POINT
 
@@ -465,6 +487,10 @@ demand-3 rule log untouched h point calls =
           let laid-length : length (laid h) ≡ d = ap length (i .bytes) ∙ length-verdicts fs L d in
           is ∙ own-summary rule L d p (i .fine) (stands-lent rule L d point p size lends whole (i .stands)) ∙
           ap told (rw (laid-length, i .bytes));
+      status = λ p lends whole r is.
+          let d = given-by h in
+          is ∙ own-status rule L d p (i .fine) (stands-lent rule L d point p size lends whole (i .stands)) ∙
+          ap (λ n. known-told (facts rule d n (closed-by h))) (first-size rule log untouched (brought-by h) (i .within));
     }
 
 -- the bytes of every list are the first bytes of one run

@@ -1,6 +1,6 @@
 -- The laws behind the proofs of the monitor's functions, and the theorems about lists of calls.
 -- Offsets, Copies, Sizes, Starts: the checks and a fresh checkpoint. Tallies, Noes: what is counted. Written, Holding, Giving,
--- Proceeding, Resuming: the verdicts of a call. Summarizing: what a checkpoint has counted. VerdictBytes, OwnCheckpoint, SameRule, Lending, Demand3, Truth: lists of calls.
+-- Proceeding, Resuming: the verdicts of a call. Summarizing: what a checkpoint tells. VerdictBytes, OwnCheckpoint, SameRule, Lending, Demand3, Truth: lists of calls.
 pub mod Offsets
 pub mod Copies
 pub mod Meaning

@@ -85,13 +85,20 @@ failed-by : (b : Bool) (number m : ℕ) → eqb number 0 ≡ b → Failed m ≡ 
 failed-by true number m t e = let z : _≡_ {A = ℕ} 0 1 = cc in absurd (omega arith)
 failed-by false number m t e = let z : m ≡ number = cc in let h = eqb-false number 0 t in omega arith
 
+-- the number of an answer that fails
+pub fails-with : (number : ℕ) (r : Checked) (m n : ℕ) → r ≡ checked-by number → r ≡ Failed m → n ≡ checked-number r →
+    (n ≡ number) × (0 < n)
+fails-with number r m n checked fails numbered =
+    let met : 0 < m = failed-by (eqb number 0) number m refl (sym fails ∙ checked) in
+    let is : n ≡ m = numbered ∙ ap checked-number fails in
+    (numbered ∙ ap checked-number checked ∙ checked-is number, omega arith)
+
 -- refusals from 10 on
 pub failed : (rule p : List ℕ) (number w : ℕ) (r : Checked) (m n : ℕ) → Words w ≡ sized-of rule (length p) → r ≡ checked-by number →
     r ≡ Failed m → n ≡ checked-number r → Met rule p number n
 failed rule p number w r m n sized checked fails numbered =
-    let met : 0 < m = failed-by (eqb number 0) number m refl (sym fails ∙ checked) in
-    let is : n ≡ m = numbered ∙ ap checked-number fails in
-    record { number = numbered ∙ ap checked-number checked ∙ checked-is number ∙ sym (not-stopped rule p number w sized); some = omega arith }
+    let e = fails-with number r m n checked fails numbered in
+    record { number = e .0 ∙ sym (not-stopped rule p number w sized); some = e .1 }
 
 -- nothing is written then
 pub resume-refused : (closing : Bool) (rule log p sheet : List ℕ) (n : ℕ) → Met rule p (point-refusal closing (decoded rule) (count rule) log p) n →

@@ -15,7 +15,7 @@ use Rattle.rule.specs.Refusal.{refusal}
 use Rattle.rule.specs.Measure.{answer, measured}
 use Rattle.rule.specs.Code.{header, header-count, filled}
 use Rattle.rule.proofs.Acceptance.{accepted}
-use Rattle.rule.proofs.Headers.{before-none, Decoded, decoded-once}
+use Rattle.rule.proofs.Headers.{first-zero, before-none, Decoded, decoded-once}
 use Rattle.rule.proofs.Outcome.{passes-with, stops-with}
 use Rattle.monitor.specs.Checkpoint.{need}
 use Rattle.monitor.specs.Code.{sized-by, sized-of, sized-number}
@@ -75,3 +75,7 @@ is-decoded s h t n is e e′ ok = decoded-once s h is t n e e′ (before-none _ 
 pub fits-in : (s : List ℕ) (t : List Entry) (n lent : ℕ) → refusal s ≡ 0 → Decoded s t n → need s ≤ lent →
     (n ≤ 128) × (16 + offset t n ≤ lent)
 fits-in s t n lent ok d h = rw (d .entries-are, d .count-is) (accepted s ok .few-entries, h)
+
+-- `open` takes no fewer words than the need
+pub enough-words : (rule : List ℕ) (lent : ℕ) → open-refusal rule lent ≡ 0 → need rule ≤ lent
+enough-words rule lent none = ltb-false lent (need rule) (first-zero 8 (ltb lent (need rule)) 0 (before-none (refusal rule) _ none .1) .0)

@@ -21,11 +21,14 @@ use Rattle.monitor.specs.Verdicts.{formulas-of, first-records, answered,
 use Rattle.monitor.specs.Open.{Opens}
 use Rattle.monitor.specs.Resume.{resumed-number, Resumes}
 use Rattle.monitor.specs.Summary.{noes-in, told, answer, summarized}
+use Rattle.monitor.specs.Status.{facts, known}
+use Rattle.monitor.specs.Status.{told as known-told, answer as standing-of}
 use Rattle.monitor.specs.declared.Opened.{Opened}
 use Rattle.monitor.specs.declared.Opened.the-variants.{Done}
 use Rattle.monitor.specs.declared.Resumed.{Resumed}
 use Rattle.monitor.specs.declared.Resumed.the-variants.{Given, Refused}
 use Rattle.monitor.specs.declared.Summarized.{Summarized}
+use Rattle.monitor.specs.declared.Standing.{Standing}
 
 -- "One untouched log belongs to the list: a header without fault, then at most 1,000,000 records whose times never fall"
 pub record Untouched (log : List ℕ) : Type 0 where
@@ -213,3 +216,7 @@ pub record Demand3 (rule log : List ℕ) (h : List Call) (point : List ℕ) : Ty
   -- over all verdict bytes written from that point, laid end to end"
   pub summary : (p : List ℕ) → Lends point p → length point ≤ length p →
       (r : Summarized) → answer r ≡ summarized rule p → answer r ≡ told (noes-in (laid h) (length (laid h)))
+  -- 8. `status` of the point, whole in the words lent, is not refused: given is the sum of c, seen and closed are those of the last
+  -- accepted call, and wanted is the record from which `BringsAfter` asks the log to stand
+  pub status : (p : List ℕ) → Lends point p → length point ≤ length p →
+      (r : Standing) → standing-of r ≡ known rule p → standing-of r ≡ known-told (facts rule (given-by h) (brought-by h) (closed-by h))

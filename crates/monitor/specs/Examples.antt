@@ -1,5 +1,5 @@
 -- Document 01's "Worked by hand", and cases of document 02's requests: one table, from the bytes of rules and logs to numbers, verdicts and refusals, proved by computation;
--- and the count of no after calls of that table.
+-- the count of no after calls of that table, and what a card has to know of a checkpoint.
 use Prim.Native.Nat.{ℕ, suc, _+_, _/_, _%_, _^_}
 use mathlib.Core.Bool.{Bool, true, false, cond, _&&_}
 use mathlib.Core.Bool.{not as negate}
@@ -20,7 +20,9 @@ use Rattle.rule.specs.Measure.{farthest, measured}
 use Rattle.trace.specs.Format.{record-count, records-of}
 use Rattle.trace.specs.Order.{last-time}
 use Rattle.monitor.specs.Refusal.{log-refusal}
+use Rattle.monitor.specs.Checkpoint.{format}
 use Rattle.monitor.specs.Summary.{Noes, noes-in, laid-behind}
+use Rattle.monitor.specs.Status.{Answer, told, refused-with, known}
 use Rattle.monitor.specs.Tally.{count-of, latest-no}
 use Rattle.monitor.specs.Verdicts.{formulas-of, byte-of, verdicts, answered, all-verdicts}
 
@@ -449,3 +451,55 @@ summary-rows =
 pub every-summary : AllCount summary-rows
 unfolding AllCount Counts summary-rows count-of latest-no event-set first-entries offset push-kind read any all sat run progress settled-to joint-progress byte-of verdicts
 every-summary = ((refl, refl), ((refl, refl), ((refl, refl), tt)))
+
+-- WHAT A CARD HAS TO KNOW
+
+-- the checkpoint's own words, of d verdicts given, n records seen, the rule's entries and the word of the first closing
+abbrev own-words : (d n entries closed-with : ℕ) → List ℕ
+own-words d n entries closed-with = format ∷ d ∷ n ∷ 0 ∷ 0 ∷ 0 ∷ entries ∷ closed-with ∷ replicate 8 0
+
+-- a block with its copy, and 0 in its other words
+abbrev block : (head ends : ℕ) → List ℕ
+block head ends = replicate 14 0 ++ (head ∷ ends ∷ [])
+
+-- P1's rule and P4's
+abbrev point-1 : (d n closed-with : ℕ) → List ℕ
+point-1 d n closed-with = own-words d n 3 closed-with ++ block 0 0 ++ block 1 0 ++ block 1536 2 ++ replicate 6 0
+
+abbrev point-4 : (d n : ℕ) → List ℕ
+point-4 d n = own-words d n 2 0 ++ block 0 0 ++ block 768 0
+
+pub record StatusRow : Type 0 where
+  pub rule : List ℕ
+  pub point : List ℕ
+  pub answer : Answer
+
+abbrev tells : (rule point : List ℕ) (d n first : ℕ) (closed : Bool) → StatusRow
+tells rule p d n first closed =
+    record { rule = rule; point = p; answer = told (record { given = d; seen = n; wanted = first; closed = closed }) }
+
+unfoldable pub AllKnown : List StatusRow → Type 0
+AllKnown [] = Unit {0}
+AllKnown (r ∷ rest) = (known (r .rule) (r .point) ≡ r .answer) × AllKnown rest
+
+unfoldable pub status-rows : List StatusRow
+status-rows =
+    -- a fresh point: everything is wanted
+    tells rule-1 (point-1 0 0 0) 0 0 0 false
+    -- after P1: 5 given, 6 seen; after P2: 7 and 7
+    ∷ tells rule-1 (point-1 5 6 0) 5 6 5 false
+    ∷ tells rule-1 (point-1 7 7 0) 7 7 7 false
+    -- after P4 record 2 is still wanted
+    ∷ tells (call-4 .rule) (point-4 3 3) 3 3 2 false
+    -- P1 closed with an empty sheet, and with room for all
+    ∷ tells rule-1 (point-1 0 6 7) 0 6 0 true
+    ∷ tells rule-1 (point-1 6 6 7) 6 6 6 true
+    -- a word too few is 9, another rule's point 10, more given than seen 11
+    ∷ record { rule = rule-1; point = take 69 (point-1 5 6 0); answer = refused-with 9 }
+    ∷ record { rule = call-4 .rule; point = point-1 5 6 0; answer = refused-with 10 }
+    ∷ record { rule = rule-1; point = point-1 7 6 0; answer = refused-with 11 }
+    ∷ []
+
+pub every-status : AllKnown status-rows
+unfolding AllKnown status-rows first-entries offset push-kind read header-refusal entries-refusal has-next reach any depth deepest
+every-status = (refl, (refl, (refl, (refl, (refl, (refl, (refl, (refl, (refl, tt)))))))))

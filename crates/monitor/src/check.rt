@@ -9,7 +9,7 @@ ghost use Rattle.rule.specs.Refusal.{first};
 ghost use Rattle.rule.specs.Words.{offset};
 ghost use Rattle.monitor.specs.Checkpoint.{seen, last, closed-with, copy-head, copy-ends, copy-differs, foreign, room, block-in-range, block-outside, noes-in-range, closed-in-range, outside};
 ghost use Rattle.monitor.specs.Code.{sized-by, sized-number, checked-by, checked-number};
-ghost use Rattle.monitor.specs.Refusal.{log-refusal, words-refusal, point-refusal};
+ghost use Rattle.monitor.specs.Refusal.{log-refusal, words-refusal, point-refusal, summary-refusal};
 ghost use Rattle.blocks.specs.Block.{cells-of};
 use super::header;
 use blocks::word;
@@ -205,7 +205,7 @@ fn is_outside(entries: [Entry; 128], count: usize, point: &[u64]) -> bool
 }
 
 // The first record still wanted: those before it may have been overwritten.
-fn first_wanted(entries: [Entry; 128], count: usize, given: usize) -> usize
+pub fn first_wanted(entries: [Entry; 128], count: usize, given: usize) -> usize
     requires { ⌜ count ≤ 128 ⌝ }
     ensures { λ r. ⌜ r ≡ wanted (formulas-or (formulas entries count)) given ⌝ }
 {
@@ -259,7 +259,7 @@ fn checked_by(number: u32) -> Checked
 }
 
 // Refusals 10 and 11.
-pub fn check_words(entries: [Entry; 128], count: usize, point: &[u64]) -> Checked
+fn check_words(entries: [Entry; 128], count: usize, point: &[u64]) -> Checked
     requires { ⌜ (count ≤ 128) × (16 + offset entries count ≤ length (now point)) ⌝ }
     ensures { λ r. ⌜ r ≡ checked-by (words-refusal entries count (now (point .entry)) 0) ⌝ }
 {
@@ -285,4 +285,18 @@ pub fn check_point(
         point,
         log_reason(log, closing, point, wanted),
     ))
+}
+
+// Refusals 1 to 11, which look at no log.
+pub fn check_own(rule: &[u8], point: &[u64]) -> Checked
+    ensures { λ r. ⌜ r ≡ checked-by (summary-refusal (now (rule .entry)) (now (point .entry))) ⌝ }
+{
+    let header = rule::check_header(rule);
+    let count = header.count();
+    let entries = rule::decode(rule, count);
+    let sized = size_of(rule::measure_decoded(header, entries), point.len());
+    let Sized::Words(_) = sized else {
+        return Checked::Failed(sized.number());
+    };
+    check_words(entries, count, point)
 }

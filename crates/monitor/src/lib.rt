@@ -6,6 +6,8 @@ ghost use Rattle.monitor.specs.Resume.{Resumes, resumed-number};
 ghost use Rattle.monitor.specs.Tally.{answer, tallied};
 ghost use Rattle.monitor.specs.Summary.{latest-of, position, position-or, summarized};
 ghost use Rattle.monitor.specs.Summary.{answer as summary-of};
+ghost use Rattle.monitor.specs.Status.{known};
+ghost use Rattle.monitor.specs.Status.{answer as standing-of};
 
 mod check;
 mod fresh;
@@ -102,6 +104,33 @@ impl Summarized {
     }
 }
 
+// What `status` answers.
+pub enum Standing {
+    Known {
+        given: u64,
+        seen: u64,
+        wanted: u64,
+        closed: bool,
+    },
+    Refused(u32),
+}
+
+impl Standing {
+    pub fn number(self) -> u32
+        ensures { λ r. ⌜ r ≡ standing-of self .number ⌝ }
+    {
+        match self {
+            Standing::Known {
+                given: _,
+                seen: _,
+                wanted: _,
+                closed: _,
+            } => 0,
+            Standing::Refused(n) => n,
+        }
+    }
+}
+
 // Writes a fresh checkpoint for the rule into the first words of those lent.
 pub fn open(rule: &[u8], point: &mut [u64]) -> Opened
     ensures { λ r. ⌜ Opens (now (rule .entry)) (now (point .entry)) r (now (point .exit)) ⌝ }
@@ -184,19 +213,31 @@ fn latest_of(after: u64) -> Latest
 pub fn summary(rule: &[u8], point: &[u64]) -> Summarized
     ensures { λ r. ⌜ summary-of r ≡ summarized (now (rule .entry)) (now (point .entry)) ⌝ }
 {
-    let header = rule::check_header(rule);
-    let count = header.count();
-    let entries = rule::decode(rule, count);
-    let sized = check::size_of(rule::measure_decoded(header, entries), point.len());
-    let Sized::Words(_) = sized else {
-        return Summarized::Refused(sized.number());
-    };
-    let checked = check::check_words(entries, count, point);
+    let checked = check::check_own(rule, point);
     let Checked::Passed = checked else {
         return Summarized::Refused(checked.number());
     };
     Summarized::Counted {
         no: point[header::NO_COUNT],
         latest: latest_of(point[header::AFTER_LATEST]),
+    }
+}
+
+// The verdicts given, the records seen, the first record still wanted, and whether a closing was accepted, as the checkpoint has them.
+pub fn status(rule: &[u8], point: &[u64]) -> Standing
+    ensures { λ r. ⌜ standing-of r ≡ known (now (rule .entry)) (now (point .entry)) ⌝ }
+{
+    let checked = check::check_own(rule, point);
+    let Checked::Passed = checked else {
+        return Standing::Refused(checked.number());
+    };
+    let count = rule::check_header(rule).count();
+    let entries = rule::decode(rule, count);
+    let given = point[header::GIVEN];
+    Standing::Known {
+        given: given,
+        seen: point[header::SEEN],
+        wanted: check::first_wanted(entries, count, given as usize) as u64,
+        closed: 0 < point[header::CLOSED_WITH],
     }
 }

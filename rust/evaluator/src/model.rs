@@ -22,6 +22,16 @@ pub struct Summary {
     pub latest: Option<u64>,
 }
 
+/// How far a point has come: the verdicts given d, the records seen, the first record still wanted, and whether a closing
+/// was accepted.
+#[derive(Clone, Copy, Debug, PartialEq, Eq)]
+pub struct Status {
+    pub given: u64,
+    pub seen: u64,
+    pub wanted: u64,
+    pub closed: bool,
+}
+
 /// What an accepted carry on or closing gives: its c verdicts, and whether there are more.
 #[derive(Clone, Debug, PartialEq, Eq)]
 pub struct Resumed {
@@ -82,6 +92,13 @@ impl Point {
     pub fn summary(&self, bytes: &[u8], lent_words: usize) -> Result<Summary, u32> {
         self.check_rule(bytes, lent_words)?;
         Ok(summed(&self.sheet))
+    }
+
+    /// The status, with the summary's checks.
+    pub fn status(&self, bytes: &[u8], lent_words: usize) -> Result<Status, u32> {
+        let rule = self.check_rule(bytes, lent_words)?;
+        let (given, seen, wanted) = (self.given() as u64, self.seen as u64, self.wanted(&rule) as u64);
+        Ok(Status { given, seen, wanted, closed: self.closed.is_some() })
     }
 
     /// The rule and the records of a carry on or a closing that is not refused, else its refusal. "The order of checks is

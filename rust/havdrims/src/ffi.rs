@@ -67,6 +67,21 @@ extern "C" {
         latest: *mut u64,
     ) -> u32;
 
+    /// How far a point has come.
+    ///
+    /// # Safety
+    /// See [`havdrims_measure`].
+    pub fn havdrims_status(
+        rule: *const u8,
+        rule_len: usize,
+        point: *const u64,
+        point_len: usize,
+        given: *mut u64,
+        seen: *mut u64,
+        wanted: *mut u64,
+        closed: *mut u64,
+    ) -> u32;
+
     /// The rule that a text says.
     ///
     /// # Safety

@@ -6,11 +6,11 @@
 //! words that the caller lends and keeps. A record that has its verdict is not read again, but for the last few where
 //! the rule looks back with previous, so the kiosk may overwrite it.
 //!
-//! The calls: [`measure`] (weigh), [`open`], [`resume`] (carry on), [`close`] at the month's end, [`summary`] and
-//! [`tally`]; [`parse`], which writes a rule that is typed as text; and [`worst_log`] and [`simulate`], which write logs
-//! to try a kiosk or its settings with. Each yields its result or one [`Refusal`], and a refused call changes nothing.
-//! The checker is proved; this crate only hands slices on to it. Nothing here allocates, and a thread with
-//! [`MOST_STACK`] bytes of stack can make every call but `parse`, which takes [`PARSE_STACK`].
+//! The calls: [`measure`] (weigh), [`open`], [`resume`] (carry on), [`close`] at the month's end, [`summary`],
+//! [`status`] and [`tally`]; [`parse`], which writes a rule that is typed as text; and [`worst_log`] and [`simulate`],
+//! which write logs to try a kiosk or its settings with. Each yields its result or one [`Refusal`], and a refused call
+//! changes nothing. The checker is proved; this crate only hands slices on to it. Nothing here allocates, and a thread
+//! with [`MOST_STACK`] bytes of stack can make every call but `parse`, which takes [`PARSE_STACK`].
 //!
 //! # Example
 //!
@@ -91,6 +91,19 @@ pub struct Summary {
     pub latest: Option<u64>,
 }
 
+/// How far a checkpoint has come.
+#[derive(Clone, Copy, Debug, PartialEq, Eq)]
+pub struct Status {
+    /// The verdicts given with it, all calls together.
+    pub given: u64,
+    /// The records that the last accepted call brought.
+    pub seen: u64,
+    /// The first record still wanted: all records before it may be overwritten.
+    pub wanted: u64,
+    /// A closing was accepted.
+    pub closed: bool,
+}
+
 /// The counts of a sheet.
 #[derive(Clone, Copy, Debug, PartialEq, Eq)]
 pub struct Tally {
@@ -118,10 +131,10 @@ pub fn open(rule: &[u8], checkpoint: &mut [u64]) -> Result<(), Refusal> {
 /// Carries on: writes the verdicts that the log settles beyond those already given, as many as the sheet takes,
 /// each byte 1 for yes or 0 for no. The rest of the sheet keeps its bytes.
 ///
-/// The log is the whole log from its header on; records before the first still wanted may have been overwritten with
-/// any bytes. That record is the number of verdicts given with this checkpoint so far, less k, or 0 where it is below k,
-/// k being the largest number of previous entries on a path from the rule's last entry to a letter. Refusals: 1 to 11,
-/// then 20 if the checkpoint is closed, then 12 to 14.
+/// The log is the whole log from its header on; records before the first still wanted, which [`status`] gives, may have
+/// been overwritten with any bytes. That record is the number of verdicts given with this checkpoint so far, less k, or 0
+/// where it is below k, k being the largest number of previous entries on a path from the rule's last entry to a letter.
+/// Refusals: 1 to 11, then 20 if the checkpoint is closed, then 12 to 14.
 pub fn resume(rule: &[u8], log: &[u8], checkpoint: &mut [u64], sheet: &mut [u8]) -> Result<Resumed, Refusal> {
     carry_on(ffi::havdrims_resume, rule, log, checkpoint, sheet)
 }
@@ -208,6 +221,26 @@ pub fn summary(rule: &[u8], checkpoint: &[u64]) -> Result<Summary, Refusal> {
     };
     refusal::checked(number)?;
     Ok(Summary { no, latest: Some(latest).filter(|&position| position != u64::MAX) })
+}
+
+/// How far a checkpoint has come, and from which record on it still wants the log. Refusals: 1 to 11.
+pub fn status(rule: &[u8], checkpoint: &[u64]) -> Result<Status, Refusal> {
+    let (mut given, mut seen, mut wanted, mut closed) = (0, 0, 0, 0);
+    // SAFETY: the pointers and lengths are those of two slices and of four numbers. The numbers overlap nothing.
+    let number = unsafe {
+        ffi::havdrims_status(
+            rule.as_ptr(),
+            rule.len(),
+            checkpoint.as_ptr(),
+            checkpoint.len(),
+            &mut given,
+            &mut seen,
+            &mut wanted,
+            &mut closed,
+        )
+    };
+    refusal::checked(number)?;
+    Ok(Status { given, seen, wanted, closed: closed == 1 })
 }
 
 /// Counts the no and the yes of a sheet. Refusal: 15.

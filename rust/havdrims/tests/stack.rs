@@ -5,7 +5,7 @@ use evaluator::log;
 use evaluator::random::{self, LogShape, Random};
 use evaluator::rule::{self, Entry, NEXT, NO_END, PREVIOUS, SINCE, UNTIL};
 use evaluator::{cases, model, reading, typed};
-use havdrims::{close, measure, open, parse, resume, simulate, summary, tally, worst_log};
+use havdrims::{close, measure, open, parse, resume, simulate, status, summary, tally, worst_log};
 use havdrims::{Refusal, Resumed, Settings, Summary, Tally, MOST_RULE, MOST_STACK, PARSE_STACK};
 use std::ffi::{c_int, c_long, c_void};
 use std::io::Write;
@@ -128,7 +128,7 @@ fn every_call_on_a_small_stack() {
     let mut records = random::log(&mut Random::new(1), shape);
     records.last_mut().unwrap().time += 9_000;
     let file = log::encode(&records);
-    let mut most = [0; 6];
+    let mut most = [0; 7];
     for entries in rules() {
         let bytes = rule::encode(&entries);
         let (needs, measuring) = on_small_stack(|| measure(&bytes));
@@ -153,7 +153,9 @@ fn every_call_on_a_small_stack() {
         let latest = verdicts.iter().rposition(|&b| b == 0).map(|at| at as u64);
         let (summed, summing) = on_small_stack(|| summary(&bytes, &point));
         assert_eq!(summed, Ok(Summary { no, latest }));
-        for (most, now) in most.iter_mut().zip([measuring, opening, resuming, closing, summing, tallying]) {
+        let (state, stating) = on_small_stack(|| status(&bytes, &point));
+        assert_eq!(state.map(|state| state.given), Ok(verdicts.len() as u64));
+        for (most, now) in most.iter_mut().zip([measuring, opening, resuming, closing, summing, stating, tallying]) {
             *most = now.max(*most);
         }
     }
@@ -161,7 +163,7 @@ fn every_call_on_a_small_stack() {
     let mut made = vec![7; 8 + 8 * 3600];
     let (simulated, simulating) = on_small_stack(|| simulate(&settings, 3600, 1, &mut made));
     assert_eq!(simulated.map(|given| given.written), Ok(made.len()));
-    let [measuring, opening, resuming, closing, summing, tallying] = most;
+    let [measuring, opening, resuming, closing, summing, stating, tallying] = most;
     let mut made = vec![0; 8 + 8 * 5000];
     let (length, making) = on_small_stack(|| worst_log(0, 3600, 5000, &mut made));
     assert_eq!(length, Ok(made.len()));
@@ -169,7 +171,7 @@ fn every_call_on_a_small_stack() {
     let _ = writeln!(
         std::io::stderr(),
         "most bytes of stack: measure {measuring}, open {opening}, resume {resuming}, close {closing}, \
-         summary {summing}, tally {tallying}, worst_log {making}, simulate {simulating}"
+         summary {summing}, status {stating}, tally {tallying}, worst_log {making}, simulate {simulating}"
     );
     assert!(resuming > PAGE, "the stack was not measured");
     let header = include_str!("../../../include/havdrims.h");

@@ -1,13 +1,10 @@
-//! The tool for logs as text and rules as formulas.
+//! Logs as text and rules as formulas.
 
 use evaluator::random::{self, LogShape, Random};
 use evaluator::rule::{self, Entry, NEXT, NO_END, PREVIOUS, SINCE, UNTIL};
 use evaluator::{cases, log};
 use havdrims::text::{formula, log_from_text, log_to_text, EMPTY};
 use havdrims::Refusal;
-use std::path::Path;
-use std::process::{Command, Output};
-use std::{env, fs, process};
 
 const P1: &str = "10 e0\n11 e0\n11 none\n12 e0\n13 e1\n20 e0\n";
 
@@ -77,76 +74,4 @@ fn formulas() {
     assert_eq!(shown(&[a, Entry::timed(NEXT, 1, NO_END)]), "next[1,inf] e0");
     assert_eq!(shown(&[]), EMPTY);
     assert_eq!(formula(b"KRL"), Err(Refusal::RuleMark));
-}
-
-fn tool(directory: &Path, words: &[&str]) -> (Output, String, String) {
-    let program = env!("CARGO_BIN_EXE_kiosk-text");
-    let output = Command::new(program).args(words).current_dir(directory).output().unwrap();
-    let text = |bytes: &[u8]| String::from_utf8(bytes.to_vec()).unwrap();
-    let (out, err) = (text(&output.stdout), text(&output.stderr));
-    (output, out, err)
-}
-
-#[test]
-fn the_program() {
-    let directory = env::temp_dir().join(format!("kiosk-text-{}", process::id()));
-    fs::create_dir_all(&directory).unwrap();
-    fs::write(directory.join("day.txt"), P1).unwrap();
-    fs::write(directory.join("bad.txt"), "1\n0\n").unwrap();
-    fs::write(directory.join("rule.krl"), rule::encode(&cases::p1_entries())).unwrap();
-    fs::write(directory.join("empty.krl"), rule::encode(&[])).unwrap();
-
-    let (done, out, _) = tool(&directory, &["to-log", "day.txt", "day.klg"]);
-    assert!(done.status.success());
-    assert_eq!(out, "day.klg: 6 records\n");
-    assert_eq!(fs::read(directory.join("day.klg")).unwrap(), log::encode(&cases::p1_records()));
-    assert_eq!(tool(&directory, &["to-text", "day.klg"]).1, P1);
-    assert_eq!(tool(&directory, &["formula", "rule.krl"]).1, "e0 until[0,2] e1\nwords 70, reach 2 seconds\n");
-
-    let (done, out, _) = tool(&directory, &["rule", "e0 until[0,2] e1", "typed.krl"]);
-    assert!(done.status.success());
-    assert_eq!(out, "typed.krl: 3 entries\n");
-    assert_eq!(fs::read(directory.join("typed.krl")).unwrap(), rule::encode(&cases::p1_entries()));
-    let (failed, _, err) = tool(&directory, &["rule", "e0 until e1", "none.krl"]);
-    assert!(!failed.status.success() && !directory.join("none.krl").exists());
-    assert_eq!(err, "`e0 until e1`: refused 17: The grammar does not derive the text.\n");
-    let empty = tool(&directory, &["formula", "empty.krl"]).1;
-    assert_eq!(empty, "empty: every position is yes\nwords 16, reach 0 seconds\n");
-    let (done, out, _) = tool(&directory, &["worst", "0", "2", "5", "worst.klg"]);
-    assert!(done.status.success());
-    assert_eq!(out, "worst.klg: 5 records, 3 seconds waiting\n");
-    assert_eq!(tool(&directory, &["to-text", "worst.klg"]).1, "0 e0\n1 e0\n2 e0\n2 e0\n2 e0\n");
-
-    let (failed, _, err) = tool(&directory, &["to-log", "bad.txt", "bad.klg"]);
-    assert!(!failed.status.success() && !directory.join("bad.klg").exists());
-    assert_eq!(err, "bad.txt, line 2: second 0 comes after second 1\n");
-    let (failed, _, err) = tool(&directory, &["formula", "day.klg"]);
-    assert!(!failed.status.success());
-    assert_eq!(err, "day.klg: refused 1: The rule is shorter than 8 bytes or lacks its mark.\n");
-    let (failed, _, err) = tool(&directory, &["worst", "3", "2", "5", "bad.klg"]);
-    assert!(!failed.status.success() && !directory.join("bad.klg").exists());
-    assert!(err.starts_with("refused 6: "));
-    assert!(tool(&directory, &["worst", "0", "2", "1000001", "bad.klg"]).2.starts_with("refused 19: "));
-    assert_eq!(tool(&directory, &["worst", "0", "2", "-1", "bad.klg"]).2, "`-1` is no number, or too large a one\n");
-    assert!(tool(&directory, &["to-text", "none.klg"]).2.starts_with("none.klg: "));
-
-    let options = "simulate run.klg --seed 6 --seconds 9 --warm-up 1 --print-time 2 --switch-off 1 --mean-gap 3";
-    let options: Vec<&str> = options.split(' ').collect();
-    assert_eq!(tool(&directory, &options).1, "run.klg: 9 records, finished 2, printing 1, waiting 2\n");
-    let shown = tool(&directory, &["to-text", "run.klg"]).1;
-    assert_eq!(shown, "0 e2\n1 e0 e1\n2 e0\n3 e0 e1 e2 e3\n4 e0\n5 e0 e3\n6 e2\n7 e0 e1 e2\n8 e0 e2\n");
-    let with = |at: usize, word: &'static str| {
-        let mut words = options.clone();
-        words[at] = word;
-        tool(&directory, &words).2
-    };
-    assert_eq!(with(3, "0"), format!("{}\n", Refusal::Settings));
-    assert_eq!(with(5, "3601"), format!("{}\n", Refusal::Settings));
-    assert_eq!(with(3, "x"), "--seed: `x` is no number\n");
-    assert_eq!(with(4, "--seed"), "--seed is there twice\n");
-    assert_eq!(with(4, "--second"), "`--second` is no option of simulate\n");
-    assert_eq!(tool(&directory, &options[..12]).2, "--mean-gap is missing\n");
-    assert_eq!(tool(&directory, &options[..13]).2, "--mean-gap needs a number\n");
-    assert!(tool(&directory, &[]).2.starts_with("kiosk-text to-log TEXT LOG"));
-    fs::remove_dir_all(&directory).unwrap();
 }

@@ -1,7 +1,7 @@
 //! The functions called on guarded buffers, with what every call keeps checked after it.
 
 use crate::guard::{Lent, Side};
-use evaluator::model::Summary;
+use evaluator::model::{Status, Summary};
 use evaluator::random::Random;
 use havdrims::ffi;
 use std::cell::Cell;
@@ -123,23 +123,49 @@ impl Checkpoint {
         }
     }
 
-    /// havdrims_summary, lending the first `words` words: the count of no and the position of the latest. It keeps all.
-    pub fn summary(&mut self, rule: &[u8], words: usize, side: Side) -> Result<Summary, u32> {
+    /// A call that only reads the rule and the first `words` words, and writes so many numbers. It keeps all, the numbers
+    /// too if it refuses.
+    fn asked<const N: usize>(
+        &mut self,
+        rule: &[u8],
+        side: Side,
+        call: impl FnOnce(*const u8, *const u64, &mut [u64; N]) -> u32,
+    ) -> Result<[u64; N], u32> {
         let before = self.words().to_vec();
         let mut copy = lent(rule, side);
         copy.read_only_if(read_only_turn());
         self.lent.read_only_if(read_only_turn());
-        let [mut no, mut latest] = KEPT;
-        let point = self.lent.pointer().cast();
-        // SAFETY: rule and words are lent for reading, the numbers are this function's own.
-        let number =
-            unsafe { ffi::havdrims_summary(copy.pointer(), copy.length(), point, words, &mut no, &mut latest) };
+        let mut numbers = [KEPT[0]; N];
+        let number = call(copy.pointer(), self.lent.pointer().cast(), &mut numbers);
         self.lent.read_only_if(false);
-        assert_eq!(copy.bytes(), rule, "summary changed the rule");
-        assert_eq!(self.words(), before, "summary changed the point");
-        assert!(self.lent.surroundings_kept(), "summary wrote outside the point");
-        let (no, latest) = answer(number, [no, latest])?;
+        assert_eq!(copy.bytes(), rule, "the call changed the rule");
+        assert_eq!(self.words(), before, "the call changed the point");
+        assert!(self.lent.surroundings_kept(), "the call wrote outside the point");
+        if number == 0 {
+            return Ok(numbers);
+        }
+        assert_eq!(numbers, [KEPT[0]; N], "refusal {number} wrote its numbers");
+        Err(number)
+    }
+
+    /// havdrims_summary, lending the first `words` words.
+    pub fn summary(&mut self, rule: &[u8], words: usize, side: Side) -> Result<Summary, u32> {
+        // SAFETY: rule and words are lent for reading, the numbers are the caller's own.
+        let [no, latest] = self.asked(rule, side, |lent, point, [no, latest]| unsafe {
+            ffi::havdrims_summary(lent, rule.len(), point, words, no, latest)
+        })?;
         Ok(Summary { no, latest: (latest != u64::MAX).then_some(latest) })
+    }
+
+    /// havdrims_status, lending the first `words` words.
+    pub fn status(&mut self, rule: &[u8], words: usize, side: Side) -> Result<Status, u32> {
+        // SAFETY: rule and words are lent for reading, the numbers are the caller's own.
+        let [given, seen, wanted, closed] =
+            self.asked(rule, side, |lent, point, [given, seen, wanted, closed]| unsafe {
+                ffi::havdrims_status(lent, rule.len(), point, words, given, seen, wanted, closed)
+            })?;
+        assert!(closed <= 1, "closed is {closed}");
+        Ok(Status { given, seen, wanted, closed: closed == 1 })
     }
 
     /// havdrims_resume or havdrims_close on a guarded copy of the log.

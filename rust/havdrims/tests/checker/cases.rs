@@ -2,7 +2,8 @@
 
 use evaluator::rule::{Entry, NEXT, NO_END};
 use evaluator::{cases, log, rule};
-use havdrims::{close, measure, open, resume, summary, tally, Needs, Refusal, Resumed, Summary, Tally};
+use havdrims::{close, measure, open, resume, status, summary, tally};
+use havdrims::{Needs, Refusal, Resumed, Status, Summary, Tally};
 
 fn fresh(rule: &[u8]) -> Vec<u64> {
     let mut point = vec![0; measure(rule).unwrap().words];
@@ -52,14 +53,18 @@ fn worked_lists() {
             assert!(sheet[c..].iter().all(|&b| b == 7), "{}, call {at}", list.name);
             let (no, latest) = call.no;
             assert_eq!(summary(&rule, &point), Ok(Summary { no, latest }), "{}, call {at}", list.name);
+            let wanted = status(&rule, &point).map(|status| status.wanted as usize);
+            assert_eq!(wanted, Ok(call.wanted), "{}, call {at}", list.name);
         }
     }
 }
 
 #[test]
-fn a_fresh_checkpoint_has_no_no() {
+fn a_fresh_checkpoint() {
     let rule = rule::encode(&cases::p1_entries());
     let point = fresh(&rule);
+    assert_eq!(status(&rule, &point), Ok(Status { given: 0, seen: 0, wanted: 0, closed: false }));
+    assert_eq!(status(&rule, &point[..69]), Err(Refusal::ShortPoint));
     assert_eq!(summary(&rule, &point), Ok(Summary { no: 0, latest: None }));
     assert_eq!(summary(&rule, &point[..69]), Err(Refusal::ShortPoint));
     assert_eq!(summary(&rule::encode(&[]), &point), Err(Refusal::ForeignPoint));

@@ -79,12 +79,14 @@ fn forged_points() {
             }
             let sheet = vec![5; r.below(50)];
             let summary = kiosk.point.summary(&kiosk.rule, length, side(r));
+            let status = kiosk.point.status(&kiosk.rule, length, side(r));
             let closing = r.one_in(2);
             let call = Call { closing, rule: &kiosk.rule, need: kiosk.need, words: length, side: side(r) };
             let number = kiosk.point.resume(&call, &log, &sheet).err().unwrap_or(0);
             counts.returned(number);
-            // Both calls have checks 1 to 11.
-            assert_eq!(summary.err(), Some(number).filter(|n| [10, 11].contains(n)), "{}point {words:?}", kiosk.story);
+            // All calls have checks 1 to 11.
+            let early = Some(number).filter(|n| [10, 11].contains(n));
+            assert_eq!([summary.err(), status.err()], [early; 2], "{}point {words:?}", kiosk.story);
             let possible = [0, 10, 11, 13, 14, if closing { 21 } else { 20 }].contains(&number);
             assert!(possible, "refused {number}\n{}point {words:?}\nlog {}", kiosk.story, hex(&log));
         }

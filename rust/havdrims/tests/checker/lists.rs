@@ -105,16 +105,18 @@ impl Kiosk {
         let call = Call { closing, rule, need: self.need, words, side: side(r) };
         let got = self.point.resume(&call, log, sheet);
         assert_eq!(got, expected, "{}", self.story);
-        self.summary(r, rule, words);
+        self.asked(r, rule, words);
         got
     }
 
-    /// The summary with the rule and the words of this call, and with those that belong to the point.
-    fn summary(&mut self, r: &mut Random, rule: &[u8], words: usize) {
+    /// Summary and status with the rule and the words of this call, and with those that belong to the point.
+    fn asked(&mut self, r: &mut Random, rule: &[u8], words: usize) {
         let own = self.rule.clone();
         for (rule, words) in [(rule, words), (&own, r.from_to(self.need, self.point.words().len()))] {
             let expected = self.model.summary(rule, words);
             assert_eq!(self.point.summary(rule, words, side(r)), expected, "{}", self.story);
+            let expected = self.model.status(rule, words);
+            assert_eq!(self.point.status(rule, words, side(r)), expected, "{}", self.story);
         }
     }
 

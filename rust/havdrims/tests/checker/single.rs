@@ -148,6 +148,10 @@ fn nothing_lent() {
         assert_eq!(ffi::havdrims_summary(null(), 0, null(), 0, &mut a, &mut b), 1);
         assert_eq!(ffi::havdrims_summary(rule.as_ptr(), 38, null(), 0, &mut a, &mut b), 9);
         assert_eq!((a, b), (0, 0));
+        let (mut c, mut d) = (9, 9);
+        assert_eq!(ffi::havdrims_status(null(), 0, null(), 0, &mut a, &mut b, &mut c, &mut d), 1);
+        assert_eq!(ffi::havdrims_status(rule.as_ptr(), 38, null(), 0, &mut a, &mut b, &mut c, &mut d), 9);
+        assert_eq!((a, b, c, d), (0, 0, 9, 9));
         assert_eq!(ffi::havdrims_tally(null(), 0, &mut a, &mut b), 0);
         assert_eq!((a, b), (0, 0));
     }

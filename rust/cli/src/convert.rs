@@ -1,0 +1,113 @@
+//! Rules and logs as text and back, and logs to try a kiosk with.
+
+use crate::command::Failure;
+use crate::disk::read_file;
+use havdrims::{measure, parse, simulate, text, worst_log, Settings, MOST_RULE};
+use std::fs;
+use std::str::FromStr;
+
+/// The most records of a log.
+const MOST_RECORDS: usize = 1_000_000;
+/// The most bytes of a log.
+const MOST_LOG: usize = 8 + 8 * MOST_RECORDS;
+
+type Answer = Result<String, Failure>;
+
+fn write(path: &str, bytes: &[u8]) -> Result<(), Failure> {
+    fs::write(path, bytes).map_err(|fault| Failure::fault(path, fault))
+}
+
+/// The bytes of a log file. What is longer than every log is cut behind that length: it is refused all the same.
+pub fn log(path: &str) -> Result<Vec<u8>, Failure> {
+    read_file(path, MOST_LOG).map_err(|fault| Failure::fault(path, fault))
+}
+
+/// The bytes of the rule that a word of the command line says: it is the name of a .krl file, or else a formula.
+pub fn rule_said(word: &str) -> Result<Vec<u8>, Failure> {
+    if word.ends_with(".krl") {
+        return read_file(word, MOST_RULE).map_err(|fault| Failure::fault(word, fault));
+    }
+    let mut bytes = vec![0; MOST_RULE];
+    let size = parse(word.as_bytes(), &mut bytes).map_err(|refusal| Failure::fault(&format!("`{word}`"), refusal))?;
+    bytes.truncate(size);
+    Ok(bytes)
+}
+
+/// A rule as a formula, its words and its reach.
+pub fn described(name: &str, rule: &[u8]) -> Answer {
+    let refused = |refusal| Failure::fault(name, refusal);
+    let needs = measure(rule).map_err(refused)?;
+    let formula = text::formula(rule).map_err(refused)?;
+    let reach = needs.reach.map_or("none".to_string(), |seconds| format!("{seconds} seconds"));
+    Ok(format!("{formula}\nwords {}, reach {reach}\n", needs.words))
+}
+
+pub fn to_log(path: &str, log: &str) -> Answer {
+    let bytes = fs::read(path).map_err(|fault| Failure::fault(path, fault))?;
+    let typed = String::from_utf8(bytes).map_err(|_| Failure::fault(path, "not a text"))?;
+    let bytes = text::log_from_text(&typed).map_err(|fault| Failure::Fault(format!("{path}, {fault}")))?;
+    write(log, &bytes)?;
+    Ok(format!("{log}: {} records\n", (bytes.len() - 8) / 8))
+}
+
+pub fn to_text(path: &str) -> Answer {
+    text::log_to_text(&log(path)?).map_err(|refusal| Failure::fault(path, refusal))
+}
+
+pub fn rule(formula: &str, path: &str) -> Answer {
+    let bytes = rule_said(formula)?;
+    write(path, &bytes)?;
+    Ok(format!("{path}: {} entries\n", (bytes.len() - 8) / 10))
+}
+
+pub fn formula(path: &str) -> Answer {
+    let bytes = read_file(path, MOST_RULE).map_err(|fault| Failure::fault(path, fault))?;
+    described(path, &bytes)
+}
+
+/// A number of the command line.
+pub fn number<T: FromStr>(word: &str) -> Result<T, Failure> {
+    word.parse().map_err(|_| Failure::Use(format!("`{word}` is no number, or too large a one")))
+}
+
+pub fn worst(low: &str, high: &str, records: &str, log: &str) -> Answer {
+    let (low, high, records): (u32, u32, u64) = (number(low)?, number(high)?, number(records)?);
+    // With more records than a log may have the call is refused, whatever the room.
+    let mut bytes = vec![0; 8 + 8 * records.min(MOST_RECORDS as u64) as usize];
+    let length = worst_log(low, high, records, &mut bytes).map_err(|refusal| Failure::Fault(refusal.to_string()))?;
+    write(log, &bytes[..length])?;
+    Ok(format!("{log}: {records} records, {} seconds waiting\n", records.min(u64::from(high) + 1)))
+}
+
+const OPTIONS: [&str; 6] = ["--seconds", "--warm-up", "--print-time", "--switch-off", "--mean-gap", "--seed"];
+
+/// The numbers of the options, each given once, in the order of `OPTIONS`.
+fn numbers(words: &[&str]) -> Result<[u32; 6], String> {
+    let mut given = [None; 6];
+    for pair in words.chunks(2) {
+        let at = OPTIONS.iter().position(|&option| option == pair[0]);
+        let at = at.ok_or_else(|| format!("`{}` is no option of simulate", pair[0]))?;
+        let typed = pair.get(1).ok_or_else(|| format!("{} needs a number", pair[0]))?;
+        let number = typed.parse::<u32>().map_err(|_| format!("{}: `{typed}` is no number", pair[0]))?;
+        if given[at].replace(number).is_some() {
+            return Err(format!("{} is there twice", pair[0]));
+        }
+    }
+    let mut all = [0; 6];
+    for (at, number) in given.into_iter().enumerate() {
+        all[at] = number.ok_or_else(|| format!("{} is missing", OPTIONS[at]))?;
+    }
+    Ok(all)
+}
+
+pub fn simulated(log: &str, words: &[&str]) -> Answer {
+    let [seconds, warm_up, print_time, switch_off, mean_gap, seed] = numbers(words).map_err(Failure::Use)?;
+    let settings = Settings { warm_up, print_time, switch_off, mean_gap };
+    let mut bytes = vec![0; 8 + 8 * seconds.min(3600) as usize];
+    let given =
+        simulate(&settings, seconds, seed, &mut bytes).map_err(|refusal| Failure::Fault(refusal.to_string()))?;
+    write(log, &bytes[..given.written])?;
+    let numbers = [("finished", given.finished), ("printing", given.printing), ("waiting", given.waiting)];
+    let numbers = numbers.map(|(name, number)| format!("{name} {number}")).join(", ");
+    Ok(format!("{log}: {seconds} records, {numbers}\n"))
+}

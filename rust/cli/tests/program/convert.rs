@@ -1,0 +1,76 @@
+//! Rules and logs as text and back, and logs to try a kiosk with.
+
+use crate::Place;
+use evaluator::{cases, log, rule};
+use havdrims::Refusal;
+use std::fs;
+
+const P1: &str = "10 e0\n11 e0\n11 none\n12 e0\n13 e1\n20 e0\n";
+
+#[test]
+fn logs_as_text() {
+    let place = Place::new();
+    fs::write(place.path("day.txt"), P1).unwrap();
+    assert_eq!(place.ok(&["to-log", "day.txt", "day.klg"]), "day.klg: 6 records\n");
+    assert_eq!(fs::read(place.path("day.klg")).unwrap(), log::encode(&cases::p1_records()));
+    assert_eq!(place.ok(&["to-text", "day.klg"]), P1);
+
+    fs::write(place.path("bad.txt"), "1\n0\n").unwrap();
+    let said = place.fails(1, &["to-log", "bad.txt", "bad.klg"]);
+    assert_eq!(said, "bad.txt, line 2: second 0 comes after second 1\n");
+    assert!(!place.path("bad.klg").exists());
+    fs::write(place.path("bad.txt"), [0xff, 0xfe]).unwrap();
+    assert_eq!(place.fails(1, &["to-log", "bad.txt", "bad.klg"]), "bad.txt: not a text\n");
+    assert!(place.fails(1, &["to-text", "none.klg"]).starts_with("none.klg: "));
+    assert_eq!(place.fails(1, &["to-text", "day.txt"]), format!("day.txt: {}\n", Refusal::LogFormat));
+}
+
+#[test]
+fn rules_as_formulas() {
+    let place = Place::new();
+    assert_eq!(place.ok(&["rule", "e0 until[0,2] e1", "typed.krl"]), "typed.krl: 3 entries\n");
+    assert_eq!(fs::read(place.path("typed.krl")).unwrap(), rule::encode(&cases::p1_entries()));
+    assert_eq!(place.ok(&["formula", "typed.krl"]), "e0 until[0,2] e1\nwords 70, reach 2 seconds\n");
+    fs::write(place.path("empty.krl"), rule::encode(&[])).unwrap();
+    assert_eq!(place.ok(&["formula", "empty.krl"]), "empty: every position is yes\nwords 16, reach 0 seconds\n");
+    assert_eq!(place.ok(&["rule", "next[0,inf] e0", "next.krl"]), "next.krl: 2 entries\n");
+    assert_eq!(place.ok(&["formula", "next.krl"]), "next[0,inf] e0\nwords 48, reach none\n");
+
+    let said = place.fails(1, &["rule", "e0 until e1", "none.krl"]);
+    assert_eq!(said, "`e0 until e1`: refused 17: The grammar does not derive the text.\n");
+    assert!(!place.path("none.krl").exists());
+    fs::write(place.path("long.krl"), [0; 100_000]).unwrap();
+    assert_eq!(place.fails(1, &["formula", "long.krl"]), format!("long.krl: {}\n", Refusal::RuleMark));
+}
+
+#[test]
+fn logs_to_try_a_kiosk_with() {
+    let place = Place::new();
+    assert_eq!(place.ok(&["worst", "0", "2", "5", "worst.klg"]), "worst.klg: 5 records, 3 seconds waiting\n");
+    assert_eq!(place.ok(&["to-text", "worst.klg"]), "0 e0\n1 e0\n2 e0\n2 e0\n2 e0\n");
+    assert_eq!(place.fails(1, &["worst", "3", "2", "5", "bad.klg"]), format!("{}\n", Refusal::Interval));
+    assert_eq!(place.fails(1, &["worst", "0", "2", "1000001", "bad.klg"]), format!("{}\n", Refusal::LogRoom));
+    let said = place.fails(2, &["worst", "0", "2", "-1", "bad.klg"]);
+    assert_eq!(said, "`-1` is no number, or too large a one\nexpected: havdrims worst LOW HIGH N LOG\n");
+    assert!(!place.path("bad.klg").exists());
+
+    let options = "simulate run.klg --seed 6 --seconds 9 --warm-up 1 --print-time 2 --switch-off 1 --mean-gap 3";
+    let options: Vec<&str> = options.split(' ').collect();
+    assert_eq!(place.ok(&options), "run.klg: 9 records, finished 2, printing 1, waiting 2\n");
+    let shown = place.ok(&["to-text", "run.klg"]);
+    assert_eq!(shown, "0 e2\n1 e0 e1\n2 e0\n3 e0 e1 e2 e3\n4 e0\n5 e0 e3\n6 e2\n7 e0 e1 e2\n8 e0 e2\n");
+    let with = |status: i32, at: usize, word: &'static str| {
+        let mut words = options.clone();
+        words[at] = word;
+        place.fails(status, &words)
+    };
+    let refused = format!("{}\n", Refusal::Settings);
+    assert_eq!(with(1, 3, "0"), refused);
+    assert_eq!(with(1, 5, "3601"), refused);
+    let expected = "expected: havdrims simulate LOG OPTIONS\n";
+    assert_eq!(with(2, 3, "x"), format!("--seed: `x` is no number\n{expected}"));
+    assert_eq!(with(2, 4, "--seed"), format!("--seed is there twice\n{expected}"));
+    assert_eq!(with(2, 4, "--second"), format!("`--second` is no option of simulate\n{expected}"));
+    assert_eq!(place.fails(2, &options[..12]), format!("--mean-gap is missing\n{expected}"));
+    assert_eq!(place.fails(2, &options[..13]), format!("--mean-gap needs a number\n{expected}"));
+}
