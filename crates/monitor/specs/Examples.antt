@@ -19,7 +19,7 @@ use Rattle.rule.specs.Refusal.{before, refusal, header-refusal, entries-refusal
 use Rattle.rule.specs.Measure.{farthest, measured}
 use Rattle.trace.specs.Format.{record-count, records-of}
 use Rattle.trace.specs.Order.{last-time}
-use Rattle.monitor.specs.Refusal.{log-refusal}
+use Rattle.monitor.specs.Refusal.{log-refusal, resume-refusal}
 use Rattle.monitor.specs.Checkpoint.{format}
 use Rattle.monitor.specs.Summary.{Noes, noes-in, laid-behind}
 use Rattle.monitor.specs.Status.{Answer, told, refused-with, known}
@@ -503,3 +503,9 @@ status-rows =
 pub every-status : AllKnown status-rows
 unfolding AllKnown status-rows first-entries offset push-kind read header-refusal entries-refusal has-next reach any depth deepest
 every-status = (refl, (refl, (refl, (refl, (refl, (refl, (refl, (refl, (refl, tt)))))))))
+
+-- 20 "after 11": a resume on P1's point, closed, is 20, and 11 where more was given than seen besides
+pub closed-and-damaged :
+    (resume-refusal false rule-1 (log records-7) (point-1 6 6 7) ≡ 20) × (resume-refusal false rule-1 (log records-7) (point-1 7 6 7) ≡ 11)
+unfolding first-entries offset push-kind read header-refusal entries-refusal has-next reach any depth deepest event-set
+closed-and-damaged = (refl, refl)
