@@ -131,14 +131,14 @@ fn forged_closings() {
         let (mut kiosk, n) = used(r);
         let seen = kiosk.model.seen as u64;
         let mut words = kiosk.point.words().to_vec();
-        words[CLOSED] = r.pick(&[0, seen + 1, seen + 2, r.clone().draw(), u64::MAX]);
+        words[CLOSED] = r.pick(&[0, 1, seen.max(1), seen + 1, seen + 1, seen + 2, r.clone().draw(), u64::MAX]);
         kiosk.point.set(&words, side(r));
         let closing = r.one_in(2);
         let call = Call { closing, rule: &kiosk.rule, need: kiosk.need, words: words.len(), side: side(r) };
         let got = kiosk.point.resume(&call, &kiosk.brought(n), &[]).err().unwrap_or(0);
         let expected = match words[CLOSED] {
             0 => 0,
-            closed if closed > seen + 1 => 11,
+            closed if closed != seen + 1 => 11,
             _ if closing => 0,
             _ => 20,
         };
