@@ -17,7 +17,7 @@ use Rattle.rule.specs.declared.Entry.{Entry}
 use Rattle.rule.specs.Entries.{entry}
 use Rattle.rule.specs.Words.{ring-words, own-words, own, offset}
 use Rattle.rule.specs.Postfix.{root}
-use Rattle.rule.specs.Operands.{operands, span, left, part, FormulaAt, Unary, Binary}
+use Rattle.rule.specs.Operands.{operands, left, part, FormulaAt, Unary, Binary}
 use Rattle.rule.specs.Accepted.{WellFormed, One}
 use Rattle.rule.proofs.Spans.{own-least, offset-mono}
 use Rattle.blocks.specs.Block.{word, taken, left-count, right-count, kind-of, high-of, FreshBlock, KeptBlock, cells-of, InRange, Own, Core, Buffers, Ready}

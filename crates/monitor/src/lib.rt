@@ -1,4 +1,5 @@
-// Checkpoints over a growing log: open one for a rule, resume from it with the records at hand, and count the verdicts.
+// Checkpoints over a growing log: open one for a rule, resume from it with the records at hand, close it when no record will follow,
+// ask how far it has come, and count the verdicts.
 ghost use mathlib.Core.Bool.{true, false};
 ghost use mathlib.Core.Path.{_≡_};
 ghost use Rattle.monitor.specs.Open.{Opens, opened-number};
