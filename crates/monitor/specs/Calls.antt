@@ -60,7 +60,7 @@ unfoldable pub brought-by : List Call → ℕ
 brought-by [] = 0
 brought-by (c ∷ older) = c .records
 
--- the last accepted call is a closing; every accepted call behind a closing is one
+-- the last accepted call is a closing; every accepted call after a closing is one, since a resume then meets 20 (`not-refused`)
 unfoldable pub closed-by : List Call → Bool
 closed-by [] = false
 closed-by (c ∷ older) = c .closing

@@ -84,7 +84,7 @@ module _ (rule log : List ℕ) (short : too-long rule log ≡ false) where
     stands : Stands rule none-yet 0 p
     stands = opens .words .1 none-yet refl refl
 
-    -- 9, 10, 11 and 13 are not met
+    -- 9, 10, 11, 13 and 20 are not met
     resumes-by : resume-refusal false rule log p ≡ run-refusal rule log
     resumes-by =
         let all-wanted : wanted (formulas-of rule) 0 ≡ 0 = omega arith in

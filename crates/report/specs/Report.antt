@@ -48,7 +48,7 @@ abbrev pub verdicts-text : (records : ℕ) (verdicts : List ℕ) → List ℕ
 verdicts-text records verdicts = first-line (length verdicts) records ++ lines verdicts (length verdicts)
 
 -- "opens, carries on": the first refusal that applies. The checkpoint is fresh, with nothing given or seen, and has room for
--- every rule that passes 8. So 9, 10, 11 and 13 are never met
+-- every rule that passes 8. So 9, 10, 11, 13 and 20 are never met
 abbrev pub run-refusal : (rule log : List ℕ) → ℕ
 run-refusal rule log = before (refusal rule) (log-refusal false log 0 0 0 0)
 
