@@ -54,7 +54,7 @@ abbrev pub checked-number : Checked → ℕ
 checked-number Passed = 0
 checked-number (Failed n) = n
 
--- refusals 10 to 14, 20 and 21 by their number, which is 0 where none applies
+-- a refusal by its number, which is 0 where none applies
 abbrev pub checked-by : ℕ → Checked
 checked-by number = cond (eqb number 0) Passed (Failed number)
 

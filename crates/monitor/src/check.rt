@@ -36,7 +36,7 @@ impl Sized {
     }
 }
 
-// Refusals 10 to 14, 20 and 21, or none of them.
+// Refusals 10 to 14, 20 and 21, in `check_own` 1 to 9 as well, or none of them.
 pub enum Checked {
     Passed,
     Failed(u32),
