@@ -15,6 +15,7 @@ use Rattle.rule.specs.declared.Measured.{Measured}
 use Rattle.rule.specs.declared.Measured.the-variants.{Words as Weighed}
 use Rattle.rule.specs.declared.Measured.the-variants.{Refused as Unmeasured}
 use Rattle.rule.specs.Entries.{entry}
+use Rattle.rule.specs.Words.{offset}
 use Rattle.rule.specs.Refusal.{refusal}
 use Rattle.rule.specs.Accepted.{WellFormed, Whole}
 use Rattle.blocks.specs.Block.{word}
@@ -24,6 +25,7 @@ use Rattle.engine.specs.Answer.{Keeps}
 use Rattle.trace.specs.Format.{record-count}
 use Rattle.trace.specs.Order.{last-time}
 use Rattle.monitor.specs.Checkpoint.{format, given, seen, last, closed-with, held-count, held-bits, no-count, after-latest, need, block-at, copy-head, copy-ends}
+use Rattle.monitor.specs.Refusal.{words-refusal}
 use Rattle.monitor.specs.Verdicts.{verdict}
 use Rattle.monitor.specs.Stands.{Top}
 use Rattle.monitor.specs.Summary.{noes-in, laid-behind, stored-noes}
@@ -52,9 +54,19 @@ abbrev pub checked-number : Checked → ℕ
 checked-number Passed = 0
 checked-number (Failed n) = n
 
--- refusals 10 to 14, 20 and 21 by their number, which is 0 where none applies
+-- a refusal by its number, which is 0 where none applies
 abbrev pub checked-by : ℕ → Checked
 checked-by number = cond (eqb number 0) Passed (Failed number)
+
+-- the words that weighing gives hold the header and the blocks of the first n entries of t
+abbrev pub Covers : Measured → List Entry → (n : ℕ) → Type 0
+Covers (Weighed w far) t n = (n ≤ 128) × (16 + offset t n ≤ w)
+Covers (Unmeasured m) t n = Unit {0}
+
+-- refusals 1 to 9, and after them 10 and 11 of a rule's n entries and a checkpoint's words
+abbrev pub own-checked : Sized → List Entry → (n : ℕ) → List ℕ → Checked
+own-checked (Words w) t n p = checked-by (words-refusal t n p 0)
+own-checked (Stopped m) t n p = Failed m
 
 -- the words of a fresh checkpoint: nothing given, seen or held, and each entry's copy in its block
 pub record Fresh (t : List Entry) (n : ℕ) (ws : List ℕ) : Type 0 where

@@ -402,7 +402,7 @@ closing-rows =
     ∷ closes first-of-3
     ∷ closes-again second-of-3
     ∷ closes-again third-of-3
-    -- 8 to 10: then a resume is 20, before a log of 7 bytes is 12; a closing with a record more is 21, with one fewer 13
+    -- 8 to 11: then a resume is 20, before a log of 7 bytes is 12; a closing with a record more is 21, with one fewer 13
     ∷ resumes-then (stopped (after close-7 (log records-7) (log records-7) 0 []) 20)
     ∷ resumes-then (stopped (after close-7 (log records-7) (take 7 (log records-7)) 0 []) 20)
     ∷ closes-again (stopped (after close-7 (log records-7) (log (records-7 ++ at 13 [])) 0 []) 21)
@@ -454,20 +454,26 @@ every-summary = ((refl, refl), ((refl, refl), ((refl, refl), tt)))
 
 -- WHAT A CARD HAS TO KNOW
 
--- the checkpoint's own words, of d verdicts given, n records seen, the rule's entries and the word of the first closing
-abbrev own-words : (d n entries closed-with : ℕ) → List ℕ
-own-words d n entries closed-with = format ∷ d ∷ n ∷ 0 ∷ 0 ∷ 0 ∷ entries ∷ closed-with ∷ replicate 8 0
+-- the checkpoint's own words, of d verdicts given, n records seen, the rule's entries, the word of the first closing, the count of no
+-- and one more than the position of the latest
+abbrev own-words : (d n entries closed-with count after : ℕ) → List ℕ
+own-words d n entries closed-with count after =
+    format ∷ d ∷ n ∷ 0 ∷ 0 ∷ 0 ∷ entries ∷ closed-with ∷ count ∷ after ∷ replicate 6 0
 
 -- a block with its copy, and 0 in its other words
 abbrev block : (head ends : ℕ) → List ℕ
 block head ends = replicate 14 0 ++ (head ∷ ends ∷ [])
 
--- P1's rule and P4's
+-- P1's rule and P4's, without a no where none is named
+abbrev point-1-with : (d n closed-with count after : ℕ) → List ℕ
+point-1-with d n closed-with count after =
+    own-words d n 3 closed-with count after ++ block 0 0 ++ block 1 0 ++ block 1536 2 ++ replicate 6 0
+
 abbrev point-1 : (d n closed-with : ℕ) → List ℕ
-point-1 d n closed-with = own-words d n 3 closed-with ++ block 0 0 ++ block 1 0 ++ block 1536 2 ++ replicate 6 0
+point-1 d n closed-with = point-1-with d n closed-with 0 0
 
 abbrev point-4 : (d n : ℕ) → List ℕ
-point-4 d n = own-words d n 2 0 ++ block 0 0 ++ block 768 0
+point-4 d n = own-words d n 2 0 0 0 ++ block 0 0 ++ block 768 0
 
 pub record StatusRow : Type 0 where
   pub rule : List ℕ
@@ -498,11 +504,15 @@ status-rows =
     ∷ record { rule = rule-1; point = take 69 (point-1 5 6 0); answer = refused-with 9 }
     ∷ record { rule = call-4 .rule; point = point-1 5 6 0; answer = refused-with 10 }
     ∷ record { rule = rule-1; point = point-1 7 6 0; answer = refused-with 11 }
+    -- 11 as well: a closing with fewer records than were seen, a latest no without a count, and one behind the verdicts given
+    ∷ record { rule = rule-1; point = point-1 5 6 6; answer = refused-with 11 }
+    ∷ record { rule = rule-1; point = point-1-with 5 6 0 0 1; answer = refused-with 11 }
+    ∷ record { rule = rule-1; point = point-1-with 5 6 0 1 6; answer = refused-with 11 }
     ∷ []
 
 pub every-status : AllKnown status-rows
 unfolding AllKnown status-rows first-entries offset push-kind read header-refusal entries-refusal has-next reach any depth deepest
-every-status = (refl, (refl, (refl, (refl, (refl, (refl, (refl, (refl, (refl, tt)))))))))
+every-status = (refl, (refl, (refl, (refl, (refl, (refl, (refl, (refl, (refl, (refl, (refl, (refl, tt))))))))))))
 
 -- 20 "after 11": a resume on P1's point, closed, is 20, and 11 where more was given than seen besides
 pub closed-and-damaged :

@@ -8,8 +8,8 @@ ghost use Rattle.rule.specs.Postfix.{formulas, formulas-or};
 ghost use Rattle.rule.specs.Refusal.{first};
 ghost use Rattle.rule.specs.Words.{offset};
 ghost use Rattle.monitor.specs.Checkpoint.{seen, last, closed-with, copy-head, copy-ends, copy-differs, foreign, room, block-in-range, block-outside, noes-in-range, closed-in-range, outside};
-ghost use Rattle.monitor.specs.Code.{sized-by, sized-number, checked-by, checked-number};
-ghost use Rattle.monitor.specs.Refusal.{log-refusal, words-refusal, point-refusal, summary-refusal};
+ghost use Rattle.monitor.specs.Code.{sized-by, sized-number, checked-by, checked-number, Covers, own-checked};
+ghost use Rattle.monitor.specs.Refusal.{log-refusal, words-refusal, point-refusal};
 ghost use Rattle.blocks.specs.Block.{cells-of};
 use super::header;
 use blocks::word;
@@ -36,7 +36,7 @@ impl Sized {
     }
 }
 
-// Refusals 10 to 14, 20 and 21, or none of them.
+// Refusals 10 to 14, 20 and 21, in `check_own` 1 to 9 as well, or none of them.
 pub enum Checked {
     Passed,
     Failed(u32),
@@ -288,13 +288,11 @@ pub fn check_point(
 }
 
 // Refusals 1 to 11, which look at no log.
-pub fn check_own(rule: &[u8], point: &[u64]) -> Checked
-    ensures { λ r. ⌜ r ≡ checked-by (summary-refusal (now (rule .entry)) (now (point .entry))) ⌝ }
+pub fn check_own(measured: Measured, entries: [Entry; 128], count: usize, point: &[u64]) -> Checked
+    requires { ⌜ Covers measured entries count ⌝ }
+    ensures { λ r. ⌜ r ≡ own-checked (sized-by measured (length (now (point .entry)))) entries count (now (point .entry)) ⌝ }
 {
-    let header = rule::check_header(rule);
-    let count = header.count();
-    let entries = rule::decode(rule, count);
-    let sized = size_of(rule::measure_decoded(header, entries), point.len());
+    let sized = size_of(measured, point.len());
     let Sized::Words(_) = sized else {
         return Checked::Failed(sized.number());
     };

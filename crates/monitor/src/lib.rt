@@ -214,7 +214,11 @@ fn latest_of(after: u64) -> Latest
 pub fn summary(rule: &[u8], point: &[u64]) -> Summarized
     ensures { λ r. ⌜ summary-of r ≡ summarized (now (rule .entry)) (now (point .entry)) ⌝ }
 {
-    let checked = check::check_own(rule, point);
+    let header = rule::check_header(rule);
+    let count = header.count();
+    let entries = rule::decode(rule, count);
+    let measured = rule::measure_decoded(header, entries);
+    let checked = check::check_own(measured, entries, count, point);
     let Checked::Passed = checked else {
         return Summarized::Refused(checked.number());
     };
@@ -228,12 +232,14 @@ pub fn summary(rule: &[u8], point: &[u64]) -> Summarized
 pub fn status(rule: &[u8], point: &[u64]) -> Standing
     ensures { λ r. ⌜ standing-of r ≡ known (now (rule .entry)) (now (point .entry)) ⌝ }
 {
-    let checked = check::check_own(rule, point);
+    let header = rule::check_header(rule);
+    let count = header.count();
+    let entries = rule::decode(rule, count);
+    let measured = rule::measure_decoded(header, entries);
+    let checked = check::check_own(measured, entries, count, point);
     let Checked::Passed = checked else {
         return Standing::Refused(checked.number());
     };
-    let count = rule::check_header(rule).count();
-    let entries = rule::decode(rule, count);
     let given = point[header::GIVEN];
     Standing::Known {
         given: given,

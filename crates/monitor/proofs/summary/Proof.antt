@@ -4,38 +4,54 @@ use Prim.Native.Nat.{_≤_}
 use mathlib.Core.Path.{_≡_, sym, _∙_}
 use native.Mathlib.Omega.{arith}
 use lib.ListN.{length}
+use Rattle.rule.proofs.Headers.{few-to-decode}
 use Rattle.monitor.specs.Checkpoint.{need}
+use Rattle.monitor.specs.Code.{checked-by}
 use Rattle.monitor.specs.Refusal.{summary-refusal}
 use Rattle.monitor.proofs.Resuming.{fails-with, passed}
-use Rattle.monitor.proofs.Summarizing.{has-room, summary-refused, summary-told}
+use Rattle.monitor.proofs.Summarizing.{covers, own-is, has-room, summary-refused, summary-told}
 use Rattle.monitor.proofs.summary.Statement.{statement}
 use Rattle.monitor.proofs.summary.Tie as tie
 
+-- the checks are those of the rule
+checked-for : (d : tie.After-check-own) →
+    let a = d .before .before .before .before .before .before .before .args in d .check-own .result ≡ checked-by (summary-refusal (a .rule .now) (a .point .now))
+checked-for d =
+    let a = d .before .before .before .before .before .before .before .args in
+    d .check-own .ensures
+    ∙ own-is (a .rule .now) _ _ _ (d .before .before .before .before .check-header .ensures) (d .before .before .before .count .ensures) (d .before .before .decode .ensures)
+    (d .before .measure-decoded .result) (d .before .measure-decoded .ensures) (a .point .now)
+
 -- no refusal was met
-fine : (d : tie.After-enum-told) → let a = d .before .before .before .before .before .args in summary-refusal (a .rule .now) (a .point .now) ≡ 0
-fine d = passed _ (sym (d .enum-told .given .1) ∙ d .before .before .check-own .ensures)
+fine : (d : tie.After-enum-told) → let a = d .before .before .before .before .before .before .before .before .before .args in summary-refusal (a .rule .now) (a .point .now) ≡ 0
+fine d = passed _ (sym (d .enum-told .given .1) ∙ checked-for (d .before .before))
 
 -- and the words that the rule needs are lent
-room : (d : tie.After-enum-told) → let a = d .before .before .before .before .before .args in need (a .rule .now) ≤ length (a .point .now)
-room d = let a = d .before .before .before .before .before .args in has-room (a .rule .now) (a .point .now) (fine d)
+room : (d : tie.After-enum-told) → let a = d .before .before .before .before .before .before .before .before .before .args in need (a .rule .now) ≤ length (a .point .now)
+room d = let a = d .before .before .before .before .before .before .before .before .before .args in has-room (a .rule .now) (a .point .now) (fine d)
+
+decode-requires : tie.Need-decode-requires
+decode-requires c κs = omega (arith, c .count .ensures, few-to-decode _ _ (c .before .check-header .ensures))
+
+measure-decoded-requires : tie.Need-measure-decoded-requires
+measure-decoded-requires c κs = few-to-decode _ _ (c .before .before .check-header .ensures)
+
+check-own-requires : tie.Need-check-own-requires
+check-own-requires c κs =
+    covers _ _ _ _ (c .before .before .before .check-header .ensures) (c .before .before .count .ensures) (c .before .decode .ensures)
+    (c .measure-decoded .result) (c .measure-decoded .ensures)
 
 returns : tie.Need-returns
 returns c =
-    let a = c .before .before .before .before .before .before .args in
-    let o = c .before .before .before .check-own in
+    let a = c .before .before .before .before .before .before .before .before .before .before .args in
+    let d = c .before .before .before in
     let n = c .before .enum-told2 .given in
     summary-refused (a .rule .now) (a .point .now) (c .number .result)
-    (fails-with _ (o .result) (n .0 .0) (c .number .result) (o .ensures) (n .1) (c .number .ensures))
-
-shared-slice-read-t6 : tie.Need-shared-slice-read-t6
-shared-slice-read-t6 c = let e = room (c .before) in omega arith
-
-shared-slice-read-latest-of : tie.Need-shared-slice-read-latest-of
-shared-slice-read-latest-of c = let e = room (c .before .before) in omega arith
+    (fails-with _ (d .check-own .result) (n .0 .0) (c .number .result) (checked-for d) (n .1) (c .number .ensures))
 
 returns-2 : tie.Need-returns-2
 returns-2 c =
-    let a = c .before .before .before .before .before .before .before .before .args in
+    let a = c .before .before .before .before .before .before .before .before .before .before .before .before .args in
     summary-told (a .rule .now) (a .point .now) (fine (c .before .before .before)) (c .latest-of .result) (c .latest-of .ensures)
 
 pub summary-spec : {M : Type 1} → statement M
@@ -43,11 +59,15 @@ summary-spec =
     tie.close
     (tie.spec
     (λ c κs. search needs)
+    (λ c κs. search needs)
+    decode-requires
+    measure-decoded-requires
+    check-own-requires
     (λ c. search needs)
     (λ c. search needs)
     (λ c κs. search needs)
     returns
-    shared-slice-read-t6
-    shared-slice-read-latest-of
+    (λ c. let e = room (c .before) in omega arith)
+    (λ c. let e = room (c .before .before) in omega arith)
     (λ c κs. search needs)
     returns-2)
