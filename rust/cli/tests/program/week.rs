@@ -1,6 +1,8 @@
 //! The week as the README shows it, what the commands print, and wrong use.
 
 use crate::{example, Place, RULE};
+use evaluator::log;
+use evaluator::random::{self, LogShape, Random};
 use std::fs;
 use std::path::Path;
 
@@ -75,6 +77,21 @@ fn evenings_in_plain_words() {
     assert_eq!(place.ok(&["sheet", "--from", "10", "--csv", "card"]), "position,verdict\n10,yes\n11,yes\n");
     assert_eq!(place.ok(&["sheet", "card", "--from", "12"]), "");
     assert_eq!(fs::read(place.path("card/sheet")).unwrap(), [1, 1, 1, 1, 1, 0, 1, 1, 0, 1, 1, 1]);
+}
+
+/// An evening with more verdicts than one call of the library may give here.
+#[test]
+fn a_long_evening() {
+    let place = Place::new();
+    let shape = LogShape { records: 200_000, letters: 1, hold: 1, step: 1, start: 0 };
+    let records = random::log(&mut Random::new(16), shape);
+    fs::write(place.path("long.klg"), log::encode(&records)).unwrap();
+    place.ok(&["new", "card", "e0"]);
+    let sheet: Vec<u8> = records.iter().map(|record| record.letters as u8).collect();
+    let yes = sheet.iter().filter(|&&verdict| verdict == 1).count();
+    let said = place.ok(&["evening", "card", "long.klg"]);
+    assert!(said.starts_with(&format!("records 0 to 199999: {yes} yes, {} no\n", 200_000 - yes)), "{said}");
+    assert_eq!(fs::read(place.path("card/sheet")).unwrap(), sheet);
 }
 
 /// A rule that looks back two records keeps two more of them.
