@@ -328,6 +328,7 @@ impl<'a, D: Disk> Card<'a, D> {
     }
 }
 
+/// Writes verdicts behind those that count.
 fn write_sheet(disk: &mut impl Disk, from: u64, verdicts: &[u8]) -> Result<(), Fault> {
     if from == 0 {
         // A `new` that was killed may not have synced the point's name: a sheet with verdicts is never without a point.

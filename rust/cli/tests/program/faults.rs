@@ -3,10 +3,8 @@
 use crate::{contents, ended, Place, RULE};
 use cli::saved::{checksum, Saved};
 use havdrims::Refusal;
-use std::ffi::OsStr;
 use std::fs::{self, File, Permissions};
 use std::io::{self, ErrorKind};
-use std::os::unix::ffi::OsStrExt;
 use std::os::unix::fs::PermissionsExt;
 use std::os::unix::process::CommandExt;
 use std::path::Path;
@@ -118,16 +116,6 @@ fn files_that_are_missing() {
     fs::remove_file(place.path("card/card.txt")).unwrap();
     missing("the file `card.txt` is missing");
     refuses(&place, &["new", "card", RULE], "card: a card is here already\n");
-}
-
-/// A path that is not UTF-8 is wrong use, and no other path is taken in its place.
-#[test]
-fn a_path_that_is_not_utf_8() {
-    let place = Place::new();
-    let (status, out, err) =
-        ended(place.program().arg("new").arg(OsStr::from_bytes(b"card\xff")).arg(RULE).output().unwrap());
-    assert_eq!((status, out.as_str(), err.as_str()), (2, "", "\"card\\xFF\" is not UTF-8\n"));
-    assert_eq!(fs::read_dir(&place.0).unwrap().count(), 0);
 }
 
 /// A reader that closes the pipe has seen enough; a disk that is full has not.
@@ -339,8 +327,8 @@ fn run_stopped(place: &Place, words: &[&str]) -> io::Result<Output> {
     }
 }
 
-/// A card, one evening on, in a folder where permissions can stop the program, if there is one: nobody may not be a user
-/// here, may not reach the folder, or may run no program there.
+/// A card, one evening on, in a folder where permissions can stop the program, if there is one: the user nobody may not
+/// be known here, not reach the folder, or run no program there.
 fn place_for_nobody() -> Option<Place> {
     [Path::new(env!("CARGO_TARGET_TMPDIR")), &env::temp_dir()].into_iter().find_map(|folder| {
         let place = Place::with_card_in(folder, 1);
@@ -351,14 +339,14 @@ fn place_for_nobody() -> Option<Place> {
         match run_stopped(&place, &["help"]) {
             Ok(output) if output.status.success() => Some(place),
             other => {
-                println!("{}: nobody cannot run the program: {other:?}", folder.display());
+                println!("{}: the user nobody cannot run the program: {other:?}", folder.display());
                 None
             }
         }
     })
 }
 
-/// A folder that may not be written. Where nobody can run the program the test after this one has to be enough.
+/// A folder that may not be written. Where permissions cannot stop the program, the next test has to be enough.
 #[test]
 fn a_folder_that_is_only_read() {
     let Some(place) = place_for_nobody() else { return };
@@ -390,7 +378,7 @@ fn a_folder_that_is_only_read() {
     place.ok(&["evening", "card", "tuesday.klg"]);
 }
 
-/// Files that nobody can write, not even the superuser: folders stand in their place.
+/// Files that not even the superuser can write: folders stand in their place.
 #[test]
 fn folders_in_place_of_files() {
     let place = Place::with_card(1);

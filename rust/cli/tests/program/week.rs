@@ -1,9 +1,11 @@
 //! The week as the README shows it, what the commands print, and wrong use.
 
-use crate::{example, Place, RULE};
+use crate::{ended, example, Place, RULE};
 use evaluator::log;
 use evaluator::random::{self, LogShape, Random};
+use std::ffi::OsStr;
 use std::fs;
+use std::os::unix::ffi::OsStrExt;
 use std::path::Path;
 
 /// The commands and outputs of the README's week, which begins with `new`.
@@ -150,4 +152,14 @@ fn help_and_wrong_use() {
     }
     let said = place.fails(2, &["sheet", "card", "--from", "x"]);
     assert!(said.starts_with("`x` is no number"), "{said}");
+}
+
+/// A path that is not UTF-8 is wrong use, and no other path is taken in its place.
+#[test]
+fn a_path_that_is_not_utf_8() {
+    let place = Place::new();
+    let output = place.program().arg("new").arg(OsStr::from_bytes(b"card\xff")).arg(RULE).output();
+    let (status, out, err) = ended(output.unwrap());
+    assert_eq!((status, out.as_str(), err.as_str()), (2, "", "\"card\\xFF\" is not UTF-8\n"));
+    assert_eq!(fs::read_dir(&place.0).unwrap().count(), 0);
 }
