@@ -6,7 +6,7 @@
 //! it said which records may be overwritten. A run that is cut before leaves the checkpoint as it was, and is repeated
 //! from there: it writes the same bytes again.
 
-use crate::disk::Disk;
+use crate::disk::{Disk, Lock};
 use crate::saved::{checksum, Saved, Unreadable};
 use havdrims::{close, measure, open, resume, status, summary, tally, Refusal, Status, Summary};
 use std::fmt;
@@ -36,11 +36,21 @@ pub enum Fault {
     AlreadyThere,
     NotEmpty,
     InUse,
+    CardMissing,
     CardDamaged,
+    /// There is no checkpoint, but a sheet with verdicts, which no `new` leaves that was cut.
+    PointMissing {
+        has: u64,
+    },
     PointUnreadable(Unreadable),
     PointOfAnotherCard,
     /// The library does not take the checkpoint, though the rule is that of the card.
     PointRefused(Refusal),
+    /// The checkpoint's words count other verdicts than the file that holds them.
+    PointCounts {
+        given: u64,
+        words: u64,
+    },
     AnotherRule,
     SheetShort {
         given: u64,
@@ -48,13 +58,18 @@ pub enum Fault {
     },
     SheetDamaged,
     Refused(Refusal),
-    /// An operation failed before the checkpoint was replaced: the card is as it was.
+    /// An operation failed before the checkpoint was replaced: no further verdict counts.
     Disk {
         doing: &'static str,
         fault: io::Error,
     },
-    /// The checkpoint was replaced, but it may not survive a cut.
-    NotSynced(io::Error),
+    /// The checkpoint may be replaced or not, and may not survive a cut.
+    Unsure {
+        doing: &'static str,
+        fault: io::Error,
+    },
+    /// The card is made, but it may not survive a cut.
+    MadeUnsure(io::Error),
 }
 
 impl fmt::Display for Fault {
@@ -65,7 +80,11 @@ impl fmt::Display for Fault {
             Fault::AlreadyThere => write!(f, "a card is here already"),
             Fault::NotEmpty => write!(f, "this folder holds other files"),
             Fault::InUse => write!(f, "another command is at work on this card; try again when it has ended"),
+            Fault::CardMissing => write!(f, "the file `card.txt` is missing"),
             Fault::CardDamaged => write!(f, "the file `card.txt` is damaged: it does not hold the card's number"),
+            Fault::PointMissing { has } => {
+                write!(f, "the file `point` is missing, but the sheet has {has} verdicts")
+            }
             Fault::PointUnreadable(why) => match why {
                 Unreadable::Foreign => write!(f, "the file `point` is not that of a card"),
                 Unreadable::Version => write!(f, "the file `point` is of another version of this program"),
@@ -78,6 +97,9 @@ impl fmt::Display for Fault {
             Fault::PointRefused(refusal) => {
                 write!(f, "the file `point` holds what this library never writes: {refusal}")
             }
+            Fault::PointCounts { given, words } => {
+                write!(f, "the file `point` is damaged: it says {given} verdicts, its words {words}")
+            }
             Fault::AnotherRule => write!(f, "the file `rule.krl` is not the rule that this card was made for"),
             Fault::SheetShort { given, has } => {
                 write!(f, "the file `sheet` has {has} verdicts, but {given} were given")
@@ -85,8 +107,11 @@ impl fmt::Display for Fault {
             Fault::SheetDamaged => write!(f, "the file `sheet` is damaged: its checksum does not fit"),
             Fault::Refused(refusal) => write!(f, "{refusal}"),
             Fault::Disk { doing, fault } => write!(f, "cannot {doing}: {fault}"),
-            Fault::NotSynced(fault) => {
-                write!(f, "cannot sync the folder: {fault}; run the command again before any record is overwritten")
+            Fault::Unsure { doing, fault } => {
+                write!(f, "cannot {doing}: {fault}; run the command again before any record is overwritten")
+            }
+            Fault::MadeUnsure(fault) => {
+                write!(f, "cannot sync the folder: {fault}; the card is made, and the first `evening` syncs it")
             }
         }
     }
@@ -95,6 +120,11 @@ impl fmt::Display for Fault {
 /// The fault of an operation, with what it was for.
 fn failed(doing: &'static str) -> impl Fn(io::Error) -> Fault {
     move |fault| Fault::Disk { doing, fault }
+}
+
+/// The fault of an operation after which the checkpoint may be another, with what it was for.
+fn unsure(doing: &'static str) -> impl Fn(io::Error) -> Fault {
+    move |fault| Fault::Unsure { doing, fault }
 }
 
 /// What the file `card.txt` holds.
@@ -119,8 +149,9 @@ pub fn new(disk: &mut impl Disk, number: u64, rule: &[u8]) -> Result<(), Fault> 
             made => made.map_err(failed("make the folder"))?,
         }
     }
-    take(disk, true)?;
+    take(disk, Lock::Making)?;
     may_be_made(disk)?;
+    no_verdicts(disk)?;
     for (name, bytes) in [(CARD, card_line(number).as_bytes()), (RULE, rule), (SHEET, b"")] {
         disk.write(name, 0, bytes).map_err(failed("write the card's files"))?;
         disk.sync(name).map_err(failed("sync the card's files"))?;
@@ -129,10 +160,12 @@ pub fn new(disk: &mut impl Disk, number: u64, rule: &[u8]) -> Result<(), Fault> 
     disk.sync_folder().map_err(failed("sync the folder"))?;
     disk.sync_parent().map_err(failed("sync the folder above"))?;
     let saved = Saved { card: number, rule: checksum(rule), given: 0, sheet: checksum(b""), words };
-    replace_point(disk, &saved)
+    write_point(disk, &saved)?;
+    disk.rename(NEW_POINT, POINT).map_err(failed("put the point in its place"))?;
+    disk.sync_folder().map_err(Fault::MadeUnsure)
 }
 
-/// Whether the folder is there: with nothing in it, or with what a `new` that was cut has left.
+/// Whether the folder is there: with nothing in it, or with what a `new` that was cut may have left.
 fn may_be_made(disk: &mut impl Disk) -> Result<bool, Fault> {
     let Some(names) = disk.names().map_err(failed("read the folder"))? else { return Ok(false) };
     if names.iter().any(|name| name == POINT) {
@@ -144,17 +177,39 @@ fn may_be_made(disk: &mut impl Disk) -> Result<bool, Fault> {
     Ok(true)
 }
 
-fn take(disk: &mut impl Disk, alone: bool) -> Result<(), Fault> {
-    let taken = disk.lock(CARD, alone).map_err(failed("lock the card"))?;
+/// A folder without a checkpoint: if there are verdicts, it is no `new` that was cut. The folder is taken already.
+fn no_verdicts(disk: &mut impl Disk) -> Result<(), Fault> {
+    match disk.read(SHEET) {
+        Err(fault) if fault.kind() == ErrorKind::NotFound => Ok(()),
+        Ok(sheet) if sheet.is_empty() => Ok(()),
+        sheet => Err(Fault::PointMissing { has: sheet.map_err(failed("read the file `sheet`"))?.len() as u64 }),
+    }
+}
+
+/// What is to be said of a folder with `card.txt` and without a checkpoint. While that file is empty no card was begun:
+/// a `new` may have made it and not yet locked it.
+fn without_point(disk: &mut impl Disk) -> Result<Fault, Fault> {
+    no_verdicts(disk)?;
+    let line = disk.read(CARD).map_err(failed("read the file `card.txt`"))?;
+    Ok(if line.is_empty() { Fault::NoCard } else { Fault::Unfinished })
+}
+
+fn take(disk: &mut impl Disk, lock: Lock) -> Result<(), Fault> {
+    let taken = disk.lock(CARD, lock).map_err(failed("lock the card"))?;
     taken.then_some(()).ok_or(Fault::InUse)
 }
 
-/// Puts a checkpoint in the place of the one that is there.
-fn replace_point(disk: &mut impl Disk, saved: &Saved) -> Result<(), Fault> {
+/// Writes a checkpoint beside the one that is there.
+fn write_point(disk: &mut impl Disk, saved: &Saved) -> Result<(), Fault> {
     disk.write(NEW_POINT, 0, &saved.encode()).map_err(failed("write the point"))?;
-    disk.sync(NEW_POINT).map_err(failed("sync the point"))?;
-    disk.rename(NEW_POINT, POINT).map_err(failed("replace the point"))?;
-    disk.sync_folder().map_err(Fault::NotSynced)
+    disk.sync(NEW_POINT).map_err(failed("sync the point"))
+}
+
+/// Whether `card.txt` and `point` are there.
+fn has_files(disk: &mut impl Disk) -> Result<(bool, bool), Fault> {
+    let names = disk.names().map_err(failed("read the folder"))?.unwrap_or_default();
+    let has = |name: &str| names.iter().any(|n| n == name);
+    Ok((has(CARD), has(POINT)))
 }
 
 /// A card whose files fit together.
@@ -184,15 +239,18 @@ pub struct Evening {
 impl<'a, D: Disk> Card<'a, D> {
     /// Takes a card, alone or beside others that only read it, and looks whether its files fit together.
     pub fn open(disk: &'a mut D, alone: bool) -> Result<Card<'a, D>, Fault> {
-        let names = disk.names().map_err(failed("read the folder"))?.unwrap_or_default();
-        let has = |name: &str| names.iter().any(|n| n == name);
-        match (has(CARD), has(POINT)) {
+        let mut has = has_files(disk)?;
+        if has.0 {
+            // Looked at again when it is taken: a `new` may have been at work.
+            take(disk, if alone { Lock::Alone } else { Lock::Shared })?;
+            has = has_files(disk)?;
+        }
+        match has {
             (false, false) => return Err(Fault::NoCard),
-            (true, false) => return Err(Fault::Unfinished),
-            (false, true) => return Err(Fault::CardDamaged),
+            (true, false) => return Err(without_point(disk)?),
+            (false, true) => return Err(Fault::CardMissing),
             (true, true) => {}
         }
-        take(disk, alone)?;
         let mut read = |name, doing| disk.read(name).map_err(failed(doing));
         let number = card_number(&read(CARD, "read the file `card.txt`")?).ok_or(Fault::CardDamaged)?;
         let saved = Saved::decode(&read(POINT, "read the file `point`")?).map_err(Fault::PointUnreadable)?;
@@ -214,6 +272,9 @@ impl<'a, D: Disk> Card<'a, D> {
         }
         let summary = summary(&rule, &saved.words).map_err(Fault::PointRefused)?;
         let status = status(&rule, &saved.words).map_err(Fault::PointRefused)?;
+        if saved.given != status.given {
+            return Err(Fault::PointCounts { given: saved.given, words: status.given });
+        }
         Ok(Card { disk, number, rule, words: saved.words, verdicts, summary, status })
     }
 
@@ -252,20 +313,27 @@ impl<'a, D: Disk> Card<'a, D> {
         self.verdicts.extend(new);
         let (given, sheet) = (self.verdicts.len() as u64, checksum(&self.verdicts));
         let saved = Saved { card: self.number, rule: checksum(&self.rule), given, sheet, words };
-        let written = write_sheet(self.disk, before as u64, new).and_then(|()| replace_point(self.disk, &saved));
-        if let Err(Fault::Disk { .. }) = written {
+        let written = write_sheet(self.disk, before as u64, new).and_then(|()| write_point(self.disk, &saved));
+        if written.is_err() {
             // The checkpoint is as it was. What was written besides does not count, and is taken away if that can be.
             self.verdicts.truncate(before);
             let _ = self.disk.write(SHEET, before as u64, b"");
             let _ = self.disk.remove(NEW_POINT);
-        } else {
-            self.words = saved.words;
+            return written;
         }
-        written
+        // From here on nothing is taken away: an operation may do its work and fail all the same.
+        self.words = saved.words;
+        self.disk.rename(NEW_POINT, POINT).map_err(unsure("replace the point"))?;
+        self.disk.sync_folder().map_err(unsure("sync the folder"))
     }
 }
 
+/// Writes verdicts behind those that count.
 fn write_sheet(disk: &mut impl Disk, from: u64, verdicts: &[u8]) -> Result<(), Fault> {
+    if from == 0 {
+        // A `new` that was killed may not have synced the point's name: a sheet with verdicts is never without a point.
+        disk.sync_folder().map_err(failed("sync the folder"))?;
+    }
     disk.write(SHEET, from, verdicts).map_err(failed("write the sheet"))?;
     disk.sync(SHEET).map_err(failed("sync the sheet"))
 }

@@ -220,23 +220,29 @@ fn new(folder: &str, rule: &str) -> Answer {
 }
 
 fn carry_on(closing: bool, folder: &str, path: &str) -> Answer {
-    let log = convert::log(path)?;
+    let log = convert::log(path).map_err(|fault| Failure::fault(path, format!("{fault}\n{UNCHANGED}")))?;
     let mut disk = Folder::new(Path::new(folder));
     let evening = Card::open(&mut disk, true).and_then(|mut card| card.carry_on(closing, &log));
     evening.map(|evening| told(&evening)).map_err(|fault| unchanged(folder, path, &fault))
 }
 
+const UNCHANGED: &str = "Nothing was changed.";
+
 /// What is wrong with the card or with the log, and that nothing came of the command.
 fn unchanged(folder: &str, log: &str, fault: &Fault) -> Failure {
     let (name, hint) = match fault {
-        Fault::NotSynced(_) => return Failure::fault(folder, fault),
+        Fault::Unsure { .. } => return Failure::fault(folder, fault),
+        Fault::Disk { .. } => {
+            let said = format!("{fault}\nNo verdict was counted; repeat the command.");
+            return Failure::fault(folder, said);
+        }
         Fault::Refused(Refusal::PointClosed) => (folder, "The month is closed: the card takes no further records. "),
         Fault::Refused(Refusal::FewerRecords) => (log, "Is this the whole log? "),
         Fault::Refused(Refusal::TimeFalls) => (log, "Is this the log of another kiosk? "),
         Fault::Refused(_) => (log, ""),
         _ => (folder, ""),
     };
-    Failure::fault(name, format!("{fault}\n{hint}Nothing was changed."))
+    Failure::fault(name, format!("{fault}\n{hint}{UNCHANGED}"))
 }
 
 /// An evening in plain words.

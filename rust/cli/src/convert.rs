@@ -3,8 +3,8 @@
 use crate::command::Failure;
 use crate::disk::read_file;
 use havdrims::{measure, parse, simulate, text, worst_log, Settings, MOST_RULE};
-use std::fs;
 use std::str::FromStr;
+use std::{fs, io};
 
 /// The most records of a log.
 const MOST_RECORDS: usize = 1_000_000;
@@ -18,8 +18,8 @@ fn write(path: &str, bytes: &[u8]) -> Result<(), Failure> {
 }
 
 /// The bytes of a log file. What is longer than every log is cut behind that length: it is refused all the same.
-pub fn log(path: &str) -> Result<Vec<u8>, Failure> {
-    read_file(path, MOST_LOG).map_err(|fault| Failure::fault(path, fault))
+pub fn log(path: &str) -> io::Result<Vec<u8>> {
+    read_file(path, MOST_LOG)
 }
 
 /// The bytes of the rule that a word of the command line says: it is the name of a .krl file, or else a formula.
@@ -27,8 +27,14 @@ pub fn rule_said(word: &str) -> Result<Vec<u8>, Failure> {
     if word.ends_with(".krl") {
         return read_file(word, MOST_RULE).map_err(|fault| Failure::fault(word, fault));
     }
+    parsed(word)
+}
+
+/// The bytes of the rule that a formula says.
+fn parsed(formula: &str) -> Result<Vec<u8>, Failure> {
     let mut bytes = vec![0; MOST_RULE];
-    let size = parse(word.as_bytes(), &mut bytes).map_err(|refusal| Failure::fault(&format!("`{word}`"), refusal))?;
+    let refused = |refusal| Failure::fault(&format!("`{formula}`"), refusal);
+    let size = parse(formula.as_bytes(), &mut bytes).map_err(refused)?;
     bytes.truncate(size);
     Ok(bytes)
 }
@@ -51,11 +57,12 @@ pub fn to_log(path: &str, log: &str) -> Answer {
 }
 
 pub fn to_text(path: &str) -> Answer {
-    text::log_to_text(&log(path)?).map_err(|refusal| Failure::fault(path, refusal))
+    let log = log(path).map_err(|fault| Failure::fault(path, fault))?;
+    text::log_to_text(&log).map_err(|refusal| Failure::fault(path, refusal))
 }
 
 pub fn rule(formula: &str, path: &str) -> Answer {
-    let bytes = rule_said(formula)?;
+    let bytes = parsed(formula)?;
     write(path, &bytes)?;
     Ok(format!("{path}: {} entries\n", (bytes.len() - 8) / 10))
 }

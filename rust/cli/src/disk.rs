@@ -4,6 +4,16 @@ use std::fs::{self, File, OpenOptions, TryLockError};
 use std::io::{self, ErrorKind, Read, Seek, SeekFrom, Write};
 use std::path::{Path, PathBuf};
 
+/// How a folder is taken.
+#[derive(Clone, Copy, Debug, PartialEq, Eq)]
+pub enum Lock {
+    /// Beside others that only read.
+    Shared,
+    Alone,
+    /// Alone; the file that is locked is made if it is not there.
+    Making,
+}
+
 /// The folder of one card. Files are named by their name alone.
 pub trait Disk {
     /// The names of what stands in the folder, or none if there is no folder.
@@ -15,9 +25,8 @@ pub trait Disk {
     /// Makes the folder.
     fn make_folder(&mut self) -> io::Result<()>;
 
-    /// Takes the folder for one command, alone or beside others that only read, until this disk is dropped. False if
-    /// another has it. The file is locked; it is made if it is not there and the folder is taken alone.
-    fn lock(&mut self, name: &str, alone: bool) -> io::Result<bool>;
+    /// Takes the folder for one command, by locking this file, until this disk is dropped. False if another has it.
+    fn lock(&mut self, name: &str, lock: Lock) -> io::Result<bool>;
 
     /// From this byte on the file holds these bytes and no others. The file is made if it is not there.
     fn write(&mut self, name: &str, from: u64, bytes: &[u8]) -> io::Result<()>;
@@ -75,8 +84,10 @@ impl Disk for Folder {
         fs::create_dir(&self.path)
     }
 
-    fn lock(&mut self, name: &str, alone: bool) -> io::Result<bool> {
-        let file = OpenOptions::new().read(true).write(alone).create(alone).open(self.path.join(name))?;
+    fn lock(&mut self, name: &str, lock: Lock) -> io::Result<bool> {
+        let alone = lock != Lock::Shared;
+        let making = lock == Lock::Making;
+        let file = OpenOptions::new().read(true).write(alone).create(making).open(self.path.join(name))?;
         let taken = if alone { file.try_lock() } else { file.try_lock_shared() };
         match taken {
             Ok(()) => self.lock = Some(file),

@@ -1,6 +1,6 @@
 //! A disk in memory that loses what was not synced: all of it, any part of it, or nothing, as when a process is killed.
 
-use cli::disk::Disk;
+use cli::disk::{Disk, Lock};
 use evaluator::random::Random;
 use std::collections::BTreeMap;
 use std::io::{self, ErrorKind};
@@ -16,13 +16,23 @@ pub enum Way {
     Killed,
 }
 
+/// How much of its work an operation does. Of another than a write, a part is nothing.
+#[derive(Clone, Copy, Debug, PartialEq)]
+pub enum Work {
+    Nothing,
+    Part,
+    All,
+}
+
 /// What one operation does instead of its work.
 #[derive(Clone, Copy, Debug, PartialEq)]
 pub enum Trouble {
-    /// The run is cut: the operation does its work, a part of it or nothing, and no other follows.
-    Cut,
+    /// The run is cut: the operation does so much of its work, and no other follows.
+    Cut(Work),
     /// The disk is full: a write does a part of its work, another operation nothing, and fails.
     Full,
+    /// The operation does its work, and then fails.
+    Late,
     /// This operation and all after it fail.
     Broken,
 }
@@ -130,7 +140,7 @@ impl Simulated {
         self.changes.clear();
     }
 
-    /// One operation: its work, unless there is trouble. The work is told whether to do all or a part.
+    /// One operation: its work, unless there is trouble. A write is told whether to do all of it or a part.
     fn operation(&mut self, is_write: bool, work: impl FnOnce(&mut Self, bool) -> io::Result<()>) -> io::Result<()> {
         if self.dead {
             return Err(io::Error::other("no process runs"));
@@ -138,10 +148,9 @@ impl Simulated {
         let at = self.operations;
         self.operations += 1;
         match self.trouble {
-            Some((when, Trouble::Cut)) if when == at => {
-                if self.r.one_in(2) {
-                    let all = !is_write || self.r.one_in(2);
-                    work(self, all)?;
+            Some((when, Trouble::Cut(much))) if when == at => {
+                if much == Work::All || (is_write && much == Work::Part) {
+                    work(self, much == Work::All)?;
                 }
                 self.dead = true;
                 Err(io::Error::other("cut"))
@@ -151,6 +160,10 @@ impl Simulated {
                     work(self, false)?;
                 }
                 Err(ErrorKind::StorageFull.into())
+            }
+            Some((when, Trouble::Late)) if when == at => {
+                work(self, true)?;
+                Err(ErrorKind::TimedOut.into())
             }
             Some((when, Trouble::Broken)) if when <= at => Err(ErrorKind::PermissionDenied.into()),
             _ => work(self, true),
@@ -193,10 +206,11 @@ impl Disk for Simulated {
         })
     }
 
-    fn lock(&mut self, name: &str, alone: bool) -> io::Result<bool> {
-        if alone && self.file(name).is_err() {
+    fn lock(&mut self, name: &str, lock: Lock) -> io::Result<bool> {
+        if lock == Lock::Making && self.file(name).is_err() {
             self.write(name, 0, b"")?;
         }
+        self.file(name)?;
         Ok(true)
     }
 

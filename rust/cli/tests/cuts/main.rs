@@ -6,7 +6,7 @@
 mod disk;
 
 use cli::card::{self, Card, Evening, Fault};
-use disk::{Simulated, Trouble, Way};
+use disk::{Simulated, Trouble, Way, Work};
 use evaluator::log::{self, Record};
 use evaluator::random::{self, Random};
 use evaluator::{reading, rule};
@@ -41,12 +41,16 @@ impl Week {
         Week { rule, untouched, days }
     }
 
+    /// The sheet after this day.
+    fn sheet_of(&self, day: Day) -> Vec<u8> {
+        let rule = rule::parse(&self.rule).unwrap();
+        let verdicts = if day.closing { reading::closed_verdicts } else { reading::verdicts };
+        verdicts(&rule, &self.untouched[..day.records]).into_iter().map(u8::from).collect()
+    }
+
     /// The sheet in the end.
     fn sheet(&self) -> Vec<u8> {
-        let rule = rule::parse(&self.rule).unwrap();
-        let last = self.days[self.days.len() - 1];
-        let verdicts = if last.closing { reading::closed_verdicts } else { reading::verdicts };
-        verdicts(&rule, &self.untouched[..last.records]).into_iter().map(u8::from).collect()
+        self.sheet_of(self.days[self.days.len() - 1])
     }
 }
 
@@ -101,12 +105,12 @@ impl<'a> Run<'a> {
 }
 
 /// The week with one run cut at one of its operations: `new` is the first run. False if the run has fewer operations.
-fn with_cut(week: &Week, which: usize, operation: usize, way: Way, seed: u64) -> bool {
+fn with_cut(week: &Week, which: usize, operation: usize, work: Work, way: Way, seed: u64) -> bool {
     let mut run = Run::new(week, seed);
     let mut cut = false;
     for at in 0..=week.days.len() {
         if at == which {
-            run.disk.trouble = Some((run.disk.operations + operation, Trouble::Cut));
+            run.disk.trouble = Some((run.disk.operations + operation, Trouble::Cut(work)));
             let ended = match at {
                 0 => run.make().is_ok(),
                 _ => run.evening(week.days[at - 1]).is_ok(),
@@ -120,7 +124,11 @@ fn with_cut(week: &Week, which: usize, operation: usize, way: Way, seed: u64) ->
             _ => run.evening_again(week.days[at - 1]),
         }
     }
-    assert_eq!(run.sheet(), week.sheet(), "run {which}, operation {operation}, {way:?}, seed {seed}: {week:?}");
+    assert_eq!(
+        run.sheet(),
+        week.sheet(),
+        "run {which}, operation {operation}, {work:?}, {way:?}, seed {seed}: {week:?}"
+    );
     cut
 }
 
@@ -130,11 +138,14 @@ fn a_cut_at_every_operation() {
     for seed in 0..60 {
         let week = Week::new(&mut Random::new(seed));
         for which in 0..=week.days.len() {
-            for (way, times) in [(Way::Synced, 2), (Way::Killed, 2), (Way::Part, 6)] {
-                for again in 0..times {
-                    let some = (0..).take_while(|&operation| with_cut(&week, which, operation, way, again)).count();
-                    assert!(some >= 6, "a run of {some} operations");
-                    cuts += some;
+            for (way, times) in [(Way::Synced, 1), (Way::Killed, 1), (Way::Part, 3)] {
+                for work in [Work::Nothing, Work::Part, Work::All] {
+                    for again in 0..times {
+                        let cut = |&operation: &usize| with_cut(&week, which, operation, work, way, again);
+                        let some = (0..).take_while(cut).count();
+                        assert!(some >= 6, "a run of {some} operations");
+                        cuts += some;
+                    }
                 }
             }
         }
@@ -153,7 +164,8 @@ fn many_cuts_in_one_week() {
         for at in 0..=week.days.len() {
             loop {
                 let often = r.pick(&[6, 12, 30]);
-                run.disk.trouble = Some((run.disk.operations + r.below(often), Trouble::Cut));
+                let work = r.pick(&[Work::Nothing, Work::Part, Work::All]);
+                run.disk.trouble = Some((run.disk.operations + r.below(often), Trouble::Cut(work)));
                 let ended = match at {
                     0 => run.make(),
                     _ => run.evening(week.days[at - 1]).map(|evening| run.overwrite(&evening)),
@@ -181,14 +193,14 @@ fn many_cuts_in_one_week() {
     println!("{cuts} cuts");
 }
 
-/// A disk that is full, or that takes no more writes, at every operation: the card is as it was, and the evening is
-/// repeated when there is room again.
+/// A disk that is full, that takes no more writes, or that fails when the work is done, at every operation of an evening:
+/// if the checkpoint was not touched the card is as it was, and in any case the evening is repeated.
 #[test]
 fn a_failure_at_every_operation() {
-    let (mut failures, mut not_synced) = (0, 0);
+    let (mut failures, mut not_sure) = (0, 0);
     for seed in 0..40 {
         let week = Week::new(&mut Random::new(seed));
-        for trouble in [Trouble::Full, Trouble::Broken] {
+        for trouble in [Trouble::Full, Trouble::Late, Trouble::Broken] {
             let mut run = Run::new(&week, seed);
             run.make_again();
             for &day in &week.days {
@@ -199,22 +211,56 @@ fn a_failure_at_every_operation() {
                     let before = disk.contents();
                     match Card::open(&mut disk, true).unwrap().carry_on(day.closing, log) {
                         Ok(_) => break,
-                        Err(Fault::Disk { .. }) if trouble == Trouble::Full => assert_eq!(disk.contents(), before),
-                        Err(Fault::Disk { .. }) => assert_eq!(disk.contents()[card::POINT], before[card::POINT]),
-                        Err(Fault::NotSynced(_)) => not_synced += 1,
+                        Err(Fault::Disk { .. }) if trouble == Trouble::Broken => {
+                            assert_eq!(disk.contents()[card::POINT], before[card::POINT]);
+                        }
+                        Err(Fault::Disk { .. }) => assert_eq!(disk.contents(), before),
+                        Err(Fault::Unsure { .. }) => not_sure += 1,
                         Err(fault) => panic!("{fault}"),
                     }
                     failures += 1;
                     disk.trouble = None;
                     let mut again = Run { week: &week, disk, file: run.file.clone(), r: run.r.clone() };
                     again.evening_again(day);
-                    again.disk.cut(Way::Synced);
+                    assert_eq!(again.sheet(), week.sheet_of(day), "{trouble:?} at {operation}, seed {seed}: {week:?}");
                 }
                 run.evening_again(day);
             }
             assert_eq!(run.sheet(), week.sheet(), "seed {seed}: {week:?}");
         }
     }
-    println!("{failures} failures, {not_synced} of them at the last sync");
-    assert!(failures > 0 && not_synced > 0);
+    println!("{failures} failures, {not_sure} of them when the checkpoint may have been replaced");
+    assert!(failures > 0 && not_sure > 0);
+}
+
+/// The same in `new`: it is repeated, and the first evening has its verdicts, though the power is cut after it.
+#[test]
+fn a_failure_at_every_operation_of_new() {
+    let (mut failures, mut made) = (0, 0);
+    for seed in 0..40 {
+        let week = Week::new(&mut Random::new(seed));
+        for trouble in [Trouble::Full, Trouble::Late, Trouble::Broken] {
+            for operation in 0.. {
+                let mut run = Run::new(&week, seed);
+                run.disk.trouble = Some((operation, trouble));
+                match run.make() {
+                    Ok(()) => break,
+                    Err(Fault::Disk { .. }) => {}
+                    Err(Fault::MadeUnsure(_)) => made += 1,
+                    Err(fault) => panic!("{fault}"),
+                }
+                failures += 1;
+                run.disk.trouble = None;
+                run.make_again();
+                run.evening_again(week.days[0]);
+                assert_eq!(
+                    run.sheet(),
+                    week.sheet_of(week.days[0]),
+                    "{trouble:?} at {operation}, seed {seed}: {week:?}"
+                );
+            }
+        }
+    }
+    println!("{failures} failures, {made} of them when the card was made");
+    assert!(failures > 0 && made > 0);
 }

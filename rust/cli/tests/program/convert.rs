@@ -38,6 +38,9 @@ fn rules_as_formulas() {
 
     let said = place.fails(1, &["rule", "e0 until e1", "none.krl"]);
     assert_eq!(said, "`e0 until e1`: refused 17: The grammar does not derive the text.\n");
+    // a formula alone, not the name of a rule file
+    let said = place.fails(1, &["rule", "typed.krl", "none.krl"]);
+    assert_eq!(said, format!("`typed.krl`: {}\n", Refusal::UnknownWord));
     assert!(!place.path("none.krl").exists());
     fs::write(place.path("long.krl"), [0; 100_000]).unwrap();
     assert_eq!(place.fails(1, &["formula", "long.krl"]), format!("long.krl: {}\n", Refusal::RuleMark));

@@ -1,15 +1,18 @@
 //! What can go wrong, each with its words, exit status 1, and the card unchanged.
 
 use crate::{contents, ended, Place, RULE};
-use cli::saved::Saved;
+use cli::saved::{checksum, Saved};
 use havdrims::Refusal;
 use std::fs::{self, File, Permissions};
-use std::io::ErrorKind;
+use std::io::{self, ErrorKind};
 use std::os::unix::fs::PermissionsExt;
 use std::os::unix::process::CommandExt;
-use std::process::Command;
-use std::thread;
+use std::path::Path;
+use std::process::{Child, Command, Output, Stdio};
 use std::time::Duration;
+use std::{env, thread};
+
+const IN_USE: &str = "card: another command is at work on this card; try again when it has ended\n";
 
 /// The command fails with this text, and leaves the card as it is.
 fn refuses(place: &Place, words: &[&str], text: &str) {
@@ -37,9 +40,12 @@ fn logs_that_are_refused() {
     // no log
     evening(&whole[..whole.len() - 1], Refusal::LogFormat, "");
     evening(b"", Refusal::LogFormat, "");
-    evening(&vec![0; 8 + 8 * 1_000_001], Refusal::LogFormat, "");
-    let said = place.fails(1, &["evening", "card", "none.klg"]);
-    assert!(said.starts_with("none.klg: "), "{said}");
+    // one record too many
+    let mut long = whole.clone();
+    long.resize(8 + 8 * 1_000_001, 0xFF);
+    evening(&long, Refusal::LogFormat, "");
+    let none = "none.klg: No such file or directory (os error 2)\nNothing was changed.\n";
+    refuses(&place, &["evening", "card", "none.klg"], none);
 }
 
 #[test]
@@ -82,13 +88,49 @@ fn folders_that_are_no_card_and_cards_that_are_there() {
     assert!(place.fails(1, &["new", "day.klg", RULE]).starts_with("day.klg: cannot read the folder: "));
     assert!(place.fails(1, &["new", "none/card", RULE]).starts_with("none/card: cannot make the folder: "));
     // what a `new` that was cut leaves, and an empty folder, are made again
-    fs::remove_file(place.path("card/point")).unwrap();
-    let cut = "card: making this card was cut short; make it again with `havdrims new`\n";
-    assert_eq!(place.fails(1, &["summary", "card"]), cut);
-    place.ok(&["new", "card", RULE]);
-    assert!(place.ok(&["summary", "card"]).starts_with("so far: 0 verdicts"));
+    place.ok(&["new", "cut", RULE]);
+    fs::remove_file(place.path("cut/point")).unwrap();
+    let cut = "cut: making this card was cut short; make it again with `havdrims new`\n";
+    assert_eq!(place.fails(1, &["summary", "cut"]), cut);
+    place.ok(&["new", "cut", RULE]);
+    assert!(place.ok(&["summary", "cut"]).starts_with("so far: 0 verdicts"));
     fs::create_dir(place.path("empty")).unwrap();
     place.ok(&["new", "empty", RULE]);
+}
+
+/// A card without its point is not made again: its verdicts would be gone.
+#[test]
+fn files_that_are_missing() {
+    let place = Place::with_card(1);
+    let missing = |text: &str| {
+        refuses(&place, &["summary", "card"], &format!("card: {text}\n"));
+        refuses(&place, &["sheet", "card"], &format!("card: {text}\n"));
+        refuses(&place, &["evening", "card", "tuesday.klg"], &format!("card: {text}\nNothing was changed.\n"));
+    };
+    let point = fs::read(place.path("card/point")).unwrap();
+    fs::remove_file(place.path("card/point")).unwrap();
+    let text = "the file `point` is missing, but the sheet has 12 verdicts";
+    missing(text);
+    refuses(&place, &["new", "card", RULE], &format!("card: {text}\n"));
+    fs::write(place.path("card/point"), point).unwrap();
+    fs::remove_file(place.path("card/card.txt")).unwrap();
+    missing("the file `card.txt` is missing");
+    refuses(&place, &["new", "card", RULE], "card: a card is here already\n");
+}
+
+/// A reader that closes the pipe has seen enough; a disk that is full has not.
+#[test]
+fn an_output_that_cannot_be_written() {
+    let place = Place::with_card(0);
+    place.ok(&["worst", "0", "1", "60000", "long.klg"]);
+    let mut child = place.program().args(["to-text", "long.klg"]).stdout(Stdio::piped()).spawn().unwrap();
+    drop(child.stdout.take());
+    assert!(child.wait().unwrap().success());
+    let full = File::options().write(true).open("/dev/full").unwrap();
+    let output = place.program().args(["evening", "card", "day.klg"]).stdout(full).output().unwrap();
+    let text = "the command is done, but its output cannot be written: No space left on device (os error 28)\n";
+    assert_eq!(ended(output), (1, String::new(), text.to_string()));
+    assert!(place.ok(&["evening", "card", "day.klg"]).starts_with("no new verdict\nso far: 12 verdicts"));
 }
 
 #[test]
@@ -118,18 +160,20 @@ fn damaged_cards() {
     damage("rule.krl", &|bytes| bytes[9] ^= 1, "the file `rule.krl` is not the rule that this card was made for");
     damage("sheet", &|bytes| bytes.truncate(11), "the file `sheet` has 11 verdicts, but 12 were given");
     damage("sheet", &|bytes| bytes[3] ^= 1, "the file `sheet` is damaged: its checksum does not fit");
-    // a checkpoint of another library's format, and one whose words are out of range
-    let words = |change: fn(&mut [u64])| {
+    // a checkpoint of another library's format, one whose words are out of range, and one that counts other verdicts
+    let saved = |change: fn(&mut Saved)| {
         move |bytes: &mut Vec<u8>| {
             let mut saved = Saved::decode(bytes).unwrap();
-            change(&mut saved.words);
+            change(&mut saved);
             *bytes = saved.encode();
         }
     };
     let format = format!("the file `point` is of another library's format: {}", Refusal::ForeignPoint);
-    damage("point", &words(|words| words[0] -= 1), &format);
+    damage("point", &saved(|saved| saved.words[0] -= 1), &format);
     let range = format!("the file `point` holds what this library never writes: {}", Refusal::PointRange);
-    damage("point", &words(|words| words[2] = 0), &range);
+    damage("point", &saved(|saved| saved.words[2] = 0), &range);
+    let fewer = |saved: &mut Saved| (saved.given, saved.sheet) = (4, checksum(&[1; 4]));
+    damage("point", &saved(fewer), "the file `point` is damaged: it says 4 verdicts, its words 12");
 }
 
 /// A point that was copied from another card with the same rule and the same log.
@@ -160,93 +204,200 @@ fn what_a_cut_run_left_is_passed_over() {
 #[test]
 fn a_card_in_use() {
     let place = Place::with_card(1);
-    let in_use = "card: another command is at work on this card; try again when it has ended\n";
     let lock = File::open(place.path("card/card.txt")).unwrap();
     lock.lock().unwrap();
-    refuses(&place, &["evening", "card", "tuesday.klg"], &format!("{in_use}Nothing was changed.\n"));
-    refuses(&place, &["summary", "card"], in_use);
+    refuses(&place, &["evening", "card", "tuesday.klg"], &format!("{IN_USE}Nothing was changed.\n"));
+    refuses(&place, &["summary", "card"], IN_USE);
     lock.unlock().unwrap();
     // those that only read do not exclude each other
     lock.lock_shared().unwrap();
-    refuses(&place, &["evening", "card", "tuesday.klg"], &format!("{in_use}Nothing was changed.\n"));
+    refuses(&place, &["evening", "card", "tuesday.klg"], &format!("{IN_USE}Nothing was changed.\n"));
     place.ok(&["summary", "card"]);
-    drop(lock);
+    // A process that another test has just started may for a moment hold this file too: closing it is not enough.
+    lock.unlock().unwrap();
     place.ok(&["evening", "card", "tuesday.klg"]);
 }
 
-/// Many commands at once: each ends well or finds the card in use.
+/// While a `new` is at work its card is in use, at each of its steps.
+#[test]
+fn a_card_that_is_being_made() {
+    let place = Place::with_card(0);
+    fs::rename(place.path("card"), place.path("made")).unwrap();
+    fs::create_dir(place.path("card")).unwrap();
+    fs::write(place.path("card/card.txt"), b"").unwrap();
+    let lock = File::open(place.path("card/card.txt")).unwrap();
+    // made, but not yet locked
+    refuses(&place, &["summary", "card"], "card: no card is here; `havdrims new` makes one\n");
+    lock.lock().unwrap();
+    for file in ["card.txt", "rule.krl", "sheet", "point"] {
+        let bytes = fs::read(place.path("made").join(file)).unwrap();
+        fs::write(place.path("card").join(file), bytes).unwrap();
+        refuses(&place, &["summary", "card"], IN_USE);
+        refuses(&place, &["evening", "card", "day.klg"], &format!("{IN_USE}Nothing was changed.\n"));
+        let again = if file == "point" { "card: a card is here already\n" } else { IN_USE };
+        refuses(&place, &["new", "card", RULE], again);
+    }
+    lock.unlock().unwrap();
+    place.ok(&["evening", "card", "day.klg"]);
+}
+
+/// The commands, all at once.
+fn at_once(place: &Place, commands: &[&[&str]]) -> Vec<(i32, String, String)> {
+    let start =
+        |words: &&[&str]| place.program().args(*words).stdout(Stdio::piped()).stderr(Stdio::piped()).spawn().unwrap();
+    let all: Vec<Child> = commands.iter().map(start).collect();
+    all.into_iter().map(|child| ended(child.wait_with_output().unwrap())).collect()
+}
+
+/// Many commands at once: each ends well or finds the card in use; all do while another holds it.
 #[test]
 fn two_commands_at_once() {
     let place = Place::with_card(0);
-    let mut busy = 0;
+    let lock = File::open(place.path("card/card.txt")).unwrap();
     for log in ["day.klg", "tuesday.klg"] {
-        let all: Vec<_> = (0..12)
-            .map(|_| {
-                let mut program = place.program();
-                program.args(["evening", "card", log]).stdout(std::process::Stdio::piped());
-                program.stderr(std::process::Stdio::piped()).spawn().unwrap()
-            })
-            .collect();
-        for child in all {
-            let (status, _, err) = ended(child.wait_with_output().unwrap());
-            assert!(status == 0 || err.starts_with("card: another command is at work"), "{err}");
-            busy += usize::from(status != 0);
-        }
-        place.ok(&["evening", "card", log]);
+        let evening: &[&str] = &["evening", "card", log];
+        let in_use = (1, String::new(), format!("{IN_USE}Nothing was changed.\n"));
+        lock.lock_shared().unwrap();
+        assert_eq!(at_once(&place, &[evening; 12]), vec![in_use.clone(); 12]);
+        lock.unlock().unwrap();
+        let busy = at_once(&place, &[evening; 12]).into_iter().filter(|ended| {
+            assert!(ended.0 == 0 || *ended == in_use, "{ended:?}");
+            ended.0 != 0
+        });
+        // One has the card whenever another finds it in use.
+        assert!(busy.count() < 12);
+        place.ok(evening);
     }
-    println!("{busy} of 24 found the card in use");
     assert_eq!(fs::read(place.path("card/sheet")).unwrap(), [1, 1, 1, 1, 1, 0, 1, 1, 0, 1, 1, 1, 1, 1, 1, 0, 1, 1]);
+}
+
+/// Of many that make one card, one does; it is found whole.
+#[test]
+fn two_cards_made_at_once() {
+    let place = Place::with_card(0);
+    fs::remove_dir_all(place.path("card")).unwrap();
+    for round in 0..8 {
+        let all = at_once(&place, &[&["new", "card", RULE][..]; 8]);
+        let made = all.iter().filter(|(status, _, err)| {
+            assert!(*status == 0 || err == IN_USE || err == "card: a card is here already\n", "{err}");
+            *status == 0
+        });
+        assert_eq!(made.count(), 1, "round {round}");
+        assert!(place.ok(&["evening", "card", "day.klg"]).starts_with("records 0 to 11: "));
+        fs::remove_dir_all(place.path("card")).unwrap();
+    }
+}
+
+/// One that reads beside one that writes sees the card before or after, or finds it in use.
+#[test]
+fn reading_beside_writing() {
+    let place = Place::with_card(0);
+    let before = place.ok(&["summary", "card"]);
+    let (read, write): (&[&str], &[&str]) = (&["summary", "card"], &["evening", "card", "day.klg"]);
+    let all = at_once(&place, &[read, read, read, write, read, read, read, write, read, read, read]);
+    place.ok(write);
+    let after = place.ok(read);
+    for (at, (status, out, err)) in all.into_iter().enumerate() {
+        match status {
+            0 if at % 4 == 3 => assert!(out.contains(&after), "{out}"),
+            0 => assert!(out == before || out == after, "{out}"),
+            _ => assert!(err.starts_with(IN_USE), "{err}"),
+        }
+    }
 }
 
 extern "C" {
     fn geteuid() -> u32;
 }
 
-/// A folder that may not be written. Permissions do not stop the superuser, who runs the program as nobody here.
-#[test]
-fn a_folder_that_is_only_read() {
-    let place = Place::with_card(1);
-    fs::set_permissions(&place.0, Permissions::from_mode(0o755)).unwrap();
-    let program = place.path("program");
-    fs::copy(env!("CARGO_BIN_EXE_havdrims"), &program).unwrap();
-    fs::set_permissions(&program, Permissions::from_mode(0o755)).unwrap();
-    for (file, mode) in [("card", 0o555), ("card/card.txt", 0o444), ("card/point", 0o444), ("card/sheet", 0o444)] {
-        fs::set_permissions(place.path(file), Permissions::from_mode(mode)).unwrap();
+/// Runs a copy of the program that permissions stop: they do not stop the superuser, who runs it as nobody.
+fn run_stopped(place: &Place, words: &[&str]) -> io::Result<Output> {
+    let mut command = Command::new(place.path("program"));
+    command.current_dir(&place.0).args(words);
+    // SAFETY: it has no arguments and cannot fail.
+    if unsafe { geteuid() } == 0 {
+        command.uid(65_534).gid(65_534);
     }
-    let before = place.card();
-    let run = |words: &[&str]| {
-        let mut command = Command::new(&program);
-        command.current_dir(&place.0).args(words);
-        // SAFETY: it has no arguments and cannot fail.
-        if unsafe { geteuid() } == 0 {
-            command.uid(65_534).gid(65_534);
+    loop {
+        match command.output() {
+            // Another test has just started a process, which for a moment still has the copy open for writing.
+            Err(fault) if fault.kind() == ErrorKind::ExecutableFileBusy => thread::sleep(Duration::from_millis(5)),
+            output => return output,
         }
-        loop {
-            match command.output() {
-                // Another test has just started a process, which for a moment still has the copy open for writing.
-                Err(fault) if fault.kind() == ErrorKind::ExecutableFileBusy => thread::sleep(Duration::from_millis(5)),
-                output => break ended(output.unwrap()),
+    }
+}
+
+/// A card, one evening on, in a folder where permissions can stop the program, if there is one: the user nobody may not
+/// be known here, not reach the folder, or run no program there.
+fn place_for_nobody() -> Option<Place> {
+    [Path::new(env!("CARGO_TARGET_TMPDIR")), &env::temp_dir()].into_iter().find_map(|folder| {
+        let place = Place::with_card_in(folder, 1);
+        fs::copy(env!("CARGO_BIN_EXE_havdrims"), place.path("program")).unwrap();
+        for (file, mode) in [(".", 0o755), ("program", 0o755), ("day.klg", 0o644), ("tuesday.klg", 0o644)] {
+            fs::set_permissions(place.path(file), Permissions::from_mode(mode)).unwrap();
+        }
+        match run_stopped(&place, &["help"]) {
+            Ok(output) if output.status.success() => Some(place),
+            other => {
+                println!("{}: the user nobody cannot run the program: {other:?}", folder.display());
+                None
             }
         }
+    })
+}
+
+/// A folder that may not be written. Where permissions cannot stop the program, the next test has to be enough.
+#[test]
+fn a_folder_that_is_only_read() {
+    let Some(place) = place_for_nobody() else { return };
+    let run = |words: &[&str]| ended(run_stopped(&place, words).unwrap());
+    let modes = |mode: u32, files: &[&str]| {
+        for file in files {
+            fs::set_permissions(place.path(file), Permissions::from_mode(mode)).unwrap();
+        }
     };
-    let (status, _, err) = run(&["evening", "card", "tuesday.klg"]);
-    assert_eq!(status, 1);
-    assert_eq!(err, "card: cannot lock the card: Permission denied (os error 13)\nNothing was changed.\n");
-    assert_eq!(place.card(), before);
+    modes(0o444, &["card/card.txt", "card/rule.krl", "card/point", "card/sheet"]);
+    modes(0o555, &["card", "."]);
+    let before = place.card();
+    let refused = |doing: &str| {
+        let (status, _, err) = run(&["evening", "card", "tuesday.klg"]);
+        let text = "Permission denied (os error 13)\nNo verdict was counted; repeat the command.\n";
+        assert_eq!((status, err), (1, format!("card: cannot {doing}: {text}")));
+        assert_eq!(place.card(), before);
+    };
+    refused("lock the card");
     // the files may be written, but the folder not
-    for file in ["card/card.txt", "card/sheet"] {
-        fs::set_permissions(place.path(file), Permissions::from_mode(0o666)).unwrap();
-    }
-    let (status, _, err) = run(&["evening", "card", "tuesday.klg"]);
-    assert_eq!(status, 1);
-    assert_eq!(err, "card: cannot write the point: Permission denied (os error 13)\nNothing was changed.\n");
-    assert_eq!(place.card(), before);
+    modes(0o666, &["card/card.txt", "card/sheet"]);
+    refused("write the point");
     let (status, out, _) = run(&["summary", "card"]);
     assert_eq!((status, out.lines().count()), (0, 2));
     let (status, _, err) = run(&["new", "more", RULE]);
     assert_eq!(status, 1);
     assert!(err.starts_with("more: cannot make the folder: Permission denied"), "{err}");
-    fs::set_permissions(place.path("card"), Permissions::from_mode(0o755)).unwrap();
+    modes(0o755, &["card", "."]);
+    place.ok(&["evening", "card", "tuesday.klg"]);
+}
+
+/// Files that not even the superuser can write: folders stand in their place.
+#[test]
+fn folders_in_place_of_files() {
+    let place = Place::with_card(1);
+    let text = "Is a directory (os error 21)\nNo verdict was counted; repeat the command.\n";
+    let refused = |doing: &str| {
+        let said = place.fails(1, &["evening", "card", "tuesday.klg"]);
+        assert_eq!(said, format!("card: cannot {doing}: {text}"));
+    };
+    let before = place.card();
+    fs::create_dir(place.path("card/point.new")).unwrap();
+    refused("write the point");
+    fs::remove_dir(place.path("card/point.new")).unwrap();
+    assert_eq!(place.card(), before);
+    fs::rename(place.path("card/card.txt"), place.path("kept")).unwrap();
+    fs::create_dir(place.path("card/card.txt")).unwrap();
+    refused("lock the card");
+    fs::remove_dir(place.path("card/card.txt")).unwrap();
+    fs::rename(place.path("kept"), place.path("card/card.txt")).unwrap();
+    assert_eq!(place.card(), before);
     place.ok(&["evening", "card", "tuesday.klg"]);
 }
 
@@ -267,7 +418,7 @@ fn a_full_disk() {
         err
     };
     // the checkpoint of the ninety-second rule has 2,400 bytes, the sheet of the long log 6,000
-    let too_large = "File too large (os error 27)\nNothing was changed.\n";
+    let too_large = "File too large (os error 27)\nNo verdict was counted; repeat the command.\n";
     assert_eq!(limited("card", "day.klg"), format!("card: cannot write the point: {too_large}"));
     assert_eq!(limited("small", "long.klg"), format!("small: cannot write the sheet: {too_large}"));
     place.ok(&["evening", "card", "day.klg"]);

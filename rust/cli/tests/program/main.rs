@@ -6,10 +6,11 @@ mod killed;
 mod week;
 
 use std::collections::BTreeMap;
+use std::io::ErrorKind;
 use std::path::{Path, PathBuf};
 use std::process::{Command, Output};
 use std::sync::atomic::{AtomicUsize, Ordering};
-use std::{env, fs, process};
+use std::{fs, process};
 
 /// The rule of examples/day.
 const RULE: &str = "not e2 or e0 until[0,90] e1";
@@ -19,16 +20,31 @@ struct Place(PathBuf);
 
 impl Place {
     fn new() -> Place {
+        Place::new_in(Path::new(env!("CARGO_TARGET_TMPDIR")))
+    }
+
+    /// In this folder, under the next number that is free: one that was killed may have left some.
+    fn new_in(folder: &Path) -> Place {
         static COUNT: AtomicUsize = AtomicUsize::new(0);
-        let name = format!("havdrims-{}-{}", process::id(), COUNT.fetch_add(1, Ordering::Relaxed));
-        let path = env::temp_dir().join(name);
-        fs::create_dir(&path).unwrap();
-        Place(path)
+        loop {
+            let path = folder.join(format!("havdrims-{}-{}", process::id(), COUNT.fetch_add(1, Ordering::Relaxed)));
+            match fs::create_dir(&path) {
+                Err(fault) if fault.kind() == ErrorKind::AlreadyExists => {}
+                made => {
+                    made.unwrap();
+                    return Place(path);
+                }
+            }
+        }
     }
 
     /// With a card for the rule of examples/day and its logs, as many evenings on.
     fn with_card(evenings: usize) -> Place {
-        let place = Place::new();
+        Place::with_card_in(Path::new(env!("CARGO_TARGET_TMPDIR")), evenings)
+    }
+
+    fn with_card_in(folder: &Path, evenings: usize) -> Place {
+        let place = Place::new_in(folder);
         for name in ["day.klg", "tuesday.klg"] {
             fs::copy(example(name), place.path(name)).unwrap();
         }

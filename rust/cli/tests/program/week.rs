@@ -1,7 +1,11 @@
 //! The week as the README shows it, what the commands print, and wrong use.
 
-use crate::{example, Place, RULE};
+use crate::{ended, example, Place, RULE};
+use evaluator::log;
+use evaluator::random::{self, LogShape, Random};
+use std::ffi::OsStr;
 use std::fs;
+use std::os::unix::ffi::OsStrExt;
 use std::path::Path;
 
 /// The commands and outputs of the README's week, which begins with `new`.
@@ -77,6 +81,21 @@ fn evenings_in_plain_words() {
     assert_eq!(fs::read(place.path("card/sheet")).unwrap(), [1, 1, 1, 1, 1, 0, 1, 1, 0, 1, 1, 1]);
 }
 
+/// An evening with more verdicts than one call of the library may give here.
+#[test]
+fn a_long_evening() {
+    let place = Place::new();
+    let shape = LogShape { records: 200_000, letters: 1, hold: 1, step: 1, start: 0 };
+    let records = random::log(&mut Random::new(16), shape);
+    fs::write(place.path("long.klg"), log::encode(&records)).unwrap();
+    place.ok(&["new", "card", "e0"]);
+    let sheet: Vec<u8> = records.iter().map(|record| record.letters as u8).collect();
+    let yes = sheet.iter().filter(|&&verdict| verdict == 1).count();
+    let said = place.ok(&["evening", "card", "long.klg"]);
+    assert!(said.starts_with(&format!("records 0 to 199999: {yes} yes, {} no\n", 200_000 - yes)), "{said}");
+    assert_eq!(fs::read(place.path("card/sheet")).unwrap(), sheet);
+}
+
 /// A rule that looks back two records keeps two more of them.
 #[test]
 fn records_kept_for_previous() {
@@ -133,4 +152,14 @@ fn help_and_wrong_use() {
     }
     let said = place.fails(2, &["sheet", "card", "--from", "x"]);
     assert!(said.starts_with("`x` is no number"), "{said}");
+}
+
+/// A path that is not UTF-8 is wrong use, and no other path is taken in its place.
+#[test]
+fn a_path_that_is_not_utf_8() {
+    let place = Place::new();
+    let output = place.program().arg("new").arg(OsStr::from_bytes(b"card\xff")).arg(RULE).output();
+    let (status, out, err) = ended(output.unwrap());
+    assert_eq!((status, out.as_str(), err.as_str()), (2, "", "\"card\\xFF\" is not UTF-8\n"));
+    assert_eq!(fs::read_dir(&place.0).unwrap().count(), 0);
 }
