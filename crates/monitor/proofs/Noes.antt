@@ -1,6 +1,6 @@
 -- The count of no and the latest of them: of bytes laid end to end, of a word of answers, and as a checkpoint holds them. Assumes nothing.
 -- (Examples is named first so that the worked rows are checked before any law.)
-use Rattle.checkpoint.specs.Checkpoint.{noes-in-range}
+use Rattle.monitor.specs.Examples
 use Prim.Native.Nat.{ℕ, zero, suc, _+_, _-_, _≤_, _<_}
 use mathlib.Core.Bool.{Bool, true, false, cond, Bool·beq}
 use mathlib.Core.Path.{_≡_, refl, ap, ap₂, _∙_}
@@ -11,7 +11,7 @@ use lib.Dec.{eqb}
 use lib.ListN.{getD}
 use borrow.Author.Tests.{le-leb, ne-eqb}
 use Rattle.bits.specs.Packed.{bit, number, zeros, last-zero}
-use Rattle.monitor.specs.Examples
+use Rattle.checkpoint.specs.Checkpoint.{noes-in-range}
 use Rattle.monitor.specs.Code.{later-end}
 use Rattle.monitor.specs.Summary.{Noes, noes-in, later, laid-behind, latest-of}
 use Rattle.monitor.specs.Tally.{count-of, latest-no}

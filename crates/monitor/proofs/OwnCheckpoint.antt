@@ -1,6 +1,6 @@
 -- A checkpoint that stands for its rule and a log never meets refusal 11 with that rule. Assumes nothing.
 -- (Examples is named first so that the table of worked examples is checked before any theorem.)
-use Rattle.checkpoint.specs.Checkpoint.{given, seen, last, closed-with, held-count, no-count, after-latest, need, block-at, block-outside, noes-in-range, closed-in-range, outside}
+use Rattle.monitor.specs.Examples
 use Prim.Native.Nat.{ℕ, suc, _+_, _-_, _≤_, _<_, _^_}
 use mathlib.Core.Bool.{Bool, true, false, cond}
 use mathlib.Core.Path.{_≡_, sym, _∙_}
@@ -21,8 +21,8 @@ use Rattle.rule.proofs.Acceptance.{accepted}
 use Rattle.blocks.specs.Block.{word, cells-of}
 use Rattle.engine.specs.State.{words}
 use Rattle.engine.proofs.Entries.{Ranged, rule-size, rule-ranges}
+use Rattle.checkpoint.specs.Checkpoint.{given, seen, last, closed-with, held-count, no-count, after-latest, need, block-at, block-outside, noes-in-range, closed-in-range, outside}
 use Rattle.checkpoint.proofs.Offsets.{in-block, block-fits}
-use Rattle.monitor.specs.Examples
 use Rattle.monitor.specs.Verdicts.{formulas-of, verdicts}
 use Rattle.monitor.specs.Stands.{States, Stands}
 use Rattle.monitor.proofs.Noes.{noes-ranged}
