@@ -15,6 +15,7 @@ use Rattle.rule.specs.declared.Measured.the-variants.{Refused as Unmeasured}
 use Rattle.rule.specs.Measure.{measured}
 use Rattle.rule.specs.Measure.{Answer as Measure, answer as measure-of}
 use Rattle.rule.proofs.Outcome.{stops-with}
+use Rattle.checkpoint.specs.Refusal.{summary-refusal}
 use Rattle.monitor.specs.declared.Opened.{Opened}
 use Rattle.monitor.specs.declared.Resumed.{Resumed}
 use Rattle.monitor.specs.declared.Resumed.the-variants.{Given, Refused}
@@ -29,7 +30,6 @@ use Rattle.monitor.specs.declared.Latest.{Latest}
 use Rattle.monitor.specs.declared.Summarized.{Summarized}
 use Rattle.monitor.specs.declared.Summarized.the-variants.{Counted}
 use Rattle.monitor.specs.declared.Summarized.the-variants.{Refused as Unsummarized}
-use Rattle.monitor.specs.Refusal.{summary-refusal}
 use Rattle.monitor.specs.Summary.{Noes, stored-noes, told, refused-with, position, position-or, summarized}
 use Rattle.monitor.specs.Summary.{Answer as Summary, answer as summary-of}
 use Rattle.monitor.specs.declared.Standing.{Standing}

@@ -17,7 +17,7 @@ use Rattle.blocks.specs.Block.{word}
 use Rattle.blocks.specs.Step.{Agrees}
 use Rattle.engine.proofs.Uniform.{agrees-later}
 use Rattle.blocks.proofs.Words.{Store, put, stores, after, Inside, word-stores}
-use Rattle.monitor.specs.Checkpoint.{given, held-count, held-bits, no-count, after-latest}
+use Rattle.checkpoint.specs.Checkpoint.{given, held-count, held-bits, no-count, after-latest}
 use Rattle.monitor.specs.Stands.{Top}
 use Rattle.monitor.specs.Code.{Tops, KeptBlocks, Holds, later-end, spent, Giving, Gave}
 use Rattle.monitor.specs.Summary.{Noes, noes-in, laid-behind, latest-of, stored-noes}

@@ -25,7 +25,7 @@ use Rattle.engine.proofs.Parts.{part-end, drop-back-last}
 use Rattle.engine.proofs.Uniform.{agrees-later}
 use Rattle.engine.proofs.Kept.{kept-refl, kept-trans}
 use Rattle.blocks.proofs.Words.{put, after, word-stores}
-use Rattle.monitor.specs.Checkpoint.{given, held-count, held-bits}
+use Rattle.checkpoint.specs.Checkpoint.{given, held-count, held-bits}
 use Rattle.monitor.specs.Stands.{Top}
 use Rattle.monitor.specs.Code.{Tops, all-yes, KeptBlocks, Holding, Holds}
 use Rattle.monitor.proofs.Held.{held-none, held-one, held-yes}

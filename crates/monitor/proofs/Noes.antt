@@ -11,7 +11,7 @@ use lib.Dec.{eqb}
 use lib.ListN.{getD}
 use borrow.Author.Tests.{le-leb, ne-eqb}
 use Rattle.bits.specs.Packed.{bit, number, zeros, last-zero}
-use Rattle.monitor.specs.Checkpoint.{noes-in-range}
+use Rattle.checkpoint.specs.Checkpoint.{noes-in-range}
 use Rattle.monitor.specs.Code.{later-end}
 use Rattle.monitor.specs.Summary.{Noes, noes-in, later, laid-behind, latest-of}
 use Rattle.monitor.specs.Tally.{count-of, latest-no}

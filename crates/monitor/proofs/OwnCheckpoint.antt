@@ -21,11 +21,11 @@ use Rattle.rule.proofs.Acceptance.{accepted}
 use Rattle.blocks.specs.Block.{word, cells-of}
 use Rattle.engine.specs.State.{words}
 use Rattle.engine.proofs.Entries.{Ranged, rule-size, rule-ranges}
-use Rattle.monitor.specs.Checkpoint.{given, seen, last, closed-with, held-count, no-count, after-latest, need, block-at, block-outside, noes-in-range, closed-in-range, outside}
+use Rattle.checkpoint.specs.Checkpoint.{given, seen, last, closed-with, held-count, no-count, after-latest, need, block-at, block-outside, noes-in-range, closed-in-range, outside}
+use Rattle.checkpoint.proofs.Offsets.{in-block, block-fits}
 use Rattle.monitor.specs.Verdicts.{formulas-of, verdicts}
 use Rattle.monitor.specs.Stands.{States, Stands}
 use Rattle.monitor.proofs.Noes.{noes-ranged}
-use Rattle.monitor.proofs.Offsets.{in-block, block-fits}
 use Rattle.monitor.proofs.Meaning.{rule-whole}
 
 closed-ranged : (b : Bool) (w m seen : ℕ) → w ≡ cond b (suc m) 0 → seen ≡ m → closed-in-range w seen ≡ true

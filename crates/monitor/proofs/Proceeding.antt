@@ -26,10 +26,10 @@ use Rattle.engine.specs.State.{words as words-of}
 use Rattle.engine.proofs.Uniform.{agrees-later}
 use Rattle.engine.proofs.Rows.{rows-ok, has-at, column-is-part}
 use Rattle.engine.proofs.Entries.{rule-size, rule-kept}
+use Rattle.checkpoint.proofs.Offsets.{in-block}
 use Rattle.monitor.specs.Stands.{Top}
 use Rattle.monitor.specs.Summary.{stored-noes}
 use Rattle.monitor.specs.Code.{Fits, Tops, KeptBlocks, Holding, Holds, Gave, Ready, KeptEntries, Proceeded}
-use Rattle.monitor.proofs.Offsets.{in-block}
 use Rattle.monitor.proofs.Holding.{kept-same, kept-then}
 use Rattle.monitor.proofs.Giving.{noes-held}
 

@@ -1,141 +1,54 @@
 -- From an accepted call on the words that the rule needs to what `resume` promises of the whole checkpoint.
-use Prim.Native.Nat.{ℕ, _+_, _-_, _≤_, _<_, _^_, zero-le}
-use mathlib.Core.Bool.{Bool, true, false, cond, _&&_}
-use mathlib.Core.Bool.{not as negate}
+use Prim.Native.Nat.{ℕ, _+_, _-_, _≤_, _<_, zero-le}
+use mathlib.Core.Bool.{Bool, true, false, cond}
 use mathlib.Core.Path.{_≡_, refl, sym, ap, ap₂, _∙_}
 use mathlib.Core.List.{List, _++_}
 use mathlib.Core.Logic.{⊎-elim}
 use native.Mathlib.Omega.{arith}
 use native.Mathlib.Nat.{sub-zero}
-use borrow.Author.Tests.{le-ltb, lt-ltb, ne-eqb, eqb-true, eqb-false, not-false}
-use lib.Dec.{eqb, leb, ltb}
+use borrow.Author.Tests.{le-ltb, lt-ltb, ne-eqb, eqb-false}
+use lib.Dec.{eqb}
 use lib.ListN.{length, take, drop, length-append, length-drop, List·getD-append}
 use lib.Seq.{length-take-le, take-at, drop-at, getD-take}
 use Rattle.mtl.specs.Formula.{Formula}
 use Rattle.mtl.specs.Log.{Log, NeverFalls, Continues}
-use Rattle.mtl.specs.Satisfaction.{any}
 use Rattle.mtl.specs.Wanted.{wanted}
-use Rattle.mtl.proofs.Bounded.{and-iff, leb-iff, le-or-lt}
+use Rattle.mtl.proofs.Bounded.{le-or-lt}
 use Rattle.mtl.proofs.Joint.{joint-le-size}
 use Rattle.rule.specs.declared.Entry.{Entry}
 use Rattle.rule.specs.Entries.{count, decoded}
-use Rattle.rule.specs.Refusal.{before, refusal}
-use Rattle.rule.proofs.Headers.{first-zero, or-left, Decoded}
+use Rattle.rule.specs.Refusal.{refusal}
+use Rattle.rule.proofs.Headers.{Decoded}
 use Rattle.rule.proofs.Acceptance.{accepted}
-use Rattle.trace.specs.Format.{record-count, records-of, malformed}
+use Rattle.trace.specs.Format.{record-count, records-of}
 use Rattle.trace.specs.Order.{last-time}
-use Rattle.trace.proofs.Laws.{well-formed-records}
 use Rattle.blocks.specs.Block.{word}
 use Rattle.blocks.specs.Step.{Agrees}
 use Rattle.engine.specs.Ask.{part}
 use Rattle.engine.proofs.Parts.{put-back}
-use Rattle.monitor.specs.Checkpoint.{given, seen, last, closed-with, held-count, held-bits, no-count, after-latest, need, room, foreign, block-outside, noes-in-range, closed-in-range, outside, header-in-range}
-use Rattle.monitor.specs.Refusal.{open-refusal, resumes-closed, point-refusal}
+use Rattle.checkpoint.specs.Checkpoint.{given, seen, last, held-count, held-bits, need, foreign}
+use Rattle.checkpoint.specs.Refusal.{point-refusal}
+use Rattle.checkpoint.specs.Code.{sized-of}
+use Rattle.checkpoint.specs.declared.check.Sized.the-variants.{Words}
+use Rattle.checkpoint.proofs.Checks.{Met, passes}
+use Rattle.checkpoint.proofs.Copies.{foreign-same, foreign-within}
+use Rattle.checkpoint.proofs.Sizes.{enough}
 use Rattle.monitor.specs.Verdicts.{formulas-of}
 use Rattle.monitor.specs.Stands.{Top, last-of, Stands}
 use Rattle.monitor.specs.Resume.{Resumes}
 use Rattle.monitor.specs.Summary.{Noes, noes-in, laid-behind, stored-noes}
-use Rattle.monitor.specs.Code.{sized-of, sized-number, checked-by, checked-number, Ready, Giving, Proceeded, Proceeds}
-use Rattle.monitor.specs.declared.check.Sized.{Sized}
-use Rattle.monitor.specs.declared.check.Sized.the-variants.{Words, Stopped}
-use Rattle.monitor.specs.declared.check.Checked.{Checked}
-use Rattle.monitor.specs.declared.check.Checked.the-variants.{Passed, Failed}
+use Rattle.monitor.specs.Code.{Ready, Giving, Proceeded, Proceeds}
 use Rattle.monitor.specs.declared.Resumed.{Resumed}
 use Rattle.monitor.specs.declared.Resumed.the-variants.{Given, Refused}
 use Rattle.monitor.proofs.Meaning.{rule-whole}
-use Rattle.monitor.proofs.Copies.{foreign-same, foreign-within}
-use Rattle.monitor.proofs.Sizes.{sized-refusal, enough, stops}
 use Rattle.monitor.proofs.Held.{held-longer, states-longer}
 use Rattle.monitor.proofs.VerdictBytes.{noes-more, verdicts-stay}
 
--- n is the number of a refusal: of 1 to 9 where one applies, else `other`
-pub record Met (rule p : List ℕ) (other n : ℕ) : Type 0 where
-  pub number : n ≡ before (open-refusal rule (length p)) other
-  pub some : 0 < n
-
--- refusals 1 to 9
-pub stopped : (rule p : List ℕ) (other : ℕ) (r : Sized) (m n : ℕ) → r ≡ sized-of rule (length p) → r ≡ Stopped m → n ≡ sized-number r →
-    Met rule p other n
-stopped rule p other r m n sized stops-at numbered =
-    let met : 0 < m =
-    stops rule (length p) m (sym stops-at ∙ sized) in
-    let is : n ≡ m = numbered ∙ ap sized-number stops-at in
-    let number : open-refusal rule (length p) ≡ n =
-    sym (sized-refusal rule (length p)) ∙ ap sized-number (sym sized) ∙ sym numbered in
-    let met-first : before n other ≡ n = rw (ne-eqb n 0 (λ e. omega arith)) in
-    record { number = sym (ap (λ (k : ℕ). before k other) number ∙ met-first); some = omega arith }
-
-pub not-stopped : (rule p : List ℕ) (other w : ℕ) → Words w ≡ sized-of rule (length p) → before (open-refusal rule (length p)) other ≡ other
-not-stopped rule p other w sized =
-    let none : open-refusal rule (length p) ≡ 0 = sym (sized-refusal rule (length p)) ∙ ap sized-number (sym sized) in
-    ap (λ (k : ℕ). before k other) none
-
--- the number that the check's answer stands for is the refusal's
-checked-is : (number : ℕ) → checked-number (checked-by number) ≡ number
-checked-is number = go (eqb number 0) refl
-  where
-    go : (b : Bool) → eqb number 0 ≡ b → checked-number (cond b Passed (Failed number)) ≡ number
-    go true zero = sym (eqb-true number 0 zero)
-    go false some = refl
-
-pub passed : (number : ℕ) → Passed ≡ checked-by number → number ≡ 0
-passed number e = sym (ap checked-number e ∙ checked-is number)
-
-failed-by : (b : Bool) (number m : ℕ) → eqb number 0 ≡ b → Failed m ≡ cond b Passed (Failed number) → 0 < m
-failed-by true number m t e = let z : _≡_ {A = ℕ} 0 1 = cc in absurd (omega arith)
-failed-by false number m t e = let z : m ≡ number = cc in let h = eqb-false number 0 t in omega arith
-
--- the number of an answer that fails
-pub fails-with : (number : ℕ) (r : Checked) (m n : ℕ) → r ≡ checked-by number → r ≡ Failed m → n ≡ checked-number r →
-    (n ≡ number) × (0 < n)
-fails-with number r m n checked fails numbered =
-    let met : 0 < m = failed-by (eqb number 0) number m refl (sym fails ∙ checked) in
-    let is : n ≡ m = numbered ∙ ap checked-number fails in
-    (numbered ∙ ap checked-number checked ∙ checked-is number, omega arith)
-
--- refusals from 10 on
-pub failed : (rule p : List ℕ) (number w : ℕ) (r : Checked) (m n : ℕ) → Words w ≡ sized-of rule (length p) → r ≡ checked-by number →
-    r ≡ Failed m → n ≡ checked-number r → Met rule p number n
-failed rule p number w r m n sized checked fails numbered =
-    let e = fails-with number r m n checked fails numbered in
-    record { number = e .0 ∙ sym (not-stopped rule p number w sized); some = e .1 }
-
--- nothing is written then
+-- where a refusal is met nothing is written
 pub resume-refused : (closing : Bool) (rule log p sheet : List ℕ) (n : ℕ) → Met rule p (point-refusal closing (decoded rule) (count rule) log p) n →
     Resumes closing rule log p sheet (Refused n) p sheet
 resume-refused closing rule log p sheet n met =
     record { number = met .number; point-length = refl; sheet-length = refl; words = (met .some, refl, refl) }
-
--- what the refusals that are not met tell
-pub record Passes (log p : List ℕ) : Type 0 where
-  pub given : given p ≤ 1000000
-  pub counted : no-count p ≤ 1000000
-  pub records : record-count (records-of log) ≤ 1000000
-
-header-given : (p : List ℕ) → header-in-range p ≡ true → (no-count p ≤ given p) × (given p ≤ 1000000)
-header-given p fits =
-    let ends = and-iff _ (noes-in-range (given p) (no-count p) (after-latest p)) .0 (and-iff _ (closed-in-range (closed-with p) (seen p)) .0 fits .0) in
-    let halves = and-iff (leb (seen p) 1000000 && leb (held-count p) 64) (room (given p) (held-count p) (seen p)) .0 (and-iff _ (ltb (last p) (2 ^ 32)) .0 (ends .0) .0) in
-    let rooms = and-iff (leb (held-count p) (seen p)) (leb (given p) (seen p - held-count p)) .0 (halves .1) in
-    let few = leb-iff (seen p) 1000000 .0 (and-iff (leb (seen p) 1000000) (leb (held-count p) 64) .0 (halves .0) .0) in
-    let low = leb-iff (given p) (seen p - held-count p) .0 (rooms .1) in
-    let noes = leb-iff (no-count p) (given p) .0 (and-iff (leb (no-count p) (given p)) (leb (after-latest p) (given p)) .0 (and-iff _ _ .0 (ends .1) .0) .0) in
-    (noes, omega arith)
-
-pub passes : (closing : Bool) (rule log p : List ℕ) → point-refusal closing (decoded rule) (count rule) log p ≡ 0 → Passes log p
-passes closing rule log p none =
-    let t = decoded rule in
-    let n = count rule in
-    let tenth = first-zero 9 (foreign t n p) _ none in
-    let eleventh = first-zero 10 (outside t n p) _ (tenth .1) in
-    let twentieth = first-zero 19 (resumes-closed closing (closed-with p)) _ (eleventh .1) in
-    let twelfth = first-zero 11 (malformed log) _ (twentieth .1) in
-    let (noes, few) = header-given p (not-false (header-in-range p) (or-left (negate (header-in-range p)) (any n (block-outside t p)) (eleventh .0))) in
-    record {
-      given = few;
-      counted = omega arith;
-      records = well-formed-records log (twelfth .0) .1 .few;
-    }
 
 -- the header and the state survive a longer log
 top-longer : (fs : List Formula) (K L : Log) (d : ℕ) (ws : List ℕ) → Continues K L → NeverFalls L → Top fs K d ws → Top fs L d ws

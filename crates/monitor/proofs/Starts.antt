@@ -17,17 +17,17 @@ use Rattle.rule.proofs.Acceptance.{accepted}
 use Rattle.blocks.specs.Block.{word, FreshBlock}
 use Rattle.engine.specs.State.{words, State}
 use Rattle.engine.proofs.Entries.{fresh-rule, rule-size}
-use Rattle.monitor.specs.Checkpoint.{held-count, held-bits, need}
-use Rattle.monitor.specs.Code.{Fresh, sized-of, sized-number}
+use Rattle.checkpoint.specs.Checkpoint.{held-count, held-bits, need}
+use Rattle.checkpoint.specs.Code.{Fresh, sized-of, sized-number}
+use Rattle.checkpoint.specs.declared.check.Sized.the-variants.{Words}
+use Rattle.checkpoint.proofs.Offsets.{in-block}
+use Rattle.checkpoint.proofs.Copies.{fresh-own, foreign-within}
+use Rattle.checkpoint.proofs.Sizes.{enough, sized-refusal}
 use Rattle.monitor.specs.Open.{Opens}
 use Rattle.monitor.specs.Stands.{States, Top, Stands}
 use Rattle.monitor.specs.Tally.{count-of, latest-no}
 use Rattle.monitor.specs.Verdicts.{formulas-of}
 use Rattle.monitor.specs.declared.Opened.the-variants.{Done}
-use Rattle.monitor.specs.declared.check.Sized.the-variants.{Words}
-use Rattle.monitor.proofs.Offsets.{in-block}
-use Rattle.monitor.proofs.Copies.{fresh-own, foreign-within}
-use Rattle.monitor.proofs.Sizes.{enough, sized-refusal}
 use Rattle.monitor.proofs.Meaning.{rule-whole}
 use Rattle.monitor.proofs.Held.{held-none}
 

@@ -10,9 +10,9 @@ use lib.Dec.{eqb}
 use borrow.Author.Tests.{eq-eqb, ne-eqb, lt-ltb, le-ltb}
 use Rattle.mtl.specs.Satisfaction.{any}
 use Rattle.mtl.proofs.Bounded.{any-iff}
+use Rattle.checkpoint.proofs.Offsets.{any-more}
 use Rattle.monitor.specs.Tally.{count-of, above-one, answer, tallied}
 use Rattle.monitor.specs.declared.Tallied.the-variants.{Counts, Refused}
-use Rattle.monitor.proofs.Offsets.{any-more}
 
 -- the first i bytes are verdicts, and these are their counts
 pub record Counted (s : List ℕ) (i nos yeses : ℕ) : Type 0 where

@@ -1,5 +1,5 @@
 -- What the crate's own functions answer, between the calls and the definitions that their promises name.
-use Prim.Native.Nat.{ℕ, zero, suc, _+_, _-_, _/_, _≤_, _<_, _^_, min}
+use Prim.Native.Nat.{ℕ, suc, _+_, _-_, _/_, _≤_, _<_, _^_, min}
 use mathlib.Core.Bool.{Bool, true, false, cond}
 use mathlib.Core.Path.{_≡_}
 use mathlib.Core.List.{List, [], _∷_}
@@ -11,12 +11,6 @@ use Rattle.mtl.specs.Progress.{joint-progress}
 use Rattle.mtl.specs.Wanted.{wanted}
 use Rattle.bits.specs.Packed.{zeros, last-zero}
 use Rattle.rule.specs.declared.Entry.{Entry}
-use Rattle.rule.specs.declared.Measured.{Measured}
-use Rattle.rule.specs.declared.Measured.the-variants.{Words as Weighed}
-use Rattle.rule.specs.declared.Measured.the-variants.{Refused as Unmeasured}
-use Rattle.rule.specs.Entries.{entry}
-use Rattle.rule.specs.Words.{offset}
-use Rattle.rule.specs.Refusal.{refusal}
 use Rattle.rule.specs.Accepted.{WellFormed, Whole}
 use Rattle.blocks.specs.Block.{word}
 use Rattle.blocks.specs.Step.{Agrees}
@@ -24,58 +18,12 @@ use Rattle.engine.specs.Table.{RowsOk, column, Has}
 use Rattle.engine.specs.Answer.{Keeps}
 use Rattle.trace.specs.Format.{record-count}
 use Rattle.trace.specs.Order.{last-time}
-use Rattle.monitor.specs.Checkpoint.{format, given, seen, last, closed-with, held-count, held-bits, no-count, after-latest, need, block-at, copy-head, copy-ends}
-use Rattle.monitor.specs.Refusal.{words-refusal}
+use Rattle.checkpoint.specs.Checkpoint.{given, seen, last, closed-with, held-count, held-bits, no-count, after-latest, block-at}
 use Rattle.monitor.specs.Verdicts.{verdict}
 use Rattle.monitor.specs.Stands.{Top}
 use Rattle.monitor.specs.Summary.{noes-in, laid-behind, stored-noes}
-use Rattle.monitor.specs.declared.check.Sized.{Sized}
-use Rattle.monitor.specs.declared.check.Sized.the-variants.{Words, Stopped}
-use Rattle.monitor.specs.declared.check.Checked.{Checked}
-use Rattle.monitor.specs.declared.check.Checked.the-variants.{Passed, Failed}
 use Rattle.monitor.specs.declared.Resumed.{Resumed}
 use Rattle.monitor.specs.declared.Resumed.the-variants.{Given, Refused}
-
-abbrev pub sized-number : Sized → ℕ
-sized-number (Words n) = 0
-sized-number (Stopped n) = n
-
--- refusals 1 to 9, or the need, by what weighing answers
-abbrev pub sized-by : Measured → ℕ → Sized
-sized-by (Weighed w far) lent = cond (ltb lent w) (Stopped 9) (Words w)
-sized-by (Unmeasured n) lent = Stopped n
-
--- the same of the rule's bytes
-abbrev pub sized-of : List ℕ → ℕ → Sized
-sized-of rule lent =
-    cond (eqb (refusal rule) 0) (cond (ltb lent (need rule)) (Stopped 9) (Words (need rule))) (Stopped (refusal rule))
-
-abbrev pub checked-number : Checked → ℕ
-checked-number Passed = 0
-checked-number (Failed n) = n
-
--- a refusal by its number, which is 0 where none applies
-abbrev pub checked-by : ℕ → Checked
-checked-by number = cond (eqb number 0) Passed (Failed number)
-
--- the words that weighing gives hold the header and the blocks of the first n entries of t
-abbrev pub Covers : Measured → List Entry → (n : ℕ) → Type 0
-Covers (Weighed w far) t n = (n ≤ 128) × (16 + offset t n ≤ w)
-Covers (Unmeasured m) t n = Unit {0}
-
--- refusals 1 to 9, and after them 10 and 11 of a rule's n entries and a checkpoint's words
-abbrev pub own-checked : Sized → List Entry → (n : ℕ) → List ℕ → Checked
-own-checked (Words w) t n p = checked-by (words-refusal t n p 0)
-own-checked (Stopped m) t n p = Failed m
-
--- the words of a fresh checkpoint: nothing given, seen or held, and each entry's copy in its block
-pub record Fresh (t : List Entry) (n : ℕ) (ws : List ℕ) : Type 0 where
-  pub first-word : word ws 0 ≡ format
-  pub entries : word ws 6 ≡ n
-  pub header : (i : ℕ) → 0 < i → i < 16 → (i ≡ 6 → ⊥) → word ws i ≡ 0
-  pub blocks : (k : ℕ) → k < n → (i : ℕ) → i < 14 → word ws (block-at t k + i) ≡ 0
-  pub heads : (k : ℕ) → k < n → word ws (block-at t k + 14) ≡ copy-head (entry t k)
-  pub ends : (k : ℕ) → k < n → word ws (block-at t k + 15) ≡ copy-ends (entry t k)
 
 -- the table of a rule's n entries, the last of which, where there is one, has all words behind the header
 pub record Fits (t : List ℕ) (n size : ℕ) : Type 0 where
@@ -115,12 +63,6 @@ pub record Holds (t s : List ℕ) (closed : Bool) (n : ℕ) (ws : List ℕ) (r :
   pub none : r ≡ false → held-count ws′ ≡ 0
   pub meaning : (fs : List Formula) (L : Log) (d : ℕ) → Tops fs t n → NeverFalls L → Agrees closed s L (wanted fs d) → Top fs L d ws →
       Holding fs L d r ws′
-
--- the copies of the first n entries, written into their blocks
-unfoldable pub copies : List Entry → ℕ → List ℕ → List ℕ
-copies t zero ws = ws
-copies t (suc n) ws =
-    set (set (copies t n ws) (block-at t n + 14) (copy-head (entry t n))) (block-at t n + 15) (copy-ends (entry t n))
 
 -- the header once n of the verdicts held are given, and the no among them counted
 abbrev pub spent : ℕ → List ℕ → List ℕ

@@ -19,8 +19,8 @@ use Rattle.rule.specs.Refusal.{before, refusal, header-refusal, entries-refusal
 use Rattle.rule.specs.Measure.{farthest, measured}
 use Rattle.trace.specs.Format.{record-count, records-of}
 use Rattle.trace.specs.Order.{last-time}
-use Rattle.monitor.specs.Refusal.{log-refusal, resume-refusal}
-use Rattle.monitor.specs.Checkpoint.{format}
+use Rattle.checkpoint.specs.Refusal.{log-refusal, resume-refusal}
+use Rattle.checkpoint.specs.Checkpoint.{format}
 use Rattle.monitor.specs.Summary.{Noes, noes-in, laid-behind}
 use Rattle.monitor.specs.Status.{Answer, told, refused-with, known}
 use Rattle.monitor.specs.Tally.{count-of, latest-no}

@@ -1,8 +1,5 @@
--- What the product's calls promise. Read Checkpoint, Refusal, Verdicts and Stands, then Open, Resume, Tally, Summary and Status, which the
--- calls' `ensures` name, and Calls, the statements about lists of calls (demands 2 and 3). Examples has the cases worked by hand, Code
--- the promises of inner functions.
-pub mod Checkpoint
-pub mod Refusal
+-- What the product's calls promise. Read Verdicts and Stands, then Open, Resume, Tally, Summary and Status, which the calls' `ensures`
+-- name. Examples has the cases worked by hand, Code the promises of inner functions.
 pub mod Verdicts
 pub mod Stands
 pub mod Open
@@ -10,6 +7,5 @@ pub mod Resume
 pub mod Tally
 pub mod Summary
 pub mod Status
-pub mod Calls
 pub mod Examples
 pub mod Code

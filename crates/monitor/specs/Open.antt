@@ -5,8 +5,8 @@ use mathlib.Core.Path.{_≡_}
 use mathlib.Core.List.{List}
 use lib.ListN.{length, drop}
 use Rattle.mtl.specs.Log.{Log}
-use Rattle.monitor.specs.Checkpoint.{need}
-use Rattle.monitor.specs.Refusal.{open-refusal}
+use Rattle.checkpoint.specs.Checkpoint.{need}
+use Rattle.checkpoint.specs.Refusal.{open-refusal}
 use Rattle.monitor.specs.Stands.{Stands}
 use Rattle.monitor.specs.declared.Opened.{Opened}
 use Rattle.monitor.specs.declared.Opened.the-variants.{Done, Refused}

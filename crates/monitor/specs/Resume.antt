@@ -11,8 +11,8 @@ use Rattle.mtl.specs.Wanted.{wanted}
 use Rattle.trace.specs.Format.{record-count, records-of}
 use Rattle.trace.specs.Order.{last-time}
 use Rattle.blocks.specs.Step.{Agrees}
-use Rattle.monitor.specs.Checkpoint.{given, seen, last, closed-with, need}
-use Rattle.monitor.specs.Refusal.{resume-refusal}
+use Rattle.checkpoint.specs.Checkpoint.{given, seen, last, closed-with, need}
+use Rattle.checkpoint.specs.Refusal.{resume-refusal}
 use Rattle.monitor.specs.Verdicts.{formulas-of, verdict}
 use Rattle.monitor.specs.Stands.{Stands}
 use Rattle.monitor.specs.Summary.{noes-in, laid-behind, stored-noes}

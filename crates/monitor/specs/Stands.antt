@@ -12,7 +12,7 @@ use Rattle.mtl.specs.Progress.{joint-progress}
 use Rattle.bits.specs.Packed.{bit, number}
 use Rattle.rule.specs.Entries.{count, decoded}
 use Rattle.engine.specs.State.{State}
-use Rattle.monitor.specs.Checkpoint.{given, seen, last, closed-with, held-count, held-bits, need, foreign}
+use Rattle.checkpoint.specs.Checkpoint.{given, seen, last, closed-with, held-count, held-bits, need, foreign}
 use Rattle.monitor.specs.Verdicts.{formulas-of, verdict, verdicts}
 use Rattle.monitor.specs.Summary.{noes-in, stored-noes}
 

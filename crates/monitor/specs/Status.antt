@@ -4,8 +4,8 @@ use mathlib.Core.Bool.{Bool, true, false, cond}
 use mathlib.Core.List.{List}
 use lib.Dec.{eqb, ltb}
 use Rattle.mtl.specs.Wanted.{wanted}
-use Rattle.monitor.specs.Checkpoint.{given, seen, closed-with}
-use Rattle.monitor.specs.Refusal.{summary-refusal}
+use Rattle.checkpoint.specs.Checkpoint.{given, seen, closed-with}
+use Rattle.checkpoint.specs.Refusal.{summary-refusal}
 use Rattle.monitor.specs.Verdicts.{formulas-of}
 use Rattle.monitor.specs.declared.Standing.{Standing}
 use Rattle.monitor.specs.declared.Standing.the-variants.{Known, Refused}

@@ -5,8 +5,8 @@ use mathlib.Core.Bool.{Bool, true, false, cond}
 use mathlib.Core.List.{List}
 use mathlib.Core.Option.{Option, none, some}
 use lib.Dec.{eqb}
-use Rattle.monitor.specs.Checkpoint.{no-count, after-latest}
-use Rattle.monitor.specs.Refusal.{summary-refusal}
+use Rattle.checkpoint.specs.Checkpoint.{no-count, after-latest}
+use Rattle.checkpoint.specs.Refusal.{summary-refusal}
 use Rattle.monitor.specs.Tally.{count-of, latest-no}
 use Rattle.monitor.specs.declared.Latest.{Latest}
 use Rattle.monitor.specs.declared.Latest.the-variants.{At, Never}

@@ -7,11 +7,11 @@ ghost use lib.ListN.{length};
 ghost use lib.Dec.{ltb};
 ghost use Rattle.rule.specs.Words.{words as needed};
 ghost use Rattle.trace.specs.Format.{record-count};
-ghost use Rattle.monitor.specs.Checkpoint.{given, held-count, held-bits, no-count};
+ghost use Rattle.checkpoint.specs.Checkpoint.{given, held-count, held-bits, no-count};
 ghost use Rattle.monitor.specs.Code.{Fits, Holds, all-yes, later-end, spent, Gave, Ready, Proceeds};
 use super::Resumed;
-use super::header;
 use super::sheet;
+use checkpoint::header;
 use rule::Entry;
 
 // a word of answers that are all yes

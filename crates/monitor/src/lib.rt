@@ -10,14 +10,12 @@ ghost use Rattle.monitor.specs.Summary.{answer as summary-of};
 ghost use Rattle.monitor.specs.Status.{known};
 ghost use Rattle.monitor.specs.Status.{answer as standing-of};
 
-mod check;
-mod fresh;
 mod give;
-mod header;
 mod sheet;
 
-use check::Checked;
-use check::Sized;
+use checkpoint::Checked;
+use checkpoint::Sized;
+use checkpoint::header;
 
 // What `open` answers.
 pub enum Opened {
@@ -139,11 +137,11 @@ pub fn open(rule: &[u8], point: &mut [u64]) -> Opened
     let header = rule::check_header(rule);
     let count = header.count();
     let entries = rule::decode(rule, count);
-    let sized = check::size_of(rule::measure_decoded(header, entries), point.len());
+    let sized = checkpoint::size_of(rule::measure_decoded(header, entries), point.len());
     let Sized::Words(words) = sized else {
         return Opened::Refused(sized.number());
     };
-    fresh::write(entries, count, &mut point[0..words]);
+    checkpoint::fresh::write(entries, count, &mut point[0..words]);
     Opened::Done
 }
 
@@ -160,11 +158,11 @@ fn resume_or_close(
     let header = rule::check_header(rule);
     let count = header.count();
     let entries = rule::decode(rule, count);
-    let sized = check::size_of(rule::measure_decoded(header, entries), point.len());
+    let sized = checkpoint::size_of(rule::measure_decoded(header, entries), point.len());
     let Sized::Words(words) = sized else {
         return Resumed::Refused(sized.number());
     };
-    let checked = check::check_point(entries, count, log, closing, point);
+    let checked = checkpoint::check_point(entries, count, log, closing, point);
     let Checked::Passed = checked else {
         return Resumed::Refused(checked.number());
     };
@@ -218,7 +216,7 @@ pub fn summary(rule: &[u8], point: &[u64]) -> Summarized
     let count = header.count();
     let entries = rule::decode(rule, count);
     let measured = rule::measure_decoded(header, entries);
-    let checked = check::check_own(measured, entries, count, point);
+    let checked = checkpoint::check_own(measured, entries, count, point);
     let Checked::Passed = checked else {
         return Summarized::Refused(checked.number());
     };
@@ -236,7 +234,7 @@ pub fn status(rule: &[u8], point: &[u64]) -> Standing
     let count = header.count();
     let entries = rule::decode(rule, count);
     let measured = rule::measure_decoded(header, entries);
-    let checked = check::check_own(measured, entries, count, point);
+    let checked = checkpoint::check_own(measured, entries, count, point);
     let Checked::Passed = checked else {
         return Standing::Refused(checked.number());
     };
@@ -244,7 +242,7 @@ pub fn status(rule: &[u8], point: &[u64]) -> Standing
     Standing::Known {
         given: given,
         seen: point[header::SEEN],
-        wanted: check::first_wanted(entries, count, given as usize) as u64,
+        wanted: checkpoint::first_wanted(entries, count, given as usize) as u64,
         closed: 0 < point[header::CLOSED_WITH],
     }
 }

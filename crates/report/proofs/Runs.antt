@@ -20,8 +20,8 @@ use Rattle.trace.specs.Format.{record-count, records-of, malformed}
 use Rattle.trace.specs.Log.{log-of}
 use Rattle.trace.specs.Order.{disordered}
 use Rattle.trace.proofs.Laws.{well-formed-records, ordered-iff}
-use Rattle.monitor.specs.Checkpoint.{need}
-use Rattle.monitor.specs.Refusal.{open-refusal, log-refusal, resume-refusal}
+use Rattle.checkpoint.specs.Checkpoint.{need}
+use Rattle.checkpoint.specs.Refusal.{open-refusal, log-refusal, resume-refusal}
 use Rattle.monitor.specs.Verdicts.{formulas-of, verdicts, first-records, all-verdicts}
 use Rattle.monitor.specs.Stands.{Stands}
 use Rattle.monitor.specs.Open.{Opens, opened-number}

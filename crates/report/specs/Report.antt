@@ -10,7 +10,7 @@ use lib.ListN.{length, getD, take, drop}
 use lib.Dec.{ltb, eqb}
 use Rattle.rule.specs.Refusal.{before, refusal}
 use Rattle.trace.specs.Format.{record-count, records-of}
-use Rattle.monitor.specs.Refusal.{log-refusal}
+use Rattle.checkpoint.specs.Refusal.{log-refusal}
 use Rattle.monitor.specs.Verdicts.{all-verdicts}
 
 -- the bytes of a text; every character here is ASCII, one byte

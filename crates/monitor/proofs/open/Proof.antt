@@ -8,9 +8,9 @@ use borrow.Author.Needs.{needs}
 use Rattle.rule.specs.Refusal.{refusal}
 use Rattle.rule.proofs.Acceptance.{accepted}
 use Rattle.rule.proofs.Headers.{Decoded, few-to-decode, measured-once}
-use Rattle.monitor.specs.Code.{sized-of, sized-number}
+use Rattle.checkpoint.specs.Code.{sized-of, sized-number}
+use Rattle.checkpoint.proofs.Sizes.{enough, stops, sized-refusal, sized-is, is-decoded}
 use Rattle.monitor.proofs.Starts.{opens-done}
-use Rattle.monitor.proofs.Sizes.{enough, stops, sized-refusal, sized-is, is-decoded}
 use Rattle.monitor.proofs.open.Statement.{statement}
 use Rattle.monitor.proofs.open.Tie as tie
 

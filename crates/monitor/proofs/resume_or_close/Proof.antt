@@ -6,13 +6,14 @@ use native.Mathlib.Omega.{arith}
 use lib.ListN.{length}
 use lib.Seq.{length-take-le, getD-take}
 use Rattle.rule.specs.Entries.{count, decoded}
-use Rattle.monitor.specs.Refusal.{point-refusal}
+use Rattle.checkpoint.specs.Refusal.{point-refusal}
 use Rattle.rule.specs.Refusal.{refusal}
 use Rattle.rule.proofs.Headers.{Decoded, few-to-decode, measured-once}
-use Rattle.monitor.specs.Code.{sized-of, checked-by}
-use Rattle.monitor.specs.declared.check.Sized.the-variants.{Words}
-use Rattle.monitor.proofs.Sizes.{Enough, enough, sized-is, is-decoded, fits-in}
-use Rattle.monitor.proofs.Resuming.{stopped, failed, resume-refused, resume-given, passed, passes, ready-of}
+use Rattle.checkpoint.specs.Code.{sized-of, checked-by}
+use Rattle.checkpoint.specs.declared.check.Sized.the-variants.{Words}
+use Rattle.checkpoint.proofs.Sizes.{Enough, enough, sized-is, is-decoded, fits-in}
+use Rattle.checkpoint.proofs.Checks.{stopped, failed, passed, passes}
+use Rattle.monitor.proofs.Resuming.{resume-refused, resume-given, ready-of}
 use Rattle.monitor.proofs.resume_or_close.Statement.{statement}
 use Rattle.monitor.proofs.resume_or_close.Tie as tie
 

@@ -5,12 +5,13 @@ use mathlib.Core.Path.{_≡_, sym, _∙_}
 use native.Mathlib.Omega.{arith}
 use lib.ListN.{length}
 use Rattle.rule.proofs.Headers.{few-to-decode}
-use Rattle.monitor.specs.Checkpoint.{need}
-use Rattle.monitor.specs.Code.{checked-by}
-use Rattle.monitor.specs.Refusal.{summary-refusal}
-use Rattle.monitor.proofs.Sizes.{is-decoded}
-use Rattle.monitor.proofs.Resuming.{fails-with, passed}
-use Rattle.monitor.proofs.Summarizing.{covers, own-is, is-accepted, has-room, status-refused, status-told}
+use Rattle.checkpoint.specs.Checkpoint.{need}
+use Rattle.checkpoint.specs.Code.{checked-by}
+use Rattle.checkpoint.specs.Refusal.{summary-refusal}
+use Rattle.checkpoint.proofs.Sizes.{is-decoded}
+use Rattle.checkpoint.proofs.Checks.{fails-with, passed}
+use Rattle.checkpoint.proofs.Checks.{covers, own-is, is-accepted, has-room}
+use Rattle.monitor.proofs.Summarizing.{status-refused, status-told}
 use Rattle.monitor.proofs.status.Statement.{statement}
 use Rattle.monitor.proofs.status.Tie as tie
 

@@ -5,11 +5,12 @@ use mathlib.Core.Path.{_≡_, sym, _∙_}
 use native.Mathlib.Omega.{arith}
 use lib.ListN.{length}
 use Rattle.rule.proofs.Headers.{few-to-decode}
-use Rattle.monitor.specs.Checkpoint.{need}
-use Rattle.monitor.specs.Code.{checked-by}
-use Rattle.monitor.specs.Refusal.{summary-refusal}
-use Rattle.monitor.proofs.Resuming.{fails-with, passed}
-use Rattle.monitor.proofs.Summarizing.{covers, own-is, has-room, summary-refused, summary-told}
+use Rattle.checkpoint.specs.Checkpoint.{need}
+use Rattle.checkpoint.specs.Code.{checked-by}
+use Rattle.checkpoint.specs.Refusal.{summary-refusal}
+use Rattle.checkpoint.proofs.Checks.{fails-with, passed}
+use Rattle.checkpoint.proofs.Checks.{covers, own-is, has-room}
+use Rattle.monitor.proofs.Summarizing.{summary-refused, summary-told}
 use Rattle.monitor.proofs.summary.Statement.{statement}
 use Rattle.monitor.proofs.summary.Tie as tie
 

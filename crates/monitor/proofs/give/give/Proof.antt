@@ -6,7 +6,7 @@ use mathlib.Core.Path.{refl}
 use native.Mathlib.Omega.{arith}
 use lib.ListN.{length}
 use borrow.Author.Tests.{not-true, not-false}
-use Rattle.monitor.specs.Checkpoint.{held-count}
+use Rattle.checkpoint.specs.Checkpoint.{held-count}
 use Rattle.monitor.specs.Code.{Holds}
 use Rattle.monitor.proofs.Giving.{Going, going-none, counted-so-far, portion-more, gave-open, gave-full}
 use Rattle.monitor.proofs.give.give.Statement.{statement}

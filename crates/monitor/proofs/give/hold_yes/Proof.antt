@@ -3,7 +3,7 @@ use borrow.Author.Needs.{needs}
 use native.Mathlib.Omega.{arith}
 use lib.ListN.{length-set}
 use Rattle.trace.specs.Format.{record-count}
-use Rattle.monitor.specs.Checkpoint.{given}
+use Rattle.checkpoint.specs.Checkpoint.{given}
 use Rattle.monitor.proofs.Holding.{some-left}
 use Rattle.monitor.proofs.give.hold_yes.Statement.{statement}
 use Rattle.monitor.proofs.give.hold_yes.Tie as tie

@@ -1,0 +1,511 @@
+-- The theorem of demand 3, stated in specs/Calls.antt, by induction on the list of calls. Assumes nothing.
+use Prim.Native.Nat.{ℕ, suc, _+_, _*_, _-_, _≤_, _<_}
+use mathlib.Core.Bool.{Bool, true, false, cond, false≢true}
+use mathlib.Core.Logic.{⊎-elim}
+use mathlib.Core.Path.{_≡_, refl, sym, _∙_, ap, subst}
+use mathlib.Core.List.{List, [], _∷_, _++_}
+use native.Mathlib.Nat.{le-of-eq}
+use native.Mathlib.Omega.{arith}
+use lib.ListN.{length, getD, take, drop, length-drop, take-append-drop}
+use lib.Seq.{getD-take, getD-drop, length-take-le, take-take, take-all}
+use lib.Dec.{leb, ltb}
+use borrow.Author.Tests.{le-leb, leb-true, le-ltb, lt-ltb, ltb-true, ltb-false, eq-eqb, ne-eqb}
+use Rattle.mtl.specs.Log.{Log, closing, NeverFalls, Agree, Continues}
+use Rattle.mtl.specs.Wanted.{wanted}
+use Rattle.mtl.proofs.Bounded.{same-test, le-or-lt}
+use Rattle.rule.specs.Entries.{count, decoded}
+use Rattle.rule.specs.Refusal.{first, refusal}
+use Rattle.rule.specs.Measure.{measured}
+use Rattle.rule.proofs.Headers.{before-none}
+use Rattle.trace.specs.Format.{record-count, time-at, records-of, malformed}
+use Rattle.trace.specs.Log.{log-of}
+use Rattle.trace.specs.Order.{disordered}
+use Rattle.trace.proofs.Laws.{well-formed-iff, well-formed-records, ordered-iff, agree, keeps-agreed, prefix-continues, count-prefix}
+use Rattle.blocks.specs.Step.{Agrees}
+use Rattle.checkpoint.specs.Checkpoint.{given, seen, last, closed-with, need, foreign, outside}
+use Rattle.checkpoint.specs.Refusal.{open-refusal, resumes-closed, closes-more, resume-refusal, summary-refusal}
+use Rattle.checkpoint.proofs.Sizes.{enough-words}
+use Rattle.monitor.specs.Verdicts.{formulas-of, verdicts, first-records, answered, all-verdicts}
+use Rattle.monitor.specs.Stands.{Stands}
+use Rattle.monitor.specs.Open.{Opens}
+use Rattle.monitor.specs.Resume.{resumed-number, Gives, Resumes}
+use Rattle.monitor.specs.Summary.{noes-in, told, summarized}
+use Rattle.monitor.specs.Status.{facts, known}
+use Rattle.monitor.specs.Status.{told as known-told}
+use Rattle.monitor.specs.declared.Opened.{Opened}
+use Rattle.monitor.specs.declared.Opened.the-variants.{Done}
+use Rattle.monitor.specs.declared.Opened.the-variants.{Refused as OpenRefused}
+use Rattle.monitor.specs.declared.Resumed.{Resumed}
+use Rattle.monitor.specs.declared.Resumed.the-variants.{Given, Refused}
+use Rattle.monitor.proofs.OwnCheckpoint.{own-given, own-within, not-outside}
+use Rattle.monitor.proofs.VerdictBytes.{length-verdicts, verdicts-more, take-verdicts, verdicts-stay}
+use Rattle.calls.specs.Calls.{Untouched, Call, given-by, brought-by, closed-by, closed-at, laid, the-call, Brings, BringsAfter, Lends, point-after, OneCall, Calls, Each, AllWhenCaughtUp, OneRun, Keeps, expected-refusal, Demand3}
+use Rattle.calls.specs.Calls.OneCall.{refused, accepted}
+use Rattle.calls.specs.Calls.Calls.{opened, and-then}
+use Rattle.calls.proofs.Lending.{after-unchanged, after-whole, stands-alone, stands-lent}
+
+-- REFUSALS
+
+-- open accepts an accepted rule on enough words
+open-enough : (rule : List ℕ) (lent : ℕ) → refusal rule ≡ 0 → need rule ≤ lent → open-refusal rule lent ≡ 0
+open-enough rule lent fine enough = rw (eq-eqb (refusal rule) 0 fine, le-ltb lent (need rule) enough)
+
+-- "A point of exactly the words that weigh gave is enough"
+pub exactly-enough : (rule : List ℕ) → refusal rule ≡ 0 → (open-refusal rule (need rule) ≡ 0) × (measured rule .words ≡ need rule)
+exactly-enough rule fine = (open-enough rule (need rule) fine (omega arith), rw (eq-eqb (refusal rule) 0 fine))
+
+open-accepts : (rule lent : List ℕ) (r : Opened) (p : List ℕ) → refusal rule ≡ 0 → need rule ≤ length lent → Opens rule lent r p → r ≡ Done
+open-accepts rule lent Done p fine enough opens = refl
+open-accepts rule lent (OpenRefused n) p fine enough opens =
+    let none = open-enough rule (length lent) fine enough in
+    let number = opens .number in
+    let some = opens .words .0 in
+    absurd (omega arith)
+
+-- refusal 9 is met before what the words, the log and the sheet hold is looked at
+nine : (closing : Bool) (rule log p sheet : List ℕ) (r : Resumed) (p′ sheet′ : List ℕ) → refusal rule ≡ 0 → length p < need rule →
+    Resumes closing rule log p sheet r p′ sheet′ → r ≡ Refused 9
+nine closing rule log p sheet r p′ sheet′ fine short resumes = go r (resumes .number ∙ is-nine)
+  where
+    is-nine : resume-refusal closing rule log p ≡ 9
+    is-nine = rw (eq-eqb (refusal rule) 0 fine, lt-ltb (length p) (need rule) short)
+
+    go : (r : Resumed) → resumed-number r ≡ 9 → r ≡ Refused 9
+    go (Given c more) e = absurd (omega arith)
+    go (Refused n) e = ap Refused e
+
+-- 20 and 21 of a point that stands for m records, closed or open, where n records are brought and no other refusal applies
+number-by : (closing was : Bool) (m n w records : ℕ) → w ≡ cond was (suc m) 0 → records ≡ n →
+    first 20 (resumes-closed closing w) (first 21 (closes-more closing w records) 0) ≡ expected-refusal closing was m n
+number-by false false m n w records e f = rw e
+number-by false true m n w records e f = rw (e, lt-ltb 0 (suc m) (omega arith))
+number-by true false m n w records e f = rw e
+number-by true true m n w records e f = rw (e, f, lt-ltb 0 (suc m) (omega arith), same-test (leb (suc m) n) (ltb m n) (λ h. lt-ltb m n (leb-true (suc m) n h), λ h. le-leb (suc m) n (ltb-true m n h)))
+
+-- what is not refused brings as many records to a closed point, and closes
+allowed-by : (closing was : Bool) (m n : ℕ) → m ≤ n → expected-refusal closing was m n ≡ 0 → was ≡ true → (closing ≡ true) × (m ≡ n)
+allowed-by closing false m n le e c = absurd (false≢true c)
+allowed-by false true m n le e c = absurd (omega arith)
+allowed-by true true m n le e c =
+    ⊎-elim
+    (λ (some : n ≤ m). (refl, omega arith))
+    (λ (more : m < n). let met : _≡_ {A = ℕ} 21 0 = rw (lt-ltb m n more) at e in absurd (omega arith))
+    (le-or-lt n m)
+
+-- an open point
+fresh-allowed : (closing : Bool) (m n : ℕ) → expected-refusal closing false m n ≡ 0
+fresh-allowed false m n = refl
+fresh-allowed true m n = refl
+
+expected-at : (closing was : Bool) (a m n : ℕ) → (was ≡ true → a ≡ m) → expected-refusal closing was m n ≡ expected-refusal closing was a n
+expected-at closing true a m n same = rw (same refl)
+expected-at false false a m n same = refl
+expected-at true false a m n same = refl
+
+-- logs of the same records, closed or open
+closings-agree : {K L : Log} {a b : ℕ} (was closed : Bool) → Agree K L a b → Agree (closing was K) (closing closed L) a b
+closings-agree was closed same i lo hi = let at = same i lo hi in record { time = at .time; letters = at .letters }
+
+-- THE UNTOUCHED LOG
+
+module _ (rule log : List ℕ) (untouched : Untouched log) where
+  abbrev records : List ℕ
+  records = records-of log
+
+  -- the number of bytes as the laws of trace have it
+  eight : (n : ℕ) → 8 * n ≡ n * 8
+  eight n = omega arith
+
+  first-size : (n : ℕ) → n ≤ record-count records → first-records false log n .size ≡ n
+  first-size n h = ap (λ k. record-count (take k records)) (eight n) ∙ count-prefix records n h
+
+  first-longer : (was closed : Bool) (m n : ℕ) → m ≤ n → (was ≡ true → (closed ≡ true) × (m ≡ n)) →
+      Continues (first-records was log m) (first-records closed log n)
+  first-longer was closed m n h allowed =
+      let grown =
+      subst (λ s. Continues (log-of s) (first-records false log n)) (take-take (8 * m) (8 * n) records (omega arith))
+      (prefix-continues (take (8 * n) records) (8 * m)) in
+      record {
+        longer = grown .longer;
+        same = closings-agree was closed (grown .same);
+        ended = λ e. let only = allowed e in (only .0, ap (λ k. first-records false log k .size) (sym (only .1)));
+      }
+
+  first-falls : (closed : Bool) (n : ℕ) → NeverFalls (first-records closed log n)
+  first-falls closed n i j le h =
+      let c = prefix-continues records (8 * n) in
+      let l = c .longer in
+      let kept = untouched .never-falls i j le (omega arith) in
+      let first = c .same i (omega arith) (omega arith) .time in
+      let second = c .same j (omega arith) h .time in
+      omega arith
+
+  -- a call's log, where d verdicts were given
+  module _ (closed : Bool) (d n : ℕ) (log′ : List ℕ) (brings : Brings log (wanted (formulas-of rule) d) n log′) where
+    -- the first record still wanted
+    abbrev from : ℕ
+    from = wanted (formulas-of rule) d
+
+    brought-size : length (records-of log′) ≡ 8 * n
+    brought-size = let size = brings .size in length-drop 8 log′ ∙ omega arith
+
+    same-byte : (k : ℕ) → from * 8 ≤ k → k < n * 8 → getD (records-of log′) k 0 ≡ getD (take (8 * n) records) k 0
+    same-byte k lo hi =
+        getD-drop 8 log′ k 0 ∙ brings .same (8 + k) (omega arith) (omega arith) ∙ sym (getD-drop 8 log k 0) ∙
+        sym (getD-take (8 * n) records k 0 (omega arith))
+
+    brought-agrees : Agrees closed (records-of log′) (first-records closed log n) from
+    brought-agrees =
+        let size = brought-size in
+        let first = first-size n (brings .within) in
+        record {
+          ends = refl;
+          size = omega arith;
+          same =
+              closings-agree false closed
+              (agree (records-of log′) (take (8 * n) records) from (first-records closed log n .size) (λ k lo hi. same-byte k lo (omega arith)));
+        }
+
+    -- refusal 12 is not met
+    brought-well-formed : malformed log′ ≡ false
+    brought-well-formed =
+        let long = well-formed-records log (untouched .well-formed) in
+        let few = long .1 .few in
+        let within = brings .within in
+        let size = brings .size in
+        let size′ = brought-size in
+        let header = well-formed-iff (take 8 log) records (length-take-le 8 log (long .0)) .0 (rw (take-append-drop 8 log) (untouched .well-formed)) .0 in
+        rw (take-append-drop 8 log′) at
+        (well-formed-iff (take 8 log′) (records-of log′) (length-take-le 8 log′ (omega arith)) .1 (
+          rw (brings .header) header,
+          record { whole = omega arith; few = omega arith },
+        ))
+
+    -- a checkpoint that stands for fewer records, or as many
+    module _ (was : Bool) (m : ℕ) (p : List ℕ) (more : m ≤ n) (fine : refusal rule ≡ 0) (stands : Stands rule (first-records was log m) d p) where
+      abbrev old : Log
+      old = first-records was log m
+
+      abbrev new : Log
+      new = first-records closed log n
+
+      -- the records alone
+      grown : Continues (first-records false log m) (first-records false log n)
+      grown = first-longer false false m n more (λ e. absurd (false≢true e))
+
+      -- "the first new record's time" is not below "the last time seen"
+      last-not-above : seen p < record-count (records-of log′) → last p ≤ time-at (records-of log′) (seen p)
+      last-not-above h =
+          let agrees = brought-agrees in
+          let counts = agrees .size in
+          let size = stands .size in
+          let time = stands .time in
+          let d-within = own-within rule old d p fine stands in
+          ⊎-elim
+          (λ (some : 1 ≤ old .size).
+          let last-is : last p ≡ old .time (old .size - 1) = rw (ne-eqb (old .size) 0 (λ e. omega arith)) at time in
+          let kept = grown .same (old .size - 1) (omega arith) (omega arith) .time in
+          let grows = first-falls closed n (old .size - 1) (seen p) (omega arith) (omega arith) in
+          let lent = agrees .same (seen p) (omega arith) (omega arith) .time in
+          omega arith)
+          (λ (none : old .size < 1).
+          let last-is : last p ≡ 0 = rw (eq-eqb (old .size) 0 (omega arith)) at time in
+          omega arith)
+          (le-or-lt 1 (old .size))
+
+      -- refusal 14 is not met
+      brought-ordered : disordered (records-of log′) (wanted (formulas-of rule) (given p)) (seen p) (last p) ≡ false
+      brought-ordered =
+          let agrees = brought-agrees in
+          let counts = agrees .size in
+          let same = own-given rule old d p fine stands in
+          let start = wanted (formulas-of rule) (given p) in
+          ordered-iff (records-of log′) start (seen p) (last p) .1 (
+            keeps-agreed (records-of log′) (take (8 * n) records) start (first-falls false n) (le-of-eq counts)
+                (λ i lo hi. let at = agrees .same i (omega arith) (omega arith) in record { time = at .time; letters = at .letters }),
+            last-not-above,
+          )
+
+      -- no refusal is met but 20 and 21
+      number-met : resume-refusal closed rule log′ p ≡ expected-refusal closed was m n
+      number-met =
+          let counts = brought-agrees .size in
+          let size = stands .size in
+          let longer = grown .longer in
+          let few = brings .within in
+          let first = first-size m (omega arith) in
+          rw (
+            open-enough rule (length p) fine (stands .enough),
+            stands .own,
+            not-outside rule old d p fine stands,
+            brought-well-formed,
+            le-ltb (record-count (records-of log′)) (seen p) (omega arith),
+            brought-ordered,
+          )
+          (number-by closed was m n (closed-with p) (record-count (records-of log′))
+          (stands .closed ∙ ap (λ k. cond was (suc k) 0) first)
+          (counts ∙ first-size n few))
+
+      allowed : resume-refusal closed rule log′ p ≡ 0 → was ≡ true → (closed ≡ true) × (m ≡ n)
+      allowed none = allowed-by closed was m n more (sym number-met ∙ none)
+
+      gives : (sheet : List ℕ) (c : ℕ) (b : Bool) (p′ sheet′ : List ℕ) → Resumes closed rule log′ p sheet (Given c b) p′ sheet′ →
+          Gives rule new d sheet c b p′ sheet′
+      gives sheet c b p′ sheet′ resumes =
+          resumes .words .meaning old new d stands (first-longer was closed m n more (allowed (sym (resumes .number)))) (first-falls closed n) brought-agrees
+
+      -- the bytes of an accepted call, behind those of the verdicts before it
+      gives-bytes : (sheet : List ℕ) (c : ℕ) (b : Bool) (p′ sheet′ : List ℕ) → Resumes closed rule log′ p sheet (Given c b) p′ sheet′ →
+          verdicts (formulas-of rule) old d ++ take c sheet′ ≡ verdicts (formulas-of rule) new (d + c)
+      gives-bytes sheet c b p′ sheet′ resumes =
+          let within = stands .top .held .within in
+          let room = resumes .words .room in
+          let kept = resumes .sheet-length in
+          let bytes = gives sheet c b p′ sheet′ resumes .bytes in
+          ap (λ vs. vs ++ take c sheet′) (verdicts-stay (formulas-of rule) old new (first-longer was closed m n more (allowed (sym (resumes .number)))) (first-falls closed n) d (omega arith)) ∙
+          verdicts-more (formulas-of rule) new d c sheet′ (omega arith) bytes
+
+  -- what holds after every list of calls
+  pub record Invariant (h : List Call) (point : List ℕ) : Type 0 where
+    pub fine : refusal rule ≡ 0
+    pub size : length point ≡ need rule
+    pub within : brought-by h ≤ record-count (records-of log)
+    pub stands : Stands rule (first-records (closed-by h) log (brought-by h)) (given-by h) point
+    pub bytes : laid h ≡ verdicts (formulas-of rule) (first-records (closed-by h) log (brought-by h)) (given-by h)
+    pub at-first : closed-by h ≡ true → closed-at h ≡ brought-by h
+    pub all : AllWhenCaughtUp rule log h
+    pub each : Each rule log h
+
+  -- on an opened checkpoint
+  module _ (lent p : List ℕ) (opens : Opens rule lent Done p) where
+    opened-fine : refusal rule ≡ 0
+    opened-fine = before-none (refusal rule) _ (sym (opens .number)) .0
+
+    opened-stands : Stands rule (first-records false log 0) 0 p
+    opened-stands = opens .words .1 (first-records false log 0) (first-size 0 (omega arith)) refl
+
+    after-open : Invariant [] (take (measured rule .words) p)
+    unfolding given-by brought-by closed-by closed-at laid Each AllWhenCaughtUp verdicts
+    after-open =
+        rw (exactly-enough rule opened-fine .1)
+        (record {
+          fine = opened-fine;
+          size = length-take-le (need rule) p (opened-stands .enough);
+          within = omega arith;
+          stands = stands-alone rule (first-records false log 0) 0 p opened-stands;
+          bytes = refl;
+          at-first = λ e. absurd (false≢true e);
+          all = refl;
+          each = tt;
+        })
+
+  -- after an accepted call on the words p
+  module _ (h : List Call) (point p : List ℕ) (before : Invariant h point) (lends : Lends point p)
+      (closed : Bool) (n : ℕ) (log′ sheet : List ℕ) (c : ℕ) (more : Bool) (p′ sheet′ : List ℕ)
+      (brought : BringsAfter rule log h n log′) (resumes : Resumes closed rule log′ p sheet (Given c more) p′ sheet′) where
+    accepted-whole : length point ≤ length p
+    accepted-whole =
+        let size = before .size in
+        let enough = enough-words rule (length p) (before-none (open-refusal rule (length p)) _ (sym (resumes .number)) .0) in
+        omega arith
+
+    accepted-stands : Stands rule (first-records (closed-by h) log (brought-by h)) (given-by h) p
+    accepted-stands =
+        stands-lent rule (first-records (closed-by h) log (brought-by h)) (given-by h) point p (before .size) lends accepted-whole (before .stands)
+
+    -- the first closing brought as many records
+    accepted-at : cond (closed-by h) (closed-at h) n ≡ n
+    accepted-at =
+        by (closed-by h) refl
+      where
+        by : (was : Bool) → closed-by h ≡ was → cond was (closed-at h) n ≡ n
+        by false e = refl
+        by true e =
+            before .at-first e ∙
+            allowed closed (given-by h) n log′ (brought .brings) (closed-by h) (brought-by h) p (brought .no-fewer) (before .fine) accepted-stands
+            (sym (resumes .number)) e .1
+
+    after-accepted : Invariant (the-call closed n sheet c more sheet′ ∷ h) (point-after point p′)
+    unfolding given-by brought-by closed-by closed-at laid Each AllWhenCaughtUp
+    after-accepted =
+        let old = brought-by h in
+        let d = given-by h in
+        let fs = formulas-of rule in
+        let all = answered closed rule log n in
+        let new = first-records closed log n in
+        let step = gives closed d n log′ (brought .brings) (closed-by h) old p (brought .no-fewer) (before .fine) accepted-stands sheet c more p′ sheet′ resumes in
+        let bytes : laid h ++ take c sheet′ ≡ verdicts fs new (d + c) =
+        ap (λ vs. vs ++ take c sheet′) (before .bytes) ∙
+        gives-bytes closed d n log′ (brought .brings) (closed-by h) old p (brought .no-fewer) (before .fine) accepted-stands sheet c more p′ sheet′ resumes in
+        let within = step .stands .top .held .within in
+        let same-length = resumes .sheet-length in
+        let whole = accepted-whole in
+        let kept = resumes .point-length in
+        let point-is : point-after point p′ ≡ take (need rule) p′ =
+        after-whole point p′ (omega arith) ∙ ap (λ k. take k p′) (before .size) in
+        rw point-is
+        (record {
+          fine = before .fine;
+          size = length-take-le (need rule) p′ (step .stands .enough);
+          within = brought .brings .within;
+          stands = stands-alone rule new (d + c) p′ (step .stands);
+          bytes = bytes;
+          at-first = λ e. accepted-at;
+          all = (
+            λ e.
+                let lengths = ap length (sym bytes ∙ e) in
+                let given = length-verdicts fs new (d + c) in
+                let whole = length-verdicts fs new all in
+                step .more ∙ le-ltb (d + c) all (omega arith),
+            λ caught-up.
+                let none = ltb-false (d + c) all (sym (step .more) ∙ caught-up) in
+                let sum : d + c ≡ all = omega arith in
+                bytes ∙ ap (verdicts fs new) sum,
+          );
+          each = (
+            record { count = step .count; more = step .more; bytes = length-take-le c sheet′ (omega (arith, resumes .words .room)) },
+            before .each,
+          );
+        })
+
+  after-call : {h h′ : List Call} {p′ : List ℕ} (point p : List ℕ) → Invariant h point → Lends point p → OneCall rule log h p h′ p′ →
+      Invariant h′ (point-after point p′)
+  after-call point p before lends (refused closed rule′ log′ sheet number p′ sheet′ resumes) =
+      rw (resumes .words .1, after-unchanged point p lends) before
+  after-call {h} point p before lends (accepted closed n log′ sheet c more p′ sheet′ brought resumes) =
+      after-accepted h point p before lends closed n log′ sheet c more p′ sheet′ brought resumes
+
+  pub invariant : {h : List Call} {point : List ℕ} → Calls rule log h point → Invariant h point
+  invariant (opened lent p opens) = after-open lent p opens
+  invariant (and-then {point = point} calls p p′ lends call) = after-call point p (invariant calls) lends call
+
+  -- a log of which no record is overwritten
+  brings-whole : (d n : ℕ) (log′ : List ℕ) → Brings log 0 n log′ → Brings log (wanted (formulas-of rule) d) n log′
+  brings-whole d n log′ brings =
+      record { size = brings .size; within = brings .within; header = brings .header; same = λ i lo hi. brings .same i (omega arith) hi }
+
+  -- "One run is a carry on from a fresh point with a sheet of A bytes, and it writes just these."
+  one-run-writes : (closed : Bool) (n : ℕ) (r : Resumed) (sheet′ : List ℕ) → OneRun closed rule log n r sheet′ →
+      (r ≡ Given (answered closed rule log n) false) × (sheet′ ≡ all-verdicts closed rule log n)
+  unfolding verdicts
+  one-run-writes closed n (Refused number) sheet′ run =
+      let fine = opened-fine (run .lent) (run .fresh) (run .opens) in
+      let stands = opened-stands (run .lent) (run .fresh) (run .opens) in
+      let whole = brings-whole 0 n (run .brought) (run .brings) in
+      let number-is = number-met closed 0 n (run .brought) whole false 0 (run .fresh) (omega arith) fine stands in
+      let none = fresh-allowed closed 0 n in
+      let is = run .resumes .number in
+      let some = run .resumes .words .0 in
+      absurd (omega arith)
+  one-run-writes closed n (Given c more) sheet′ run =
+      let fine = opened-fine (run .lent) (run .fresh) (run .opens) in
+      let stands = opened-stands (run .lent) (run .fresh) (run .opens) in
+      let fs = formulas-of rule in
+      let all = answered closed rule log n in
+      let brings = brings-whole 0 n (run .brought) (run .brings) in
+      let step = gives closed 0 n (run .brought) brings false 0 (run .fresh) (omega arith) fine stands (run .sheet) c more (run .left) sheet′ (run .resumes) in
+      let bytes =
+      gives-bytes closed 0 n (run .brought) brings false 0 (run .fresh) (omega arith) fine stands (run .sheet) c more (run .left) sheet′ (run .resumes) in
+      let count = step .count in
+      let room = run .room in
+      let kept = run .resumes .sheet-length in
+      let whole : c ≡ all = omega arith in
+      let sum : 0 + c ≡ all = omega arith in
+      let caught-up : more ≡ false = step .more ∙ le-ltb (0 + c) all (omega arith) in (
+        rw (whole, caught-up),
+        sym (take-all c sheet′ (omega arith)) ∙ bytes ∙ ap (verdicts fs (first-records closed log n)) sum,
+      )
+
+-- a checkpoint that stands for its rule meets none of refusals 1 to 11
+none-met : (rule : List ℕ) (K : Log) (d : ℕ) (p : List ℕ) → refusal rule ≡ 0 → Stands rule K d p → summary-refusal rule p ≡ 0
+none-met rule K d p fine stands =
+    rw (
+      open-enough rule (length p) fine (stands .enough),
+      stands .own,
+      not-outside rule K d p fine stands,
+    )
+
+-- the count of no and the latest of them, as a checkpoint has them
+own-summary : (rule : List ℕ) (K : Log) (d : ℕ) (p : List ℕ) → refusal rule ≡ 0 → Stands rule K d p →
+    summarized rule p ≡ told (noes-in (verdicts (formulas-of rule) K d) d)
+own-summary rule K d p fine stands = rw (eq-eqb (summary-refusal rule p) 0 (none-met rule K d p fine stands)) (ap told (stands .noes))
+
+-- a closing was accepted exactly where its records were noted
+closed-told : (b : Bool) (n w : ℕ) → w ≡ cond b (suc n) 0 → ltb 0 w ≡ b
+closed-told true n w e = lt-ltb 0 w (omega arith)
+closed-told false n w e = le-ltb 0 w (omega arith)
+
+-- what it tells of the log that it stands for
+own-status : (rule : List ℕ) (K : Log) (d : ℕ) (p : List ℕ) → refusal rule ≡ 0 → Stands rule K d p →
+    known rule p ≡ known-told (facts rule d (K .size) (K .closed))
+own-status rule K d p fine stands =
+    rw (
+      eq-eqb (summary-refusal rule p) 0 (none-met rule K d p fine stands),
+      own-given rule K d p fine stands,
+      stands .size,
+      closed-told (K .closed) (K .size) (closed-with p) (stands .closed),
+    )
+
+-- WORDS BEHIND THE POINT
+
+open-keeps : (rule words : List ℕ) (r : Opened) (fresh : List ℕ) → refusal rule ≡ 0 → Opens rule words r fresh → Keeps rule words fresh
+open-keeps rule words Done fresh fine opens = record { behind = rw (exactly-enough rule fine .1) (opens .words .0); number = opens .length }
+open-keeps rule words (OpenRefused n) fresh fine opens = record { behind = ap (drop (measured rule .words)) (opens .words .1); number = opens .length }
+
+call-keeps : (rule log : List ℕ) {h h′ : List Call} (p : List ℕ) {p′ : List ℕ} → refusal rule ≡ 0 → OneCall rule log h p h′ p′ → Keeps rule p p′
+call-keeps rule log p fine (refused closed rule′ log′ sheet number p′ sheet′ resumes) =
+    record { behind = ap (drop (measured rule .words)) (resumes .words .1); number = resumes .point-length }
+call-keeps rule log p fine (accepted closed n log′ sheet c more p′ sheet′ brought resumes) =
+    record { behind = rw (exactly-enough rule fine .1) (resumes .words .beyond); number = resumes .point-length }
+
+-- THE THEOREM
+pub demand-3 : (rule log : List ℕ) → Untouched log → (h : List Call) (point : List ℕ) → Calls rule log h point → Demand3 rule log h point
+demand-3 rule log untouched h point calls =
+    let i = invariant rule log untouched calls in
+    let fs = formulas-of rule in
+    let L = first-records (closed-by h) log (brought-by h) in
+    let within = i .stands .top .held .within in
+    let size = i .size in
+    record {
+      first = rw (i .bytes, length-verdicts fs L (given-by h)) (sym (take-verdicts fs L (given-by h) (answered (closed-by h) rule log (brought-by h)) (omega arith)));
+      all = i .all;
+      each = i .each;
+      not-refused = λ p lends whole closed n log′ sheet brought r p′ sheet′ resumes.
+          resumes .number ∙
+          number-met rule log untouched closed (given-by h) n log′ (brought .brings) (closed-by h) (brought-by h) p (brought .no-fewer) (i .fine)
+          (stands-lent rule L (given-by h) point p size lends whole (i .stands)) ∙
+          expected-at closed (closed-by h) (closed-at h) (brought-by h) n (i .at-first);
+      too-few = λ p short closed log′ sheet r p′ sheet′. nine closed rule log′ p sheet r p′ sheet′ (i .fine) (omega arith);
+      size = size ∙ sym (exactly-enough rule (i .fine) .1);
+      enough = λ words r fresh size opens.
+          open-accepts rule words r fresh (i .fine) (le-of-eq (sym (size ∙ exactly-enough rule (i .fine) .1))) opens;
+      open-keeps = λ words r fresh. open-keeps rule words r fresh (i .fine);
+      call-keeps = λ p p′ h′. call-keeps rule log p (i .fine);
+      one-run = one-run-writes rule log untouched;
+      summary = λ p lends whole r is.
+          let d = given-by h in
+          let laid-length : length (laid h) ≡ d = ap length (i .bytes) ∙ length-verdicts fs L d in
+          is ∙ own-summary rule L d p (i .fine) (stands-lent rule L d point p size lends whole (i .stands)) ∙
+          ap told (rw (laid-length, i .bytes));
+      status = λ p lends whole r is.
+          let d = given-by h in
+          is ∙ own-status rule L d p (i .fine) (stands-lent rule L d point p size lends whole (i .stands)) ∙
+          ap (λ n. known-told (facts rule d n (closed-by h))) (first-size rule log untouched (brought-by h) (i .within));
+    }
+
+-- the bytes of every list are the first bytes of one run
+pub bytes-of-one-run : (rule log : List ℕ) → Untouched log → (h : List Call) (point : List ℕ) → Calls rule log h point →
+    (r : Resumed) (sheet′ : List ℕ) → OneRun (closed-by h) rule log (brought-by h) r sheet′ → laid h ≡ take (length (laid h)) sheet′
+bytes-of-one-run rule log untouched h point calls r sheet′ run =
+    let claim = demand-3 rule log untouched h point calls in
+    rw (claim .one-run (closed-by h) (brought-by h) r sheet′ run .1) (claim .first)
+
+-- "a point that this library left never meets" refusal 11, nor 10 with its rule: in no words that hold it whole
+pub own-checkpoint : (rule log : List ℕ) → Untouched log → (h : List Call) (point : List ℕ) → Calls rule log h point →
+    (p : List ℕ) → Lends point p → length point ≤ length p →
+    (foreign (decoded rule) (count rule) p ≡ false) × (outside (decoded rule) (count rule) p ≡ false)
+own-checkpoint rule log untouched h point calls p lends whole =
+    let i = invariant rule log untouched calls in
+    let L = first-records (closed-by h) log (brought-by h) in
+    let stands = stands-lent rule L (given-by h) point p (i .size) lends whole (i .stands) in
+    (stands .own, not-outside rule L (given-by h) p (i .fine) stands)

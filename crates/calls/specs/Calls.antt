@@ -1,0 +1,222 @@
+-- Demands 2 and 3 as claims about a whole list of calls. Its steps are the records that the calls' `ensures` name, and nothing
+-- here names the inside of a checkpoint. proofs/Truth.antt proves demand 2's claim, proofs/Demand3.antt demand 3's.
+use Prim.Native.Nat.{ℕ, _+_, _*_, _-_, _/_, _%_, _≤_, _<_, min}
+use mathlib.Core.Bool.{Bool, true, false, cond, _&&_}
+use mathlib.Core.Path.{_≡_}
+use mathlib.Core.Logic.{_↔_}
+use mathlib.Core.List.{List, [], _∷_, _++_}
+use mathlib.Core.Option.{some}
+use lib.ListN.{length, getD, take, drop}
+use lib.Dec.{ltb}
+use Rattle.mtl.specs.Formula.{Formula}
+use Rattle.mtl.specs.Log.{Log, Stream, NeverFalls, StreamNeverFalls, Continues, Begins}
+use Rattle.mtl.specs.Wanted.{wanted}
+use Rattle.mtl.specs.Reading.{HoldsIn, HoldsOn}
+use Rattle.trace.specs.Format.{record-count, records-of, malformed}
+use Rattle.trace.specs.Log.{log-of}
+use Rattle.rule.specs.Entries.{count, decoded}
+use Rattle.rule.specs.Postfix.{formulas}
+use Rattle.rule.specs.Measure.{measured}
+use Rattle.monitor.specs.Verdicts.{formulas-of, first-records, answered, all-verdicts}
+use Rattle.monitor.specs.Open.{Opens}
+use Rattle.monitor.specs.Resume.{resumed-number, Resumes}
+use Rattle.monitor.specs.Summary.{noes-in, told, answer, summarized}
+use Rattle.monitor.specs.Status.{facts, known}
+use Rattle.monitor.specs.Status.{told as known-told, answer as standing-of}
+use Rattle.monitor.specs.declared.Opened.{Opened}
+use Rattle.monitor.specs.declared.Opened.the-variants.{Done}
+use Rattle.monitor.specs.declared.Resumed.{Resumed}
+use Rattle.monitor.specs.declared.Resumed.the-variants.{Given, Refused}
+use Rattle.monitor.specs.declared.Summarized.{Summarized}
+use Rattle.monitor.specs.declared.Standing.{Standing}
+
+-- "One untouched log belongs to the list: a header without fault, then at most 1,000,000 records whose times never fall"
+pub record Untouched (log : List ℕ) : Type 0 where
+  pub well-formed : malformed log ≡ false
+  pub never-falls : NeverFalls (log-of (records-of log))
+
+-- an accepted call, as far as the claim speaks of it: whether it is a closing, the records that it brought, the sheet's length, c,
+-- "more", and the first c bytes of the sheet as the call left it
+pub record Call : Type 0 where
+  pub closing : Bool
+  pub records : ℕ
+  pub room : ℕ
+  pub count : ℕ
+  pub more : Bool
+  pub bytes : List ℕ
+
+-- one with c verdicts, which left the sheet as sheet′
+abbrev pub the-call : (closing : Bool) (n : ℕ) (sheet : List ℕ) (c : ℕ) (more : Bool) (sheet′ : List ℕ) → Call
+the-call closing n sheet c more sheet′ =
+    record { closing = closing; records = n; room = length sheet; count = c; more = more; bytes = take c sheet′ }
+
+-- of the accepted calls, the latest first: "d is the sum of c over the accepted calls before it"
+unfoldable pub given-by : List Call → ℕ
+given-by [] = 0
+given-by (c ∷ older) = given-by older + c .count
+
+-- the records that the last accepted call brought
+unfoldable pub brought-by : List Call → ℕ
+brought-by [] = 0
+brought-by (c ∷ older) = c .records
+
+-- the last accepted call is a closing; every accepted call after a closing is one, since a resume then meets 20 (`not-refused`)
+unfoldable pub closed-by : List Call → Bool
+closed-by [] = false
+closed-by (c ∷ older) = c .closing
+
+-- the records that the first accepted closing brought, where there is one
+unfoldable pub closed-at : List Call → ℕ
+closed-at [] = 0
+closed-at (c ∷ older) = cond (closed-by older) (closed-at older) (c .records)
+
+-- the accepted calls before the first closing
+unfoldable pub before-closing : List Call → List Call
+before-closing [] = []
+before-closing (c ∷ older) = cond (c .closing) (before-closing older) (c ∷ older)
+
+-- "laid end to end in the order of the calls"
+unfoldable pub laid : List Call → List ℕ
+laid [] = []
+laid (c ∷ older) = laid older ++ c .bytes
+
+-- "it brings .. this header and the records from the first on"; "Overwriting is .. allowed only for records before the first still
+-- wanted" (document 02, paper 2). "Such a record may hold any bytes; the others stand as in the untouched log."
+pub record Brings (log : List ℕ) (first n : ℕ) (log′ : List ℕ) : Type 0 where
+  pub size : length log′ ≡ 8 + 8 * n
+  pub within : n ≤ record-count (records-of log)
+  pub header : take 8 log′ ≡ take 8 log
+  pub same : (i : ℕ) → 8 + 8 * first ≤ i → i < 8 + 8 * n → getD log′ i 0 ≡ getD log i 0
+
+-- after the accepted calls h, "no fewer than the accepted call before it brought"
+pub record BringsAfter (rule log : List ℕ) (h : List Call) (n : ℕ) (log′ : List ℕ) : Type 0 where
+  pub no-fewer : brought-by h ≤ n
+  pub brings : Brings log (wanted (formulas-of rule) (given-by h)) n log′
+
+-- "Each gets the point as the call before left it": the words p that a call lends are the point's as far as both go. Behind the
+-- point any words may stand; if they are fewer than the point's, they are the first of them.
+abbrev pub Lends : (point p : List ℕ) → Type 0
+Lends point p = take (length point) p ≡ take (length p) point
+
+-- the point after a call that left the words p: those of its words that were not lent are what they were
+abbrev pub point-after : (point p : List ℕ) → List ℕ
+point-after point p = take (length point) p ++ drop (length p) point
+
+-- one call on the lent words p, after the accepted calls h: the accepted calls up to it, and the words as it left them
+pub data OneCall (rule log : List ℕ) (h : List Call) (p : List ℕ) : List Call → List ℕ → Type 0 where
+  -- "refused, whatever rule, log and sheet it brought"
+  refused : (closing : Bool) (rule′ log′ sheet : List ℕ) (n : ℕ) (p′ sheet′ : List ℕ) →
+      Resumes closing rule′ log′ p sheet (Refused n) p′ sheet′ → OneCall rule log h p h p′
+  -- "or it brings the rule, this header and the records"
+  accepted : (closing : Bool) (n : ℕ) (log′ sheet : List ℕ) (c : ℕ) (more : Bool) (p′ sheet′ : List ℕ) →
+      BringsAfter rule log h n log′ → Resumes closing rule log′ p sheet (Given c more) p′ sheet′ →
+      OneCall rule log h p (the-call closing n sheet c more sheet′ ∷ h) p′
+
+-- a list of calls: its accepted calls, the latest first, and the point, as many words as weigh gave, as its last call left it
+pub data Calls (rule log : List ℕ) : List Call → List ℕ → Type 0 where
+  -- "The list starts from the point as open left it for the rule"
+  opened : (lent p : List ℕ) → Opens rule lent Done p → Calls rule log [] (take (measured rule .words) p)
+  -- "any number of them", each on words of any number
+  and-then : {h h′ : List Call} {point : List ℕ} → Calls rule log h point →
+      (p p′ : List ℕ) → Lends point p → OneCall rule log h p h′ p′ → Calls rule log h′ (point-after point p′)
+
+-- "Each accepted call's c and its 'more' or 'caught up' are as above, with this d and the A of the untouched records up to its last."
+pub record AsPromised (rule log : List ℕ) (d : ℕ) (c : Call) : Type 0 where
+  pub count : c .count ≡ min (answered (c .closing) rule log (c .records) - d) (c .room)
+  pub more : c .more ≡ ltb (d + c .count) (answered (c .closing) rule log (c .records))
+  pub bytes : length (c .bytes) ≡ c .count
+
+unfoldable pub Each : (rule log : List ℕ) → List Call → Type 0
+Each rule log [] = Unit {0}
+Each rule log (c ∷ older) = AsPromised rule log (given-by older) c × Each rule log older
+
+-- "they are all A of them exactly when that call gave 'caught up'. Before the first accepted call nothing is written.": the
+-- accepted calls' bytes are none then, and a refused call keeps its sheet by `Resumes`
+unfoldable pub AllWhenCaughtUp : (rule log : List ℕ) → List Call → Type 0
+AllWhenCaughtUp rule log [] = laid [] ≡ []
+AllWhenCaughtUp rule log (c ∷ older) = (laid (c ∷ older) ≡ all-verdicts (c .closing) rule log (c .records)) ↔ (c .more ≡ false)
+
+-- "One run is a carry on from a fresh point with a sheet of A bytes", or "a closing where the last accepted call is one": its answer
+-- and its sheet, for the first n records
+pub record OneRun (closing : Bool) (rule log : List ℕ) (n : ℕ) (r : Resumed) (sheet′ : List ℕ) : Type 0 where
+  pub lent : List ℕ
+  pub fresh : List ℕ
+  pub opens : Opens rule lent Done fresh
+  pub brought : List ℕ
+  pub brings : Brings log 0 n brought
+  pub sheet : List ℕ
+  pub room : length sheet ≡ answered closing rule log n
+  pub left : List ℕ
+  pub resumes : Resumes closing rule brought fresh sheet r left sheet′
+
+-- What a verdict byte says, where Holds says which formulas hold. Of an empty rule, "every position is yes". Of several formulas,
+-- which no rule has yet, bit k would be that of formula k.
+abbrev pub Says : (Formula → Type 0) → List Formula → ℕ → Type 0
+Says Holds [] byte = byte ≡ 1
+Says Holds (φ ∷ []) byte = (byte ≡ 1) ↔ Holds φ
+Says Holds (φ ∷ (ψ ∷ fs)) byte = ((byte % 2 ≡ 1) ↔ Holds φ) × Says Holds (ψ ∷ fs) (byte / 2)
+
+-- DEMAND 2, for every list. "Verdicts are those of metric temporal logic as documents 000 and 002 define it, on the log and on
+-- every accepted lengthening of it"
+pub record Demand2 (rule log : List ℕ) (h : List Call) : Type 0 where
+  -- the rule's entries are these formulas: one, or none where it has no entry
+  pub reads : formulas (decoded rule) (count rule) ≡ some (formulas-of rule)
+  -- "each byte 1 for yes or 0 for no"
+  pub binary : (i : ℕ) → i < length (laid h) → getD (laid h) i 0 ≤ 1
+  -- byte i of those before the first closing is yes exactly if the formula, where there is one, holds at position i of the records
+  -- brought, however they are lengthened: by any number of records, none among them,
+  pub on-log : (L : Log) → Continues (first-records false log (brought-by (before-closing h))) L → NeverFalls L →
+      (i : ℕ) → i < length (laid (before-closing h)) → Says (λ φ. HoldsIn L φ i) (formulas-of rule) (getD (laid h) i 0)
+  -- or to an infinite stream
+  pub on-stream : (σ : Stream) → Begins σ (first-records false log (brought-by (before-closing h))) → StreamNeverFalls σ →
+      (i : ℕ) → i < length (laid (before-closing h)) → Says (λ φ. HoldsOn σ φ i) (formulas-of rule) (getD (laid h) i 0)
+  -- "A closing's verdicts are compared with that log alone": every byte, with the records that the last accepted call brought
+  pub as-it-ends : (i : ℕ) → i < length (laid h) →
+      Says (λ φ. HoldsIn (first-records (closed-by h) log (brought-by h)) φ i) (formulas-of rule) (getD (laid h) i 0)
+
+-- "any words behind them are kept": those behind the words that weigh gave, and how many there are
+pub record Keeps (rule words words′ : List ℕ) : Type 0 where
+  pub behind : drop (measured rule .words) words′ ≡ drop (measured rule .words) words
+  pub number : length words′ ≡ length words
+
+-- the number with which a call is refused that brings rule and log as it should: "a call that brings rule and log as it should can
+-- still meet 20 or 21", a resume 20 exactly after an accepted closing, and a closing 21 exactly where it brings more records than the
+-- first accepted one
+abbrev pub expected-refusal : (closing closed : Bool) (at n : ℕ) → ℕ
+expected-refusal false closed at n = cond closed 20 0
+expected-refusal true closed at n = cond (closed && ltb at n) 21 0
+
+-- DEMAND 3, for every list
+pub record Demand3 (rule log : List ℕ) (h : List Call) (point : List ℕ) : Type 0 where
+  -- 1. the bytes laid end to end are the first verdicts of the untouched log as far as the last accepted call brought it, closed where
+  -- that call is a closing
+  pub first : laid h ≡ take (length (laid h)) (all-verdicts (closed-by h) rule log (brought-by h))
+  -- 2. and all of them exactly when that call said caught up
+  pub all : AllWhenCaughtUp rule log h
+  -- 3. each accepted call's c and "more"
+  pub each : Each rule log h
+  -- 4. "A call that brings rule and log in this way is not refused." but with 20 or 21, the point being whole in the words that it lends
+  pub not-refused : (p : List ℕ) → Lends point p → length point ≤ length p →
+      (closing : Bool) (n : ℕ) (log′ sheet : List ℕ) → BringsAfter rule log h n log′ →
+      (r : Resumed) (p′ sheet′ : List ℕ) → Resumes closing rule log′ p sheet r p′ sheet′ →
+      resumed-number r ≡ expected-refusal closing (closed-by h) (closed-at h) n
+  -- with fewer words it meets 9, whatever they, the log and the sheet hold
+  pub too-few : (p : List ℕ) → length p < length point →
+      (closing : Bool) (log′ sheet : List ℕ) (r : Resumed) (p′ sheet′ : List ℕ) → Resumes closing rule log′ p sheet r p′ sheet′ → r ≡ Refused 9
+  -- 5. "A point of exactly the words that weigh gave is enough for every list": the point has that many, and open takes them;
+  pub size : length point ≡ measured rule .words
+  pub enough : (words : List ℕ) (r : Opened) (fresh : List ℕ) → length words ≡ measured rule .words → Opens rule words r fresh → r ≡ Done
+  -- "and any words behind them are kept", by open and by each call of a list, accepted or refused
+  pub open-keeps : (words : List ℕ) (r : Opened) (fresh : List ℕ) → Opens rule words r fresh → Keeps rule words fresh
+  pub call-keeps : (p p′ : List ℕ) (h′ : List Call) → OneCall rule log h p h′ p′ → Keeps rule p p′
+  -- 6. one run "writes just these", and so the bytes of 1 are its first bytes
+  pub one-run : (closing : Bool) (n : ℕ) (r : Resumed) (sheet′ : List ℕ) → OneRun closing rule log n r sheet′ →
+      (r ≡ Given (answered closing rule log n) false) × (sheet′ ≡ all-verdicts closing rule log n)
+  -- 7. of document 02, paper 7: `summary` of the point, whole in the words lent, is not refused, and gives "what tally and a scan give
+  -- over all verdict bytes written from that point, laid end to end"
+  pub summary : (p : List ℕ) → Lends point p → length point ≤ length p →
+      (r : Summarized) → answer r ≡ summarized rule p → answer r ≡ told (noes-in (laid h) (length (laid h)))
+  -- 8. `status` of the point, whole in the words lent, is not refused: given is the sum of c, seen and closed are those of the last
+  -- accepted call, and wanted is the record from which `BringsAfter` asks the log to stand
+  pub status : (p : List ℕ) → Lends point p → length point ≤ length p →
+      (r : Standing) → standing-of r ≡ known rule p → standing-of r ≡ known-told (facts rule (given-by h) (brought-by h) (closed-by h))

@@ -1,0 +1,175 @@
+-- What the checks of a call tell by their outcome: a refusal's number, or what holds where none is met.
+use Prim.Native.Nat.{ℕ, _+_, _-_, _≤_, _<_, _^_}
+use mathlib.Core.Bool.{Bool, true, false, cond, _&&_}
+use mathlib.Core.Bool.{not as negate}
+use mathlib.Core.Path.{_≡_, refl, sym, ap, ap₂, _∙_}
+use mathlib.Core.List.{List}
+use native.Mathlib.Omega.{arith}
+use borrow.Author.Tests.{ne-eqb, eqb-true, eqb-false, not-false, ltb-false}
+use lib.Dec.{eqb, leb, ltb}
+use lib.ListN.{length}
+use Rattle.mtl.specs.Satisfaction.{any}
+use Rattle.mtl.proofs.Bounded.{and-iff, leb-iff}
+use Rattle.rule.specs.declared.Entry.{Entry}
+use Rattle.rule.specs.Entries.{count, decoded}
+use Rattle.rule.specs.Refusal.{before, refusal}
+use Rattle.rule.proofs.Headers.{first-zero, or-left, Decoded, before-none, measured-once}
+use Rattle.rule.specs.declared.refusals.Header.{Header}
+use Rattle.rule.specs.declared.Measured.{Measured}
+use Rattle.rule.specs.declared.Measured.the-variants.{Words as Weighed}
+use Rattle.rule.specs.declared.Measured.the-variants.{Refused as Unmeasured}
+use Rattle.rule.specs.Words.{offset}
+use Rattle.rule.specs.Measure.{measured}
+use Rattle.rule.specs.Measure.{answer as weighing}
+use Rattle.rule.specs.Code.{header, header-count, filled, measured-by}
+use Rattle.rule.proofs.Outcome.{passes-with}
+use Rattle.trace.specs.Format.{record-count, records-of, malformed}
+use Rattle.trace.proofs.Laws.{well-formed-records}
+use Rattle.checkpoint.specs.Checkpoint.{given, seen, last, closed-with, held-count, no-count, after-latest, need, room, foreign, block-outside, noes-in-range, closed-in-range, outside, header-in-range}
+use Rattle.checkpoint.specs.Refusal.{open-refusal, resumes-closed, point-refusal, words-refusal, summary-refusal}
+use Rattle.checkpoint.specs.Code.{sized-of, sized-number, checked-by, checked-number, sized-by, Covers, own-checked}
+use Rattle.checkpoint.specs.declared.check.Sized.{Sized}
+use Rattle.checkpoint.specs.declared.check.Sized.the-variants.{Words, Stopped}
+use Rattle.checkpoint.specs.declared.check.Checked.{Checked}
+use Rattle.checkpoint.specs.declared.check.Checked.the-variants.{Passed, Failed}
+use Rattle.checkpoint.proofs.Sizes.{sized-refusal, enough, stops, sized-is, is-decoded, fits-in, enough-words}
+
+-- n is the number of a refusal: of 1 to 9 where one applies, else `other`
+pub record Met (rule p : List ℕ) (other n : ℕ) : Type 0 where
+  pub number : n ≡ before (open-refusal rule (length p)) other
+  pub some : 0 < n
+
+-- refusals 1 to 9
+pub stopped : (rule p : List ℕ) (other : ℕ) (r : Sized) (m n : ℕ) → r ≡ sized-of rule (length p) → r ≡ Stopped m → n ≡ sized-number r →
+    Met rule p other n
+stopped rule p other r m n sized stops-at numbered =
+    let met : 0 < m =
+    stops rule (length p) m (sym stops-at ∙ sized) in
+    let is : n ≡ m = numbered ∙ ap sized-number stops-at in
+    let number : open-refusal rule (length p) ≡ n =
+    sym (sized-refusal rule (length p)) ∙ ap sized-number (sym sized) ∙ sym numbered in
+    let met-first : before n other ≡ n = rw (ne-eqb n 0 (λ e. omega arith)) in
+    record { number = sym (ap (λ (k : ℕ). before k other) number ∙ met-first); some = omega arith }
+
+pub not-stopped : (rule p : List ℕ) (other w : ℕ) → Words w ≡ sized-of rule (length p) → before (open-refusal rule (length p)) other ≡ other
+not-stopped rule p other w sized =
+    let none : open-refusal rule (length p) ≡ 0 = sym (sized-refusal rule (length p)) ∙ ap sized-number (sym sized) in
+    ap (λ (k : ℕ). before k other) none
+
+-- the number that the check's answer stands for is the refusal's
+checked-is : (number : ℕ) → checked-number (checked-by number) ≡ number
+checked-is number = go (eqb number 0) refl
+  where
+    go : (b : Bool) → eqb number 0 ≡ b → checked-number (cond b Passed (Failed number)) ≡ number
+    go true zero = sym (eqb-true number 0 zero)
+    go false some = refl
+
+pub passed : (number : ℕ) → Passed ≡ checked-by number → number ≡ 0
+passed number e = sym (ap checked-number e ∙ checked-is number)
+
+failed-by : (b : Bool) (number m : ℕ) → eqb number 0 ≡ b → Failed m ≡ cond b Passed (Failed number) → 0 < m
+failed-by true number m t e = let z : _≡_ {A = ℕ} 0 1 = cc in absurd (omega arith)
+failed-by false number m t e = let z : m ≡ number = cc in let h = eqb-false number 0 t in omega arith
+
+-- the number of an answer that fails
+pub fails-with : (number : ℕ) (r : Checked) (m n : ℕ) → r ≡ checked-by number → r ≡ Failed m → n ≡ checked-number r →
+    (n ≡ number) × (0 < n)
+fails-with number r m n checked fails numbered =
+    let met : 0 < m = failed-by (eqb number 0) number m refl (sym fails ∙ checked) in
+    let is : n ≡ m = numbered ∙ ap checked-number fails in
+    (numbered ∙ ap checked-number checked ∙ checked-is number, omega arith)
+
+-- refusals from 10 on
+pub failed : (rule p : List ℕ) (number w : ℕ) (r : Checked) (m n : ℕ) → Words w ≡ sized-of rule (length p) → r ≡ checked-by number →
+    r ≡ Failed m → n ≡ checked-number r → Met rule p number n
+failed rule p number w r m n sized checked fails numbered =
+    let e = fails-with number r m n checked fails numbered in
+    record { number = e .0 ∙ sym (not-stopped rule p number w sized); some = e .1 }
+
+-- what the refusals that are not met tell
+pub record Passes (log p : List ℕ) : Type 0 where
+  pub given : given p ≤ 1000000
+  pub counted : no-count p ≤ 1000000
+  pub records : record-count (records-of log) ≤ 1000000
+
+header-given : (p : List ℕ) → header-in-range p ≡ true → (no-count p ≤ given p) × (given p ≤ 1000000)
+header-given p fits =
+    let ends = and-iff _ (noes-in-range (given p) (no-count p) (after-latest p)) .0 (and-iff _ (closed-in-range (closed-with p) (seen p)) .0 fits .0) in
+    let halves = and-iff (leb (seen p) 1000000 && leb (held-count p) 64) (room (given p) (held-count p) (seen p)) .0 (and-iff _ (ltb (last p) (2 ^ 32)) .0 (ends .0) .0) in
+    let rooms = and-iff (leb (held-count p) (seen p)) (leb (given p) (seen p - held-count p)) .0 (halves .1) in
+    let few = leb-iff (seen p) 1000000 .0 (and-iff (leb (seen p) 1000000) (leb (held-count p) 64) .0 (halves .0) .0) in
+    let low = leb-iff (given p) (seen p - held-count p) .0 (rooms .1) in
+    let noes = leb-iff (no-count p) (given p) .0 (and-iff (leb (no-count p) (given p)) (leb (after-latest p) (given p)) .0 (and-iff _ _ .0 (ends .1) .0) .0) in
+    (noes, omega arith)
+
+pub passes : (closing : Bool) (rule log p : List ℕ) → point-refusal closing (decoded rule) (count rule) log p ≡ 0 → Passes log p
+passes closing rule log p none =
+    let t = decoded rule in
+    let n = count rule in
+    let tenth = first-zero 9 (foreign t n p) _ none in
+    let eleventh = first-zero 10 (outside t n p) _ (tenth .1) in
+    let twentieth = first-zero 19 (resumes-closed closing (closed-with p)) _ (eleventh .1) in
+    let twelfth = first-zero 11 (malformed log) _ (twentieth .1) in
+    let (noes, few) = header-given p (not-false (header-in-range p) (or-left (negate (header-in-range p)) (any n (block-outside t p)) (eleventh .0))) in
+    record {
+      given = few;
+      counted = omega arith;
+      records = well-formed-records log (twelfth .0) .1 .few;
+    }
+
+-- enough words are lent where weighing gives no more of them
+covered-by : (b : Bool) (t : List Entry) (n lent w v : ℕ) → ltb lent v ≡ b → Covers (Weighed v 0) t n → Words w ≡ cond b (Stopped 9) (Words v) →
+    (n ≤ 128) × (16 + offset t n ≤ lent)
+covered-by true t n lent w v test room e = let z : _≡_ {A = ℕ} 0 1 = cc in absurd (omega arith)
+covered-by false t n lent w v test (few, room) e = let h = ltb-false lent v test in (few, omega arith)
+
+pub covered : (m : Measured) (t : List Entry) (n lent w : ℕ) → Covers m t n → Words w ≡ sized-by m lent → (n ≤ 128) × (16 + offset t n ≤ lent)
+covered (Unmeasured k) t n lent w room e = let z : _≡_ {A = ℕ} 0 1 = cc in absurd (omega arith)
+covered (Weighed v far) t n lent w room e = covered-by (ltb lent v) t n lent w v refl room e
+
+-- what weighing a rule answers covers the entries decoded
+covers-by : (s : List ℕ) (t : List Entry) (n : ℕ) → (refusal s ≡ 0 → Decoded s t n) → (m : Measured) → weighing m ≡ measured s → Covers m t n
+covers-by s t n decoded-if (Unmeasured k) e = tt
+covers-by s t n decoded-if (Weighed w far) e =
+    let o = passes-with s w far e in
+    let is = o .words-are in
+    fits-in s t n w (o .accepted) (decoded-if (o .accepted)) (omega arith)
+
+module _ (rule p : List ℕ) where
+  -- the number of refusal 10 or 11, or 0
+  abbrev own-number : ℕ
+  own-number = words-refusal (decoded rule) (count rule) p 0
+
+  -- one of refusals 1 to 9
+  own-failed : (n : ℕ) → Met rule p own-number n → Failed n ≡ checked-by (summary-refusal rule p)
+  own-failed n met =
+      let number = met .number in
+      let some = met .some in
+      rw (ne-eqb (summary-refusal rule p) 0 (omega arith)) (ap Failed number)
+
+  -- the checks by the entries decoded, which are those of a rule that is accepted
+  own-by : (t : List Entry) (n : ℕ) → (refusal rule ≡ 0 → Decoded rule t n) → (r : Sized) → r ≡ sized-of rule (length p) →
+      own-checked r t n p ≡ checked-by (summary-refusal rule p)
+  own-by t n decoded-if (Stopped m) sized = own-failed m (stopped rule p own-number (Stopped m) m m sized refl refl)
+  own-by t n decoded-if (Words w) sized =
+      let d = decoded-if (enough rule (length p) w sized .accepted) in
+      ap₂ (λ (t : List Entry) (n : ℕ). checked-by (words-refusal t n p 0)) (d .entries-are) (d .count-is)
+      ∙ ap checked-by (sym (not-stopped rule p own-number w sized))
+
+  -- where none of 1 to 11 is met
+  module _ (none : summary-refusal rule p ≡ 0) where
+    pub is-accepted : refusal rule ≡ 0
+    is-accepted = before-none (refusal rule) _ (before-none _ own-number none .0) .0
+
+    pub has-room : need rule ≤ length p
+    has-room = enough-words rule (length p) (before-none _ own-number none .0)
+
+-- of the entries decoded once by the rule's header, and what weighing them answers
+module _ (s : List ℕ) (h : Header) (t : List Entry) (n : ℕ) (is : h ≡ header s) (e : n ≡ header-count h) (e′ : t ≡ filled s n) (m : Measured) (weighed : weighing m ≡ measured-by h t) where
+  pub covers : Covers m t n
+  covers = covers-by s t n (is-decoded s h t n is e e′) m (weighed ∙ measured-once s h is t n e e′)
+
+  pub own-is : (p : List ℕ) → own-checked (sized-by m (length p)) t n p ≡ checked-by (summary-refusal s p)
+  own-is p =
+      own-by s p t n (is-decoded s h t n is e e′) (sized-by m (length p))
+      (sized-is s m (length p) (weighed ∙ measured-once s h is t n e e′))

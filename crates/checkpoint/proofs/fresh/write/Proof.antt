@@ -1,0 +1,43 @@
+-- `fresh::write` meets its contract: zeros, the two words of the header, and the copies are a fresh checkpoint.
+use native.Mathlib.Omega.{arith}
+use mathlib.Core.Path.{_∙_}
+use lib.ListN.{length, length-set}
+use borrow.Author.Needs.{needs}
+use Rattle.checkpoint.proofs.Copies.{fresh-words}
+use Rattle.checkpoint.proofs.fresh.write.Statement.{statement}
+use Rattle.checkpoint.proofs.fresh.write.Tie as tie
+
+clear-requires : tie.Need-clear-requires
+clear-requires c κs = search needs
+
+slice-write-words : tie.Need-slice-write-words
+slice-write-words c = search needs
+
+slice-write-words-2 : tie.Need-slice-write-words-2
+slice-write-words-2 c = simp length-set (omega (arith, c .before .before .clear .kept .0))
+
+write-copies-requires : tie.Need-write-copies-requires
+write-copies-requires c κs =
+    let l = c .before .before .before .clear .kept .0 in
+    simp length-set (omega arith)
+
+same-length : tie.Need-same-length
+same-length c = c .before .before .write-copies .kept .1 .1 .0 ∙ simp length-set (c .before .before .before .before .before .before .clear .kept .0)
+
+returns : tie.Need-returns
+returns c =
+    let a = c .before .before .before .before .before .before .before .before .before .args in
+    rw
+    (c .before .before .write-copies .ensures, c .before .before .before .before .before .before .clear .ensures)
+    (fresh-words (a .entries) (a .count) (length (a .words .now)) (omega arith))
+
+pub write-spec : {M : Type 1} → statement M
+write-spec =
+    tie.close
+    (tie.spec
+    clear-requires
+    slice-write-words
+    slice-write-words-2
+    write-copies-requires
+    same-length
+    returns)

@@ -1,0 +1,55 @@
+-- Where a call stops: "The first that applies is returned. Rule checks precede point checks."
+use Prim.Native.Nat.{ℕ}
+use mathlib.Core.Bool.{Bool, _&&_}
+use mathlib.Core.Bool.{not as negate}
+use mathlib.Core.List.{List}
+use lib.ListN.{length}
+use lib.Dec.{leb, ltb}
+use Rattle.mtl.specs.Wanted.{wanted}
+use Rattle.rule.specs.declared.Entry.{Entry}
+use Rattle.rule.specs.Entries.{count, decoded}
+use Rattle.rule.specs.Postfix.{formulas, formulas-or}
+use Rattle.rule.specs.Refusal.{first, before, refusal}
+use Rattle.trace.specs.Format.{record-count, records-of, malformed}
+use Rattle.trace.specs.Order.{disordered}
+use Rattle.checkpoint.specs.Checkpoint.{given, seen, last, closed-with, need, foreign, outside}
+
+-- open, on a checkpoint of so many words: refusals 1 to 9
+abbrev pub open-refusal : List ℕ → ℕ → ℕ
+open-refusal rule lent = before (refusal rule) (first 9 (ltb lent (need rule)) 0)
+
+-- "20 when carry on is given a closed point" (document 02, paper 9)
+abbrev pub resumes-closed : (closing : Bool) (closed-with : ℕ) → Bool
+resumes-closed closing closed-with = negate closing && ltb 0 closed-with
+
+-- "21 when closing is repeated with more records than at its first call that was not refused"
+abbrev pub closes-more : (closing : Bool) (closed-with records : ℕ) → Bool
+closes-more closing closed-with records = closing && (ltb 0 closed-with && leb closed-with records)
+
+-- refusals 20, 12, 13, 21 and 14 of a resume or a closing: of a log's bytes, the first record still wanted, and what a checkpoint says
+-- was seen: document 02, paper 2, "refusal 14 starts from that record"
+abbrev pub log-refusal : (closing : Bool) (log : List ℕ) (from seen last closed-with : ℕ) → ℕ
+log-refusal closing log from seen last closed-with =
+    first 20 (resumes-closed closing closed-with)
+    (first 12 (malformed log)
+    (first 13 (ltb (record-count (records-of log)) seen)
+    (first 21 (closes-more closing closed-with (record-count (records-of log))) (first 14 (disordered (records-of log) from seen last) 0))))
+
+-- refusals 10 and 11, of a rule's n entries and a checkpoint's words, or what comes after them
+abbrev pub words-refusal : List Entry → ℕ → List ℕ → ℕ → ℕ
+words-refusal t n p other = first 10 (foreign t n p) (first 11 (outside t n p) other)
+
+-- refusals 10 and 11 and these, of a rule's n entries, a log's bytes and a checkpoint's words
+abbrev pub point-refusal : (closing : Bool) → List Entry → ℕ → List ℕ → List ℕ → ℕ
+point-refusal closing t n log p =
+    words-refusal t n p (log-refusal closing log (wanted (formulas-or (formulas t n)) (given p)) (seen p) (last p) (closed-with p))
+
+-- resume and closing: all refusals, for every rule, log and checkpoint, forged ones included
+abbrev pub resume-refusal : (closing : Bool) (rule log point : List ℕ) → ℕ
+resume-refusal closing rule log point =
+    before (open-refusal rule (length point)) (point-refusal closing (decoded rule) (count rule) log point)
+
+-- summary: "checks 1 to 11", for every rule and checkpoint
+abbrev pub summary-refusal : (rule point : List ℕ) → ℕ
+summary-refusal rule point =
+    before (open-refusal rule (length point)) (words-refusal (decoded rule) (count rule) point 0)

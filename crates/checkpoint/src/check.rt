@@ -1,0 +1,300 @@
+// Refusals 1 to 14 (3 no longer occurs), 20 and 21: each check over all entries before the next begins. Nothing is written.
+ghost use mathlib.Core.Path.{_≡_};
+ghost use Prim.Native.Nat.{_+_, _≤_, _<_};
+ghost use lib.ListN.{length, drop};
+ghost use Rattle.mtl.specs.Satisfaction.{any};
+ghost use Rattle.mtl.specs.Wanted.{wanted};
+ghost use Rattle.rule.specs.Postfix.{formulas, formulas-or};
+ghost use Rattle.rule.specs.Refusal.{first};
+ghost use Rattle.rule.specs.Words.{offset};
+ghost use Rattle.checkpoint.specs.Checkpoint.{seen, last, closed-with, copy-head, copy-ends, copy-differs, foreign, room, block-in-range, block-outside, noes-in-range, closed-in-range, outside};
+ghost use Rattle.checkpoint.specs.Code.{sized-by, sized-number, checked-by, checked-number, Covers, own-checked};
+ghost use Rattle.checkpoint.specs.Refusal.{log-refusal, words-refusal, point-refusal};
+ghost use Rattle.blocks.specs.Block.{cells-of};
+use super::header;
+use blocks::word;
+use rule::Entry;
+use rule::Measured;
+
+// The number in a checkpoint's first word: the bytes HAVD, and the format's number.
+pub const FORMAT: u64 = 5206537494274768901;
+
+// Refusals 1 to 9, or the words that the rule needs.
+pub enum Sized {
+    Words(usize),
+    Stopped(u32),
+}
+
+impl Sized {
+    pub fn number(self) -> u32
+        ensures { λ r. ⌜ r ≡ sized-number self ⌝ }
+    {
+        match self {
+            Sized::Words(_) => 0,
+            Sized::Stopped(n) => n,
+        }
+    }
+}
+
+// Refusals 10 to 14, 20 and 21, in `check_own` 1 to 9 as well, or none of them.
+pub enum Checked {
+    Passed,
+    Failed(u32),
+}
+
+impl Checked {
+    pub fn number(self) -> u32
+        ensures { λ r. ⌜ r ≡ checked-number self ⌝ }
+    {
+        match self {
+            Checked::Passed => 0,
+            Checked::Failed(n) => n,
+        }
+    }
+}
+
+pub fn size_of(measured: Measured, lent: usize) -> Sized
+    ensures { λ r. ⌜ r ≡ sized-by measured lent ⌝ }
+{
+    let Measured::Words { words, reach: _ } = measured else {
+        return Sized::Stopped(measured.number());
+    };
+    if lent < words {
+        Sized::Stopped(9)
+    } else {
+        Sized::Words(words)
+    }
+}
+
+// The number where its condition holds, else what comes after it.
+fn refuse(number: u32, bad: bool, other: u32) -> u32
+    ensures { λ r. ⌜ r ≡ first number bad other ⌝ }
+{
+    if bad { number } else { other }
+}
+
+// An entry's kind and letter, as its block keeps them.
+pub fn head_of(e: Entry) -> u64
+    ensures { λ r. ⌜ r ≡ copy-head e ⌝ }
+{
+    e.kind as u64 * 256 + e.letter as u64
+}
+
+// An entry's low and high, as its block keeps them.
+pub fn ends_of(e: Entry) -> u64
+    ensures { λ r. ⌜ r ≡ copy-ends e ⌝ }
+{
+    e.low as u64 * 4294967296 + e.high as u64
+}
+
+// Some entry's block, of the first count, has another copy than the entry's.
+fn copies_differ(entries: [Entry; 128], count: usize, point: &[u64]) -> bool
+    requires { ⌜ (count ≤ 128) × (16 + offset entries count ≤ length (now point)) ⌝ }
+    ensures { λ r. ⌜ r ≡ any count (copy-differs entries (now (point .entry))) ⌝ }
+{
+    let mut at: usize = 16;
+    let mut k: usize = 0;
+    let mut differ = false;
+    while k < count {
+        let e = entries[k];
+        differ = differ
+            | !((point[at + word::COPY_HEAD] == head_of(e))
+                & (point[at + word::COPY_ENDS] == ends_of(e)));
+        at += rule::own_words(e) as usize;
+        k += 1;
+    }
+    differ
+}
+
+// Refusal 10.
+fn is_foreign(entries: [Entry; 128], count: usize, point: &[u64]) -> bool
+    requires { ⌜ (count ≤ 128) × (16 + offset entries count ≤ length (now point)) ⌝ }
+    ensures { λ r. ⌜ r ≡ foreign entries count (now (point .entry)) ⌝ }
+{
+    (point[header::FORMAT] != FORMAT)
+        | ((point[header::ENTRIES] != count as u64) | copies_differ(entries, count, point))
+}
+
+// count positions from `at` on lie within so many.
+fn has_room(at: u64, count: u64, total: u64) -> bool
+    ensures { λ r. ⌜ r ≡ room at count total ⌝ }
+{
+    if count <= total {
+        at <= total - count
+    } else {
+        false
+    }
+}
+
+// The ring's cells of an entry.
+fn cells(e: Entry) -> u64
+    ensures { λ r. ⌜ r ≡ cells-of (e .kind) (e .high) ⌝ }
+{
+    if e.kind == 5 {
+        rule::own_words(e) - 16
+    } else {
+        0
+    }
+}
+
+// The words of the block that begins at `at` lie in their ranges.
+fn block_fits(size: u64, cells: u64, point: &[u64], at: usize) -> bool
+    requires { ⌜ at + 16 ≤ length (now point) ⌝ }
+    ensures { λ r. ⌜ r ≡ block-in-range size cells (drop at (now (point .entry))) ⌝ }
+{
+    (point[at] <= size)
+        & (point[at + word::LEFT_COUNT] <= 64)
+        & (point[at + word::RIGHT_COUNT] <= 64)
+        & (point[at + word::ANSWERED] <= size)
+        & (point[at + word::LAST_LEFT] <= 1)
+        & (point[at + word::LAST_RIGHT] <= 1)
+        & (point[at + word::LAST_TIME] < 4294967296)
+        & (point[at + word::RING_START] <= cells)
+        & (point[at + word::RING_COUNT] <= cells)
+}
+
+// Some entry's block, of the first count, has a word outside its range.
+fn blocks_outside(entries: [Entry; 128], count: usize, point: &[u64]) -> bool
+    requires { ⌜ (count ≤ 128) × (16 + offset entries count ≤ length (now point)) ⌝ }
+    ensures { λ r. ⌜ r ≡ any count (block-outside entries (now (point .entry))) ⌝ }
+{
+    let size = point[header::SEEN];
+    let mut at: usize = 16;
+    let mut k: usize = 0;
+    let mut outside = false;
+    while k < count {
+        let e = entries[k];
+        outside = outside | !block_fits(size, cells(e), point, at);
+        at += rule::own_words(e) as usize;
+        k += 1;
+    }
+    outside
+}
+
+// The count of no and the end of the latest are among so many verdicts, and both are 0 or neither is.
+fn noes_fit(given: u64, count: u64, after: u64) -> bool
+    ensures { λ r. ⌜ r ≡ noes-in-range given count after ⌝ }
+{
+    (count <= given) & (after <= given) & ((count == 0) == (after == 0))
+}
+
+// No closing was accepted, or one of as many records as were seen.
+fn closed_fits(noted: u64, seen: u64) -> bool
+    ensures { λ r. ⌜ r ≡ closed-in-range noted seen ⌝ }
+{
+    if noted == 0 { true } else { noted - 1 == seen }
+}
+
+// Refusal 11.
+fn is_outside(entries: [Entry; 128], count: usize, point: &[u64]) -> bool
+    requires { ⌜ (count ≤ 128) × (16 + offset entries count ≤ length (now point)) ⌝ }
+    ensures { λ r. ⌜ r ≡ outside entries count (now (point .entry)) ⌝ }
+{
+    let seen = point[header::SEEN];
+    let fits = (seen <= 1000000)
+        & (point[header::HELD_COUNT] <= 64)
+        & has_room(point[header::GIVEN], point[header::HELD_COUNT], seen)
+        & (point[header::LAST] < 4294967296)
+        & noes_fit(
+            point[header::GIVEN],
+            point[header::NO_COUNT],
+            point[header::AFTER_LATEST],
+        )
+        & closed_fits(point[header::CLOSED_WITH], seen);
+    !fits | blocks_outside(entries, count, point)
+}
+
+// The first record still wanted: those before it may have been overwritten.
+pub fn first_wanted(entries: [Entry; 128], count: usize, given: usize) -> usize
+    requires { ⌜ count ≤ 128 ⌝ }
+    ensures { λ r. ⌜ r ≡ wanted (formulas-or (formulas entries count)) given ⌝ }
+{
+    let depth = rule::depth(entries, count) as usize;
+    if depth <= given { given - depth } else { 0 }
+}
+
+// The number of the first of refusals 20, 12, 13, 21 and 14 that applies, or 0.
+fn log_reason(log: &[u8], closing: bool, point: &[u64], from: usize) -> u32
+    requires { ⌜ 16 ≤ length (now point) ⌝ }
+    ensures { λ r. ⌜ r ≡ log-refusal closing (now (log .entry)) from (seen (now (point .entry))) (last (now (point .entry))) (closed-with (now (point .entry))) ⌝ }
+{
+    let records = trace::records(log);
+    let seen = point[header::SEEN] as usize;
+    let disordered = trace::is_disordered(records, from, seen, point[header::LAST]);
+    let total = trace::count(records);
+    let closed_with = point[header::CLOSED_WITH];
+    let more = closing & ((0 < closed_with) & (closed_with <= total as u64));
+    let after = refuse(
+        13,
+        total < seen,
+        refuse(21, more, refuse(14, disordered, 0)),
+    );
+    refuse(
+        20,
+        !closing & (0 < closed_with),
+        refuse(12, trace::is_malformed(log), after),
+    )
+}
+
+// 10 or 11 where it applies, else what comes after them.
+fn words_reason(entries: [Entry; 128], count: usize, point: &[u64], other: u32) -> u32
+    requires { ⌜ (count ≤ 128) × (16 + offset entries count ≤ length (now point)) ⌝ }
+    ensures { λ r. ⌜ r ≡ words-refusal entries count (now (point .entry)) other ⌝ }
+{
+    refuse(
+        10,
+        is_foreign(entries, count, point),
+        refuse(11, is_outside(entries, count, point), other),
+    )
+}
+
+fn checked_by(number: u32) -> Checked
+    ensures { λ r. ⌜ r ≡ checked-by number ⌝ }
+{
+    if number == 0 {
+        Checked::Passed
+    } else {
+        Checked::Failed(number)
+    }
+}
+
+// Refusals 10 and 11.
+fn check_words(entries: [Entry; 128], count: usize, point: &[u64]) -> Checked
+    requires { ⌜ (count ≤ 128) × (16 + offset entries count ≤ length (now point)) ⌝ }
+    ensures { λ r. ⌜ r ≡ checked-by (words-refusal entries count (now (point .entry)) 0) ⌝ }
+{
+    checked_by(words_reason(entries, count, point, 0))
+}
+
+// Refusals 10 to 14, and 20 or 21.
+pub fn check_point(
+    entries: [Entry; 128],
+    count: usize,
+    log: &[u8],
+    closing: bool,
+    point: &[u64],
+) -> Checked
+    requires { ⌜ (count ≤ 128) × (16 + offset entries count ≤ length (now point)) ⌝ }
+    ensures { λ r. ⌜ r ≡ checked-by (point-refusal closing entries count (now (log .entry)) (now (point .entry))) ⌝ }
+{
+    let given = point[header::GIVEN] as usize;
+    let wanted = first_wanted(entries, count, given);
+    checked_by(words_reason(
+        entries,
+        count,
+        point,
+        log_reason(log, closing, point, wanted),
+    ))
+}
+
+// Refusals 1 to 11, which look at no log.
+pub fn check_own(measured: Measured, entries: [Entry; 128], count: usize, point: &[u64]) -> Checked
+    requires { ⌜ Covers measured entries count ⌝ }
+    ensures { λ r. ⌜ r ≡ own-checked (sized-by measured (length (now (point .entry)))) entries count (now (point .entry)) ⌝ }
+{
+    let sized = size_of(measured, point.len());
+    let Sized::Words(_) = sized else {
+        return Checked::Failed(sized.number());
+    };
+    check_words(entries, count, point)
+}

@@ -1,0 +1,11 @@
+// The words of a checkpoint: their names, a fresh one, and the checks of a call on them.
+mod check;
+pub mod fresh;
+pub mod header;
+
+pub use check::Checked;
+pub use check::Sized;
+pub use check::check_own;
+pub use check::check_point;
+pub use check::first_wanted;
+pub use check::size_of;
