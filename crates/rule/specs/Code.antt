@@ -89,6 +89,11 @@ measured-by (Stopped n) t = refused n
 abbrev pub header : List ℕ → Header
 header s = cond (eqb (header-refusal s) 0) (Count (version s) (count s)) (Stopped (header-refusal s))
 
+-- the largest of an array's numbers from position 1 to position n, and 0 where n is 0
+unfoldable pub greatest : List ℕ → ℕ → ℕ
+greatest a zero = 0
+greatest a (suc n) = max (greatest a n) (getD a (suc n) 0)
+
 -- the largest over the formulas; their reach is taken whether they have next or not
 unfoldable pub largest : Quantity → List Formula → ℕ
 largest of [] = 0

@@ -6,7 +6,7 @@ ghost use Rattle.mtl.specs.Wanted.{deepest};
 ghost use Rattle.rule.specs.Words.{own, header-words};
 ghost use Rattle.rule.specs.Postfix.{fewest, most, formulas, formulas-or};
 ghost use Rattle.rule.specs.Measure.{answer};
-ghost use Rattle.rule.specs.Code.{added-by, joined-by, totals, with-entry, reading, measured-entries, header-count, measured-by, EndsOf};
+ghost use Rattle.rule.specs.Code.{added-by, joined-by, totals, with-entry, greatest, reading, measured-entries, header-count, measured-by, EndsOf};
 ghost use Rattle.rule.specs.Operands.{operands};
 use super::Entry;
 use super::Measured;
@@ -156,6 +156,7 @@ pub fn header_words(version: usize) -> usize
 // The largest of the quantities from position 1 to the top, and 0 where there is none.
 fn highest(stack: &[u64; 129], top: usize) -> u64
     requires { ⌜ top < 129 ⌝ }
+    ensures { λ r. ⌜ r ≡ greatest (now (stack .entry)) top ⌝ }
 {
     let mut most: u64 = 0;
     let mut at: usize = 0;
