@@ -33,7 +33,7 @@ pub record Passed (version : ℕ) (t : List Entry) (n : ℕ) : Type 0 where
   pub reads : lacking (formulas version t n) ≡ false
   pub fits : words version t n ≤ limit
 
-passed : (version : ℕ) (t : List Entry) (n : ℕ) → entries-refusal version t n ≡ 0 → Passed version t n
+pub passed : (version : ℕ) (t : List Entry) (n : ℕ) → entries-refusal version t n ≡ 0 → Passed version t n
 unfolding entries-refusal
 passed version t n e =
     let a = first-zero 4 (any n (misshapen-at t)) _ e in

@@ -17,7 +17,7 @@ use Rattle.rule.specs.Bytes.{byte}
 use Rattle.rule.specs.Entries.{version, count, decoded}
 use Rattle.rule.specs.Refusal.{first, before, unmarked, other-version, malformed, header-refusal}
 use Rattle.rule.specs.Measure.{measured}
-use Rattle.rule.specs.Code.{measured-entries, header, header-count, filled, measured-by}
+use Rattle.rule.specs.Code.{measured-entries, header, header-count, header-version, filled, measured-by}
 use Rattle.rule.proofs.Decoded.{decoded-filled}
 
 -- no refusal: neither this one nor a later one
@@ -88,6 +88,9 @@ module _ (s : List ℕ) (h : Header) (is : h ≡ header s) where
   decoded-once t n e e′ z =
       let c : n ≡ count s = e ∙ ap header-count is ∙ simp z in
       record { entries-are = e′ ∙ ap (filled s) c ∙ headed-decoded s z; count-is = c }
+
+  pub version-once : header-refusal s ≡ 0 → header-version h ≡ version s
+  version-once z = ap header-version is ∙ simp z
 
   -- the answer by them is the rule's
   pub measured-once : (t : List Entry) (n : ℕ) → n ≡ header-count h → t ≡ filled s n → measured-by h t ≡ measured s

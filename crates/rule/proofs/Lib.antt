@@ -13,6 +13,8 @@ pub mod Subformulas
 pub mod Ranges
 pub mod Flat
 pub mod Acceptance
+pub mod Encoded
+pub mod Alone
 pub mod Reach
 pub mod Outcome
 pub mod Cases
