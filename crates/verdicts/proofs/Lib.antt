@@ -4,3 +4,4 @@ pub mod Bytes
 pub mod Columns
 pub mod Stores
 pub mod Written
+pub mod Tallies

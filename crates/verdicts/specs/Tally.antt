@@ -1,9 +1,9 @@
 -- What `tally` promises: "reads a sheet and gives the count of no and of yes", one of each a formula.
-use Prim.Native.Nat.{ℕ, _<_, _^_}
+use Prim.Native.Nat.{ℕ, _/_, _<_, _^_}
 use mathlib.Core.Bool.{Bool, true, false, cond, _||_}
 use mathlib.Core.Path.{_≡_}
 use mathlib.Core.List.{List, _++_}
-use lib.Dec.{leb, ltb}
+use lib.Dec.{ltb}
 use lib.ListN.{length, getD, drop}
 use Rattle.mtl.specs.Satisfaction.{any}
 use Rattle.verdicts.specs.Counts.{counts}
@@ -14,9 +14,9 @@ use Rattle.verdicts.specs.declared.Tallied.the-variants.{Counted, Refuse
 abbrev pub outside : (formulas : ℕ) → Bool
 outside formulas = ltb formulas 1 || ltb 8 formulas
 
--- "a bit beyond it": byte i has one that is no formula's
+-- "a bit beyond it": of byte i something is left behind the formulas' bits
 abbrev pub beyond : (formulas : ℕ) → List ℕ → (i : ℕ) → Bool
-beyond formulas s i = leb (2 ^ formulas) (getD s i 0)
+beyond formulas s i = ltb 0 (getD s i 0 / 2 ^ formulas)
 
 -- "15 is met by a bit beyond it or by a number outside 1 to 8"; 0 for no refusal
 abbrev pub tally-refusal : (formulas : ℕ) → List ℕ → ℕ

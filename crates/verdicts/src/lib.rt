@@ -7,6 +7,7 @@ ghost use lib.ListN.{length, take, drop};
 ghost use Rattle.verdicts.specs.Bytes.{bytes-of};
 ghost use Rattle.verdicts.specs.Tally.{tallied-number, Tallies};
 
+mod counting;
 mod eight;
 
 // What `tally` answers.
@@ -42,4 +43,18 @@ pub fn write_answers(sheet: &mut [u8], from: usize, n: usize, answers: &[u64; 8]
     }
     let word = eight::verdicts_at(answers, columns, i as u64);
     eight::write_first(sheet, from + i, n - i, word);
+}
+
+// Writes the counts of no and of yes into the first words, one of each a formula; or refusal 15.
+pub fn tally(sheet: &[u8], formulas: u64, no: &mut [u64; 8], yes: &mut [u64; 8]) -> Tallied
+    ensures { λ r. ⌜ Tallies formulas (now (sheet .entry)) (now («no» .entry)) (now («yes» .entry)) r (now («no» .exit)) (now («yes» .exit)) ⌝ }
+{
+    if (formulas < 1) | (8 < formulas) {
+        return Tallied::Refused(15);
+    }
+    if counting::has_bit_beyond(sheet, formulas) {
+        return Tallied::Refused(15);
+    }
+    counting::write_counts(sheet, formulas as usize, no, yes);
+    Tallied::Counted
 }

@@ -9,8 +9,6 @@ use Rattle.verdicts.specs.Code.{first-bytes}
 use Rattle.verdicts.proofs.Stores.{no-store, one-store}
 use Rattle.verdicts.proofs.eight.write_first.Statement.{statement}
 use Rattle.verdicts.proofs.eight.write_first.Tie as tie
-use Rattle.verdicts.proofs.eight.write_first.Reads as reads
-use Rattle.verdicts.proofs.eight.write_first.Lts as lts
 
 abbrev Inv-loop : tie.InvT-loop
 Inv-loop sheet₀ at n word rest₀ i₀ sheet rest i =
