@@ -9,9 +9,10 @@ use mathlib.Core.Path.{_≡_, refl, sym, ap, _∙_}
 use lib.ListN.{length, getD, length-append, List·getD-append}
 use lib.Seq.{getD-at}
 use lib.Pow.{pow-mono}
+use borrow.Author.Tests.{eq-eqb, ne-eqb}
 use Rattle.mtl.proofs.Bounded.{le-or-lt}
 use Rattle.bits.specs.Packed.{bit, number}
-use Rattle.bits.proofs.Laws.{number-lt}
+use Rattle.bits.proofs.Laws.{number-lt, bit-rest}
 use Rattle.verdicts.specs.Bytes.{byte-of, answers-at, bytes-of}
 
 -- the byte of one answer
@@ -55,3 +56,36 @@ byte-at words (suc n) i h =
     (λ (l : n ≤ i). let same : i ≡ n = omega arith in rw same (getD-at (bytes-of words n) v [] 0 n e))
     (λ (l : i < n). List·getD-append (bytes-of words n) (v ∷ []) 0 i (omega arith) ∙ byte-at words n i l)
     (le-or-lt n i)
+
+-- THE ANSWERS IN A BYTE
+
+first-bit : (b : Bool) (v : ℕ) → bit (number b + 2 * v) 0 ≡ b
+first-bit true v = eq-eqb ((1 + 2 * v) / 2 ^ 0 % 2) 1 (omega arith)
+first-bit false v = ne-eqb ((0 + 2 * v) / 2 ^ 0 % 2) 1 (omega arith)
+
+half : (b : Bool) (v : ℕ) → (number b + 2 * v) / 2 ^ 1 ≡ v
+half true v = omega arith
+half false v = omega arith
+
+next-bit : (b : Bool) (v k : ℕ) → bit (number b + 2 * v) (suc k) ≡ bit v k
+next-bit b v k =
+    let place : suc k ≡ 1 + k = omega arith in
+    ap (bit (number b + 2 * v)) place ∙ sym (bit-rest (number b + 2 * v) 1 k) ∙ ap (λ (w : ℕ). bit w k) (half b v)
+
+-- bit k is the k-th answer
+pub bit-of-byte : (bs : List Bool) (k : ℕ) → k < length bs → bit (byte-of bs) k ≡ getD bs k false
+unfolding byte-of
+bit-of-byte [] k h = absurd (omega arith)
+bit-of-byte (b ∷ bs) zero h = first-bit b (byte-of bs)
+bit-of-byte (b ∷ bs) (suc k) h = next-bit b (byte-of bs) k ∙ bit-of-byte bs k (omega arith)
+
+-- which is that of word k
+pub answer-at : (words : List ℕ) (i k : ℕ) → k < length words → getD (answers-at words i) k false ≡ bit (getD words k 0) i
+unfolding answers-at
+answer-at [] i k h = absurd (omega arith)
+answer-at (w ∷ words) i zero h = refl
+answer-at (w ∷ words) i (suc k) h = answer-at words i k (omega arith)
+
+pub bit-of-verdict : (words : List ℕ) (i k : ℕ) → k < length words → bit (byte-of (answers-at words i)) k ≡ bit (getD words k 0) i
+bit-of-verdict words i k h =
+    bit-of-byte (answers-at words i) k (omega (arith, length-answers words i)) ∙ answer-at words i k h

@@ -4,13 +4,14 @@ use native.Mathlib.Numerals.{add-one}
 use native.Mathlib.Omega.{arith}
 use mathlib.Core.Bool.{Bool, true, false, cond, _||_, Bool·beq}
 use mathlib.Core.List.{List, [], _∷_, _++_, append-assoc}
+use mathlib.Core.Logic.{⊎-elim}
 use mathlib.Core.Path.{_≡_, refl, sym, ap, _∙_}
 use lib.Dec.{ltb}
-use lib.ListN.{length, getD, drop, set, length-append}
-use lib.Seq.{drop-cons, set-at}
+use lib.ListN.{length, getD, drop, set, length-append, List·getD-append}
+use lib.Seq.{drop-cons, set-at, getD-at}
 use borrow.Author.Tests.{ltb-false}
 use Rattle.mtl.specs.Satisfaction.{any}
-use Rattle.mtl.proofs.Bounded.{true-and-false}
+use Rattle.mtl.proofs.Bounded.{true-and-false, le-or-lt}
 use Rattle.bits.specs.Packed.{bit, number}
 use Rattle.bits.proofs.Laws.{number-bit}
 use Rattle.verdicts.specs.Counts.{count-of, counts}
@@ -74,6 +75,17 @@ module _ (x : Bool) (s : List ℕ) where
       let before = length-counts k in
       let sum = length-append (counts x k s) (count-of x k s (length s) ∷ []) in
       omega arith
+
+  -- count k is that of formula k
+  pub counts-at : (formulas k : ℕ) → k < formulas → getD (counts x formulas s) k 0 ≡ count-of x k s (length s)
+  unfolding counts
+  counts-at zero k h = absurd (omega arith)
+  counts-at (suc n) k h =
+      let c = count-of x n s (length s) in
+      ⊎-elim
+      (λ (l : n ≤ k). let same : k ≡ n = omega arith in rw same (getD-at (counts x n s) c [] 0 n (length-counts n)))
+      (λ (l : k < n). List·getD-append (counts x n s) (c ∷ []) 0 k (omega (arith, length-counts n)) ∙ counts-at n k l)
+      (le-or-lt n k)
 
   pub counts-none : (l : List ℕ) → l ≡ counts x 0 s ++ drop 0 l
   unfolding counts

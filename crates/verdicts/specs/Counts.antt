@@ -1,8 +1,9 @@
 -- What is counted in the bytes of a sheet, for formula k: "The stored and tallied counts, the latest positions .. become one per formula."
 use Prim.Native.Nat.{ℕ, zero, suc, _+_}
-use mathlib.Core.Bool.{Bool, false, cond, Bool·beq}
+use mathlib.Core.Bool.{Bool, false, cond, _&&_, Bool·beq}
 use mathlib.Core.List.{List, [], _∷_, _++_}
 use mathlib.Core.Option.{Option, none, some}
+use lib.Dec.{eqb, leb}
 use lib.ListN.{length, getD}
 use Rattle.bits.specs.Packed.{bit}
 
@@ -36,3 +37,17 @@ later old d (some i) = some (d + i)
 
 abbrev pub laid-behind : Noes → (d : ℕ) → Noes → Noes
 laid-behind old d new = record { count = old .count + new .count; latest = later (old .latest) d (new .latest) }
+
+-- HOW A CHECKPOINT STORES THEM: the count, and one more than the position of the latest, or 0 for none
+
+abbrev pub latest-of : (after : ℕ) → Option ℕ
+latest-of zero = none
+latest-of (suc i) = some i
+
+-- that number, once `last` is one more than the place of the latest among the verdicts from d on
+abbrev pub later-end : (old d last : ℕ) → ℕ
+later-end old d last = cond (eqb last 0) old (d + last)
+
+-- of the d verdicts given no more are no than there are, the latest is one of them, and there is none exactly where none is counted
+abbrev pub noes-in-range : (d count after : ℕ) → Bool
+noes-in-range d count after = leb count d && leb after d && Bool·beq (eqb count 0) (eqb after 0)
