@@ -37,6 +37,10 @@ right-words (next low high φ) = words φ
 right-words (since low high φ ψ) = words ψ
 right-words (until low high φ ψ) = words ψ
 
+-- where the operator's own block stands: behind its operands' words
+abbrev pub own-at : Formula → ℕ
+own-at φ = left-words φ + right-words φ
+
 -- a part of a words for the left operand and one of c words for the right, then the operator's own block; each operand
 -- itself stands where its buffer ends
 pub record Parts (Own : List ℕ → Type 0) (Left Right : ℕ → List ℕ → Type 0) (a c : ℕ) (ws : List ℕ) : Type 0 where
