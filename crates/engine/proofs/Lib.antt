@@ -2,6 +2,7 @@
 -- Parts, Uniform, Kept, Fill, Drive: the driver `answer`. Longer: the state survives a longer log.
 -- Held: the words of a formula's own block that its state does not look at.
 -- Rows: the table of an accepted rule. Entries: a subformula's words entry by entry, fresh words, ranges. Formulas: those of a rule.
+-- Places: the rows of a rule's formulas.
 pub mod Parts
 pub mod Uniform
 pub mod Kept
@@ -12,3 +13,4 @@ pub mod Held
 pub mod Rows
 pub mod Entries
 pub mod Formulas
+pub mod Places
