@@ -7,8 +7,13 @@ ghost use lib.Seq.{sets};
 ghost use Rattle.rule.specs.Accepted.{WellFormed};
 ghost use Rattle.blocks.specs.Kinds.{takes-left};
 ghost use Rattle.engine.specs.Table.{column};
+ghost use mathlib.Core.List.{List};
+ghost use Rattle.mtl.specs.Formula.{Formula};
 ghost use Rattle.engine.specs.Layout.{first, first-from, left-from, row-of, Laid};
+ghost use Rattle.engine.specs.Tops.{Tops, Ended};
 use super::table;
+use super::tops;
+use blocks::word;
 use rule::Entry;
 
 // or, since, until.
@@ -109,4 +114,31 @@ pub fn lay_out(entries: [Entry; 128], count: usize) -> [u64; 1024]
         k += 1;
     }
     table
+}
+
+// The rows of the rule's formulas, whose words begin at `base` and stand one after the other; `ends` has for each the number of entries up
+// to and with its last.
+pub fn lay_tops(
+    entries: [Entry; 128],
+    count: usize,
+    ends: [usize; 128],
+    number: usize,
+    table: &[u64; 1024],
+    base: usize,
+) -> [usize; 32]
+    requires { ⌜ (count ≤ 128) × WellFormed entries count × Laid entries count (now table) × (base ≤ 24) × ((fs : List Formula) × Ended entries count ends number fs) ⌝ }
+    ensures { λ r. ⌜ ((fs : List Formula) → Ended entries count ends number fs → Tops (now (table .entry)) r base number fs) ⌝ }
+{
+    let mut rows = [0usize; 32];
+    let mut from = base;
+    let mut k: usize = 0;
+    while k < number {
+        let last = one_less(ends[k]);
+        let to = from + table::field(table, last, table::WORDS) as usize;
+        let own = to - rule::own_words(entries[last]) as usize;
+        tops::put(&mut rows, k * 4, last, from, to, own + word::HELD_COUNT);
+        from = to;
+        k += 1;
+    }
+    rows
 }
