@@ -1,0 +1,5 @@
+-- The laws behind the proofs.
+pub mod Meaning
+pub mod Kept
+pub mod Places
+pub mod Holding
