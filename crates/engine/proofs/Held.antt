@@ -13,7 +13,7 @@ use Rattle.mtl.specs.Log.{Log}
 use Rattle.mtl.proofs.Bounded.{le-or-lt}
 use Rattle.rule.proofs.Spans.{own-least}
 use Rattle.blocks.specs.Ring.{Ring}
-use Rattle.blocks.specs.Block.{word, kind-of, high-of, cells-of, InRange, Own, Buffers, Ready}
+use Rattle.blocks.specs.Block.{word, kind-of, high-of, InRange, Own, Buffers, Ready}
 use Rattle.blocks.specs.Step.{has-left, has-right, left-of, right-of}
 use Rattle.engine.specs.State.{words, left-words, right-words, own-at, Parts, Absent, State, KeptParts, KeptNone, Kept, KeptOperand, KeptCopies}
 use Rattle.engine.proofs.Uniform.{all-words}
@@ -126,7 +126,7 @@ held-set at i v ws is =
     }
 
 -- a part that has the same words
-abbrev SamePart : List ℕ → List ℕ → Type 0
+abbrev pub SamePart : List ℕ → List ℕ → Type 0
 SamePart us us′ = (length us ≤ length us′) × ((i : ℕ) → getD us′ i 0 ≡ getD us i 0)
 
 same-held : (at : ℕ) (us us′ : List ℕ) → SamePart us us′ → HeldWords at us us′
@@ -149,7 +149,7 @@ module _ (from size : ℕ) (ws ws′ : List ℕ) (room : length ws ≤ length ws
       (le-or-lt size i)
 
 -- one that ends before the two words, or begins behind them
-part-beside : (at from size : ℕ) (ws ws′ : List ℕ) → (from + size ≤ at + 12) ⊎ (at + 14 ≤ from) → HeldWords at ws ws′ →
+pub part-beside : (at from size : ℕ) (ws ws′ : List ℕ) → (from + size ≤ at + 12) ⊎ (at + 14 ≤ from) → HeldWords at ws ws′ →
     SamePart (take size (drop from ws)) (take size (drop from ws′))
 part-beside at from size ws ws′ apart held = (
   part-room from size ws ws′ (held .room),
