@@ -1,19 +1,21 @@
 -- Words 12 and 13 of a formula's own block, which hold what it has answered and was not given yet: the state does not look at them.
 use Prim.Native.Nat.{ℕ, _+_, _≤_, _<_}
-use mathlib.Core.Logic.{⊎-elim}
-use mathlib.Core.Path.{_≡_, sym, _∙_}
+use mathlib.Core.Bool.{Bool, true, false}
+use mathlib.Core.Logic.{_⊎_, inl, ⊎-elim}
+use mathlib.Core.Path.{_≡_, refl, sym, _∙_}
 use mathlib.Core.List.{List}
 use native.Mathlib.Omega.{arith}
-use lib.ListN.{length, getD, take, drop, length-take, length-drop, List·getD-eq-default}
-use lib.Seq.{getD-take, getD-drop}
+use lib.ListN.{length, getD, take, drop, set, length-take, length-drop, length-set, List·getD-eq-default}
+use lib.Seq.{getD-take, getD-drop, getD-set-other}
 use Rattle.mtl.specs.Formula.{Formula}
 use Rattle.mtl.specs.Formula.Formula.{letter, not, or, previous, next, since, until}
 use Rattle.mtl.specs.Log.{Log}
 use Rattle.mtl.proofs.Bounded.{le-or-lt}
 use Rattle.rule.proofs.Spans.{own-least}
 use Rattle.blocks.specs.Ring.{Ring}
-use Rattle.blocks.specs.Block.{word, kind-of, high-of, cells-of, InRange, Own, Buffers, Ready}
-use Rattle.engine.specs.State.{words, own-at, Parts, Absent, State}
+use Rattle.blocks.specs.Block.{word, kind-of, high-of, InRange, Own, Buffers, Ready}
+use Rattle.blocks.specs.Step.{has-left, has-right, left-of, right-of}
+use Rattle.engine.specs.State.{words, left-words, right-words, own-at, Parts, Absent, State, KeptParts, KeptNone, Kept, KeptOperand, KeptCopies}
 use Rattle.engine.proofs.Uniform.{all-words}
 
 -- a formula's own block has 16 words and more
@@ -105,27 +107,64 @@ pub record HeldWords (at : ℕ) (ws ws′ : List ℕ) : Type 0 where
   pub room : length ws ≤ length ws′
   pub same : (i : ℕ) → (i ≡ at + 12 → ⊥) → (i ≡ at + 13 → ⊥) → getD ws′ i 0 ≡ getD ws i 0
 
+pub held-refl : (at : ℕ) (ws : List ℕ) → HeldWords at ws ws
+held-refl at ws = record { room = omega arith; same = λ i h h′. refl }
+
+pub held-trans : (at : ℕ) (ws ws′ ws″ : List ℕ) → HeldWords at ws ws′ → HeldWords at ws′ ws″ → HeldWords at ws ws″
+held-trans at ws ws′ ws″ x y =
+    record {
+      room = let a = x .room in let b = y .room in omega arith;
+      same = λ i h h′. y .same i h h′ ∙ x .same i h h′;
+    }
+
+-- a store to one of the two words
+pub held-set : (at i v : ℕ) (ws : List ℕ) → (i ≡ at + 12) ⊎ (i ≡ at + 13) → HeldWords at ws (set ws i v)
+held-set at i v ws is =
+    record {
+      room = omega (arith, length-set ws i v);
+      same = λ j h h′. getD-set-other ws i j v 0 (⊎-elim (λ e f. h (f ∙ e)) (λ e f. h′ (f ∙ e)) is);
+    }
+
 -- a part that has the same words
-abbrev SamePart : List ℕ → List ℕ → Type 0
+abbrev pub SamePart : List ℕ → List ℕ → Type 0
 SamePart us us′ = (length us ≤ length us′) × ((i : ℕ) → getD us′ i 0 ≡ getD us i 0)
 
 same-held : (at : ℕ) (us us′ : List ℕ) → SamePart us us′ → HeldWords at us us′
 same-held at us us′ same = record { room = same .0; same = λ i h h′. same .1 i }
 
--- a part that ends before the block
-part-before : (at from size : ℕ) (ws ws′ : List ℕ) → from + size ≤ at → HeldWords at ws ws′ →
-    SamePart (take size (drop from ws)) (take size (drop from ws′))
-part-before at from size ws ws′ le held = (
-  let r = held .room in
-      omega (arith, length-take size (drop from ws), length-take size (drop from ws′), length-drop from ws, length-drop from ws′),
-  λ i. ⊎-elim
-      (λ (h : size ≤ i). List·getD-eq-default (take size (drop from ws′)) 0 {n = i} (omega (arith, length-take size (drop from ws′)))
-      ∙ sym (List·getD-eq-default (take size (drop from ws)) 0 {n = i} (omega (arith, length-take size (drop from ws)))))
-      (λ (h : i < size). getD-take size (drop from ws′) i 0 h ∙ getD-drop from ws′ i 0 ∙
-      held .same (from + i) (λ e. omega arith) (λ e. omega arith) ∙
+-- a part of the words
+module _ (from size : ℕ) (ws ws′ : List ℕ) (room : length ws ≤ length ws′) where
+  part-room : length (take size (drop from ws)) ≤ length (take size (drop from ws′))
+  part-room = omega (arith, length-take size (drop from ws), length-take size (drop from ws′), length-drop from ws, length-drop from ws′)
+
+  -- its word i is the same if that word of the whole is
+  part-word : (i : ℕ) → (i < size → getD ws′ (from + i) 0 ≡ getD ws (from + i) 0) →
+      getD (take size (drop from ws′)) i 0 ≡ getD (take size (drop from ws)) i 0
+  part-word i same =
+      ⊎-elim
+      (λ (h : size ≤ i). List·getD-eq-default (take size (drop from ws′)) 0 {n = i} (omega (arith, length-take size (drop from ws′))) ∙
+      sym (List·getD-eq-default (take size (drop from ws)) 0 {n = i} (omega (arith, length-take size (drop from ws)))))
+      (λ (h : i < size). getD-take size (drop from ws′) i 0 h ∙ getD-drop from ws′ i 0 ∙ same h ∙
       sym (getD-take size (drop from ws) i 0 h ∙ getD-drop from ws i 0))
-      (le-or-lt size i),
+      (le-or-lt size i)
+
+-- one that ends before the two words, or begins behind them
+pub part-beside : (at from size : ℕ) (ws ws′ : List ℕ) → (from + size ≤ at + 12) ⊎ (at + 14 ≤ from) → HeldWords at ws ws′ →
+    SamePart (take size (drop from ws)) (take size (drop from ws′))
+part-beside at from size ws ws′ apart held = (
+  part-room from size ws ws′ (held .room),
+  λ i. part-word from size ws ws′ (held .room) i (λ h.
+      held .same (from + i) (λ e. ⊎-elim (λ a. omega arith) (λ a. omega arith) apart) (λ e. ⊎-elim (λ a. omega arith) (λ a. omega arith) apart)),
 )
+
+-- one that has them
+pub held-part : (at from size : ℕ) (ws ws′ : List ℕ) → HeldWords (from + at) ws ws′ →
+    HeldWords at (take size (drop from ws)) (take size (drop from ws′))
+held-part at from size ws ws′ held =
+    record {
+      room = part-room from size ws ws′ (held .room);
+      same = λ i h h′. part-word from size ws ws′ (held .room) i (λ l. held .same (from + i) (λ e. h (omega arith)) (λ e. h′ (omega arith)));
+    }
 
 block-held : (at : ℕ) (ws ws′ : List ℕ) → HeldWords at ws ws′ → HeldBlock (drop at ws) (drop at ws′)
 block-held at ws ws′ held =
@@ -146,10 +185,10 @@ parts-held φ L g Left Right a c ws ws′ held left right s =
     record {
       own = ready-held b b′ h φ L g (s .own);
       left =
-          left _ (take a ws) (take a ws′) (part-before (a + c) 0 a ws ws′ (omega arith) held)
+          left _ (take a ws) (take a ws′) (part-beside (a + c) 0 a ws ws′ (inl (omega arith)) held)
           (rw (low-same b b′ h 0 (omega arith), low-same b b′ h 1 (omega arith)) (s .left));
       right =
-          right _ (take c (drop a ws)) (take c (drop a ws′)) (part-before (a + c) a c ws ws′ (omega arith) held)
+          right _ (take c (drop a ws)) (take c (drop a ws′)) (part-beside (a + c) a c ws ws′ (inl (omega arith)) held)
           (rw (low-same b b′ h 0 (omega arith), low-same b b′ h 3 (omega arith)) (s .right));
     }
 
@@ -186,3 +225,47 @@ pub state-held : (φ : Formula) (L : Log) (g : ℕ) (ws ws′ : List ℕ) → le
     ((i : ℕ) → (i ≡ own-at φ + 12 → ⊥) → (i ≡ own-at φ + 13 → ⊥) → getD ws′ i 0 ≡ getD ws i 0) →
     State φ L g ws → State φ L g ws′
 state-held φ L g ws ws′ room same = held-state φ L g ws ws′ (record { room = room; same = same })
+
+-- KEPT WORDS
+
+parts-kept : (Left Right : List ℕ → List ℕ → Type 0) (a c : ℕ) (ws ws′ : List ℕ) → SamePart ws ws′ →
+    ((us us′ : List ℕ) → SamePart us us′ → Left us us′) → ((us us′ : List ℕ) → SamePart us us′ → Right us us′) → KeptParts Left Right a c ws ws′
+parts-kept Left Right a c ws ws′ same left right =
+    let held = same-held (a + c) ws ws′ same in
+    record {
+      own = λ i h l. getD-drop (a + c) ws′ i 0 ∙ same .1 (a + c + i) ∙ sym (getD-drop (a + c) ws i 0);
+      left = left _ _ (part-beside (a + c) 0 a ws ws′ (inl (omega arith)) held);
+      right = right _ _ (part-beside (a + c) a c ws ws′ (inl (omega arith)) held);
+    }
+
+none-kept : (us us′ : List ℕ) → SamePart us us′ → KeptNone us us′
+none-kept us us′ same = tt
+
+-- the same words are kept
+kept-same : (φ : Formula) (ws ws′ : List ℕ) → SamePart ws ws′ → Kept φ ws ws′
+unfolding Kept
+kept-same (letter k) ws ws′ same = parts-kept KeptNone KeptNone 0 0 ws ws′ same none-kept none-kept
+kept-same (not φ) ws ws′ same = parts-kept KeptNone (Kept φ) 0 (words φ) ws ws′ same none-kept (kept-same φ)
+kept-same (or φ ψ) ws ws′ same = parts-kept (Kept φ) (Kept ψ) (words φ) (words ψ) ws ws′ same (kept-same φ) (kept-same ψ)
+kept-same (previous low high φ) ws ws′ same = parts-kept KeptNone (Kept φ) 0 (words φ) ws ws′ same none-kept (kept-same φ)
+kept-same (next low high φ) ws ws′ same = parts-kept KeptNone (Kept φ) 0 (words φ) ws ws′ same none-kept (kept-same φ)
+kept-same (since low high φ ψ) ws ws′ same = parts-kept (Kept φ) (Kept ψ) (words φ) (words ψ) ws ws′ same (kept-same φ) (kept-same ψ)
+kept-same (until low high φ ψ) ws ws′ same = parts-kept (Kept φ) (Kept ψ) (words φ) (words ψ) ws ws′ same (kept-same φ) (kept-same ψ)
+
+operand-same : (b : Bool) (φ : Formula) (us us′ : List ℕ) → SamePart us us′ → KeptOperand b φ us us′
+operand-same true φ us us′ same = kept-same φ us us′ same
+operand-same false φ us us′ same = tt
+
+-- THEOREM: whatever is written to words 12 and 13 of the formula's own block, words 14 and 15 of every block are kept, and all four of every
+-- other block.
+pub copies-held : (φ : Formula) (ws ws′ : List ℕ) → HeldWords (own-at φ) ws ws′ → KeptCopies φ ws ws′
+copies-held φ ws ws′ held =
+    let a = left-words φ in
+    let c = right-words φ in
+    let block = block-held (a + c) ws ws′ held in
+    record {
+      own = λ i h l. block .same i (λ e. omega arith) (λ e. omega arith);
+      left = operand-same (has-left φ) (left-of φ) (take a ws) (take a ws′) (part-beside (a + c) 0 a ws ws′ (inl (omega arith)) held);
+      right =
+          operand-same (has-right φ) (right-of φ) (take c (drop a ws)) (take c (drop a ws′)) (part-beside (a + c) a c ws ws′ (inl (omega arith)) held);
+    }

@@ -2,7 +2,7 @@
 -- Parts, Uniform, Kept, Fill, Drive: the driver `answer`. Longer: the state survives a longer log.
 -- Held: the words of a formula's own block that its state does not look at.
 -- Rows: the table of an accepted rule. Entries: a subformula's words entry by entry, fresh words, ranges. Formulas: those of a rule.
--- Places: the rows of a rule's formulas.
+-- Beside: one formula's words are written, the others' stay. Places: the rows of a rule's formulas.
 pub mod Parts
 pub mod Uniform
 pub mod Kept
@@ -13,4 +13,5 @@ pub mod Held
 pub mod Rows
 pub mod Entries
 pub mod Formulas
+pub mod Beside
 pub mod Places

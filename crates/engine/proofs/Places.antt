@@ -12,7 +12,7 @@ use Rattle.mtl.proofs.Bounded.{le-or-lt}
 use Rattle.rule.specs.declared.Entry.{Entry}
 use Rattle.rule.specs.Entries.{entry}
 use Rattle.rule.specs.Words.{own, offset}
-use Rattle.rule.specs.Postfix.{formula, start}
+use Rattle.rule.specs.Postfix.{formula}
 use Rattle.rule.specs.Accepted.{WellFormed}
 use Rattle.rule.proofs.Spans.{offset-mono}
 use Rattle.engine.specs.State.{words, words-before, own-at}
