@@ -1,5 +1,5 @@
 -- A rule that is encoded from a formula's entries decodes to them, and what `measure` answers for it.
-use Prim.Native.Nat.{ℕ, zero, suc, _+_, _-_, _*_, _≤_, _<_}
+use Prim.Native.Nat.{ℕ, zero, suc, _+_, _*_, _≤_, _<_}
 use native.Mathlib.Nat.{not-suc-le-zero, le-of-suc-le-suc}
 use native.Mathlib.Omega.{arith}
 use borrow.Author.Tests.{le-ltb, eq-eqb}
@@ -13,16 +13,16 @@ use lib.Seq.{getD-append-add, ext-getD, getD-take, length-take-le}
 use Rattle.mtl.specs.Formula.{Formula}
 use Rattle.mtl.specs.Satisfaction.{any}
 use Rattle.mtl.proofs.Bounded.{any-congr}
 use Rattle.rule.specs.declared.Entry.{Entry}
 use Rattle.rule.specs.Bytes.{byte}
 use Rattle.rule.specs.Entries.{entry-of, decoded, blank, entry}
 use Rattle.rule.specs.Words.{own, offset, words}
-use Rattle.rule.specs.Postfix.{read, at-most-one, formulas, postfix}
+use Rattle.rule.specs.Postfix.{read, left-by, formulas, postfix}
 use Rattle.rule.specs.Encoding.{entry-bytes, body, encoded}
 use Rattle.rule.specs.Refusal.{misshapen, misshapen-at, misplaced, misplaced-at, over-limit, first, header-refusal, entries-refusal, refusal}
-use Rattle.rule.specs.Measure.{far, farthest, reach-of, refused, answer-by, measured}
+use Rattle.rule.specs.Measure.{reach-of, refused, answer-by, measured}
 use Rattle.rule.proofs.Decoded.{length-decoded, decoded-at}
 use Rattle.rule.proofs.Flat.{read-postfix}
 
 pub length-body : (es : List Entry) → length (body es) ≡ length es * 10
 unfolding body
@@ -91,14 +91,11 @@ module _ (es : List Entry) where
     any-back : (q : Entry → Bool) → any (length es) (λ k. q (entry (decoded (encoded es)) k)) ≡ any (length es) (λ k. q (entry es k))
     any-back q = any-congr (length es) _ _ (λ k h. ap q (decoded-entry k h))
 
+    -- a rule of version 1: the entries of φ
     module _ (φ : Formula) (is : postfix φ ≡ es) (shaped : any (length es) (misshapen-at es) ≡ false) where
-      formula-back : formulas (decoded (encoded es)) (length es) ≡ some (φ ∷ [])
+      pub formula-back : formulas 1 (decoded (encoded es)) (length es) ≡ some (φ ∷ [])
       formula-back =
-          ap (λ (l : List Entry). at-most-one (read l (some []))) (decoded-back ∙ sym is) ∙ ap at-most-one (read-postfix φ [])
-
-      far-is : farthest (φ ∷ []) ≡ far φ
-      unfolding farthest
-      far-is = omega arith
+          ap (λ (l : List Entry). left-by 1 (read l (some []))) (decoded-back ∙ sym is) ∙ ap (left-by 1) (read-postfix φ [])
 
       header-back : header-refusal (encoded es) ≡ 0
       unfolding header-refusal encoded
@@ -107,18 +104,18 @@ module _ (es : List Entry) where
 
       -- the first of 6 and 8 that applies
       abbrev pub number : ℕ
-      number = first 6 (any (length es) (misplaced-at es)) (first 8 (over-limit es (length es)) 0)
+      number = first 6 (any (length es) (misplaced-at es)) (first 8 (over-limit 1 es (length es)) 0)
 
-      refusal-back : refusal (encoded es) ≡ number
+      pub refusal-back : refusal (encoded es) ≡ number
       unfolding entries-refusal encoded
       refusal-back =
           simp (header-back)
           (simp (any-back misshapen ∙ shaped, any-back misplaced, formula-back, offset-back (length es) (omega arith)))
 
       -- "Weigh reads a rule and gives the words that a saved point needs, and the rule's reach"
-      pub weighed : measured (encoded es) ≡ cond (eqb number 0) (record { number = 0; words = words es (length es); reach = far φ }) (refused number)
+      pub weighed : measured (encoded es) ≡ cond (eqb number 0) (record { number = 0; words = words 1 es (length es); reach = reach-of (some (φ ∷ [])) }) (refused number)
       unfolding encoded
       weighed =
-          ap (λ (m : ℕ). answer-by m (decoded (encoded es)) (length es)) refusal-back
+          ap (λ (m : ℕ). answer-by m 1 (decoded (encoded es)) (length es)) refusal-back
           ∙ ap₂ (λ (w r : ℕ). cond (eqb number 0) (record { number = 0; words = w; reach = r }) (refused number))
-          (ap (λ (w : ℕ). 16 + w) (offset-back (length es) (omega arith))) (ap reach-of formula-back ∙ far-is)
+          (ap (λ (w : ℕ). 16 + w) (offset-back (length es) (omega arith))) (ap reach-of formula-back)
