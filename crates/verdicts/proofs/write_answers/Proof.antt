@@ -1,0 +1,76 @@
+-- `write_answers` meets its contract. The loop's invariant: i verdicts are written.
+use Prim.Native.Nat.{ℕ, _+_, _-_, _≤_}
+use native.Mathlib.Omega.{arith}
+use mathlib.Core.List.{List}
+use mathlib.Core.Path.{_≡_, refl, sym, ap, _∙_}
+use lib.ListN.{length, take}
+use borrow.Author.Needs.{needs}
+use Rattle.verdicts.proofs.Columns.{few-taken}
+use Rattle.verdicts.proofs.Written.{written, written-none, written-more, length-written}
+use Rattle.verdicts.proofs.write_answers.Statement.{statement}
+use Rattle.verdicts.proofs.write_answers.Tie as tie
+
+abbrev Inv-loop : tie.InvT-loop
+Inv-loop sheet₀ from n answers columns i₀ sheet i = (i ≤ n) × (length sheet ≡ length sheet₀) × (sheet ≡ written from i (take columns answers) sheet₀)
+
+abbrev μ-loop : tie.MeasureT-loop
+μ-loop sheet₀ from n answers columns i₀ sheet i = n - i
+
+loop-holds : tie.Need-loop-holds Inv-loop μ-loop
+loop-holds c =
+    let a = c .before .args in
+    (omega arith, refl, written-none (a .from) (take (a .columns) (a .answers .now)) (a .sheet .now))
+
+loop-again : tie.Need-loop-again Inv-loop μ-loop
+loop-again c =
+    let a = c .before .before .before .before .before .before .before .before .before .args in
+    let l = c .before .before .before .before .before .before .before .loop in
+    let words = take (a .columns) (a .answers .now) in
+    let write = c .before .before .write-all in
+    let new =
+    written-more (a .from) (l .i) 8 (c .before .before .before .before .verdicts-at .result) words (a .sheet .now) (l .sheet) (write .last .0)
+    (omega (arith, few-taken (a .columns) (a .answers .now))) (omega arith) (omega arith)
+    (c .before .before .before .before .verdicts-at .ensures) (write .ensures) (l .inv .2) in
+    (omega arith, ap length new ∙ length-written (a .from) (l .i + 8) words (a .sheet .now) (omega arith), new)
+
+returns : tie.Need-returns Inv-loop μ-loop
+returns c =
+    let l = c .before .before .loop in
+    let last : l .i ≡ c .before .before .before .before .args .n = omega arith in
+    rw last at (l .inv .2)
+
+returns-2 : tie.Need-returns-2 Inv-loop μ-loop
+returns-2 c =
+    let a = c .before .before .before .before .before .before .before .before .before .before .args in
+    let l = c .before .before .before .before .before .before .before .before .loop in
+    let words = take (a .columns) (a .answers .now) in
+    let write = c .before .before .write-first in
+    let end : l .i + (a .n - l .i) ≡ a .n = omega arith in
+    let new =
+    written-more (a .from) (l .i) (a .n - l .i) (c .before .before .before .before .verdicts-at2 .result) words (a .sheet .now) (l .sheet) (write .last .0)
+    (omega (arith, few-taken (a .columns) (a .answers .now))) (omega arith) (omega arith)
+    (c .before .before .before .before .verdicts-at2 .ensures) (write .ensures) (l .inv .2) in
+    rw end at new
+
+pub write-answers-spec : {M : Type 1} → statement M
+write-answers-spec =
+    tie.close
+    (tie.spec
+    Inv-loop
+    μ-loop
+    loop-holds
+    (λ c. search needs)
+    (λ c κs. search needs)
+    (λ c. search needs)
+    (λ c κs. search needs)
+    (λ c. search needs)
+    (λ c. search needs)
+    loop-again
+    (λ c. search needs)
+    returns
+    (λ c κs. search needs)
+    (λ c. search needs)
+    (λ c. search needs)
+    (λ c κs. search needs)
+    (λ c. search needs)
+    returns-2)
