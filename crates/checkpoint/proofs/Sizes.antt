@@ -3,7 +3,7 @@ use Prim.Native.Nat.{ℕ, _+_, _≤_, _<_}
 use native.Mathlib.Omega.{arith}
 use mathlib.Core.Bool.{Bool, true, false, cond}
 use mathlib.Core.Logic.{⊎-elim}
-use mathlib.Core.Path.{_≡_, refl, ap, _∙_}
+use mathlib.Core.Path.{_≡_, refl, _∙_}
 use mathlib.Core.List.{List}
 use lib.Dec.{eqb, ltb}
 use borrow.Author.Tests.{eqb-true, eqb-false, ltb-false, ne-eqb}
@@ -13,11 +13,11 @@ use Rattle.rule.specs.declared.Measured.{Measured}
 use Rattle.rule.specs.declared.Measured.the-variants.{Words as Weighed, Refused}
 use Rattle.rule.specs.Entries.{version}
 use Rattle.rule.specs.Words.{header-words, offset}
-use Rattle.rule.specs.Refusal.{header-refusal, refusal}
+use Rattle.rule.specs.Refusal.{refusal}
 use Rattle.rule.specs.Measure.{answer, measured}
 use Rattle.rule.specs.Code.{header, header-version, header-count, filled}
 use Rattle.rule.proofs.Acceptance.{accepted}
-use Rattle.rule.proofs.Headers.{first-zero, before-none, Decoded, decoded-once}
+use Rattle.rule.proofs.Headers.{first-zero, before-none, Decoded, decoded-once, version-once}
 use Rattle.rule.proofs.Outcome.{passes-with, stops-with}
 use Rattle.checkpoint.specs.Checkpoint.{need}
 use Rattle.checkpoint.specs.Code.{sized-by, sized-of, sized-number}
@@ -75,9 +75,7 @@ is-decoded s h t n is e e′ ok = decoded-once s h is t n e e′ (before-none _ 
 
 -- and the version that it tells
 pub is-version : (s : List ℕ) (h : Header) (v : ℕ) → h ≡ header s → v ≡ header-version h → refusal s ≡ 0 → v ≡ version s
-is-version s h v is e ok =
-    let none : header-refusal s ≡ 0 = before-none _ _ ok .0 in
-    e ∙ ap header-version is ∙ simp none
+is-version s h v is e ok = e ∙ version-once s h is (before-none _ _ ok .0)
 
 -- a rule that is accepted is of version 1 or 2
 pub version-most : (s : List ℕ) → refusal s ≡ 0 → version s ≤ 2
