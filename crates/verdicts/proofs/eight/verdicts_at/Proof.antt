@@ -1,5 +1,5 @@
 -- `eight::verdicts_at` meets its contract. The loop's invariant: `word` has the verdicts of the columns from `left` on.
-use Prim.Native.Nat.{ℕ, _-_, _≤_}
+use Prim.Native.Nat.{ℕ, _≤_}
 use native.Mathlib.Omega.{arith}
 use mathlib.Core.List.{List}
 use mathlib.Core.Path.{_≡_, sym, ap, _∙_}
