@@ -3,3 +3,4 @@ pub mod Meaning
 pub mod Kept
 pub mod Places
 pub mod Holding
+pub mod Spending
