@@ -80,8 +80,11 @@ closed-after-11 : point-refusal false 1 table 1 [] (set closed 1 2) ≡ 11
 unfolding any offset
 closed-after-11 = refl
 
--- a point after one verdict, and two records of which the first is overwritten: order is looked at from the first still wanted on
-overwritten-before-wanted : point-refusal false 1 table 1 (0x4B ∷ 0x4C ∷ 0x47 ∷ 0 ∷ 1 ∷ 0 ∷ 0 ∷ 0 ∷ 255 ∷ 255 ∷ 255 ∷ 255 ∷ 0 ∷ 0 ∷ 0 ∷ 0 ∷ 0 ∷ 0 ∷ 0 ∷ 5 ∷ 0 ∷ 0 ∷ 0 ∷ 0 ∷ [])
-    (set (set (set (fresh 1) 1 1) 2 1) 3 5) ≡ 0
+-- two records, at times 2³² - 1 and 5: the first was overwritten after its verdict was given. Order is looked at from the first record
+-- still wanted on.
+abbrev overwritten : List ℕ
+overwritten = 0x4B ∷ 0x4C ∷ 0x47 ∷ 0 ∷ 1 ∷ 0 ∷ 0 ∷ 0 ∷ 255 ∷ 255 ∷ 255 ∷ 255 ∷ 0 ∷ 0 ∷ 0 ∷ 0 ∷ 0 ∷ 0 ∷ 0 ∷ 5 ∷ replicate 4 0
+
+overwritten-before-wanted : point-refusal false 1 table 1 overwritten (set (set (set (fresh 1) 1 1) 2 1) 3 5) ≡ 0
 unfolding any offset deepest depth read push-kind
 overwritten-before-wanted = refl
