@@ -21,7 +21,7 @@ use Rattle.engine.proofs.Held.{HeldWords, held-state, copies-held}
 use Rattle.engine.proofs.Beside.{before-grows}
 use Rattle.checkpoint.specs.Checkpoint.{given, stored-noes}
 use Rattle.emit.specs.Top.{held-count, held-bits, Waiting, part-of, Top}
-use Rattle.emit.specs.Code.{Fits, spent-one, spent}
+use Rattle.emit.specs.Code.{Fits, Row, spent-one, spent, Spendable}
 use Rattle.emit.proofs.Places.{Place, part-word, place-in, held-inside, count-at, bits-at, apart}
 
 -- formula k's counts and answers, which stand at four places one behind the other
@@ -70,13 +70,6 @@ module _ (held at late d n : ℕ) (ws : List ℕ) (four : Four held at late (len
   one-bits : word (spent-one held at late d n ws) (held + 1) ≡ bits / 2 ^ n
   one-bits = let f = four in getD-set-same three (held + 1) _ 0 (simp length-set (f .inside))
 
--- where the answers of the formulas stand
-pub record Row (held : ℕ → ℕ) (most number size : ℕ) : Type 0 where
-  pub formulas : number ≤ most
-  pub above : (k : ℕ) → k < number → 8 + most + most ≤ held k
-  pub apart : (j k : ℕ) → j < k → k < number → held j + 2 ≤ held k
-  pub inside : (k : ℕ) → k < number → held k + 1 < size
-
 -- index i is none of the first k formulas'
 abbrev pub Away : (held : ℕ → ℕ) (most k i : ℕ) → Type 0
 Away held most k i = (j : ℕ) → j < k → (i ≡ 8 + j → ⊥) × (i ≡ 8 + most + j → ⊥) × (i ≡ held j → ⊥) × (i ≡ held j + 1 → ⊥)
@@ -111,7 +104,7 @@ module _ (held : ℕ → ℕ) (most d n number : ℕ) (ws : List ℕ) (row : Row
       spent-away k (omega arith) i (λ j l. away j (omega arith))
 
   -- those of formula j are away from the others'
-  its-away : (j k : ℕ) → j < number → k ≤ j →
+  pub its-away : (j k : ℕ) → j < number → k ≤ j →
       Away held most k (8 + j) × Away held most k (8 + most + j) × Away held most k (held j) × Away held most k (held j + 1)
   its-away j k h l =
       let f = row .formulas in
@@ -161,3 +154,37 @@ module _ (held : ℕ → ℕ) (most d n number : ℕ) (ws : List ℕ) (row : Row
         held-bits = stays (held j + 1) (λ z. omega arith) (λ z. omega arith) (λ z. omega arith) (λ z. omega arith) ∙ s .held-bits;
       })
       (le-or-lt k j)
+
+pub spent-none : (held : ℕ → ℕ) (most d n : ℕ) (ws : List ℕ) → ws ≡ spent held most d n 0 ws
+unfolding spent
+spent-none held most d n ws = refl
+
+pub spent-next : (held : ℕ → ℕ) (most d n k : ℕ) (ws : List ℕ) →
+    spent-one (held k) (8 + k) (8 + most + k) d n (spent held most d n k ws) ≡ spent held most d n (k + 1) ws
+unfolding spent
+spent-next held most d n k ws = let e : suc k ≡ k + 1 = omega arith in ap (λ (m : ℕ). spent held most d n m ws) e
+
+-- what taking formula k's answers needs, once those of the formulas before it are taken
+pub may-spend : (tops : List ℕ) (number most n : ℕ) (ws : List ℕ) → Spendable tops number most n ws → (k : ℕ) → k < number → (held : ℕ) (ws₁ : List ℕ) →
+    held ≡ place 3 tops k → ws₁ ≡ spent (place 3 tops) most (given ws) n k ws →
+    (n ≤ 64) × (8 + k < length ws₁) × (8 + most + k < length ws₁) × (held + 1 < length ws₁) × (n ≤ word ws₁ held) × (word ws₁ (8 + k) + n < 2 ^ 64) × (given ws + n < 2 ^ 64)
+may-spend tops number most n ws able k h held ws₁ at is =
+    let d = given ws in
+    let row = able .row in
+    let f = row .formulas in
+    let a = row .above k h in
+    let i = row .inside k h in
+    let long = length-spent (place 3 tops) most d n number ws row k in
+    let (x, y, z, w) = its-away (place 3 tops) most d n number ws row k k h (omega arith) in
+    let same-count = spent-away (place 3 tops) most d n number ws row k (omega arith) (8 + k) x in
+    let same-held = spent-away (place 3 tops) most d n number ws row k (omega arith) (place 3 tops k) z in
+    rw (at, is)
+    (
+      able .few,
+      omega arith,
+      omega arith,
+      omega arith,
+      omega (arith, able .held k h),
+      omega (arith, able .counted k h),
+      able .given,
+    )

@@ -146,7 +146,7 @@ fn spend(tops: &[usize; 32], number: usize, most: usize, words: &mut [u64], n: u
 }
 
 // How many answers a verdict has: one for each formula, and one where there is none.
-fn columns_of(number: usize) -> usize
+pub fn columns_of(number: usize) -> usize
     ensures { λ r. ⌜ r ≡ max 1 number ⌝ }
 {
     if number == 0 { 1 } else { number }
