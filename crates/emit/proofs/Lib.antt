@@ -4,3 +4,4 @@ pub mod Kept
 pub mod Places
 pub mod Holding
 pub mod Spending
+pub mod Giving

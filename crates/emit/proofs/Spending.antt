@@ -21,7 +21,7 @@ use Rattle.engine.proofs.Held.{HeldWords, held-state, copies-held}
 use Rattle.engine.proofs.Beside.{before-grows}
 use Rattle.checkpoint.specs.Checkpoint.{given, stored-noes}
 use Rattle.emit.specs.Top.{held-count, held-bits, Waiting, part-of, Top}
-use Rattle.emit.specs.Code.{Fits, Row, spent-one, spent, Spendable}
+use Rattle.emit.specs.Code.{Fits, Row, spent-one, spent, all-spent, Spendable}
 use Rattle.emit.proofs.Places.{Place, part-word, place-in, held-inside, count-at, bits-at, apart}
 
 -- formula k's counts and answers, which stand at four places one behind the other
@@ -188,3 +188,158 @@ may-spend tops number most n ws able k h held ws₁ at is =
       omega (arith, able .counted k h),
       able .given,
     )
+
+-- THE WORDS OF FORMULAS THAT FIT
+
+module _ {table tops : List ℕ} {base number : ℕ} {fs : List Formula} (most n : ℕ) (ws : List ℕ)
+    (fits : Fits table tops base number fs (length ws)) (counts : 8 + most + most ≤ base) (few : number ≤ most) where
+  abbrev held-at : ℕ → ℕ
+  held-at = place 3 tops
+
+  abbrev spent-all : List ℕ
+  spent-all = all-spent tops most n number ws
+
+  pub its-row : Row (place 3 tops) most number (length ws)
+  its-row =
+      let all = fits .laid .number in
+      record {
+        formulas = few;
+        above = λ k h. omega (arith, held-inside fits k (omega arith) .1);
+        apart = λ j k l h. apart fits j k l (omega arith);
+        inside = λ k h. held-inside fits k (omega arith) .0;
+      }
+
+  pub length-all : length spent-all ≡ length ws
+  length-all = simp length-set (length-spent held-at most (given ws) n number ws its-row number)
+
+  not-given-word : (i : ℕ) → (i ≡ 1 → ⊥) → word spent-all i ≡ word (spent (place 3 tops) most (given ws) n number ws) i
+  not-given-word i ne = getD-set-other (spent (place 3 tops) most (given ws) n number ws) 1 i (given ws + n) 0 ne
+
+  away-word : (i : ℕ) → (i ≡ 1 → ⊥) → Away (place 3 tops) most number i → word spent-all i ≡ word ws i
+  away-word i ne away = not-given-word i ne ∙ spent-away held-at most (given ws) n number ws its-row number (omega arith) i away
+
+  -- the header: the verdicts given, the words that stay, and the counts of the formulas
+  pub now-given : given spent-all ≡ given ws + n
+  now-given =
+      getD-set-same (spent (place 3 tops) most (given ws) n number ws) 1 (given ws + n) 0
+      (omega (arith, length-spent held-at most (given ws) n number ws its-row number, fits .header, fits .all))
+
+  pub now-header : (i : ℕ) → i < 8 → (i ≡ 1 → ⊥) → word spent-all i ≡ word ws i
+  now-header i low ne = away-word i ne (λ j h. let a = its-row .above j h in omega arith)
+
+  pub now-spare : (k : ℕ) → number ≤ k → k < most → (word spent-all (8 + k) ≡ word ws (8 + k)) × (word spent-all (8 + most + k) ≡ word ws (8 + most + k))
+  now-spare k late h = (
+    away-word (8 + k) (λ e. omega arith) (λ j l. let a = its-row .above j l in omega arith),
+    away-word (8 + most + k) (λ e. omega arith) (λ j l. let a = its-row .above j l in omega arith),
+  )
+
+  pub now-noes : (k : ℕ) → k < number →
+      stored-noes most spent-all k ≡ laid-behind (stored-noes most ws k) (given ws) (noes-of-bits n (word ws (place 3 tops k + 1)))
+  now-noes k h =
+      let at = spent-at held-at most (given ws) n number ws its-row number (omega arith) k h in
+      let bits = word ws (place 3 tops k + 1) in
+      ap₂ (λ (c a : ℕ). noes c (latest-of a)) (not-given-word (8 + k) (λ e. omega arith) ∙ at .count) (not-given-word (8 + most + k) (λ e. omega arith) ∙ at .late) ∙
+      ap (noes (word ws (8 + k) + zeros n bits)) (latest-end (word ws (8 + most + k)) (given ws) (last-zero n bits))
+
+  -- formula k's words
+  module _ (k : ℕ) (h : k < length fs) where
+    abbrev φ : Formula
+    φ = formula fs k
+
+    below : k < number
+    below = omega (arith, fits .laid .number)
+
+    pub now-count : held-count φ (part-of base fs k spent-all) ≡ held-count φ (part-of base fs k ws) - n
+    now-count =
+        let at = spent-at held-at most (given ws) n number ws its-row number (omega arith) k below in
+        let a = its-row .above k below in
+        count-at fits k h spent-all ∙ not-given-word (place 3 tops k) (λ e. omega arith) ∙ at .held-count ∙
+        sym (ap (λ (m : ℕ). m - n) (count-at fits k h ws))
+
+    pub now-bits : held-bits φ (part-of base fs k spent-all) ≡ held-bits φ (part-of base fs k ws) / 2 ^ n
+    now-bits =
+        let at = spent-at held-at most (given ws) n number ws its-row number (omega arith) k below in
+        let a = its-row .above k below in
+        bits-at fits k h spent-all ∙ not-given-word (place 3 tops k + 1) (λ e. omega arith) ∙ at .held-bits ∙
+        sym (ap (λ (m : ℕ). m / 2 ^ n) (bits-at fits k h ws))
+
+    -- its other words
+    away-part : (i : ℕ) → i < words φ → (i ≡ own-at φ + 12 → ⊥) → (i ≡ own-at φ + 13 → ⊥) →
+        Away (place 3 tops) most number (base + words-before fs k + i)
+    away-part i l ne ne′ j m =
+        let p = place-in fits k h in
+        let q = place-in fits j (omega (arith, fits .laid .number)) in
+        let r = fits .laid .each k h .held in
+        let r′ = fits .laid .each j (omega (arith, fits .laid .number)) .held in
+        (
+          λ e. omega arith,
+          λ e. omega arith,
+          λ e. not-its j m i l ne ne′ 0 (omega arith) (omega (arith, e)),
+          λ e. not-its j m i l ne ne′ 1 (omega arith) (omega (arith, e)),
+        )
+      where
+        not-its : (j : ℕ) → j < number → (i : ℕ) → i < words φ → (i ≡ own-at φ + 12 → ⊥) → (i ≡ own-at φ + 13 → ⊥) → (o : ℕ) → o < 2 →
+            base + words-before fs k + i ≡ place 3 tops j + o → ⊥
+        not-its j m i l ne ne′ o small e =
+            let p = place-in fits k h in
+            let q = place-in fits j (omega (arith, fits .laid .number)) in
+            let r′ = fits .laid .each j (omega (arith, fits .laid .number)) .held in
+            ⊎-elim
+            (λ (x : j ≤ k).
+            ⊎-elim
+            (λ (y : k ≤ j).
+            let same : j ≡ k = omega arith in
+            let s = ap (words-before fs) same in
+            let t = ap (λ (m : ℕ). own-at (formula fs m)) same in
+            ⊎-elim (λ (z : 1 ≤ o). ne′ (omega arith)) (λ (z : o < 1). ne (omega arith)) (le-or-lt 1 o))
+            (λ (y : j < k). omega (arith, before-grows fs (suc j) k y, q .next, q .block))
+            (le-or-lt k j))
+            (λ (x : k < j). omega (arith, before-grows fs (suc k) j x, p .next))
+            (le-or-lt j k)
+
+    length-now : length (part-of base fs k spent-all) ≡ length (part-of base fs k ws)
+    length-now =
+        omega (
+          arith,
+          length-take (words φ) (drop (base + words-before fs k) spent-all),
+          length-take (words φ) (drop (base + words-before fs k) ws),
+          length-drop (base + words-before fs k) spent-all,
+          length-drop (base + words-before fs k) ws,
+          length-all,
+        )
+
+    now-held : HeldWords (own-at φ) (part-of base fs k ws) (part-of base fs k spent-all)
+    now-held =
+        record {
+          room = omega (arith, length-now);
+          same = λ i ne ne′.
+              ⊎-elim
+              (λ (l : words φ ≤ i).
+              List·getD-eq-default (part-of base fs k spent-all) 0 {n = i} (omega (arith, length-take (words φ) (drop (base + words-before fs k) spent-all))) ∙
+              sym (List·getD-eq-default (part-of base fs k ws) 0 {n = i} (omega (arith, length-take (words φ) (drop (base + words-before fs k) ws)))))
+              (λ (l : i < words φ).
+              part-word base fs k spent-all i l ∙
+              away-word (base + words-before fs k + i) (λ e. omega (arith, fits .header)) (away-part i l ne ne′) ∙ sym (part-word base fs k ws i l))
+              (le-or-lt (words φ) i);
+        }
+
+    pub now-kept : KeptCopies φ (part-of base fs k ws) (part-of base fs k spent-all)
+    now-kept = copies-held φ (part-of base fs k ws) (part-of base fs k spent-all) now-held
+
+    now-waiting : (L : Log) (d : ℕ) → n ≤ held-count φ (part-of base fs k ws) → Waiting φ L d (part-of base fs k ws) → Waiting φ L (d + n) (part-of base fs k spent-all)
+    now-waiting L d some waits =
+        let place : d + held-count φ (part-of base fs k ws) ≡ d + n + (held-count φ (part-of base fs k ws) - n) = omega arith in
+        record {
+          buffer = later n some refl now-count now-bits (waits .buffer);
+          state = rw now-count (rw place at (held-state φ L (d + held-count φ (part-of base fs k ws)) (part-of base fs k ws) (part-of base fs k spent-all) now-held (waits .state)));
+        }
+
+  -- the words then stand for the later position
+  pub top-spent : (L : Log) (d : ℕ) → ((k : ℕ) → k < length fs → n ≤ held-count (formula fs k) (part-of base fs k ws)) → d + n ≤ L .size →
+      Top base fs L d ws → Top base fs L (d + n) spent-all
+  top-spent L d some within top =
+      record {
+        at = now-given ∙ ap (λ (m : ℕ). m + n) (top .at);
+        within = within;
+        each = λ k h. now-waiting k h L d (some k h) (top .each k h);
+      }

@@ -4,12 +4,11 @@ ghost use mathlib.Core.Path.{_≡_};
 ghost use mathlib.Core.Bool.{true, cond};
 ghost use mathlib.Core.List.{List};
 ghost use Prim.Native.Nat.{ℕ, suc, _+_, _-_, _≤_, _<_, _^_, min, max};
-ghost use lib.ListN.{length, set};
+ghost use lib.ListN.{length};
 ghost use Rattle.blocks.specs.Block.{word};
 ghost use Rattle.engine.specs.Tops.{place};
-ghost use Rattle.checkpoint.specs.Checkpoint.{given};
 ghost use Rattle.verdicts.specs.Counts.{later-end};
-ghost use Rattle.emit.specs.Code.{Fitting, HoldsOne, Holds, Answered, spent-one, spent, Spendable, Gives, Countable, Ready, Emission};
+ghost use Rattle.emit.specs.Code.{Fitting, HoldsOne, Holds, Answered, spent-one, all-spent, Spendable, Gives, Countable, Ready, Emission};
 use checkpoint::header;
 use engine::tops;
 
@@ -126,7 +125,7 @@ fn spend_one(words: &mut [u64], held: usize, at: usize, late: usize, given: u64,
 // Takes n verdicts out of the answers of all formulas.
 fn spend(tops: &[usize; 32], number: usize, most: usize, words: &mut [u64], n: u64)
     requires { ⌜ Spendable (now tops) number most n (now words) ⌝ }
-    ensures { λ _. ⌜ now (words .exit) ≡ set (spent (λ k. place 3 (now (tops .entry)) k) most (given (now (words .entry))) n number (now (words .entry))) 1 (given (now (words .entry)) + n) ⌝ }
+    ensures { λ _. ⌜ now (words .exit) ≡ all-spent (now (tops .entry)) most n number (now (words .entry)) ⌝ }
 {
     let given = words[header::GIVEN];
     let mut k: usize = 0;

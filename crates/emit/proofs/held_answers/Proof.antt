@@ -55,7 +55,7 @@ loop-again c =
 returns : tie.Need-returns Inv-loop μ-loop
 returns c =
     let l = c .before .loop in
-    record { each = λ k h. l .inv .2 k (omega arith); none = λ e. l .inv .3 (omega arith) }
+    record { long = l .inv .1; each = λ k h. l .inv .2 k (omega arith); none = λ e. l .inv .3 (omega arith) }
 
 pub held-answers-spec : {M : Type 1} → statement M
 held-answers-spec =
