@@ -52,7 +52,7 @@ untouched-none : (base most : ℕ) (fs : List Formula) (ws : List ℕ) → Untou
 untouched-none base most fs ws =
     record { header = λ i low ne. refl; spare = λ k late h. (refl, refl); kept = λ k h. copies-refl (formula fs k) (part-of base fs k ws) }
 
-untouched-then : (base most : ℕ) (fs : List Formula) (ws ws′ ws″ : List ℕ) → Untouched base most fs ws ws′ → Untouched base most fs ws′ ws″ →
+pub untouched-then : (base most : ℕ) (fs : List Formula) (ws ws′ ws″ : List ℕ) → Untouched base most fs ws ws′ → Untouched base most fs ws′ ws″ →
     Untouched base most fs ws ws″
 untouched-then base most fs ws ws′ ws″ a b =
     record {

@@ -131,8 +131,7 @@ module _ {table tops : List ℕ} {base number : ℕ} {fs : List Formula} (s : Li
           meaning = λ L d never agrees waits.
               let still : d + held-count φ (part-of base fs k ws) ≡ d = omega (arith, count-at fits k h ws, empty) in
               let here : d + held-count φ ys ≡ d = omega arith in
-              let (is-open, next) = means L d never agrees (rw still at (waits .state)) in
-              (
+              let (is-open, next) = means L d never agrees (rw still at (waits .state)) in (
                 rw asked-part (record { buffer = empty-buffer φ L d (held-count φ ys) (held-bits φ ys) (omega (arith, is-open)) none; state = rw here next }),
                 λ z. is-open,
               );
@@ -201,8 +200,7 @@ module _ {table tops : List ℕ} {base number : ℕ} {fs : List Formula} (s : Li
                 let still : d + held-count φ (part-of base fs k ws) ≡ d = omega (arith, count-at fits k h ws, empty) in
                 let (gives, next) = means L d never agrees (rw still at (waits .state)) in
                 let n : held-count φ (part-of base fs k filled) ≡ count = count-at filled-fits k h filled ∙ filled-count in
-                let b : held-bits φ (part-of base fs k filled) ≡ bits = bits-at filled-fits k h filled ∙ filled-bits in
-                (
+                let b : held-bits φ (part-of base fs k filled) ≡ bits = bits-at filled-fits k h filled ∙ filled-bits in (
                   record {
                     buffer = rw (n, b) (gives .buffer);
                     state = rw n (held-state φ L (d + count) ys (part-of base fs k filled) held-words next);
@@ -252,8 +250,7 @@ asked-none base fs s closed ws r is =
       meaning = λ L d never agrees top.
           let at = top .at in
           let size = agrees .size in
-          let within = top .within in
-          (
+          let within = top .within in (
             top,
             omega arith,
             λ z. let all = joint-least fs L d within (λ k h. let w = top .each k h .buffer .within in omega arith) in
@@ -299,18 +296,17 @@ module _ {base : ℕ} {fs : List Formula} {s : List ℕ} {closed : Bool} {ws : L
                   (λ (e : k ≡ n). rw e waits)
                   (λ (ne : k ≡ n → ⊥). rw (other-part k q ws₂ inside h ne one) (before .each k inside))
                   (same-or-not k n);
-            } in
-            (
+            } in (
               top′,
               omega arith,
               λ z.
-              ⊎-elim
-              (λ (e : r ≡ 0). short e)
-              (λ (ne : r ≡ 0 → ⊥).
-              let none : q ≡ 0 = omega (arith, ne) in
-              let all = joint-least fs L d (top .within) (λ k inside. let w = top .each k inside .buffer .within in omega arith) in
-              omega (arith, is-open none, joint-le fs L n h))
-              (same-or-not r 0),
+                  ⊎-elim
+                  (λ (e : r ≡ 0). short e)
+                  (λ (ne : r ≡ 0 → ⊥).
+                  let none : q ≡ 0 = omega (arith, ne) in
+                  let all = joint-least fs L d (top .within) (λ k inside. let w = top .each k inside .buffer .within in omega arith) in
+                  omega (arith, is-open none, joint-le fs L n h))
+                  (same-or-not r 0),
             );
       }
 

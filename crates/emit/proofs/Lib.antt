@@ -5,3 +5,4 @@ pub mod Places
 pub mod Holding
 pub mod Spending
 pub mod Giving
+pub mod Emitting

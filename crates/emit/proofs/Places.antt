@@ -97,8 +97,7 @@ pub may-ask : (table tops : List ℕ) (number k size : ℕ) → k < number → F
 may-ask table tops number k size h (base, fs, fits) =
     let row = row-of fits k h in
     let inside : k < length fs = omega (arith, fits .laid .number) in
-    let p = place-in fits k inside in
-    (
+    let p = place-in fits k inside in (
       row .entry,
       row .rows,
       omega (arith, row .from, row .to, row .words, p .next),

@@ -108,8 +108,7 @@ module _ (held : ℕ → ℕ) (most d n number : ℕ) (ws : List ℕ) (row : Row
       Away held most k (8 + j) × Away held most k (8 + most + j) × Away held most k (held j) × Away held most k (held j + 1)
   its-away j k h l =
       let f = row .formulas in
-      let a = row .above j h in
-      (
+      let a = row .above j h in (
         λ m below. let b = row .above m (omega arith) in omega arith,
         λ m below. let b = row .above m (omega arith) in omega arith,
         λ m below. let b = row .apart m j (omega arith) h in omega arith,
@@ -178,8 +177,7 @@ may-spend tops number most n ws able k h held ws₁ at is =
     let (x, y, z, w) = its-away (place 3 tops) most d n number ws row k k h (omega arith) in
     let same-count = spent-away (place 3 tops) most d n number ws row k (omega arith) (8 + k) x in
     let same-held = spent-away (place 3 tops) most d n number ws row k (omega arith) (place 3 tops k) z in
-    rw (at, is)
-    (
+    rw (at, is) (
       able .few,
       omega arith,
       omega arith,
@@ -270,8 +268,7 @@ module _ {table tops : List ℕ} {base number : ℕ} {fs : List Formula} (most n
         let p = place-in fits k h in
         let q = place-in fits j (omega (arith, fits .laid .number)) in
         let r = fits .laid .each k h .held in
-        let r′ = fits .laid .each j (omega (arith, fits .laid .number)) .held in
-        (
+        let r′ = fits .laid .each j (omega (arith, fits .laid .number)) .held in (
           λ e. omega arith,
           λ e. omega arith,
           λ e. not-its j m i l ne ne′ 0 (omega arith) (omega (arith, e)),

@@ -11,6 +11,7 @@ ghost use Rattle.verdicts.specs.Counts.{later-end};
 ghost use Rattle.emit.specs.Code.{Fitting, HoldsOne, Holds, Answered, spent-one, all-spent, Spendable, Gives, Countable, Ready, Emission};
 use checkpoint::header;
 use engine::tops;
+use rule::Entry;
 
 // How many verdicts a call gave, and whether more are settled.
 pub struct Emitted {
@@ -187,4 +188,35 @@ fn closed_with(closed: bool, total: u64) -> u64
     ensures { λ r. ⌜ r ≡ cond closed (suc total) 0 ⌝ }
 {
     if closed { total + 1 } else { 0 }
+}
+
+// Gives the verdicts that are settled, as far as the sheet goes, and notes what was seen of the log.
+pub fn emit(
+    entries: [Entry; 128],
+    count: usize,
+    ends: [usize; 128],
+    number: usize,
+    most: usize,
+    base: usize,
+    records: &[u8],
+    closed: bool,
+    words: &mut [u64],
+    sheet: &mut [u8],
+) -> Emitted
+    requires { ⌜ Ready entries count ends number most base (now words) ⌝ }
+    ensures { λ r. ⌜ Emission closed entries count ends number most base (now (records .entry)) (now (words .entry)) (now (sheet .entry)) r (now (words .exit)) (now (sheet .exit)) ⌝ }
+{
+    let table = engine::layout::lay_out(entries, count);
+    let tops = engine::layout::lay_tops(entries, count, ends, number, &table, base);
+    let given = give(&table, &tops, number, most, records, closed, words, sheet);
+    let more = hold(&table, &tops, number, records, closed, words) > 0;
+    words[header::LAST] = trace::last_time(
+        records,
+        words[header::SEEN] as usize,
+        words[header::LAST],
+    );
+    let total = trace::count(records) as u64;
+    words[header::SEEN] = total;
+    words[header::CLOSED_WITH] = closed_with(closed, total);
+    Emitted { count: given, more }
 }

@@ -51,8 +51,7 @@ held-answers-requires c κs =
     let s = c .before .before .before .before .before .before .before .before .before .before .before .before .before in
     let l = c .before .before .before .before .before .before .before .before .loop in
     let h = c .before .before .before .before .before .hold in
-    let f = s .pre .fits .2 in
-    (
+    let f = s .pre .fits .2 in (
       omega (arith, s .pre .formulas, s .pre .small .1),
       λ k b. omega (arith, held-inside f k (omega (arith, f .laid .number)) .0, h .kept .1 .1 .1 .1 .1 .0, l .inv .0),
     )
@@ -107,16 +106,15 @@ loop-again c =
     let n = portion (c .before .before .before .before .before .before .before .before .before .before .before) in
     let w = c .before .before .before .before .before .before .write-answers in
     let p = c .before .before .spend in
-    let a = c .before .before .before .before .before .before .before .before .before .held-answers in
-    (
+    let a = c .before .before .before .before .before .before .before .before .before .held-answers in (
       p .kept .1 .1 .1 .0 ∙ h .kept .1 .1 .1 .1 .1 .0 ∙ l .inv .0,
       w .kept .0 ∙ l .inv .1,
       omega (arith, n .3, l .inv .1),
       λ base fs fits counts.
-      let same : c .before .before .before .before .before .before .before .before .before .before .before .before .before .before .before .before .before .before .before .columns-of .result ≡ columns fs = c .before .before .before .before .before .before .before .before .before .before .before .before .before .before .before .before .before .before .before .columns-of .ensures ∙ ap (max 1) (fits .laid .number) in
-      rw (p .ensures, w .ensures, same)
-      (portion-more fits counts (s .pre .formulas) (s .pre .small .0) (l .inv .3 base fs fits counts) (h .ensures base fs (rw (l .inv .0) fits))
-      (c .before .before .before .before .before .before .before .before .before .before .before .available .result) (a .result) (n .1) (omega (arith, n .3, l .inv .1)) (a .ensures)),
+          let same : c .before .before .before .before .before .before .before .before .before .before .before .before .before .before .before .before .before .before .before .columns-of .result ≡ columns fs = c .before .before .before .before .before .before .before .before .before .before .before .before .before .before .before .before .before .before .before .columns-of .ensures ∙ ap (max 1) (fits .laid .number) in
+          rw (p .ensures, w .ensures, same)
+          (portion-more fits counts (s .pre .formulas) (s .pre .small .0) (l .inv .3 base fs fits counts) (h .ensures base fs (rw (l .inv .0) fits))
+          (c .before .before .before .before .before .before .before .before .before .before .before .available .result) (a .result) (n .1) (omega (arith, n .3, l .inv .1)) (a .ensures)),
     )
 
 returns-2 : tie.Need-returns-2 Inv-loop μ-loop

@@ -38,17 +38,16 @@ mul-answers c =
 loop-again : tie.Need-loop-again Inv-loop μ-loop
 loop-again c =
     let l = c .before .before .before .loop in
-    let few = c .before .before .before .before .before .pre .0 in
-    (
+    let few = c .before .before .before .before .before .pre .0 in (
       omega arith,
       length-set (l .answers) (l .k) _ ∙ l .inv .1,
       λ j h.
-      ⊎-elim
-      (λ (late : l .k ≤ j).
-      let same : j ≡ l .k = omega arith in
-      rw same (getD-set-same (l .answers) (l .k) _ 0 (omega (arith, l .inv .1)) ∙ ap (λ (i : ℕ). word (c .before .before .before .before .before .args .words .now) (i + 1)) (c .before .place .ensures)))
-      (λ (early : j < l .k). getD-set-other (l .answers) (l .k) j _ 0 (λ e. omega arith) ∙ l .inv .2 j early)
-      (le-or-lt (l .k) j),
+          ⊎-elim
+          (λ (late : l .k ≤ j).
+          let same : j ≡ l .k = omega arith in
+          rw same (getD-set-same (l .answers) (l .k) _ 0 (omega (arith, l .inv .1)) ∙ ap (λ (i : ℕ). word (c .before .before .before .before .before .args .words .now) (i + 1)) (c .before .place .ensures)))
+          (λ (early : j < l .k). getD-set-other (l .answers) (l .k) j _ 0 (λ e. omega arith) ∙ l .inv .2 j early)
+          (le-or-lt (l .k) j),
       λ e. absurd (omega arith),
     )
 

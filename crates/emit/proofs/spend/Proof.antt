@@ -38,13 +38,12 @@ spend-one-requires c κs =
 loop-again : tie.Need-loop-again Inv-loop μ-loop
 loop-again c =
     let s = c .before .before .before .before .before .before .before .before .before in
-    let l = c .before .before .before .before .before .before .loop in
-    (
+    let l = c .before .before .before .before .before .before .loop in (
       omega arith,
       c .before .before .spend-one .ensures ∙
-      ap (λ h. spent-one h (8 + l .k) (8 + s .args .most + l .k) (given (s .args .words .now)) (s .args .n) (l .words)) (c .before .before .before .before .place .ensures) ∙
-      ap (spent-one (place 3 (s .args .tops .now) (l .k)) (8 + l .k) (8 + s .args .most + l .k) (given (s .args .words .now)) (s .args .n)) (l .inv .1) ∙
-      spent-next (place 3 (s .args .tops .now)) (s .args .most) (given (s .args .words .now)) (s .args .n) (l .k) (s .args .words .now),
+          ap (λ h. spent-one h (8 + l .k) (8 + s .args .most + l .k) (given (s .args .words .now)) (s .args .n) (l .words)) (c .before .before .before .before .place .ensures) ∙
+          ap (spent-one (place 3 (s .args .tops .now) (l .k)) (8 + l .k) (8 + s .args .most + l .k) (given (s .args .words .now)) (s .args .n)) (l .inv .1) ∙
+          spent-next (place 3 (s .args .tops .now)) (s .args .most) (given (s .args .words .now)) (s .args .n) (l .k) (s .args .words .now),
     )
 
 -- the words are as many as before
