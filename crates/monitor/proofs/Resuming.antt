@@ -51,7 +51,7 @@ use Rattle.emit.proofs.Meaning.{joint-least}
 use Rattle.monitor.specs.Stands.{last-of, Stands}
 use Rattle.monitor.specs.Resume.{Resumes}
 use Rattle.monitor.specs.declared.Resumed.the-variants.{Given, Refused}
-use Rattle.monitor.proofs.Meaning.{rule-whole, few-formulas, few-columns, rule-ended, part-is}
+use Rattle.monitor.proofs.Meaning.{most-few, rule-whole, few-formulas, few-columns, rule-ended, part-is}
 use Rattle.monitor.proofs.VerdictBytes.{noes-more, verdicts-stay}
 
 -- where a refusal is met nothing is written
@@ -295,6 +295,7 @@ module _ (closing : Bool) (rule log p : List ℕ) (v : ℕ) (t : List Entry) (n 
         the-formulas = formulas-of rule;
         ended = where-ended;
         formulas = omega (arith, where-ended .number, few-formulas rule (e .accepted));
+        small = most-few (version rule);
         header = (least, most-words, within);
         size = length-take-le (need rule) p (e .room);
         given = omega (arith, checks .given, getD-take (need rule) p 1 0 (omega arith));
