@@ -2,7 +2,6 @@
 ghost use mathlib.Core.Path.{_≡_};
 ghost use Prim.Native.Nat.{_+_, _*_, _≤_, _<_};
 ghost use lib.ListN.{length};
-ghost use Rattle.bits.specs.Packed.{bit};
 ghost use Rattle.rule.specs.Refusal.{refusal};
 ghost use Rattle.emit.specs.Verdicts.{formulas-of, columns};
 ghost use Rattle.report.specs.Report.{decimal, refused-text, first-line, word, words, line, lines, too-long, report as Report·report, Writes};
