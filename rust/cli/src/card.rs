@@ -8,7 +8,7 @@
 
 use crate::disk::{Disk, Lock};
 use crate::saved::{checksum, Saved, Unreadable};
-use havdrims::{close, formulas, measure, open, resume, status, summary, tally, Refusal, Status, Summary, Tally};
+use havdrims::{close, measure, open, resume, status, summary, tally, Refusal, Status, Summary, Tally};
 use std::fmt;
 use std::io::{self, ErrorKind};
 
@@ -304,7 +304,7 @@ impl<'a, D: Disk> Card<'a, D> {
                 break;
             }
         }
-        let counts = formulas(&self.rule).and_then(|number| tally(&new, number)).map_err(Fault::Refused)?;
+        let counts = tally(&new, self.formulas()).map_err(Fault::Refused)?;
         let first = self.verdicts.len() as u64;
         let summary = summary(&self.rule, &words).map_err(Fault::Refused)?;
         let status = status(&self.rule, &words).map_err(Fault::Refused)?;

@@ -3,7 +3,7 @@
 use evaluator::rule::{Entry, NEXT, NO_END};
 use evaluator::{cases, log, model, rule};
 use havdrims::{close, formulas, measure, open, resume, status, summary, tally};
-use havdrims::{Needs, Refusal, Resumed, Status};
+use havdrims::{Needs, Refusal, Resumed, Status, MOST_FORMULAS};
 
 fn fresh(rule: &[u8]) -> Vec<u64> {
     let mut point = vec![0; measure(rule).unwrap().words];
@@ -117,6 +117,8 @@ fn several_formulas_are_weighed() {
         assert_eq!(formulas(&rule), Ok(1));
     }
     assert_eq!(formulas(b"KRL"), Err(Refusal::RuleMark));
+    let header = include_str!("../../../../include/havdrims.h");
+    assert!(header.contains(&format!("#define HAVDRIMS_MOST_FORMULAS {MOST_FORMULAS}\n")), "the header's number");
 }
 
 /// A point of one version is refused with 10 under the other, also where the entries are the same.
