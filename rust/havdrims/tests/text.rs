@@ -3,7 +3,7 @@
 use evaluator::random::{self, LogShape, Random};
 use evaluator::rule::{self, Entry, NEXT, NO_END, PREVIOUS, SINCE, UNTIL};
 use evaluator::{cases, log};
-use havdrims::text::{formula, log_from_text, log_to_text, EMPTY};
+use havdrims::text::{formula, joined, log_from_text, log_to_text, EMPTY};
 use havdrims::Refusal;
 
 const P1: &str = "10 e0\n11 e0\n11 none\n12 e0\n13 e1\n20 e0\n";
@@ -74,4 +74,32 @@ fn formulas() {
     assert_eq!(shown(&[a, Entry::timed(NEXT, 1, NO_END)]), "next[1,inf] e0");
     assert_eq!(shown(&[]), EMPTY);
     assert_eq!(formula(b"KRL"), Err(Refusal::RuleMark));
+}
+
+#[test]
+fn several_formulas() {
+    let [e0, e1, p1] = [vec![Entry::letter(0)], vec![Entry::letter(1), Entry::not()], cases::p1_entries()];
+    let rules = [&e0, &e1, &p1].map(|entries| rule::encode(entries));
+    let rules = rules.each_ref().map(Vec::as_slice);
+    let all = joined(&rules).unwrap();
+    assert_eq!(all, rule::encode_several(&[e0.clone(), e1.clone(), p1.clone()]));
+    assert_eq!(formula(&all).unwrap(), "e0\nnot e1\ne0 until[0,2] e1");
+    // one alone, of version 2, and one of version 2 among others
+    let one = joined(&rules[..1]).unwrap();
+    assert_eq!((one.as_slice(), formula(&one).unwrap().as_str()), (&rule::encode_as(2, &e0)[..], "e0"));
+    assert_eq!(joined(&[&all, &one]), Ok(rule::encode_several(&[e0.clone(), e1, p1, e0.clone()])));
+    // eight are the most, and there is at least one
+    assert_eq!(joined(&[rules[0]; 8]).unwrap(), rule::encode_several(&vec![e0; 8]));
+    assert_eq!(joined(&[rules[0]; 9]), Err(Refusal::Shape));
+    assert_eq!(joined(&[]), Err(Refusal::Shape));
+    assert_eq!(joined(&[&rule::encode(&[])]), Err(Refusal::Shape));
+    // 128 entries, one more, and so many that their number has no byte
+    let many = |entries: usize| {
+        let nots = [vec![Entry::letter(0)], vec![Entry::not(); entries - 1]].concat();
+        rule::encode(&nots)
+    };
+    assert_eq!(joined(&[&many(64), &many(64)]).map(|rule| rule.len()), Ok(8 + 10 * 128));
+    assert_eq!(joined(&[&many(64), &many(65)]), Err(Refusal::RuleLength));
+    assert_eq!(joined(&[&many(128), &many(128)]), Err(Refusal::RuleLength));
+    assert_eq!(joined(&[rules[0], b"KRL"]), Err(Refusal::RuleMark));
 }
