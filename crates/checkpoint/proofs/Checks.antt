@@ -1,4 +1,6 @@
 -- What the checks of a call tell by their outcome: a refusal's number, or what holds where none is met.
+-- (Examples is named first so that the worked rows are checked before any law.)
+use Rattle.checkpoint.specs.Examples
 use Prim.Native.Nat.{ℕ, _+_, _-_, _≤_, _<_, _^_}
 use mathlib.Core.Bool.{Bool, true, false, cond, _&&_}
 use mathlib.Core.Bool.{not as negate}

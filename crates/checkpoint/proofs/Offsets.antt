@@ -1,6 +1,4 @@
 -- Where the blocks of a rule's entries stand, and how many words each has.
--- (Examples is named first so that the worked rows are checked before any law.)
-use Rattle.checkpoint.specs.Examples
 use Prim.Native.Nat.{ℕ, zero-le, _+_, _-_, _≤_, _<_}
 use native.Mathlib.Numerals.{add-one}
 use native.Mathlib.Omega.{arith}

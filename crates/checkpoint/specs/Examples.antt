@@ -5,8 +5,10 @@ use mathlib.Core.List.{List, [], _∷_}
 use mathlib.Core.Path.{_≡_, refl}
 use lib.ListN.{set, replicate}
 use Rattle.mtl.specs.Satisfaction.{any}
+use Rattle.mtl.specs.Wanted.{depth, deepest}
 use Rattle.rule.specs.declared.Entry.{Entry}
 use Rattle.rule.specs.Words.{offset}
+use Rattle.rule.specs.Postfix.{push-kind, read}
 use Rattle.checkpoint.specs.Checkpoint.{format, copy-start}
 use Rattle.checkpoint.specs.Refusal.{words-refusal, point-refusal}
 
@@ -77,3 +79,12 @@ closed-before-12 = refl
 closed-after-11 : point-refusal false 1 table 1 [] (set closed 1 2) ≡ 11
 unfolding any offset
 closed-after-11 = refl
+
+-- two records, at times 2³² - 1 and 5: the first was overwritten after its verdict was given. Order is looked at from the first record
+-- still wanted on.
+abbrev overwritten : List ℕ
+overwritten = 0x4B ∷ 0x4C ∷ 0x47 ∷ 0 ∷ 1 ∷ 0 ∷ 0 ∷ 0 ∷ 255 ∷ 255 ∷ 255 ∷ 255 ∷ 0 ∷ 0 ∷ 0 ∷ 0 ∷ 0 ∷ 0 ∷ 0 ∷ 5 ∷ replicate 4 0
+
+overwritten-before-wanted : point-refusal false 1 table 1 overwritten (set (set (set (fresh 1) 1 1) 2 1) 3 5) ≡ 0
+unfolding any offset deepest depth read push-kind
+overwritten-before-wanted = refl

@@ -23,14 +23,15 @@ use Rattle.engine.proofs.Kept.{copies-refl, copies-trans, kept-copies}
 use Rattle.engine.specs.Ask.{part, back, stored, Asks}
 use Rattle.engine.specs.Tops.{place}
 use Rattle.engine.proofs.Parts.{part-back, drop-back, part-before}
-use Rattle.engine.proofs.Held.{state-held}
+use Rattle.engine.proofs.Held.{HeldWords, held-state, copies-held}
+use Rattle.engine.proofs.Beside.{before-grows}
 use Rattle.engine.proofs.Uniform.{agrees-later}
 use Rattle.checkpoint.specs.Checkpoint.{given}
 use Rattle.emit.specs.Top.{held-count, held-bits, Waiting, part-of, Top}
 use Rattle.emit.specs.Code.{Fits, HeldOne, Held}
-use Rattle.emit.proofs.Kept.{copies-held, kept-own}
+use Rattle.emit.proofs.Kept.{kept-own}
 use Rattle.emit.proofs.Meaning.{joint-le, joint-least, reads-wanted}
-use Rattle.emit.proofs.Places.{Place, place-of, part-word, part-same, lent-part, place-in, held-inside, count-at, bits-at, before-mono}
+use Rattle.emit.proofs.Places.{Place, place-of, part-word, part-same, lent-part, place-in, held-inside, count-at, bits-at}
 
 same-or-not : (j k : ℕ) → (j ≡ k) ⊎ (j ≡ k → ⊥)
 same-or-not j k =
@@ -130,8 +131,7 @@ module _ {table tops : List ℕ} {base number : ℕ} {fs : List Formula} (s : Li
           meaning = λ L d never agrees waits.
               let still : d + held-count φ (part-of base fs k ws) ≡ d = omega (arith, count-at fits k h ws, empty) in
               let here : d + held-count φ ys ≡ d = omega arith in
-              let (is-open, next) = means L d never agrees (rw still at (waits .state)) in
-              (
+              let (is-open, next) = means L d never agrees (rw still at (waits .state)) in (
                 rw asked-part (record { buffer = empty-buffer φ L d (held-count φ ys) (held-bits φ ys) (omega (arith, is-open)) none; state = rw here next }),
                 λ z. is-open,
               );
@@ -178,6 +178,9 @@ module _ {table tops : List ℕ} {base number : ℕ} {fs : List Formula} (s : Li
           let p = its-place in
           omega (arith, length-take (words φ) (drop (base + words-before fs k) filled), length-drop (base + words-before fs k) filled, length-filled, kept, span, p .next, p .inside)
 
+      held-words : HeldWords (own-at φ) ys (part-of base fs k filled)
+      held-words = record { room = omega (arith, length-filled-part); same = part-filled }
+
       -- it has answered
       asked-filled : (r : ℕ) → r ≡ word filled slot → 1 ≤ count → Kept φ (part-of base fs k ws) ys →
           ((L : Log) (d : ℕ) → NeverFalls L → Agrees closed s L (wanted fs d) → State φ L d (part-of base fs k ws) →
@@ -192,16 +195,15 @@ module _ {table tops : List ℕ} {base number : ℕ} {fs : List Formula} (s : Li
                 filled-other i (λ e. away (omega (arith, slot-is)) (omega (arith, slot-is, p .next, p .block))) (λ e. away (omega (arith, slot-is)) (omega (arith, slot-is, p .next, p .block))) ∙
                 word-back from to ys ws ordered inside kept i (λ l m. away (omega (arith, from-is)) (omega (arith, to-is)));
             kept = copies-trans φ (part-of base fs k ws) ys (part-of base fs k filled) (kept-copies φ (part-of base fs k ws) ys keeps)
-                (copies-held φ ys (part-of base fs k filled) length-filled-part part-filled);
+                (copies-held φ ys (part-of base fs k filled) held-words);
             meaning = λ L d never agrees waits.
                 let still : d + held-count φ (part-of base fs k ws) ≡ d = omega (arith, count-at fits k h ws, empty) in
                 let (gives, next) = means L d never agrees (rw still at (waits .state)) in
                 let n : held-count φ (part-of base fs k filled) ≡ count = count-at filled-fits k h filled ∙ filled-count in
-                let b : held-bits φ (part-of base fs k filled) ≡ bits = bits-at filled-fits k h filled ∙ filled-bits in
-                (
+                let b : held-bits φ (part-of base fs k filled) ≡ bits = bits-at filled-fits k h filled ∙ filled-bits in (
                   record {
                     buffer = rw (n, b) (gives .buffer);
-                    state = rw n (state-held φ L (d + count) ys (part-of base fs k filled) (omega (arith, length-filled-part)) part-filled next);
+                    state = rw n (held-state φ L (d + count) ys (part-of base fs k filled) held-words next);
                   },
                   λ z. absurd (omega (arith, is, filled-count)),
                 );
@@ -248,8 +250,7 @@ asked-none base fs s closed ws r is =
       meaning = λ L d never agrees top.
           let at = top .at in
           let size = agrees .size in
-          let within = top .within in
-          (
+          let within = top .within in (
             top,
             omega arith,
             λ z. let all = joint-least fs L d within (λ k h. let w = top .each k h .buffer .within in omega arith) in
@@ -265,7 +266,7 @@ module _ {base : ℕ} {fs : List Formula} {s : List ℕ} {closed : Bool} {ws : L
   other-part k q ws₂ h h′ ne one =
       part-same base fs k ws₁ ws₂ (one .words-length)
       (λ i l m. one .others i (λ l′ m′.
-      ⊎-elim (λ (x : n ≤ k). omega (arith, before-mono fs (suc n) k (omega arith))) (λ (x : k < n). omega (arith, before-mono fs (suc k) n x)) (le-or-lt n k)))
+      ⊎-elim (λ (x : n ≤ k). omega (arith, before-grows fs (suc n) k (omega arith))) (λ (x : k < n). omega (arith, before-grows fs (suc k) n x)) (le-or-lt n k)))
 
   pub one-more : (q : ℕ) (ws₂ : List ℕ) → n < length fs → HeldOne base fs s closed n ws₁ q ws₂ → Asked base fs s closed ws (n + 1) (min r q) ws₂
   one-more q ws₂ h one =
@@ -295,18 +296,17 @@ module _ {base : ℕ} {fs : List Formula} {s : List ℕ} {closed : Bool} {ws : L
                   (λ (e : k ≡ n). rw e waits)
                   (λ (ne : k ≡ n → ⊥). rw (other-part k q ws₂ inside h ne one) (before .each k inside))
                   (same-or-not k n);
-            } in
-            (
+            } in (
               top′,
               omega arith,
               λ z.
-              ⊎-elim
-              (λ (e : r ≡ 0). short e)
-              (λ (ne : r ≡ 0 → ⊥).
-              let none : q ≡ 0 = omega (arith, ne) in
-              let all = joint-least fs L d (top .within) (λ k inside. let w = top .each k inside .buffer .within in omega arith) in
-              omega (arith, is-open none, joint-le fs L n h))
-              (same-or-not r 0),
+                  ⊎-elim
+                  (λ (e : r ≡ 0). short e)
+                  (λ (ne : r ≡ 0 → ⊥).
+                  let none : q ≡ 0 = omega (arith, ne) in
+                  let all = joint-least fs L d (top .within) (λ k inside. let w = top .each k inside .buffer .within in omega arith) in
+                  omega (arith, is-open none, joint-le fs L n h))
+                  (same-or-not r 0),
             );
       }
 

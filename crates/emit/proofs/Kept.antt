@@ -1,7 +1,6 @@
--- What is kept of a formula's words by stores to words 12 and 13 of its own block. Assumes nothing.
+-- Words that are kept: those of a formula's own block that no operator writes, and those of a part. Assumes nothing.
 use Prim.Native.Nat.{ℕ, _+_, _≤_, _<_}
-use mathlib.Core.Bool.{Bool, true, false}
-use mathlib.Core.Path.{_≡_, refl, sym, subst, _∙_}
+use mathlib.Core.Path.{_≡_, sym, _∙_}
 use mathlib.Core.List.{List}
 use native.Mathlib.Omega.{arith}
 use lib.ListN.{length, take, drop, length-take, length-drop}
@@ -9,9 +8,7 @@ use lib.Seq.{getD-take, getD-drop, ext-getD}
 use Rattle.mtl.specs.Formula.{Formula}
 use Rattle.mtl.specs.Formula.Formula.{letter, not, or, previous, next, since, until}
 use Rattle.blocks.specs.Block.{word}
-use Rattle.blocks.specs.Step.{has-left, has-right, left-of, right-of}
-use Rattle.engine.specs.State.{left-words, right-words, own-at, Kept, KeptParts, KeptOperand, KeptCopies}
-use Rattle.engine.proofs.Kept.{kept-refl}
+use Rattle.engine.specs.State.{own-at, Kept, KeptParts}
 
 own-kept : {Left Right : List ℕ → List ℕ → Type 0} {a c : ℕ} {ws ws′ : List ℕ} → KeptParts Left Right a c ws ws′ →
     (i : ℕ) → 12 ≤ i → i < 16 → word ws′ (a + c + i) ≡ word ws (a + c + i)
@@ -41,23 +38,3 @@ same-part a n ws ws′ long same =
     (λ i h.
     getD-take n (drop a ws′) i 0 (omega arith) ∙ getD-drop a ws′ i 0 ∙ same (a + i) (omega arith) (omega arith) ∙
     sym (getD-drop a ws i 0) ∙ sym (getD-take n (drop a ws) i 0 (omega arith)))
-
--- an operand whose words are the same
-operand-same : (b : Bool) (φ : Formula) (us us′ : List ℕ) → us′ ≡ us → KeptOperand b φ us us′
-operand-same true φ us us′ e = subst (Kept φ us) (sym e) (kept-refl φ us)
-operand-same false φ us us′ e = tt
-
--- stores to words 12 and 13 of its own block
-pub copies-held : (φ : Formula) (ws ws′ : List ℕ) → length ws′ ≡ length ws →
-    ((i : ℕ) → (i ≡ own-at φ + 12 → ⊥) → (i ≡ own-at φ + 13 → ⊥) → word ws′ i ≡ word ws i) → KeptCopies φ ws ws′
-copies-held φ ws ws′ long same =
-    record {
-      own = λ i l h.
-          getD-drop (own-at φ) ws′ i 0 ∙ same (own-at φ + i) (λ e. omega arith) (λ e. omega arith) ∙ sym (getD-drop (own-at φ) ws i 0);
-      left =
-          operand-same (has-left φ) (left-of φ) _ _
-          (same-part 0 (left-words φ) ws ws′ long (λ i l h. same i (λ e. omega arith) (λ e. omega arith)));
-      right =
-          operand-same (has-right φ) (right-of φ) _ _
-          (same-part (left-words φ) (right-words φ) ws ws′ long (λ i l h. same i (λ e. omega arith) (λ e. omega arith)));
-    }

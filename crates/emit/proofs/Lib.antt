@@ -3,3 +3,6 @@ pub mod Meaning
 pub mod Kept
 pub mod Places
 pub mod Holding
+pub mod Spending
+pub mod Giving
+pub mod Emitting

@@ -15,25 +15,10 @@ use Rattle.engine.specs.Ask.{part}
 use Rattle.engine.specs.Table.{column, RowsOk}
 use Rattle.engine.specs.Tops.{place, TopRow}
 use Rattle.engine.proofs.Held.{own-block}
+use Rattle.engine.proofs.Beside.{before-grows, before-next}
 use Rattle.emit.specs.Top.{held-count, held-bits, part-of}
 use Rattle.emit.specs.Code.{Fits, Fitting}
 use Rattle.emit.proofs.Kept.{same-part}
-
--- a formula's words end where the next one's begin
-next-begins : (fs : List Formula) (k : ℕ) → words-before fs (suc k) ≡ words-before fs k + words (formula fs k)
-unfolding words-before
-next-begins fs k = refl
-
-grow : (fs : List Formula) (j n : ℕ) → words-before fs j ≤ words-before fs (j + n)
-unfolding words-before
-grow fs j zero = let e : j + 0 ≡ j = omega arith in let e′ = ap (words-before fs) e in omega arith
-grow fs j (suc n) =
-    let e : j + suc n ≡ suc (j + n) = omega arith in
-    let e′ = ap (words-before fs) e in
-    omega (arith, grow fs j n)
-
-pub before-mono : (fs : List Formula) (j k : ℕ) → j ≤ k → words-before fs j ≤ words-before fs k
-before-mono fs j k h = let e : j + (k - j) ≡ k = omega arith in rw e at (grow fs j (k - j))
 
 -- one formula's own block, its last entry's, among the words
 pub record Place (base : ℕ) (fs : List Formula) (k size : ℕ) : Type 0 where
@@ -44,8 +29,8 @@ pub record Place (base : ℕ) (fs : List Formula) (k size : ℕ) : Type 0 where
 pub place-of : (base : ℕ) (fs : List Formula) (k size : ℕ) → base + words-before fs (length fs) ≤ size → k < length fs → Place base fs k size
 place-of base fs k size all h =
     record {
-      next = omega (arith, next-begins fs k);
-      inside = omega (arith, before-mono fs (suc k) (length fs) h);
+      next = omega (arith, before-next fs k);
+      inside = omega (arith, before-grows fs (suc k) (length fs) h);
       block = own-block (formula fs k);
     }
 
@@ -60,7 +45,7 @@ pub part-same : (base : ℕ) (fs : List Formula) (k : ℕ) (ws ws′ : List ℕ)
     ((i : ℕ) → base + words-before fs k ≤ i → i < base + words-before fs (suc k) → word ws′ i ≡ word ws i) →
     part-of base fs k ws′ ≡ part-of base fs k ws
 part-same base fs k ws ws′ long same =
-    same-part (base + words-before fs k) (words (formula fs k)) ws ws′ long (λ i l h. same i l (omega (arith, next-begins fs k)))
+    same-part (base + words-before fs k) (words (formula fs k)) ws ws′ long (λ i l h. same i l (omega (arith, before-next fs k)))
 
 module _ {table tops : List ℕ} {base number : ℕ} {fs : List Formula} {size : ℕ} (fits : Fits table tops base number fs size) where
   pub row-of : (k : ℕ) → k < number → TopRow table tops base fs k
@@ -103,7 +88,7 @@ module _ {table tops : List ℕ} {base number : ℕ} {fs : List Formula} {size :
       let r = fits .laid .each j (omega arith) in
       let r′ = fits .laid .each k h in
       let p = place-in j (omega arith) in
-      omega (arith, r .held, r′ .held, p .next, p .block, before-mono fs (suc j) k l)
+      omega (arith, r .held, r′ .held, p .next, p .block, before-grows fs (suc j) k l)
 
 -- what asking formula k needs of the words, whichever the formulas are
 pub may-ask : (table tops : List ℕ) (number k size : ℕ) → k < number → Fitting table tops number size →
@@ -112,8 +97,7 @@ pub may-ask : (table tops : List ℕ) (number k size : ℕ) → k < number → F
 may-ask table tops number k size h (base, fs, fits) =
     let row = row-of fits k h in
     let inside : k < length fs = omega (arith, fits .laid .number) in
-    let p = place-in fits k inside in
-    (
+    let p = place-in fits k inside in (
       row .entry,
       row .rows,
       omega (arith, row .from, row .to, row .words, p .next),

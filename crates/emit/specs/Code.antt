@@ -68,6 +68,7 @@ Holds table tops s closed number ws r ws′ =
 
 -- the words of answers that the formulas hold; of an empty rule one word of yes
 pub record Answered (tops : List ℕ) (number : ℕ) (ws answers : List ℕ) : Type 0 where
+  pub long : length answers ≡ 8
   pub each : (k : ℕ) → k < number → getD answers k 0 ≡ word ws (place 3 tops k + 1)
   pub none : number ≡ 0 → getD answers 0 0 ≡ 2 ^ 64 - 1
 
@@ -84,14 +85,23 @@ unfoldable pub spent : (held : ℕ → ℕ) (most d n k : ℕ) → List ℕ → 
 spent held most d n zero ws = ws
 spent held most d n (suc k) ws = spent-one (held k) (8 + k) (8 + most + k) d n (spent held most d n k ws)
 
+-- all of them, and n verdicts more given
+abbrev pub all-spent : (tops : List ℕ) (most n number : ℕ) → List ℕ → List ℕ
+all-spent tops most n number ws = set (spent (place 3 tops) most (given ws) n number ws) 1 (given ws + n)
+
+-- where the formulas' answers stand: behind the counts, one formula behind the other
+pub record Row (held : ℕ → ℕ) (most number size : ℕ) : Type 0 where
+  pub formulas : number ≤ most
+  pub above : (k : ℕ) → k < number → 8 + most + most ≤ held k
+  pub apart : (j k : ℕ) → j < k → k < number → held j + 2 ≤ held k
+  pub inside : (k : ℕ) → k < number → held k + 1 < size
+
 -- n verdicts can be taken out of every formula's answers, and counted
 pub record Spendable (tops : List ℕ) (number most n : ℕ) (ws : List ℕ) : Type 0 where
   pub few : n ≤ 64
-  pub formulas : number ≤ most
-  pub counts : (base : ℕ) × (8 + most + most ≤ base) × ((k : ℕ) → k < number → base ≤ place 3 tops k)
-  pub apart : (j k : ℕ) → j < k → k < number → place 3 tops j + 2 ≤ place 3 tops k
-  pub inside : (k : ℕ) → k < number → place 3 tops k + 1 < length ws
-  pub room : 16 ≤ length ws
+  pub small : most ≤ 8
+  pub room : 1 < length ws
+  pub row : Row (place 3 tops) most number (length ws)
   pub held : (k : ℕ) → k < number → n ≤ word ws (place 3 tops k)
   pub counted : (k : ℕ) → k < number → word ws (8 + k) + n < 2 ^ 64
   pub given : given ws + n < 2 ^ 64
@@ -127,6 +137,7 @@ Gives table tops s closed number most ws sheet c ws′ sheet′ =
 pub record Countable (table tops : List ℕ) (number most : ℕ) (ws : List ℕ) : Type 0 where
   pub fits : (base : ℕ) × (fs : List Formula) × Fits table tops base number fs (length ws) × (8 + most + most ≤ base)
   pub formulas : number ≤ most
+  pub small : (1 ≤ most) × (most ≤ 8)
   pub given : given ws ≤ 1000000
   pub noes : (k : ℕ) → k < most → word ws (8 + k) ≤ 1000000
 
@@ -156,6 +167,7 @@ pub record Ready (t : List Entry) (n : ℕ) (ends : List ℕ) (number most base 
   pub the-formulas : List Formula
   pub ended : Ended t n ends number the-formulas
   pub formulas : number ≤ most
+  pub small : (1 ≤ most) × (most ≤ 8)
   pub header : (16 ≤ base) × (base ≤ 24) × (8 + most + most ≤ base)
   pub size : length ws ≡ base + offset t n
   pub given : given ws ≤ 1000000

@@ -4,14 +4,14 @@ ghost use mathlib.Core.Path.{_≡_};
 ghost use mathlib.Core.Bool.{true, cond};
 ghost use mathlib.Core.List.{List};
 ghost use Prim.Native.Nat.{ℕ, suc, _+_, _-_, _≤_, _<_, _^_, min, max};
-ghost use lib.ListN.{length, set};
+ghost use lib.ListN.{length};
 ghost use Rattle.blocks.specs.Block.{word};
 ghost use Rattle.engine.specs.Tops.{place};
-ghost use Rattle.checkpoint.specs.Checkpoint.{given};
 ghost use Rattle.verdicts.specs.Counts.{later-end};
-ghost use Rattle.emit.specs.Code.{Fitting, HoldsOne, Holds, Answered, spent-one, spent, Spendable, Gives, Countable, Ready, Emission};
+ghost use Rattle.emit.specs.Code.{Fitting, HoldsOne, Holds, Answered, spent-one, all-spent, Spendable, Gives, Countable, Ready, Emission};
 use checkpoint::header;
 use engine::tops;
+use rule::Entry;
 
 // How many verdicts a call gave, and whether more are settled.
 pub struct Emitted {
@@ -126,7 +126,7 @@ fn spend_one(words: &mut [u64], held: usize, at: usize, late: usize, given: u64,
 // Takes n verdicts out of the answers of all formulas.
 fn spend(tops: &[usize; 32], number: usize, most: usize, words: &mut [u64], n: u64)
     requires { ⌜ Spendable (now tops) number most n (now words) ⌝ }
-    ensures { λ _. ⌜ now (words .exit) ≡ set (spent (λ k. place 3 (now (tops .entry)) k) most (given (now (words .entry))) n number (now (words .entry))) 1 (given (now (words .entry)) + n) ⌝ }
+    ensures { λ _. ⌜ now (words .exit) ≡ all-spent (now (tops .entry)) most n number (now (words .entry)) ⌝ }
 {
     let given = words[header::GIVEN];
     let mut k: usize = 0;
@@ -146,7 +146,7 @@ fn spend(tops: &[usize; 32], number: usize, most: usize, words: &mut [u64], n: u
 }
 
 // How many answers a verdict has: one for each formula, and one where there is none.
-fn columns_of(number: usize) -> usize
+pub fn columns_of(number: usize) -> usize
     ensures { λ r. ⌜ r ≡ max 1 number ⌝ }
 {
     if number == 0 { 1 } else { number }
@@ -188,4 +188,35 @@ fn closed_with(closed: bool, total: u64) -> u64
     ensures { λ r. ⌜ r ≡ cond closed (suc total) 0 ⌝ }
 {
     if closed { total + 1 } else { 0 }
+}
+
+// Gives the verdicts that are settled, as far as the sheet goes, and notes what was seen of the log.
+pub fn emit(
+    entries: [Entry; 128],
+    count: usize,
+    ends: [usize; 128],
+    number: usize,
+    most: usize,
+    base: usize,
+    records: &[u8],
+    closed: bool,
+    words: &mut [u64],
+    sheet: &mut [u8],
+) -> Emitted
+    requires { ⌜ Ready entries count ends number most base (now words) ⌝ }
+    ensures { λ r. ⌜ Emission closed entries count ends number most base (now (records .entry)) (now (words .entry)) (now (sheet .entry)) r (now (words .exit)) (now (sheet .exit)) ⌝ }
+{
+    let table = engine::layout::lay_out(entries, count);
+    let tops = engine::layout::lay_tops(entries, count, ends, number, &table, base);
+    let given = give(&table, &tops, number, most, records, closed, words, sheet);
+    let more = hold(&table, &tops, number, records, closed, words) > 0;
+    words[header::LAST] = trace::last_time(
+        records,
+        words[header::SEEN] as usize,
+        words[header::LAST],
+    );
+    let total = trace::count(records) as u64;
+    words[header::SEEN] = total;
+    words[header::CLOSED_WITH] = closed_with(closed, total);
+    Emitted { count: given, more }
 }

@@ -6,3 +6,4 @@ pub mod Resume
 pub mod Summary
 pub mod Status
 pub mod Formulas
+pub mod Examples

@@ -4,6 +4,7 @@ use Prim.Native.Nat.{ℕ, suc, _+_, _-_, _≤_, _<_, _^_}
 use mathlib.Core.Bool.{false, cond}
 use mathlib.Core.Path.{_≡_}
 use mathlib.Core.List.{List}
+use mathlib.Core.Logic.{_⊎_}
 use lib.ListN.{length, take}
 use lib.Dec.{eqb}
 use Rattle.mtl.specs.Log.{Log}
@@ -36,6 +37,7 @@ pub record Stands (rule : List ℕ) (L : Log) (d : ℕ) (p : List ℕ) : Type 0 
   -- where the rule has no formula k, both words of its counts are 0
   pub unused : (k : ℕ) → columns (formulas-of rule) ≤ k → k < most (version rule) →
       (no-count p k ≡ 0) × (after-latest (most (version rule)) p k ≡ 0)
-  -- an entry that is no formula's last holds no answers
-  pub spare : (j : ℕ) → j < count rule → ((k : ℕ) → k < length (formulas-of rule) → (suc j ≡ start (formulas-of rule) (suc k)) → ⊥) →
-      word p (block-at (header-words (version rule)) (decoded rule) j + 12) ≡ 0
+  -- an entry is a formula's last, or holds no answers
+  pub spare : (j : ℕ) → j < count rule →
+      ((k : ℕ) × (k < length (formulas-of rule)) × (suc j ≡ start (formulas-of rule) (suc k))) ⊎
+      (word p (block-at (header-words (version rule)) (decoded rule) j + 12) ≡ 0)

@@ -172,10 +172,11 @@ fn resume_or_close(
         return Resumed::Refused(checked.number());
     };
     let ends = rule::ends_of(entries, count);
+    let at = ends.at;
     let emitted = emit::emit(
         entries,
         count,
-        ends.at,
+        at,
         ends.number,
         rule::most_of(version),
         rule::header_words(version),
@@ -216,8 +217,8 @@ fn latest_of(after: u64) -> Latest
 }
 
 // Writes the counts of no and the latest positions of the first formulas, as the checkpoint has them.
-fn write_noes(point: &[u64], most: usize, formulas: usize, no: &mut [u64; 8], latest: &mut [u64; 8])
-    requires { ⌜ (formulas ≤ most) × (most ≤ 8) × (8 + most + most ≤ length (now point)) ⌝ }
+fn write_noes(point: &[u64], most: usize, formulas: usize, no: &mut [u64], latest: &mut [u64])
+    requires { ⌜ (formulas ≤ most) × (8 + most + most ≤ length (now point)) × (formulas ≤ length (now «no»)) × (formulas ≤ length (now latest)) ⌝ }
     ensures { λ _. ⌜ now («no» .exit) ≡ counts-of (stored-noes most (now (point .entry))) formulas ++ drop formulas (now («no» .entry)) ⌝ }
     ensures { λ _. ⌜ now (latest .exit) ≡ latest-words (stored-noes most (now (point .entry))) formulas ++ drop formulas (now (latest .entry)) ⌝ }
 {

@@ -5,9 +5,9 @@ use native.Mathlib.Omega.{arith}
 use mathlib.Core.Bool.{Bool, true, false}
 use mathlib.Core.List.{List, [], _∷_, _++_}
 use mathlib.Core.Logic.{⊎-elim}
-use mathlib.Core.Path.{_≡_, refl, sym, ap, _∙_}
+use mathlib.Core.Path.{_≡_, refl, sym, ap, ap₂, _∙_}
 use lib.ListN.{length, getD, length-append, List·getD-append}
-use lib.Seq.{getD-at}
+use lib.Seq.{getD-at, ext-getD}
 use lib.Pow.{pow-mono}
 use borrow.Author.Tests.{eq-eqb, ne-eqb}
 use Rattle.mtl.proofs.Bounded.{le-or-lt}
@@ -89,3 +89,20 @@ answer-at (w ∷ words) i (suc k) h = answer-at words i k (omega arith)
 pub bit-of-verdict : (words : List ℕ) (i k : ℕ) → k < length words → bit (byte-of (answers-at words i)) k ≡ bit (getD words k 0) i
 bit-of-verdict words i k h =
     bit-of-byte (answers-at words i) k (omega (arith, length-answers words i)) ∙ answer-at words i k h
+
+-- answers that agree formula by formula
+pub answers-are : (words : List ℕ) (i : ℕ) (bs : List Bool) → length bs ≡ length words →
+    ((k : ℕ) → k < length words → bit (getD words k 0) i ≡ getD bs k false) → answers-at words i ≡ bs
+answers-are words i bs long same =
+    let size = length-answers words i in
+    ext-getD false (answers-at words i) bs (size ∙ sym long)
+    (λ k h. answer-at words i k (omega arith) ∙ same k (omega arith))
+
+-- verdicts that agree position by position
+pub bytes-same : (words words′ : List ℕ) (n : ℕ) → ((i : ℕ) → i < n → answers-at words i ≡ answers-at words′ i) →
+    bytes-of words n ≡ bytes-of words′ n
+unfolding bytes-of
+bytes-same words words′ zero same = refl
+bytes-same words words′ (suc n) same =
+    ap₂ (λ (l : List ℕ) (bs : List Bool). l ++ (byte-of bs ∷ []))
+    (bytes-same words words′ n (λ i h. same i (omega arith))) (same n (omega arith))

@@ -1,17 +1,15 @@
 -- The verdicts of eight positions, column by column. Assumes nothing.
 use Prim.Native.Nat.{ℕ, zero, suc, _+_, _*_, _-_, _/_, _%_, _≤_, _<_, _^_}
-use native.Mathlib.Numerals.{add-one}
 use native.Mathlib.Omega.{arith}
-use mathlib.Core.Bool.{Bool}
-use mathlib.Core.List.{List, [], _∷_, _++_, append-assoc}
-use mathlib.Core.Path.{_≡_, refl, sym, ap, ap₂, _∙_}
+use mathlib.Core.List.{List, [], _∷_}
+use mathlib.Core.Path.{_≡_, sym, ap, ap₂, _∙_}
 use lib.ListN.{length, getD, take, drop, length-drop}
 use lib.Seq.{length-take-le, drop-cons, drop-length, getD-take}
 use Rattle.bits.specs.Packed.{bit, number}
 use Rattle.bits.proofs.Laws.{bit-mod, bit-rest}
-use Rattle.verdicts.specs.Bytes.{byte-of, answers-at, bytes-of}
-use Rattle.verdicts.specs.Code.{packed, spread-bits, eight-verdicts, first-bytes}
-use Rattle.verdicts.proofs.Packing.{packed-same, packed-twice, packed-zero, packed-lt, packed-at}
+use Rattle.verdicts.specs.Bytes.{byte-of, answers-at}
+use Rattle.verdicts.specs.Code.{packed, spread-bits, eight-verdicts}
+use Rattle.verdicts.proofs.Packing.{packed-same, packed-twice, packed-zero, packed-lt}
 use Rattle.verdicts.proofs.Bytes.{verdict-lt}
 
 pub eight-none : (i : ℕ) → 0 ≡ eight-verdicts [] i

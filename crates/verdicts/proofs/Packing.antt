@@ -1,7 +1,7 @@
 -- Numbers below 256 as the bytes of a word. Assumes nothing.
 -- (Examples is named first so that the worked rows are checked before any law.)
 use Rattle.verdicts.specs.Examples
-use Prim.Native.Nat.{ℕ, zero, suc, _+_, _*_, _-_, _/_, _%_, _≤_, _<_, _^_}
+use Prim.Native.Nat.{ℕ, zero, suc, _+_, _*_, _/_, _%_, _<_, _^_}
 use native.Mathlib.Omega.{arith}
 use mathlib.Core.Bool.{Bool, true}
 use mathlib.Core.Path.{_≡_, refl, sym, ap, ap₂, _∙_}

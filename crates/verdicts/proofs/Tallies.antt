@@ -1,15 +1,17 @@
 -- The counts of a sheet, byte by byte and formula by formula. Assumes nothing.
 use Prim.Native.Nat.{ℕ, zero, suc, _+_, _-_, _/_, _%_, _≤_, _<_, _^_}
+use native.Mathlib.Nat.{zero-div}
 use native.Mathlib.Numerals.{add-one}
 use native.Mathlib.Omega.{arith}
 use mathlib.Core.Bool.{Bool, true, false, cond, _||_, Bool·beq}
 use mathlib.Core.List.{List, [], _∷_, _++_, append-assoc}
 use mathlib.Core.Logic.{⊎-elim}
 use mathlib.Core.Path.{_≡_, refl, sym, ap, _∙_}
+use lib.Bits.{bitOr, or-zero-l, or-add-and, and-le-r, or-shr}
 use lib.Dec.{ltb}
 use lib.ListN.{length, getD, drop, set, length-append, List·getD-append}
 use lib.Seq.{drop-cons, set-at, getD-at}
-use borrow.Author.Tests.{ltb-false}
+use borrow.Author.Tests.{ltb-false, lt-ltb}
 use Rattle.mtl.specs.Satisfaction.{any}
 use Rattle.mtl.proofs.Bounded.{true-and-false, le-or-lt}
 use Rattle.bits.specs.Packed.{bit, number}
@@ -18,13 +20,27 @@ use Rattle.verdicts.specs.Counts.{count-of, counts}
 use Rattle.verdicts.specs.Tally.{outside, beyond, Tallies}
 use Rattle.verdicts.specs.declared.Tallied.the-variants.{Counted, Refused}
 
-pub any-none : (p : ℕ → Bool) → false ≡ any 0 p
-unfolding any
-any-none p = refl
+-- BITS BEYOND THE FORMULAS', of all bytes taken together
 
-pub any-more : (n : ℕ) (p : ℕ → Bool) → any (n + 1) p ≡ any n p || p n
+positive : (x y : ℕ) → ltb 0 (bitOr x y) ≡ ltb 0 x || ltb 0 y
+positive zero y = ap (ltb 0) (or-zero-l y)
+positive (suc x) y =
+    let sum = or-add-and (suc x) y in
+    let less = and-le-r (suc x) y in
+    lt-ltb 0 (bitOr (suc x) y) (omega arith) ∙ rw (lt-ltb 0 (suc x) (omega arith))
+
+pub none-beyond : (formulas : ℕ) (s : List ℕ) → ltb 0 (0 / 2 ^ formulas) ≡ any 0 (beyond formulas s)
 unfolding any
-any-more n p = rw add-one refl
+none-beyond formulas s = ap (ltb 0) (zero-div (2 ^ formulas))
+
+pub beyond-more : (formulas : ℕ) (s : List ℕ) (i all : ℕ) → ltb 0 (all / 2 ^ formulas) ≡ any i (beyond formulas s) →
+    ltb 0 (bitOr all (getD s i 0) / 2 ^ formulas) ≡ any (i + 1) (beyond formulas s)
+unfolding any
+beyond-more formulas s i all so-far =
+    ap (ltb 0) (or-shr all (getD s i 0) formulas)
+    ∙ positive (all / 2 ^ formulas) (getD s i 0 / 2 ^ formulas)
+    ∙ ap (λ (b : Bool). b || beyond formulas s i) so-far
+    ∙ ap (λ (n : ℕ). any n (beyond formulas s)) (sym (add-one i))
 
 module _ (k : ℕ) (s : List ℕ) where
   pub count-none : (x : Bool) → 0 ≡ count-of x k s 0

@@ -1,12 +1,12 @@
 -- A sheet after verdicts were written into it. Assumes nothing.
-use Prim.Native.Nat.{ℕ, zero, suc, _+_, _*_, _-_, _/_, _%_, _≤_, _<_, _^_}
+use Prim.Native.Nat.{ℕ, zero, suc, _+_, _*_, _/_, _%_, _≤_, _<_, _^_}
 use native.Mathlib.Omega.{arith}
 use mathlib.Core.List.{List, [], _∷_, _++_, append-assoc, append-nil}
-use mathlib.Core.Path.{_≡_, refl, sym, ap, ap₂, _∙_}
+use mathlib.Core.Path.{_≡_, sym, ap, ap₂, _∙_}
 use lib.ListN.{length, getD, take, drop, length-append, length-drop, take-append-drop, List·getD-append}
 use lib.Seq.{length-take-le, take-at, drop-at, drop-drop, getD-take, getD-append-add, sets, sets-eq}
 use Rattle.verdicts.specs.Bytes.{byte-of, answers-at, bytes-of}
-use Rattle.verdicts.specs.Code.{packed, eight-verdicts, first-bytes}
+use Rattle.verdicts.specs.Code.{eight-verdicts, first-bytes}
 use Rattle.verdicts.proofs.Packing.{packed-at}
 use Rattle.verdicts.proofs.Bytes.{verdict-lt, length-bytes, byte-at}
 use Rattle.verdicts.proofs.Stores.{length-first}

@@ -1,12 +1,12 @@
 -- Rows worked by hand, proved by computation.
 use Prim.Native.Nat.{ℕ}
-use mathlib.Core.Bool.{Bool, true, false}
+use mathlib.Core.Bool.{true, false}
 use mathlib.Core.List.{List, [], _∷_}
-use mathlib.Core.Option.{some, none}
+use mathlib.Core.Option.{some}
 use mathlib.Core.Path.{_≡_, refl}
 use Rattle.mtl.specs.Satisfaction.{any}
 use Rattle.verdicts.specs.Bytes.{byte-of, answers-at, bytes-of}
-use Rattle.verdicts.specs.Counts.{count-of, latest-no, counts, Noes, noes-in, laid-behind}
+use Rattle.verdicts.specs.Counts.{count-of, latest-no, counts, noes-in, laid-behind}
 use Rattle.verdicts.specs.Tally.{tally-refusal}
 
 -- eight answers in one byte: formulas 0, 1, 4 and 7 say yes

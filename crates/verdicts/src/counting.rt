@@ -14,18 +14,18 @@ fn wide(x: u8) -> u64
     x as u64
 }
 
-// Whether a byte has a bit that is no formula's.
+// Whether a byte has a bit that is no formula's: it is then among all bits of the sheet taken together.
 pub fn has_bit_beyond(sheet: &[u8], formulas: u64) -> bool
     requires { ⌜ formulas < 64 ⌝ }
     ensures { λ r. ⌜ r ≡ any (length (now (sheet .entry))) (beyond formulas (now (sheet .entry))) ⌝ }
 {
-    let mut found = false;
+    let mut all: u8 = 0;
     let mut i: usize = 0;
     while i < sheet.len() {
-        found = found | (0 < (wide(sheet[i]) >> formulas));
+        all = all | sheet[i];
         i += 1;
     }
-    found
+    0 < (wide(all) >> formulas)
 }
 
 // How often formula k says yes.

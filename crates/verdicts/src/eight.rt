@@ -20,10 +20,11 @@ pub fn verdicts_at(answers: &[u64], columns: usize, i: u64) -> u64
     ensures { λ r. ⌜ r ≡ eight-verdicts (take columns (now (answers .entry))) i ⌝ }
 {
     let mut word: u64 = 0;
-    let mut j = columns;
-    while 0 < j {
-        j -= 1;
-        word = word * 2 + spread((answers[j] >> i) % 256);
+    let mut left = columns;
+    while 0 < left {
+        let column = left - 1;
+        word = word * 2 + spread((answers[column] >> i) % 256);
+        left -= 1;
     }
     word
 }

@@ -1,73 +1,60 @@
-use Prim.Native.Nat.{ℕ, _+_, _-_, _≤_, _<_, _^_}
+-- `held_answers` meets its contract. The invariant: the words of the first k formulas stand in their places.
+use Prim.Native.Nat.{ℕ, _+_, _-_, _≤_, _<_, _^_, zero-le}
 use borrow.Author.Needs.{needs}
 use mathlib.Core.Path.{_≡_, refl, ap, _∙_}
 use mathlib.Core.Logic.{⊎-elim}
 use native.Mathlib.Omega.{arith}
-use lib.ListN.{getD, length-set}
+use lib.ListN.{length, getD, length-set}
 use lib.Seq.{getD-set-same, getD-set-other}
 use Rattle.mtl.proofs.Bounded.{le-or-lt}
 use Rattle.blocks.specs.Block.{word}
 use Rattle.engine.specs.Tops.{place}
 use Rattle.emit.proofs.held_answers.Statement.{statement}
 use Rattle.emit.proofs.held_answers.Tie as tie
-use Rattle.emit.proofs.held_answers.Reads as reads
-use Rattle.emit.proofs.held_answers.Lts as lts
-use Rattle.engine.proofs.tops.place.Reads as place-reads
 
 abbrev Inv-loop : tie.InvT-loop
 Inv-loop tops number words answers₀ k₀ answers k =
-    (k ≤ number) × ((j : ℕ) → j < k → getD answers j 0 ≡ word words (place 3 tops j + 1)) × (k ≡ 0 → getD answers 0 0 ≡ 2 ^ 64 - 1)
+    (k ≤ number) × (length answers ≡ 8) × ((j : ℕ) → j < k → getD answers j 0 ≡ word words (place 3 tops j + 1)) × (k ≡ 0 → getD answers 0 0 ≡ 2 ^ 64 - 1)
 
 abbrev μ-loop : tie.MeasureT-loop
 μ-loop tops number words answers₀ k₀ answers k = number - k
 
--- src/lib.rt:90:5
-array-write-answers : tie.Need-array-write-answers Inv-loop μ-loop
-array-write-answers c = ?
-
--- src/lib.rt:92:5
 loop-holds : tie.Need-loop-holds Inv-loop μ-loop
-loop-holds c = ?
+loop-holds c = (zero-le, refl, λ j h. absurd (omega arith), λ e. refl)
 
--- src/lib.rt:93:13
-place-requires : tie.Need-place-requires Inv-loop μ-loop
-place-requires c κs = ?
-
--- src/lib.rt:94:28
-add-answers : tie.Need-add-answers Inv-loop μ-loop
-add-answers c = ?
-
--- src/lib.rt:94:22
-mul-answers : tie.Need-mul-answers Inv-loop μ-loop
-mul-answers c = ?
-
--- src/lib.rt:94:22
 shared-slice-read-answers : tie.Need-shared-slice-read-answers Inv-loop μ-loop
-shared-slice-read-answers c = ?
+shared-slice-read-answers c = omega (arith, c .before .before .before .before .before .pre .1 (c .before .before .before .loop .k) (omega arith), c .before .place .ensures)
 
--- src/lib.rt:94:9
-mul-answers-2 : tie.Need-mul-answers-2 Inv-loop μ-loop
-mul-answers-2 c = ?
+add-answers : tie.Need-add-answers Inv-loop μ-loop
+add-answers c =
+    let most = c .before .before .before .before .good .1 .1 .0 .1 in
+    record { fits = omega (arith, c .before .before .before .before .pre .1 (c .before .before .loop .k) (omega arith), c .place .ensures) }
 
--- src/lib.rt:94:9
-array-write-answers-2 : tie.Need-array-write-answers-2 Inv-loop μ-loop
-array-write-answers-2 c = ?
+mul-answers : tie.Need-mul-answers Inv-loop μ-loop
+mul-answers c =
+    let most = c .before .before .before .before .good .1 .1 .0 .1 in
+    record { fits = omega (arith, c .before .before .before .before .pre .1 (c .before .before .loop .k) (omega arith), c .place .ensures) }
 
--- src/lib.rt:95:9
-add-k : tie.Need-add-k Inv-loop μ-loop
-add-k c = ?
-
--- src/lib.rt:92:5
-loop-less : tie.Need-loop-less Inv-loop μ-loop
-loop-less c = ?
-
--- src/lib.rt:92:5
 loop-again : tie.Need-loop-again Inv-loop μ-loop
-loop-again c = ?
+loop-again c =
+    let l = c .before .before .before .loop in
+    let few = c .before .before .before .before .before .pre .0 in (
+      omega arith,
+      length-set (l .answers) (l .k) _ ∙ l .inv .1,
+      λ j h.
+          ⊎-elim
+          (λ (late : l .k ≤ j).
+          let same : j ≡ l .k = omega arith in
+          rw same (getD-set-same (l .answers) (l .k) _ 0 (omega (arith, l .inv .1)) ∙ ap (λ (i : ℕ). word (c .before .before .before .before .before .args .words .now) (i + 1)) (c .before .place .ensures)))
+          (λ (early : j < l .k). getD-set-other (l .answers) (l .k) j _ 0 (λ e. omega arith) ∙ l .inv .2 j early)
+          (le-or-lt (l .k) j),
+      λ e. absurd (omega arith),
+    )
 
--- src/lib.rt:85:1
 returns : tie.Need-returns Inv-loop μ-loop
-returns c = ?
+returns c =
+    let l = c .before .loop in
+    record { long = l .inv .1; each = λ k h. l .inv .2 k (omega arith); none = λ e. l .inv .3 (omega arith) }
 
 pub held-answers-spec : {M : Type 1} → statement M
 held-answers-spec =
@@ -75,15 +62,15 @@ held-answers-spec =
     (tie.spec
     Inv-loop
     μ-loop
-    array-write-answers
+    (λ c. search needs)
     loop-holds
-    place-requires
+    (λ c κs. (omega arith, omega arith))
     add-answers
     mul-answers
     shared-slice-read-answers
-    mul-answers-2
-    array-write-answers-2
-    add-k
-    loop-less
+    (λ c. record { fits = omega arith })
+    (λ c. omega arith)
+    (λ c. search needs)
+    (λ c. omega arith)
     loop-again
     returns)

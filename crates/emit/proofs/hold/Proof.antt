@@ -38,14 +38,13 @@ loop-again c =
     let s = c .before .before .before .before .before .before .before .before .before .before .before .before in
     let l = c .before .before .before .before .before .before .loop in
     let h = c .before .before .before .hold-one in
-    let below = c .before .before .before .before .before .before in
-    (
+    let below = c .before .before .before .before .before .before in (
       omega arith,
       h .kept .1 .1 .1 .1 .1 .1 .0 ∙ l .inv .1,
       λ base fs fits.
-      rw (c .smaller .ensures)
-      (one-more (fits .header) (l .inv .2 base fs fits) (h .result) (h .last .1 .1 .1 .1 .1 .1 .0) (omega (arith, fits .laid .number))
-      (h .ensures base fs (rw (l .inv .1) fits) (omega (arith, fits .laid .number)))),
+          rw (c .smaller .ensures)
+          (one-more (fits .header) (l .inv .2 base fs fits) (h .result) (h .last .1 .1 .1 .1 .1 .1 .0) (omega (arith, fits .laid .number))
+          (h .ensures base fs (rw (l .inv .1) fits) (omega (arith, fits .laid .number)))),
     )
 
 same-length : tie.Need-same-length Inv-loop μ-loop

@@ -1,71 +1,71 @@
+-- `spend` meets its contract. The invariant: n verdicts are taken out of the first k formulas' answers.
+use Prim.Native.Nat.{_+_, _-_, _≤_}
+use borrow.Author.Needs.{needs}
+use mathlib.Core.Path.{_≡_, ap, _∙_}
+use native.Mathlib.Omega.{arith}
+use lib.ListN.{length, set, length-set}
+use Rattle.engine.specs.Tops.{place}
+use Rattle.checkpoint.specs.Checkpoint.{given}
+use Rattle.emit.specs.Code.{spent-one, spent}
+use Rattle.emit.proofs.Spending.{length-spent, spent-none, spent-next, may-spend}
 use Rattle.emit.proofs.spend.Statement.{statement}
 use Rattle.emit.proofs.spend.Tie as tie
-use Rattle.emit.proofs.spend.Reads as reads
-use Rattle.emit.proofs.spend.Lts as lts
-use Rattle.emit.proofs.spend_one.Reads as spend-one-reads
-use Rattle.engine.proofs.tops.place.Reads as place-reads
 
 abbrev Inv-loop : tie.InvT-loop
-Inv-loop tops number most words₀ n given k₀ words k = ?
+Inv-loop tops number most words₀ n given k₀ words k = (k ≤ number) × (words ≡ spent (place 3 tops) most given n k words₀)
 
 abbrev μ-loop : tie.MeasureT-loop
-μ-loop tops number most words₀ n given k₀ words k = ?
+μ-loop tops number most words₀ n given k₀ words k = number - k
 
--- src/lib.rt:130:17
 slice-read-given : tie.Need-slice-read-given Inv-loop μ-loop
-slice-read-given c = ?
+slice-read-given c = c .before .before .pre .room
 
--- src/lib.rt:132:5
 loop-holds : tie.Need-loop-holds Inv-loop μ-loop
-loop-holds c = ?
+loop-holds c = (omega arith, spent-none _ _ _ _ _)
 
--- src/lib.rt:133:13
 place-requires : tie.Need-place-requires Inv-loop μ-loop
-place-requires c κs = ?
+place-requires c κs =
+    let p = c .before .before .before .before .pre in
+    (omega (arith, p .small, p .row .formulas), omega arith)
 
--- src/lib.rt:137:13
-add-spend-one : tie.Need-add-spend-one Inv-loop μ-loop
-add-spend-one c = ?
-
--- src/lib.rt:138:13
-add-spend-one-2 : tie.Need-add-spend-one-2 Inv-loop μ-loop
-add-spend-one-2 c = ?
-
--- src/lib.rt:138:13
-add-spend-one-3 : tie.Need-add-spend-one-3 Inv-loop μ-loop
-add-spend-one-3 c = ?
-
--- src/lib.rt:134:9
 spend-one-requires : tie.Need-spend-one-requires Inv-loop μ-loop
-spend-one-requires c κs = ?
+spend-one-requires c κs =
+    let s = c .before .before .before .before .before .before in
+    let l = c .before .before .before .loop in
+    may-spend (s .args .tops .now) (s .args .number) (s .args .most) (s .args .n) (s .args .words .now) (s .pre) (l .k) (omega arith) (c .before .place .result) (l .words)
+    (c .before .place .ensures) (l .inv .1)
 
--- src/lib.rt:142:9
-add-k : tie.Need-add-k Inv-loop μ-loop
-add-k c = ?
-
--- src/lib.rt:132:5
-loop-less : tie.Need-loop-less Inv-loop μ-loop
-loop-less c = ?
-
--- src/lib.rt:132:5
 loop-again : tie.Need-loop-again Inv-loop μ-loop
-loop-again c = ?
+loop-again c =
+    let s = c .before .before .before .before .before .before .before .before .before in
+    let l = c .before .before .before .before .before .before .loop in (
+      omega arith,
+      c .before .before .spend-one .ensures ∙
+          ap (λ h. spent-one h (8 + l .k) (8 + s .args .most + l .k) (given (s .args .words .now)) (s .args .n) (l .words)) (c .before .before .before .before .place .ensures) ∙
+          ap (spent-one (place 3 (s .args .tops .now) (l .k)) (8 + l .k) (8 + s .args .most + l .k) (given (s .args .words .now)) (s .args .n)) (l .inv .1) ∙
+          spent-next (place 3 (s .args .tops .now)) (s .args .most) (given (s .args .words .now)) (s .args .n) (l .k) (s .args .words .now),
+    )
 
--- src/lib.rt:144:28
-add-words : tie.Need-add-words Inv-loop μ-loop
-add-words c = ?
+-- the words are as many as before
+long : (c : tie.After-loop Inv-loop μ-loop) → length (c .before .loop .words) ≡ length (c .before .before .before .before .args .words .now)
+long c =
+    let s = c .before .before .before .before in
+    ap length (c .before .loop .inv .1) ∙
+    length-spent (place 3 (s .args .tops .now)) (s .args .most) (given (s .args .words .now)) (s .args .n) (s .args .number) (s .args .words .now) (s .pre .row) (c .before .loop .k)
 
--- src/lib.rt:144:5
 slice-write-words : tie.Need-slice-write-words Inv-loop μ-loop
-slice-write-words c = ?
+slice-write-words c = omega (arith, long c, c .before .before .before .before .pre .room)
 
--- src/lib.rt:126:1
 same-length : tie.Need-same-length Inv-loop μ-loop
-same-length c = ?
+same-length c = simp length-set (long c)
 
--- src/lib.rt:126:1
 returns : tie.Need-returns Inv-loop μ-loop
-returns c = ?
+returns c =
+    let s = c .before .before .before .before in
+    let l = c .before .loop in
+    let all : l .k ≡ s .args .number = omega arith in
+    ap (λ ws. set ws 1 (given (s .args .words .now) + s .args .n))
+    (l .inv .1 ∙ ap (λ k. spent (place 3 (s .args .tops .now)) (s .args .most) (given (s .args .words .now)) (s .args .n) k (s .args .words .now)) all)
 
 pub spend-spec : {M : Type 1} → statement M
 spend-spec =
@@ -76,14 +76,14 @@ spend-spec =
     slice-read-given
     loop-holds
     place-requires
-    add-spend-one
-    add-spend-one-2
-    add-spend-one-3
+    (λ c. record { fits = let p = c .before .before .before .before .before .before .pre in omega (arith, p .small, p .row .formulas) })
+    (λ c. record { fits = let p = c .before .before .before .before .before .before .pre in omega (arith, p .small) })
+    (λ c. record { fits = let p = c .before .before .before .before .before .before .pre in omega (arith, p .small, p .row .formulas) })
     spend-one-requires
-    add-k
-    loop-less
+    (λ c. search needs)
+    (λ c. omega arith)
     loop-again
-    add-words
+    (λ c. record { fits = c .before .before .before .before .pre .given })
     slice-write-words
     same-length
     returns)

@@ -1,4 +1,7 @@
+-- `spend_one` meets its contract: what is stored, by the contracts of the functions that count.
 use borrow.Author.Needs.{needs}
+use native.Mathlib.Omega.{arith}
+use lib.ListN.{length-set}
 use Rattle.emit.proofs.spend_one.Statement.{statement}
 use Rattle.emit.proofs.spend_one.Tie as tie
 use Rattle.emit.proofs.spend_one.Reads as reads
@@ -86,7 +89,7 @@ mul-words-3 c = search needs
 
 -- src/lib.rt:120:5
 slice-write-words-3 : tie.Need-slice-write-words-3
-slice-write-words-3 c = ?
+slice-write-words-3 c = simp length-set (omega arith)
 
 -- src/lib.rt:121:23
 rest-requires : tie.Need-rest-requires
@@ -110,7 +113,9 @@ same-length c = search needs
 
 -- src/lib.rt:109:1
 returns : tie.Need-returns
-returns c = ?
+returns c =
+    let s = c .before .before .before .before .before .before .before .before .before in
+    simp (c .rest .ensures, c .before .later-end .ensures, c .before .before .before .find-last-zero .ensures .0, c .before .before .before .before .count-zeros .ensures .0)
 
 pub spend-one-spec : {M : Type 1} → statement M
 spend-one-spec =

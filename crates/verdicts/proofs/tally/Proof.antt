@@ -1,9 +1,7 @@
 -- `tally` meets its contract.
 use Prim.Native.Nat.{_≤_}
 use native.Mathlib.Omega.{arith}
-use mathlib.Core.Path.{_≡_, sym, _∙_}
-use lib.ListN.{length}
-use borrow.Author.Needs.{needs}
+use mathlib.Core.Path.{sym, _∙_}
 use Rattle.verdicts.proofs.Tallies.{inside, refuses-number, refuses-byte, tallies}
 use Rattle.verdicts.proofs.tally.Statement.{statement}
 use Rattle.verdicts.proofs.tally.Tie as tie

@@ -1,7 +1,7 @@
 -- `eight::write_first` meets its contract. The loop's invariant: i bytes are written, and `rest` has those behind them.
-use Prim.Native.Nat.{_+_, _-_, _*_, _/_, _≤_, _^_}
+use Prim.Native.Nat.{_-_, _*_, _/_, _≤_, _^_}
 use native.Mathlib.Omega.{arith}
-use mathlib.Core.Path.{_≡_, refl, sym, ap, _∙_}
+use mathlib.Core.Path.{_≡_, refl}
 use lib.ListN.{length, length-set}
 use lib.Seq.{sets}
 use borrow.Author.Needs.{needs}
