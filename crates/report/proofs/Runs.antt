@@ -14,7 +14,6 @@ use Rattle.mtl.specs.Progress.{joint-progress}
 use Rattle.mtl.specs.Wanted.{wanted}
 use Rattle.mtl.proofs.Joint.{joint-le-size}
 use Rattle.rule.specs.Entries.{version}
-use Rattle.rule.specs.Postfix.{formulas-or}
 use Rattle.rule.specs.Refusal.{first, refusal}
 use Rattle.rule.proofs.Headers.{first-zero, before-none, or-right}
 use Rattle.rule.proofs.Acceptance.{accepted}
@@ -38,6 +37,7 @@ use Rattle.monitor.specs.declared.Resumed.the-variants.{Refused as NotResumed}
 use Rattle.monitor.specs.declared.FormulaCount.{FormulaCount}
 use Rattle.monitor.specs.declared.FormulaCount.the-variants.{Formulas}
 use Rattle.monitor.specs.declared.FormulaCount.the-variants.{Refused as NotCounted}
+use Rattle.monitor.proofs.Meaning.{few-columns, most-few}
 use Rattle.monitor.proofs.OwnCheckpoint.{own-given, not-outside}
 use Rattle.monitor.proofs.VerdictBytes.{verdicts-more}
 use Rattle.report.specs.Report.{refused-text, first-line, lines, verdicts-text, run-refusal, too-long, report}
@@ -45,17 +45,8 @@ use Rattle.report.specs.Report.{refused-text, first-line, lines, verdict
 -- of an accepted rule
 module _ (rule : List ℕ) (fine : refusal rule ≡ 0) where
   -- eight words on a line are the most
-  pub few-columns : columns (formulas-of rule) ≤ 8
-  few-columns =
-      let a = accepted rule fine in
-      let many = a .not-more in
-      let limit = most-formulas (eqb (version rule) 1) in
-      let same : length (formulas-of rule) ≡ length (a .the-formulas) = ap (λ o. length (formulas-or o)) (a .reads) in
-      omega arith
-    where
-      most-formulas : (one : Bool) → cond one 1 8 ≤ 8
-      most-formulas true = omega arith
-      most-formulas false = omega arith
+  pub eight-columns : columns (formulas-of rule) ≤ 8
+  eight-columns = omega (arith, few-columns rule fine, most-few (version rule))
 
   module _ (r : FormulaCount) (told : answer r ≡ formula-count rule) where
     counts : answer r ≡ record { number = 0; formulas = columns (formulas-of rule) }

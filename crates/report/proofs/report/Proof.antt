@@ -12,7 +12,7 @@ use Rattle.emit.specs.Verdicts.{formulas-of, columns}
 use Rattle.report.specs.Report.{ascii, first-line, lines, too-long, Writes}
 use Rattle.report.proofs.Texts.{writes-more}
 use Rattle.report.proofs.Lines.{short-first-line}
-use Rattle.report.proofs.Runs.{Ran, few-columns, not-opened, not-resumed, resumed}
+use Rattle.report.proofs.Runs.{Ran, eight-columns, not-opened, not-resumed, resumed}
 use Rattle.report.proofs.report.Statement.{statement}
 use Rattle.report.proofs.report.Tie as tie
 
@@ -188,7 +188,7 @@ put-lines-requires c κs =
     let size : length (take given sheet) ≡ given = length-take-le given sheet (r .fits) in
     let few : length (take given sheet) ≤ 8191 = omega (arith, r .few) in
     let room : w .result + length (take given sheet) * 37 ≤ length (w .last .1 .1 .0) = omega (arith, w .ensures .ends, w .kept .1 .1 .0) in
-    let most = few-columns _ (r .accepts) in
+    let most = eight-columns _ (r .accepts) in
     let columned-by = columned (c .before .before .before .before .before .before) in
     (omega arith, omega arith, room)
 
