@@ -14,7 +14,8 @@ use Rattle.rule.specs.Words.{header-words}
 use Rattle.rule.specs.Refusal.{refusal}
 use Rattle.rule.proofs.Spans.{header-least}
 use Rattle.blocks.specs.Block.{word}
-use Rattle.checkpoint.specs.Checkpoint.{no-count, after-latest, latest-of, need, block-at}
+use Rattle.checkpoint.specs.Checkpoint.{no-count, after-latest, need, block-at}
+use Rattle.verdicts.specs.Counts.{latest-of}
 use Rattle.checkpoint.proofs.Offsets.{block-fits, noes-within}
 use Rattle.checkpoint.proofs.Copies.{foreign-within}
 use Rattle.emit.specs.Verdicts.{formulas-of}

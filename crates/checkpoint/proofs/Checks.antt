@@ -30,7 +30,8 @@ use Rattle.rule.proofs.Outcome.{passes-with}
 use Rattle.blocks.specs.Block.{word}
 use Rattle.trace.specs.Format.{record-count, records-of, malformed}
 use Rattle.trace.proofs.Laws.{well-formed-records}
-use Rattle.checkpoint.specs.Checkpoint.{given, seen, last, closed-with, no-count, after-latest, need, foreign, block-at, block-outside, block-in-range, room, noes-in-range, noes-outside, closed-in-range, outside, header-in-range}
+use Rattle.checkpoint.specs.Checkpoint.{given, seen, last, closed-with, no-count, after-latest, need, foreign, block-at, block-outside, block-in-range, room, noes-outside, closed-in-range, outside, header-in-range}
+use Rattle.verdicts.specs.Counts.{noes-in-range}
 use Rattle.checkpoint.specs.Refusal.{open-refusal, resumes-closed, point-refusal, words-refusal, summary-refusal}
 use Rattle.checkpoint.specs.Code.{sized-of, sized-number, checked-by, checked-number, sized-by, Covers, own-checked}
 use Rattle.checkpoint.specs.declared.check.Sized.{Sized}

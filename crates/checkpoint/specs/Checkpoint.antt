@@ -1,10 +1,9 @@
 -- The words of a checkpoint (document 01's point): 16 of its own, 24 for a rule of version 2, then each entry's block in entry order.
 -- docs/CHECKPOINT.md has the table.
-use Prim.Native.Nat.{ℕ, zero, suc, _+_, _*_, _-_, _^_}
-use mathlib.Core.Bool.{Bool, Bool·beq, _&&_, _||_}
+use Prim.Native.Nat.{ℕ, _+_, _*_, _-_, _^_}
+use mathlib.Core.Bool.{Bool, _&&_, _||_}
 use mathlib.Core.Bool.{not as negate}
 use mathlib.Core.List.{List}
-use mathlib.Core.Option.{Option, none, some}
 use lib.ListN.{drop}
 use lib.Dec.{leb, ltb, eqb}
 use Rattle.mtl.specs.Satisfaction.{any}
@@ -13,7 +12,7 @@ use Rattle.rule.specs.Entries.{version, count, decoded, entry}
 use Rattle.rule.specs.Words.{header-words, offset, words}
 use Rattle.rule.specs.Postfix.{most}
 use Rattle.blocks.specs.Block.{word, cells-of}
-use Rattle.verdicts.specs.Counts.{Noes}
+use Rattle.verdicts.specs.Counts.{Noes, latest-of, noes-in-range}
 
 -- the number in a checkpoint's first word: the bytes HAVD, and the format's number
 abbrev pub format : ℕ
@@ -44,11 +43,6 @@ no-count p k = word p (8 + k)
 
 abbrev pub after-latest : (most : ℕ) → List ℕ → (k : ℕ) → ℕ
 after-latest most p k = word p (8 + most + k)
-
--- a position by one more than it, and 0 for none
-abbrev pub latest-of : ℕ → Option ℕ
-latest-of zero = none
-latest-of (suc i) = some i
 
 -- "A point now stores the count of no among verdicts given and the position of the latest, or none", and since document 02, paper 8,
 -- "one per formula"
@@ -97,11 +91,7 @@ abbrev pub block-outside : (base : ℕ) → List Entry → List ℕ → ℕ → 
 block-outside base t p k =
     negate (block-in-range (given p) (seen p) (cells-of (entry t k .kind) (entry t k .high)) (drop (block-at base t k) p))
 
--- of the d verdicts given no more are no than there are, the latest is one of them, and there is none exactly where none is counted
-abbrev pub noes-in-range : (d count after : ℕ) → Bool
-noes-in-range d count after = leb count d && leb after d && Bool·beq (eqb count 0) (eqb after 0)
-
--- those of formula k are not so; where the rule has no formula k, both words are 0
+-- the count of formula k or its latest is outside its range; where the rule has no formula k, the library leaves both 0
 abbrev pub noes-outside : (most : ℕ) → List ℕ → (k : ℕ) → Bool
 noes-outside most p k = negate (noes-in-range (given p) (no-count p k) (after-latest most p k))
 

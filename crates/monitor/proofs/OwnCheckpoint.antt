@@ -24,7 +24,8 @@ use Rattle.blocks.specs.Block.{word, cells-of}
 use Rattle.engine.specs.State.{State}
 use Rattle.engine.proofs.Entries.{Ranged}
 use Rattle.engine.proofs.Formulas.{last-entry, last-next, rule-ranges}
-use Rattle.checkpoint.specs.Checkpoint.{given, seen, last, closed-with, no-count, after-latest, need, block-at, room, block-outside, noes-in-range, noes-outside, closed-in-range, outside}
+use Rattle.checkpoint.specs.Checkpoint.{given, seen, last, closed-with, no-count, after-latest, need, block-at, room, block-outside, noes-outside, closed-in-range, outside}
+use Rattle.verdicts.specs.Counts.{noes-in-range}
 use Rattle.checkpoint.proofs.Offsets.{in-block, block-fits}
 use Rattle.emit.specs.Verdicts.{formulas-of, columns, verdicts}
 use Rattle.emit.specs.Top.{held-count, part-of}
