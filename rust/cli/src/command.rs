@@ -104,7 +104,7 @@ spreadsheet, under the line `position,verdict`; where there are several formulas
         does: "write the rule file that the formula says, or several",
         more: "\
 FORMULA is one argument, as in 'not e2 or e0 until[0,90] e1'. Several of them, up to eight, make a rule of version 2:
-they are judged together.",
+they are judged together. RULE is the .krl file to be written.",
         run: |words| match words {
             [formulas @ .., rule] if !formulas.is_empty() => Some(convert::rule(formulas, rule)),
             _ => None,

@@ -2,7 +2,7 @@
 
 use crate::command::Failure;
 use crate::disk::read_file;
-use havdrims::{measure, parse, simulate, text, worst_log, Settings, MOST_RULE};
+use havdrims::{formulas, measure, parse, simulate, text, worst_log, Refusal, Settings, MOST_FORMULAS, MOST_RULE};
 use std::str::FromStr;
 use std::{fs, io};
 
@@ -44,7 +44,17 @@ fn joined(words: &[&str], mut rules: Vec<Vec<u8>>) -> Result<Vec<u8>, Failure> {
         }
     }
     let slices: Vec<&[u8]> = rules.iter().map(Vec::as_slice).collect();
-    text::joined(&slices).map_err(|refusal| Failure::fault("all together", refusal))
+    text::joined(&slices)
+        .map_err(|refusal| Failure::fault("all together", format!("{refusal}{}", hint(refusal, &slices))))
+}
+
+/// What else there is to say where rules that are right alone are refused together.
+fn hint(refusal: Refusal, rules: &[&[u8]]) -> String {
+    if refusal != Refusal::Shape {
+        return String::new();
+    }
+    let number: usize = rules.iter().filter_map(|rule| formulas(rule).ok()).sum();
+    format!("\nThese are {number} formulas; at most {MOST_FORMULAS} can be judged together.")
 }
 
 /// The bytes of the rule that a formula says.
@@ -79,6 +89,10 @@ pub fn to_text(path: &str) -> Answer {
 }
 
 pub fn rule(formulas: &[&str], path: &str) -> Answer {
+    if !path.ends_with(".krl") {
+        // It may be a formula, with the file's name forgotten.
+        return Err(Failure::Use(format!("`{path}` is no name of a rule file: that ends in .krl")));
+    }
     let rules = formulas.iter().map(|formula| parsed(formula)).collect::<Result<_, _>>()?;
     let bytes = joined(formulas, rules)?;
     write(path, &bytes)?;

@@ -64,7 +64,17 @@ fn several_formulas_in_one_rule() {
     assert_eq!(place.ok(&eight), "eight.krl: 8 formulas, 8 entries\n");
     assert_eq!(place.ok(&["formula", "eight.krl"]), "e0\ne1\ne2\ne3\ne4\ne5\ne6\ne7\nwords 152, reach 0 seconds\n");
     let nine = [&eight[..1], &["e8"], &eight[1..9], &["none.krl"]].concat();
-    assert_eq!(place.fails(1, &nine), format!("all together: {}\n", Refusal::Shape));
+    let too_many = "These are 9 formulas; at most 8 can be judged together.";
+    assert_eq!(place.fails(1, &nine), format!("all together: {}\n{too_many}\n", Refusal::Shape));
+    // a rule file with several of them, and others beside it
+    let said = place.fails(1, &["new", "none", "eight.krl", "e0", "one.krl"]);
+    assert_eq!(said, format!("all together: {}\n{}\n", Refusal::Shape, too_many.replace('9', "10")));
+    assert!(!place.path("none").exists());
+    // the file's name is forgotten
+    let said = place.fails(2, &["rule", "e0", "e1"]);
+    let expected = "expected: havdrims rule FORMULA.. RULE\n";
+    assert_eq!(said, format!("`e1` is no name of a rule file: that ends in .krl\n{expected}"));
+    assert!(!place.path("e1").exists());
     let said = place.fails(1, &["rule", "e0", "e1 or", "none.krl"]);
     assert_eq!(said, format!("`e1 or`: {}\n", Refusal::NotDerived));
     let many = "not ".repeat(64) + "e0";
