@@ -1,10 +1,10 @@
 //! Logs as text and rules as formulas.
 
-use evaluator::random::{self, LogShape, Random};
+use evaluator::random::{self, LogShape, Random, RuleShape};
 use evaluator::rule::{self, Entry, NEXT, NO_END, PREVIOUS, SINCE, UNTIL};
 use evaluator::{cases, log};
 use havdrims::text::{formula, joined, log_from_text, log_to_text, EMPTY};
-use havdrims::Refusal;
+use havdrims::{parse, Refusal, MOST_RULE};
 
 const P1: &str = "10 e0\n11 e0\n11 none\n12 e0\n13 e1\n20 e0\n";
 
@@ -74,6 +74,32 @@ fn formulas() {
     assert_eq!(shown(&[a, Entry::timed(NEXT, 1, NO_END)]), "next[1,inf] e0");
     assert_eq!(shown(&[]), EMPTY);
     assert_eq!(formula(b"KRL"), Err(Refusal::RuleMark));
+}
+
+/// A rule of several formulas, shown, typed again line by line and joined, is the same rule.
+#[test]
+fn several_formulas_come_back() {
+    let mut r = Random::new(8);
+    let mut several = 0;
+    for _ in 0..5_000 {
+        let shape = RuleShape { entries: 12, letters: 32, high: r.pick(&[2, 90, 300]) };
+        let number = r.from_to(1, 8);
+        let file = rule::encode_several(&random::formulas(&mut r, shape, number));
+        let Ok(shown) = formula(&file) else { continue };
+        let typed: Vec<Vec<u8>> = shown.lines().map(|line| parsed(line).unwrap()).collect();
+        assert_eq!(typed.len(), number, "{shown}");
+        let typed: Vec<&[u8]> = typed.iter().map(Vec::as_slice).collect();
+        assert_eq!(joined(&typed), Ok(file), "{shown}");
+        several += usize::from(number > 1);
+    }
+    assert!(several > 1_000, "{several}");
+}
+
+fn parsed(line: &str) -> Result<Vec<u8>, Refusal> {
+    let mut bytes = vec![0; MOST_RULE];
+    let size = parse(line.as_bytes(), &mut bytes)?;
+    bytes.truncate(size);
+    Ok(bytes)
 }
 
 #[test]

@@ -225,7 +225,9 @@ fn lists() {
         for _ in 0..r.from_to(0, 14) {
             if r.one_in(3) {
                 kiosk.overwrite(r);
-                counts.add("kept for previous", kiosk.model.given() - kiosk.wanted());
+                let kept = kiosk.model.given() - kiosk.wanted();
+                counts.add("kept for previous", kept);
+                counts.add("kept for one of several formulas", if formulas > 1 { kept } else { 0 });
             }
             if r.one_in(3) {
                 let n = r.from_to(n, total);
@@ -256,7 +258,14 @@ fn lists() {
     };
     let shown = |counts: &Counts| {
         let met = |n: u32| counts.get(&format!("refused {n:02}")) > 0;
-        let names = ["of empty rules", "of several formulas", "kept for previous", "of closings", "closings with more"];
+        let names = [
+            "of empty rules",
+            "of several formulas",
+            "kept for previous",
+            "kept for one of several formulas",
+            "of closings",
+            "closings with more",
+        ];
         let reached = names.iter().all(|name| counts.get(name) > 0) && met(20) && met(21);
         (1..=14).all(|n| met(n) || [3, 8, 11].contains(&n)) && reached
     };
@@ -327,8 +336,10 @@ fn each_bit_is_the_verdict_of_its_formula_alone() {
             for (i, (byte, verdict)) in together.iter().zip(&alone).enumerate() {
                 assert_eq!(byte >> k & 1, *verdict, "formula {k} of {}, position {i}", hex(&rule));
             }
-            counts.add("bits", together.len().min(alone.len()));
+            let of_several = if decoded.formulas() > 1 { "bits of several formulas" } else { "bits of one formula" };
+            counts.add(of_several, together.len().min(alone.len()));
         }
     };
-    cases("each_bit_is_the_verdict_of_its_formula_alone", 5_000, body, |counts| counts.get("bits") > 0);
+    let shown = |counts: &Counts| counts.get("bits of several formulas") > 0;
+    cases("each_bit_is_the_verdict_of_its_formula_alone", 5_000, body, shown);
 }

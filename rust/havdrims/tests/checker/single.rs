@@ -62,7 +62,8 @@ fn measure() {
         counts.returned(expected.err().unwrap_or(0));
         counts.add("with several formulas", usize::from(formulas.is_ok_and(|number| number > 1)));
     };
-    cases("measure", 60_000, body, |counts| all_refused(counts, 1..=8));
+    let several = |counts: &Counts| counts.get("with several formulas") > 0;
+    cases("measure", 60_000, body, |counts| all_refused(counts, 1..=8) && several(counts));
 }
 
 #[test]
@@ -93,9 +94,13 @@ fn tally() {
         let number = if r.one_in(10) { r.pick(&[0, 9, 10, 64, 256, 1 << 32 | 1, u64::MAX]) } else { formulas as u64 };
         let expected = model::tally(&sheet, number);
         assert_eq!(calls::tally(&sheet, number, side(r)), expected, "{number} formulas, sheet {}", hex(&sheet));
+        let refused = expected.is_err();
+        counts.add("by a bit beyond", usize::from(refused && number == formulas as u64));
+        counts.add("by the number", usize::from(refused && number != formulas as u64));
         counts.returned(expected.err().unwrap_or(0));
     };
-    cases("tally", 20_000, body, |counts| counts.get("refused 15") > 0 && counts.get("accepted") > 0);
+    let names = ["accepted", "by a bit beyond", "by the number"];
+    cases("tally", 20_000, body, |counts| names.iter().all(|name| counts.get(name) > 0));
 }
 
 /// One carry on or closing from a fresh point, on logs without fault and on damaged ones.
