@@ -95,6 +95,7 @@ static void two_rules(void) {
     accepted("tally", havdrims_tally(sheet, given, formulas, no, yes));
     check(no[0] == 1 && yes[0] == 2 && no[1] == 1 && yes[1] == 2, "the tally for both");
     accepted("summary", havdrims_summary(both, sizeof both, point, HAVDRIMS_MOST_WORDS, no, latest));
+    /* Each has a no here; where a formula has none, latest[k] is HAVDRIMS_NONE. */
     for (uint64_t k = 0; k < formulas; k++) {
         printf("formula %u: %u no, the latest at record %u\n", (unsigned)k, (unsigned)no[k], (unsigned)latest[k]);
     }
