@@ -112,6 +112,8 @@ fn expected(files: &Files) -> String {
 struct Outcomes {
     runs: BTreeMap<String, usize>,
     verdicts: usize,
+    /// The lines with a word for each of several formulas.
+    of_several: usize,
 }
 
 impl Outcomes {
@@ -122,6 +124,7 @@ impl Outcomes {
         let outcome = if first.starts_with("verdicts") { "accepted" } else { first };
         *self.runs.entry(outcome.to_string()).or_default() += 1;
         self.verdicts += lines.lines().count();
+        self.of_several += lines.lines().filter(|line| line.split(' ').count() > 2).count();
         first.to_string()
     }
 
@@ -140,7 +143,8 @@ impl Outcomes {
     /// Writes the counts past the test harness, which would hold back what a passing test prints.
     fn print(&self, test: &str) {
         let list: Vec<String> = self.runs.iter().map(|(outcome, runs)| format!("{outcome}: {runs}")).collect();
-        let _ = writeln!(std::io::stderr(), "{test}: {}; {} verdicts", list.join(", "), self.verdicts);
+        let (list, verdicts, several) = (list.join(", "), self.verdicts, self.of_several);
+        let _ = writeln!(std::io::stderr(), "{test}: {list}; {verdicts} verdicts, {several} of several formulas");
     }
 }
 
@@ -297,6 +301,10 @@ fn lengths_at_the_limit() {
     assert_eq!(most.len(), MOST_BYTES);
     outcomes.says("most-records", &files(&letter, &most), "verdicts 8191 of 8191");
     outcomes.says("most-records-until", &files(&p1_rule(), &most), "verdicts 8191 of 8191");
+    // the longest text: eight times yes at every record
+    let eight = rule::encode_several(&vec![vec![Entry::letter(0)]; 8]);
+    outcomes.says("most-records-eight", &files(&eight, &most), "verdicts 8191 of 8191");
+    assert_eq!(outcomes.of_several, MOST_RECORDS);
     outcomes.says("one-record-fewer", &files(&p1_rule(), &steady(8190)), "verdicts 8188 of 8190");
     outcomes.says("one-record-more", &files(&p1_rule(), &steady(8192)), "too long");
     outcomes.says("log-one-byte-fewer", &files(&p1_rule(), &to_length(most.clone(), MOST_BYTES - 1)), "refused 12");
@@ -331,7 +339,7 @@ fn random_days() {
         }
         outcomes.run(&format!("seed-{seed}"), &files(&rule, &log));
     }
-    assert!(outcomes.verdicts > 5_000, "the cases do not reach what they should");
+    assert!(outcomes.verdicts > 5_000 && outcomes.of_several > 1_000, "the cases do not reach what they should");
     outcomes.print("kiosk: random days");
 }
 

@@ -280,6 +280,7 @@ fn sheets_of_all_lengths() {
         let rule = rule::parse(&start.rule).unwrap();
         let closing = r.one_in(2);
         let all = one_run(closing, &rule, &start.untouched);
+        let several = rule.formulas() > 1;
         let fresh = start.point.words().to_vec();
         let mut kiosk = start;
         for length in 0..=all.len() + 2 {
@@ -293,6 +294,7 @@ fn sheets_of_all_lengths() {
                 let brought = Brought { closing, rule, log, words: fresh.len(), sheet: vec![9; next] };
                 let given = kiosk.carry_on(r, brought).unwrap();
                 counts.returned(0);
+                counts.add("of several formulas", if several { given.verdicts.len() } else { 0 });
                 written.extend(given.verdicts);
                 kiosk.overwrite(r);
                 if !given.more {
@@ -303,7 +305,7 @@ fn sheets_of_all_lengths() {
             assert_eq!(written, all, "{}", kiosk.story);
         }
     };
-    cases("sheets_of_all_lengths", 1_500, body, |counts| counts.get("accepted") > 0);
+    cases("sheets_of_all_lengths", 1_500, body, |counts| counts.get("of several formulas") > 0);
 }
 
 /// A random list over a log, with overwriting; in the end it is closed if so said. All its verdicts.
