@@ -142,8 +142,11 @@ fn every_call_on_a_small_stack() {
     records.last_mut().unwrap().time += 9_000;
     let file = log::encode(&records);
     let mut most = [0; 8];
-    let one_formula = rules().iter().map(|entries| rule::encode(entries)).collect();
-    for bytes in [one_formula, eight_formulas()].concat() {
+    let version_1: Vec<Vec<u8>> = rules().iter().map(|entries| rule::encode(entries)).collect();
+    // The same of version 2, where 8 words more are not too many.
+    let version_2 = rules().into_iter().map(|entries| rule::encode_as(2, &entries));
+    let version_2 = version_2.filter(|bytes| rule::parse(bytes).is_ok()).collect();
+    for bytes in [version_1, version_2, eight_formulas()].concat() {
         let (needs, measuring) = on_small_stack(|| measure(&bytes));
         let words = needs.unwrap().words;
         assert_eq!(words as u64, model::measure(&bytes).unwrap().0);
