@@ -23,10 +23,10 @@ use Rattle.rule.proofs.Alone.{alone-formulas}
 use Rattle.rule.proofs.Alone.{Alone as Accepts, alone as accepts}
 use Rattle.emit.specs.Verdicts.{formulas-of, answers-of, verdict, first-records}
 use Rattle.emit.proofs.Meaning.{joint-le, verdict-stays}
-use Rattle.calls.specs.Calls.{Untouched, Call, brought-by, closed-by, before-closing, laid, Calls}
-use Rattle.calls.specs.Alone.{AloneOn, rule-alone, SameVerdict, Comparable, Alone}
+use Rattle.calls.specs.Calls.{Untouched, Call, brought-by, closed-by, Calls}
+use Rattle.calls.specs.Alone.{AloneOn, rule-alone, Comparable, SameVerdicts, Alone}
 use Rattle.calls.proofs.Demand3.{first-longer, first-falls}
-use Rattle.calls.proofs.Truth.{length-answers, byte-at, calls-before, open-before, laid-before}
+use Rattle.calls.proofs.Truth.{length-answers, byte-at}
 
 -- OVER THE DEFINITIONS
 
@@ -108,27 +108,40 @@ module _ (rule log : List ℕ) (untouched : Untouched log) where
     first-falls rule log untouched true n′,
   )
 
+  -- a verdict that is settled on the first n records, closed and open, is the same on both
+  closed-or-open : (fs : List Formula) (closed closed′ : Bool) (n i : ℕ) →
+      i < joint-progress fs (first-records closed log n) → i < joint-progress fs (first-records closed′ log n) →
+      verdict fs (first-records closed log n) i ≡ verdict fs (first-records closed′ log n) i
+  closed-or-open fs closed closed′ n i l l′ =
+      let end = first-records true log n in
+      let falls = first-falls rule log untouched true n in
+      verdict-stays fs (first-records closed log n) end (first-longer rule log untouched closed true n n (omega arith) (λ e. (refl, refl))) falls i l ∙
+      sym (verdict-stays fs (first-records closed′ log n) end (first-longer rule log untouched closed′ true n n (omega arith) (λ e. (refl, refl))) falls i l′)
+
   module _ (k : ℕ) (among : k < length (formulas-of rule)) (one : Accepts (formula (formulas-of rule) k)) where
     same-verdict : (h : List Call) (point : List ℕ) → Calls rule log h point → (h′ : List Call) (point′ : List ℕ) → Calls (rule-alone rule k) log h′ point′ →
-        Comparable (closed-by h) (closed-by h′) (brought-by h) (brought-by h′) →
-        (i : ℕ) → i < length (laid h) → i < length (laid h′) → SameVerdict k h h′ i
-    same-verdict h point calls h′ point′ calls′ both i l l′ =
+        SameVerdicts rule log k h h′
+    same-verdict h point calls h′ point′ calls′ closed closed′ both i there there′ l l′ =
         let fs = formulas-of rule in
-        let (L, longer, longer′, falls) = common (closed-by h) (closed-by h′) (brought-by h) (brought-by h′) both in
+        let φ = formula fs k in
+        let n = brought-by h in
+        let n′ = brought-by h′ in
+        let K = first-records (closed-by h) log n in
+        let K′ = first-records (closed-by h′) log n′ in
+        let only : formulas-of (rule-alone rule k) ≡ φ ∷ [] = reads-one φ one in
+        let (L, longer, longer′, falls) = common closed closed′ n n′ both in
         let (settled, is) = byte-at rule log untouched h point calls i l in
         let (settled′, is′) = byte-at (rule-alone rule k) log untouched h′ point′ calls′ i l′ in
-        ap (λ b. number (bit b k)) (is ∙ verdict-stays fs (first-records (closed-by h) log (brought-by h)) L longer falls i settled) ∙
-        alone-on L fs k among .same i ∙
-        ap (λ gs. verdict gs L i) (sym (reads-one (formula fs k) one)) ∙
-        sym (is′ ∙ verdict-stays (formulas-of (rule-alone rule k)) (first-records (closed-by h′) log (brought-by h′)) L longer′ falls i settled′)
-
-    same-before : (h : List Call) (point : List ℕ) → Calls rule log h point → (h′ : List Call) (point′ : List ℕ) → Calls (rule-alone rule k) log h′ point′ →
-        (i : ℕ) → i < length (laid (before-closing h)) → i < length (laid (before-closing h′)) → SameVerdict k h h′ i
-    same-before h point calls h′ point′ calls′ i l l′ =
-        let (earlier, before) = calls-before calls in
-        let (earlier′, before′) = calls-before calls′ in
-        rw (laid-before h i l .1, laid-before h′ i l′ .1)
-        (same-verdict (before-closing h) earlier before (before-closing h′) earlier′ before′ (rw (open-before h, open-before h′) tt) i l l′)
+        let own : i < joint-progress (φ ∷ []) K = omega (arith, settled, alone-on K fs k among .no-fewer) in
+        let own′ : i < joint-progress (φ ∷ []) K′ = subst (λ gs. i < joint-progress gs K′) only settled′ in
+        let at : i < joint-progress (φ ∷ []) (first-records closed log n) = subst (λ gs. i < joint-progress gs (first-records closed log n)) only there in
+        let at′ : i < joint-progress (φ ∷ []) (first-records closed′ log n′) = subst (λ gs. i < joint-progress gs (first-records closed′ log n′)) only there′ in
+        ap (λ b. number (bit b k)) is ∙ alone-on K fs k among .same i ∙
+        closed-or-open (φ ∷ []) (closed-by h) closed n i own at ∙
+        verdict-stays (φ ∷ []) (first-records closed log n) L longer falls i at ∙
+        sym (verdict-stays (φ ∷ []) (first-records closed′ log n′) L longer′ falls i at′) ∙
+        closed-or-open (φ ∷ []) closed′ (closed-by h′) n′ i at′ own′ ∙
+        ap (λ gs. verdict gs K′ i) (sym only) ∙ sym is′
 
 -- THE THEOREM of the calls, for every accepted rule and each of its formulas
 pub alone : (rule : List ℕ) → refusal rule ≡ 0 → (k : ℕ) → k < length (formulas-of rule) → Alone rule k
@@ -146,9 +159,5 @@ alone rule fine k among =
       no-fewer = λ closed log n.
           let L = first-records closed log n in
           subst (λ gs. joint-progress fs L ≤ joint-progress gs L) (sym (reads-one (formula fs k) one)) (alone-on L fs k among .no-fewer);
-      same = λ log untouched h point calls h′ point′ calls′.
-          record {
-            all = same-verdict rule log untouched k among one h point calls h′ point′ calls′;
-            before = same-before rule log untouched k among one h point calls h′ point′ calls′;
-          };
+      same = λ log untouched h point calls h′ point′ calls′. same-verdict rule log untouched k among one h point calls h′ point′ calls′;
     }

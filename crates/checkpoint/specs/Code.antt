@@ -42,7 +42,7 @@ checked-number (Failed n) = n
 abbrev pub checked-by : ℕ → Checked
 checked-by number = cond (eqb number 0) Passed (Failed number)
 
--- the version is one of the two, and the words that weighing gives hold the header and the blocks of the first n entries of t
+-- the version is at most 2, and the words that weighing gives hold the header and the blocks of the first n entries of t
 abbrev pub Covers : Measured → (version : ℕ) → List Entry → (n : ℕ) → Type 0
 Covers (Weighed w far) version t n = (version ≤ 2) × (n ≤ 128) × (header-words version + offset t n ≤ w)
 Covers (Unmeasured m) version t n = Unit {0}

@@ -194,14 +194,14 @@ module _ (closing : Bool) (rule log p sheet : List ℕ) (ok : refusal rule ≡ 0
       )
       (done .noes k h)
 
-  unused-now : (k : ℕ) → columns fs ≤ k → k < most (version rule) → (word p (8 + k) ≡ 0) × (word p (8 + most (version rule) + k) ≡ 0) →
-      (word after (8 + k) ≡ 0) × (word after (8 + most (version rule) + k) ≡ 0)
-  unused-now k h l zero =
+  unused-now : (k : ℕ) → columns fs ≤ k → k < most (version rule) →
+      (word after (8 + k) ≡ word p (8 + k)) × (word after (8 + most (version rule) + k) ≡ word p (8 + most (version rule) + k))
+  unused-now k h l =
       let m = most (version rule) in
       let inside = own-counts k l in
       let same = done .untouched k (omega arith) l in (
-        now (8 + k) (inside .0) ∙ same .0 ∙ was (8 + k) (inside .0) ∙ zero .0,
-        now (8 + m + k) (inside .1) ∙ same .1 ∙ was (8 + m + k) (inside .1) ∙ zero .1,
+        now (8 + k) (inside .0) ∙ same .0 ∙ was (8 + k) (inside .0),
+        now (8 + m + k) (inside .1) ∙ same .1 ∙ was (8 + m + k) (inside .1),
       )
 
   stands-now : (K L : Log) (d : ℕ) → Stands rule K d p → Continues K L → NeverFalls L → Agrees closing (records-of log) L (wanted fs d) →
@@ -235,7 +235,7 @@ module _ (closing : Bool) (rule log p sheet : List ℕ) (ok : refusal rule ≡ 0
             noes-now k h ∙
             ap₂ (λ (x : Noes) (n : ℕ). laid-behind x n (noes-in k sheet′ (r .count))) (stands .noes k h ∙ stay k) at-d ∙
             noes-more fs L k d (r .count) sheet′ (giving .bytes);
-        unused = λ k h l. unused-now k h l (stands .unused k h l);
+        unused = λ k h l. (unused-now k h l .0 ∙ stands .unused k h l .0, unused-now k h l .1 ∙ stands .unused k h l .1);
         spare = λ j h. ⊎-elim (λ is. inl is) (λ zero. spare-now j h zero) (stands .spare j h);
       }
 
@@ -258,6 +258,8 @@ module _ (closing : Bool) (rule log p sheet : List ℕ) (ok : refusal rule ≡ 0
               time = now 3 three ∙ done .time ∙ rw (was 2 two, was 3 three);
               closed = now 5 (own-header 5 (omega arith)) ∙ done .ended;
               noes = noes-now;
+              unused = unused-now;
+              own = foreign-now;
               meaning = λ K L d stands longer never agrees.
                   let top = top-longer base fs K L d (take (need rule) p) longer never (stands .top) in
                   let (giving, count, further) = done .meaning L d never agrees top in

@@ -312,9 +312,12 @@ abbrev call-29 : Row
 call-29 =
     after call-28 (log (records-1 ++ at 21 (1 ∷ []))) (log (replicate 40 255 ++ at 20 (0 ∷ []) ++ at 21 (1 ∷ []))) 7 (yes-no ∷ yes-no ∷ [])
 
--- letter 0, and P1's until
+-- letter 0, P1's until, and letter 0 again
 abbrev rule-30 : List ℕ
-rule-30 = rule 2 4 (letter 0 ++ entries-1)
+rule-30 = rule 2 5 (letter 0 ++ entries-1 ++ letter 0)
+
+abbrev yes-no-yes : ℕ
+yes-no-yes = 5
 
 -- the letters 0 to 7
 abbrev letters : List ℕ
@@ -324,12 +327,16 @@ letters = letter 0 ++ letter 1 ++ letter 2 ++ letter 3 ++ letter 4 ++ letter 5 +
 abbrev rule-36 : ℕ → List ℕ
 rule-36 high = rule 2 6 (letter 0 ++ letter 0 ++ letter 1 ++ until 0 3600 ++ letter 2 ++ since 0 high)
 
--- letter 0, and P4's rule, over P4's records and as `after-4` goes on
+-- P4's rule, letter 0, and P4's rule again, over P4's records and as `after-4` goes on
+abbrev no-yes-no : ℕ
+no-yes-no = 2
+
 abbrev call-38 : Row
-call-38 = on-fresh (rule 2 3 (letter 0 ++ letter 0 ++ previous 0 0)) (log records-4) 72 0 3 (yes-no ∷ no-yes ∷ yes-no ∷ [])
+call-38 =
+    on-fresh (rule 2 5 (letter 0 ++ previous 0 0 ++ letter 0 ++ letter 0 ++ previous 0 0)) (log records-4) 104 0 3 (no-yes-no ∷ yes-no-yes ∷ no-yes-no ∷ [])
 
 abbrev after-38 : List ℕ → Row
-after-38 kept = after call-38 (log (records-4 ++ at 6 [])) (log (kept ++ at 6 [])) 4 (no-yes ∷ [])
+after-38 kept = after call-38 (log (records-4 ++ at 6 [])) (log (kept ++ at 6 [])) 4 (yes-no-yes ∷ [])
 
 unfoldable pub rows : List Row
 rows =
@@ -387,9 +394,10 @@ rows =
     -- 28 and 29: P1's until and its not; then as P2
     ∷ call-28
     ∷ call-29
-    -- 30 and 31: letter 0 and P1's until over P7's logs: the until is open, and holds the letter's answers back; then yes and no, then open
-    ∷ on-fresh rule-30 (log records-23) 94 2 0 []
-    ∷ on-fresh rule-30 (log (records-23 ++ at 13 (0 ∷ []))) 94 2 1 (yes-no ∷ [])
+    -- 30 and 31: P1's until between two letters over P7's logs: the until is open, and holds the letters' answers back; then yes, no and
+    -- yes, then open
+    ∷ on-fresh rule-30 (log records-23) 110 2 0 []
+    ∷ on-fresh rule-30 (log (records-23 ++ at 13 (0 ∷ []))) 110 2 1 (yes-no-yes ∷ [])
     -- 32: eight formulas over three records
     ∷ on-fresh (rule 2 8 letters) (log (at 5 (0 ∷ 1 ∷ 4 ∷ 7 ∷ []) ++ at 5 [] ++ at 6 (0 ∷ 1 ∷ 2 ∷ 3 ∷ 4 ∷ 5 ∷ 6 ∷ 7 ∷ []))) 152 0 3 (147 ∷ 0 ∷ 255 ∷ [])
     -- 33 to 35: nine formulas, and none, are refusal 7; a version 2 with a wrong length is 4
@@ -399,8 +407,8 @@ rows =
     -- 36 and 37: 8,192 words with the 24, and one more
     ∷ on-fresh (rule-36 869) (log []) 8192 3600 0 []
     ∷ refused (rule-36 870) 8
-    -- 38 to 40: letter 0 and previous 0 to 0 of letter 0: "paper 2's k, are the largest over the formulas", so that record 2 is still
-    -- wanted, as in 25 and 26
+    -- 38 to 40: letter 0 between two of P4's rules: "paper 2's k, are the largest over the formulas", so that record 2 is still wanted, as
+    -- in 25 and 26
     ∷ call-38
     ∷ after-38 (replicate 16 255 ++ at 6 (0 ∷ []))
     ∷ stopped (after-38 (replicate 24 255)) 14
@@ -473,8 +481,8 @@ closing-rows =
     ∷ closes-again (stopped (after close-7 (log records-7) (log (at 10 (0 ∷ []) ++ at 12 (0 ∷ []))) 0 []) 13)
     -- 12: an empty log closed: 0 verdicts, caught up
     ∷ closes (on-fresh rule-1 (log []) 70 2 0 [])
-    -- 13: two formulas closed: letter 0, and P1's until, over P7's second log
-    ∷ closes (on-fresh rule-30 (log records-7) 94 2 3 (yes-no ∷ yes-no ∷ yes-no ∷ []))
+    -- 13: three formulas closed: P1's until between two letters, over P7's second log
+    ∷ closes (on-fresh rule-30 (log records-7) 110 2 3 (yes-no-yes ∷ yes-no-yes ∷ yes-no-yes ∷ []))
     ∷ []
 
 pub every-closing : AllClose 1 closing-rows
