@@ -205,8 +205,9 @@ pub fn emit(
     requires { ⌜ Ready entries count ends number most base (now words) ⌝ }
     ensures { λ r. ⌜ Emission closed entries count ends number most base (now (records .entry)) (now (words .entry)) (now (sheet .entry)) r (now (words .exit)) (now (sheet .exit)) ⌝ }
 {
-    let table = engine::layout::lay_out(entries, count);
-    let tops = engine::layout::lay_tops(entries, count, ends, number, &table, base);
+    let mut table = [0u64; 1024];
+    engine::layout::lay_out(entries, count, &mut table);
+    let tops = engine::layout::lay_tops(entries, count, &ends, number, &table, base);
     let given = give(&table, &tops, number, most, records, closed, words, sheet);
     let more = hold(&table, &tops, number, records, closed, words) > 0;
     words[header::LAST] = trace::last_time(
