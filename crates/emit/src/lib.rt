@@ -193,7 +193,7 @@ fn closed_with(closed: bool, total: u64) -> u64
 pub fn emit(
     entries: [Entry; 128],
     count: usize,
-    ends: [usize; 128],
+    ends: [usize; 9],
     number: usize,
     most: usize,
     base: usize,

@@ -119,7 +119,7 @@ pub fn lay_out(entries: [Entry; 128], count: usize, table: &mut [u64; 1024])
 pub fn lay_tops(
     entries: [Entry; 128],
     count: usize,
-    ends: &[usize; 128],
+    ends: &[usize; 9],
     number: usize,
     table: &[u64; 1024],
     base: usize,
