@@ -82,12 +82,11 @@ fn hold(
     least
 }
 
-// The words of answers that the formulas hold; where there is no formula, one word of yes.
-fn held_answers(tops: &[usize; 32], number: usize, words: &[u64]) -> [u64; 8]
-    requires { ⌜ (number ≤ 8) × ((k : ℕ) → k < number → place 3 (now tops) k + 1 < length (now words)) ⌝ }
-    ensures { λ r. ⌜ Answered (now (tops .entry)) number (now (words .entry)) r ⌝ }
+// Copies the words of answers that the formulas hold; where there is no formula, one word of yes.
+fn copy_answers(tops: &[usize; 32], number: usize, words: &[u64], answers: &mut [u64; 8])
+    requires { ⌜ (number ≤ 8) × (length (now answers) ≡ 8) × ((k : ℕ) → k < number → place 3 (now tops) k + 1 < length (now words)) ⌝ }
+    ensures { λ _. ⌜ Answered (now (tops .entry)) number (now (words .entry)) (now (answers .exit)) ⌝ }
 {
-    let mut answers = [0u64; 8];
     answers[0] = ALL_YES;
     let mut k: usize = 0;
     while k < number {
@@ -95,7 +94,6 @@ fn held_answers(tops: &[usize; 32], number: usize, words: &[u64]) -> [u64; 8]
         answers[k] = words[held + 1];
         k += 1;
     }
-    answers
 }
 
 // One more than the position of the latest no, where `last` is one more than the place of the latest among the verdicts from `given`
@@ -167,6 +165,7 @@ fn give(
     ensures { λ r. ⌜ Gives (now (table .entry)) (now (tops .entry)) (now (records .entry)) closed number most (now (words .entry)) (now (sheet .entry)) r (now (words .exit)) (now (sheet .exit)) ⌝ }
 {
     let columns = columns_of(number);
+    let mut answers = [0u64; 8];
     let mut done: usize = 0;
     while done < sheet.len() {
         let least = hold(table, tops, number, records, closed, words);
@@ -174,7 +173,7 @@ fn give(
             return done;
         }
         let count = blocks::available(done as u64, least, sheet.len() as u64);
-        let answers = held_answers(tops, number, words);
+        copy_answers(tops, number, words, &mut answers);
         verdicts::write_answers(sheet, done, count as usize, &answers, columns);
         spend(tops, number, most, words, count);
         done += count as usize;
@@ -194,7 +193,7 @@ fn closed_with(closed: bool, total: u64) -> u64
 pub fn emit(
     entries: [Entry; 128],
     count: usize,
-    ends: [usize; 128],
+    ends: [usize; 9],
     number: usize,
     most: usize,
     base: usize,
@@ -206,8 +205,9 @@ pub fn emit(
     requires { ⌜ Ready entries count ends number most base (now words) ⌝ }
     ensures { λ r. ⌜ Emission closed entries count ends number most base (now (records .entry)) (now (words .entry)) (now (sheet .entry)) r (now (words .exit)) (now (sheet .exit)) ⌝ }
 {
-    let table = engine::layout::lay_out(entries, count);
-    let tops = engine::layout::lay_tops(entries, count, ends, number, &table, base);
+    let mut table = [0u64; 1024];
+    engine::layout::lay_out(entries, count, &mut table);
+    let tops = engine::layout::lay_tops(entries, count, &ends, number, &table, base);
     let given = give(&table, &tops, number, most, records, closed, words, sheet);
     let more = hold(&table, &tops, number, records, closed, words) > 0;
     words[header::LAST] = trace::last_time(

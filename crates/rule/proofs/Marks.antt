@@ -1,12 +1,14 @@
 -- The array that `ends_of` fills holds, for each formula on the stack, the number of entries up to and with its last.
-use Prim.Native.Nat.{ℕ, zero, suc, zero-le, _+_, _-_, _≤_, _<_}
+use Prim.Native.Nat.{ℕ, zero, suc, zero-le, _+_, _-_, _≤_, _<_, min}
 use native.Mathlib.Nat.{eq-or-lt-of-le, le-of-suc-le-suc}
 use native.Mathlib.Numerals.{add-one}
 use native.Mathlib.Omega.{arith}
+use mathlib.Core.Bool.{Bool, true, false, cond}
 use mathlib.Core.Path.{_≡_, refl, sym, ap, _∙_}
 use mathlib.Core.Logic.{⊎-elim}
 use mathlib.Core.List.{List, [], _∷_, reverse}
 use mathlib.Core.Option.{Option, none, some}
+use lib.Dec.{eqb}
 use lib.ListN.{length, getD, drop, set, replicate, length-set, length-reverse}
 use lib.Seq.{getD-set-same, getD-set-other}
 use Rattle.mtl.specs.Formula.{Formula}
@@ -50,25 +52,25 @@ length-drop zero fs = omega arith
 length-drop (suc j) [] = omega arith
 length-drop (suc j) (φ ∷ fs) = length-drop j fs ∙ omega arith
 
--- The array a holds, at positions 0 to d - 1, where the formulas on the stack after the first k entries end.
+-- The array a holds, at positions 0 to d - 1 below 8, where the formulas on the stack after the first k entries end.
 pub record Marking (t : List Entry) (a : List ℕ) (d k : ℕ) : Type 0 where
   pub deep : d ≤ k
-  pub long : length a ≡ 128
+  pub long : length a ≡ 9
   pub stack : List Formula
   pub stack-is : stack-after t k ≡ some stack
   pub height : length stack ≡ d
-  pub marks : (i : ℕ) → i < d → getD a i 0 ≡ start (reverse stack) (suc i)
+  pub marks : (i : ℕ) → i < d → i < 8 → getD a i 0 ≡ start (reverse stack) (suc i)
 
 -- before the first entry
-pub none-marked : (t : List Entry) → Marking t (replicate 128 0) 0 0
+pub none-marked : (t : List Entry) → Marking t (replicate 9 0) 0 0
 unfolding read
 none-marked t =
-    record { deep = zero-le; long = refl; stack = []; stack-is = refl; height = refl; marks = λ i h. absurd (omega arith) }
+    record { deep = zero-le; long = refl; stack = []; stack-is = refl; height = refl; marks = λ i h few. absurd (omega arith) }
 
 -- a turn of the loop
 module _ (t : List Entry) (a : List ℕ) (d k : ℕ) (m : Marking t a d k) (h : k < length t) (b : k < 128) where
   pub mark-more : operands (entry t k .kind) ≤ d
-      → Marking t (set a (d - operands (entry t k .kind)) (k + 1)) (d - operands (entry t k .kind) + 1) (k + 1)
+      → Marking t (set a (min (d - operands (entry t k .kind)) 8) (k + 1)) (d - operands (entry t k .kind) + 1) (k + 1)
   mark-more l =
       let e₀ = entry t k in
       let taken : ℕ = operands (e₀ .kind) in
@@ -80,27 +82,29 @@ module _ (t : List Entry) (a : List ℕ) (d k : ℕ) (m : Marking t a d k) (h : 
       let now-is : stack-after t (suc k) ≡ some (q .0 ∷ rest) = stack-more t k h ∙ ap (push e₀) (m .stack-is) ∙ q .1 in
       record {
         deep = omega (arith, m .deep);
-        long = length-set a top (k + 1) ∙ m .long;
+        long = length-set a (min top 8) (k + 1) ∙ m .long;
         stack = q .0 ∷ rest;
         stack-is = ap (stack-after t) (add-one k) ∙ now-is;
         height = omega arith;
-        marks = λ i j. ⊎-elim (at-top (q .0) top rest few (omega (arith, m .long, m .deep)) now-is i) (under (q .0) top rest few taken refl (omega arith) i) (eq-or-lt-of-le (le-of-suc-le-suc (omega arith)));
+        marks = λ i j below. ⊎-elim (at-top (q .0) top rest few now-is i below) (under (q .0) top rest few taken refl (omega arith) i below) (eq-or-lt-of-le (le-of-suc-le-suc (omega arith)));
       }
     where
-      at-top : (χ : Formula) (top : ℕ) (rest : List Formula) → length rest ≡ top → top < length a → stack-after t (suc k) ≡ some (χ ∷ rest) → (i : ℕ)
-          → i ≡ top → getD (set a top (k + 1)) i 0 ≡ start (reverse (χ ∷ rest)) (suc i)
-      at-top χ top rest few fits is i e =
-          rw e
-          (getD-set-same a top (k + 1) 0 fits
+      at-top : (χ : Formula) (top : ℕ) (rest : List Formula) → length rest ≡ top → stack-after t (suc k) ≡ some (χ ∷ rest) → (i : ℕ) → i < 8
+          → i ≡ top → getD (set a (min top 8) (k + 1)) i 0 ≡ start (reverse (χ ∷ rest)) (suc i)
+      at-top χ top rest few is i below e =
+          let place : min top 8 ≡ i = omega arith in
+          ap (λ (p : ℕ). getD (set a p (k + 1)) i 0) place
+          ∙ rw e
+          (getD-set-same a top (k + 1) 0 (omega (arith, m .long))
           ∙ add-one k
           ∙ sym (counted t (suc k) (χ ∷ rest) h is)
           ∙ ap (λ (n : ℕ). start (reverse (χ ∷ rest)) (suc n)) few)
 
-      under : (χ : Formula) (top : ℕ) (rest : List Formula) → length rest ≡ top → (taken : ℕ) → rest ≡ drop taken (m .stack) → top ≤ d → (i : ℕ)
-          → i < top → getD (set a top (k + 1)) i 0 ≡ start (reverse (χ ∷ rest)) (suc i)
-      under χ top rest few taken is f i l =
-          getD-set-other a top i (k + 1) 0 (λ z. omega arith)
-          ∙ m .marks i (omega arith)
+      under : (χ : Formula) (top : ℕ) (rest : List Formula) → length rest ≡ top → (taken : ℕ) → rest ≡ drop taken (m .stack) → top ≤ d → (i : ℕ) → i < 8
+          → i < top → getD (set a (min top 8) (k + 1)) i 0 ≡ start (reverse (χ ∷ rest)) (suc i)
+      under χ top rest few taken is f i below l =
+          getD-set-other a (min top 8) i (k + 1) 0 (λ z. omega arith)
+          ∙ m .marks i (omega arith) below
           ∙ start-drop taken (m .stack) (suc i) (omega (arith, ap length is))
           ∙ ap (λ (gs : List Formula). start (reverse gs) (suc i)) (sym is)
           ∙ sym (start-below χ rest (suc i) (omega arith))
@@ -124,9 +128,18 @@ all-ends t a d n m =
       at =
           λ version fs e k h.
           let q = ap length (same version fs e) in
-          m .marks k (omega (arith, length-reverse (m .stack), m .height)) ∙ ap (λ (gs : List Formula). start gs (suc k)) (sym (same version fs e));
+          m .marks k (omega (arith, length-reverse (m .stack), m .height)) (few version fs e k h) ∙ ap (λ (gs : List Formula). start gs (suc k)) (sym (same version fs e));
     }
   where
+    eight : (one : Bool) → cond one 1 8 ≤ 8
+    eight true = omega arith
+    eight false = omega arith
+
+    few : (version : ℕ) (fs : List Formula) → formulas version t n ≡ some fs → (k : ℕ) → k < length fs → k < 8
+    few version fs e k h =
+        let l : Left version (stack-after t n) fs = left-over version (stack-after t n) fs e in
+        omega (arith, l .not-more, eight (eqb version 1), ap length (l .order), length-reverse (l .stack))
+
     same : (version : ℕ) (fs : List Formula) → formulas version t n ≡ some fs → fs ≡ reverse (m .stack)
     same version fs e =
         let l : Left version (stack-after t n) fs = left-over version (stack-after t n) fs e in

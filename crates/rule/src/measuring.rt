@@ -1,7 +1,7 @@
 // The words, the reach and the depth of a rule's entries ("Points and sheets", "Which positions are settled", document 02's paper 2), and
 // refusals 5 to 8.
 ghost use mathlib.Core.Path.{_≡_};
-ghost use Prim.Native.Nat.{_+_, _≤_, _<_, max};
+ghost use Prim.Native.Nat.{_+_, _≤_, _<_, min, max};
 ghost use Rattle.mtl.specs.Wanted.{deepest};
 ghost use Rattle.rule.specs.Words.{own, header-words};
 ghost use Rattle.rule.specs.Postfix.{fewest, most, formulas, formulas-or};
@@ -26,10 +26,11 @@ enum Reading {
     Faulty,
 }
 
-// Where each formula ends: how many there are, and for each the number of entries up to and with its last.
+// Where each formula ends: how many there are, and for each the number of entries up to and with its last. There are at most 8 of them,
+// and position 8 stands for all places of the stack behind those.
 pub struct Ends {
     pub number: usize,
-    pub at: [usize; 128],
+    pub at: [usize; 9],
 }
 
 // What one pass over the entries adds up.
@@ -193,12 +194,19 @@ fn read(of: Quantity, version: usize, table: [Entry; 128], count: usize) -> Read
     }
 }
 
+// The place in `Ends` of a place of the stack.
+fn mark_place(top: usize) -> usize
+    ensures { λ r. ⌜ r ≡ min top 8 ⌝ }
+{
+    if top < 8 { top } else { 8 }
+}
+
 // Where each formula ends: the same stack, which holds for each formula the number of entries up to and with its last.
 pub fn ends_of(table: [Entry; 128], count: usize) -> Ends
     requires { ⌜ count ≤ 128 ⌝ }
     ensures { λ r. ⌜ EndsOf table count r ⌝ }
 {
-    let mut at = [0usize; 128];
+    let mut at = [0usize; 9];
     let mut depth: usize = 0;
     let mut k: usize = 0;
     while k < count {
@@ -207,7 +215,7 @@ pub fn ends_of(table: [Entry; 128], count: usize) -> Ends
             return Ends { number: 0, at };
         }
         let top = depth - taken;
-        at[top] = k + 1;
+        at[mark_place(top)] = k + 1;
         depth = top + 1;
         k += 1;
     }

@@ -30,6 +30,13 @@ eight-more w words i =
     let twice = packed-twice (λ r. number (bit w (i + r))) (λ r. byte-of (answers-at words (i + r))) 8 in
     omega arith
 
+-- one column alone
+pub eight-one : (w i : ℕ) → spread-bits (w / 2 ^ i % 256) ≡ eight-verdicts (w ∷ []) i
+eight-one w i =
+    let none = eight-none i in
+    let more = eight-more w [] i in
+    omega arith
+
 pub eight-lt : (words : List ℕ) (i : ℕ) → length words ≤ 8 → eight-verdicts words i < 2 ^ 64
 eight-lt words i few = packed-lt (λ r. byte-of (answers-at words (i + r))) 8 (λ r h. verdict-lt words (i + r) few)
 

@@ -1,10 +1,14 @@
 -- A sheet after verdicts were written into it. Assumes nothing.
 use Prim.Native.Nat.{ℕ, zero, suc, _+_, _*_, _/_, _%_, _≤_, _<_, _^_}
 use native.Mathlib.Omega.{arith}
+use mathlib.Core.Bool.{true, _&&_}
 use mathlib.Core.List.{List, [], _∷_, _++_, append-assoc, append-nil}
-use mathlib.Core.Path.{_≡_, sym, ap, ap₂, _∙_}
+use mathlib.Core.Path.{_≡_, refl, sym, ap, ap₂, _∙_}
+use lib.Dec.{eqb}
 use lib.ListN.{length, getD, take, drop, length-append, length-drop, take-append-drop, List·getD-append}
 use lib.Seq.{length-take-le, take-at, drop-at, drop-drop, getD-take, getD-append-add, sets, sets-eq}
+use borrow.Author.Tests.{eqb-true}
+use Rattle.mtl.proofs.Bounded.{and-iff}
 use Rattle.verdicts.specs.Bytes.{byte-of, answers-at, bytes-of}
 use Rattle.verdicts.specs.Code.{eight-verdicts, first-bytes}
 use Rattle.verdicts.proofs.Packing.{packed-at}
@@ -98,3 +102,14 @@ written-more from i m word words sheet sheet′ sheet″ few most inside same st
     stored
     ∙ ap (λ (w : ℕ). sets sheet′ (from + i) (first-bytes m w)) same
     ∙ written-behind from i m words sheet sheet′ few most inside before
+
+-- A FULL WORD OF ONE COLUMN
+
+pub full-word : (columns n : ℕ) → eqb columns 1 && eqb n 64 ≡ true → (columns ≡ 1) × (n ≡ 64)
+full-word columns n e =
+    let both = and-iff (eqb columns 1) (eqb n 64) .0 e in
+    (eqb-true columns 1 (both .0), eqb-true n 64 (both .1))
+
+pub first-word : (answers : List ℕ) → 1 ≤ length answers → getD answers 0 0 ∷ [] ≡ take 1 answers
+first-word [] some = absurd (omega arith)
+first-word (w ∷ answers) some = refl

@@ -1,8 +1,10 @@
 // The verdicts of eight positions at once, as the eight bytes of a word, the first position in the lowest.
 ghost use mathlib.Core.Path.{_≡_};
 ghost use Prim.Native.Nat.{_+_, _≤_, _<_};
-ghost use lib.ListN.{length, take};
+ghost use mathlib.Core.List.{_++_};
+ghost use lib.ListN.{length, take, drop};
 ghost use lib.Seq.{sets};
+ghost use Rattle.verdicts.specs.Bytes.{bytes-of};
 ghost use Rattle.verdicts.specs.Code.{spread-bits, eight-verdicts, first-bytes};
 
 // The bits of a byte, each in a byte of its own. The product has a copy of the first seven bits, seven places further up, for each
@@ -55,5 +57,20 @@ pub fn write_first(sheet: &mut [u8], at: usize, n: usize, word: u64)
         sheet[at + i] = (rest % 256) as u8;
         rest = rest / 256;
         i += 1;
+    }
+}
+
+// Writes 64 verdicts of the first column alone.
+pub fn write_word(sheet: &mut [u8], from: usize, answers: &[u64])
+    requires { ⌜ (from + 64 ≤ length (now sheet)) × (1 ≤ length (now answers)) ⌝ }
+    ensures { λ _. ⌜ now (sheet .exit) ≡ take from (now (sheet .entry)) ++ (bytes-of (take 1 (now (answers .entry))) 64 ++ drop (from + 64) (now (sheet .entry))) ⌝ }
+{
+    let bits = answers[0];
+    let mut group: usize = 0;
+    while group < 8 {
+        let i = 8 * group;
+        let word = spread((bits >> i as u64) % 256);
+        write_all(sheet, from + i, word);
+        group += 1;
     }
 }

@@ -27,11 +27,16 @@ impl Tallied {
     }
 }
 
-// Writes n verdicts from `from` on, from as many words of answers as there are columns: eight positions at a time.
+// Writes n verdicts from `from` on, from as many words of answers as there are columns: eight positions at a time. A full word of one column is written by
+// itself, which is what a rule of one formula mostly gives.
 pub fn write_answers(sheet: &mut [u8], from: usize, n: usize, answers: &[u64; 8], columns: usize)
     requires { ⌜ (from + n ≤ length (now sheet)) × (n ≤ 64) × (columns ≤ 8) ⌝ }
     ensures { λ _. ⌜ now (sheet .exit) ≡ take from (now (sheet .entry)) ++ (bytes-of (take columns (now (answers .entry))) n ++ drop (from + n) (now (sheet .entry))) ⌝ }
 {
+    if (columns == 1) & (n == 64) {
+        eight::write_word(sheet, from, answers);
+        return;
+    }
     let mut i: usize = 0;
     while i + 8 <= n {
         let word = eight::verdicts_at(answers, columns, i as u64);

@@ -4,6 +4,7 @@ use borrow.Author.Needs.{needs}
 use mathlib.Core.Path.{_≡_, refl, _∙_}
 use native.Mathlib.Omega.{arith}
 use lib.ListN.{length, length-set}
+use Rattle.engine.proofs.Rows.{zeros}
 use Rattle.emit.specs.Code.{Fits}
 use Rattle.emit.proofs.Emitting.{fits-of, emitted}
 use Rattle.emit.proofs.emit.Statement.{statement}
@@ -11,17 +12,22 @@ use Rattle.emit.proofs.emit.Tie as tie
 
 -- the rule's formulas, once they are laid out
 laid : (d : tie.After-lay-tops) →
-    let s = d .before .before .before .before .before .before in
-    Fits (d .before .before .lay-out .result) (d .lay-tops .result) (s .args .base) (s .args .number) (s .pre .the-formulas) (length (s .args .words .now))
+    let s = d .before .before .before .before .before .before .before .before in
+    Fits (d .before .before .before .lay-out .last .1 .1 .0) (d .lay-tops .result) (s .args .base) (s .args .number) (s .pre .the-formulas) (length (s .args .words .now))
 laid d =
-    let s = d .before .before .before .before .before .before in
+    let s = d .before .before .before .before .before .before .before .before in
     let a = s .args in
-    fits-of (a .entries) (a .count) (a .ends) (a .number) (a .most) (a .base) (a .words .now) (d .before .before .lay-out .result) (d .lay-tops .result) (s .pre)
+    fits-of (a .entries) (a .count) (a .t3) (a .number) (a .most) (a .base) (a .words .now) (d .before .before .before .lay-out .last .1 .1 .0) (d .lay-tops .result) (s .pre)
     (s .pre .the-formulas) (s .pre .ended) (d .lay-tops .ensures (s .pre .the-formulas) (s .pre .ended))
+
+lay-out-requires : tie.Need-lay-out-requires
+lay-out-requires c κs =
+    let s = c .before .before .before .before in
+    (s .pre .few, s .pre .well-formed, refl, zeros 1024)
 
 give-requires : tie.Need-give-requires
 give-requires c κs =
-    let s = c .before .before .before .before .before .before .before .before .before .before in
+    let s = c .before .before .before .before .before .before .before .before .before .before .before .before in
     record {
       fits = (s .args .base, s .pre .the-formulas, laid (c .before .before .before .before), s .pre .header .2);
       formulas = s .pre .formulas;
@@ -32,38 +38,38 @@ give-requires c κs =
 
 hold-requires : tie.Need-hold-requires
 hold-requires c κs =
-    let s = c .before .before .before .before .before .before .before .before .before .before .before .before .before .before .before .before .before .before in
+    let s = c .before .before .before .before .before .before .before .before .before .before .before .before .before .before .before .before .before .before .before .before in
     (s .args .base, s .pre .the-formulas, rw (c .before .before .before .before .before .before .before .give .kept .1 .1 .1 .1 .1 .1 .0) (laid (c .before .before .before .before .before .before .before .before .before .before .before .before)))
 
 slice-read-last-time : tie.Need-slice-read-last-time
-slice-read-last-time c = let s = c .before .before .before .before .before .before .before .before .before .before .before .before .before .before .before .before .before .before .before .before .before .before in omega (arith, c .before .before .before .hold .kept .1 .1 .1 .1 .1 .0, c .before .before .before .before .before .before .before .before .before .before .before .give .kept .1 .1 .1 .1 .1 .1 .0, s .pre .size, s .pre .header .0)
+slice-read-last-time c = let s = c .before .before .before .before .before .before .before .before .before .before .before .before .before .before .before .before .before .before .before .before .before .before .before .before in omega (arith, c .before .before .before .hold .kept .1 .1 .1 .1 .1 .0, c .before .before .before .before .before .before .before .before .before .before .before .give .kept .1 .1 .1 .1 .1 .1 .0, s .pre .size, s .pre .header .0)
 
 slice-read-last-time-2 : tie.Need-slice-read-last-time-2
-slice-read-last-time-2 c = let s = c .before .before .before .before .before .before .before .before .before .before .before .before .before .before .before .before .before .before .before .before .before .before .before in omega (arith, c .before .before .before .before .hold .kept .1 .1 .1 .1 .1 .0, c .before .before .before .before .before .before .before .before .before .before .before .before .give .kept .1 .1 .1 .1 .1 .1 .0, s .pre .size, s .pre .header .0)
+slice-read-last-time-2 c = let s = c .before .before .before .before .before .before .before .before .before .before .before .before .before .before .before .before .before .before .before .before .before .before .before .before .before in omega (arith, c .before .before .before .before .hold .kept .1 .1 .1 .1 .1 .0, c .before .before .before .before .before .before .before .before .before .before .before .before .give .kept .1 .1 .1 .1 .1 .1 .0, s .pre .size, s .pre .header .0)
 
 slice-write-words : tie.Need-slice-write-words
-slice-write-words c = let s = c .before .before .before .before .before .before .before .before .before .before .before .before .before .before .before .before .before .before .before .before .before .before .before .before in omega (arith, c .before .before .before .before .before .hold .kept .1 .1 .1 .1 .1 .0, c .before .before .before .before .before .before .before .before .before .before .before .before .before .give .kept .1 .1 .1 .1 .1 .1 .0, s .pre .size, s .pre .header .0)
+slice-write-words c = let s = c .before .before .before .before .before .before .before .before .before .before .before .before .before .before .before .before .before .before .before .before .before .before .before .before .before .before in omega (arith, c .before .before .before .before .before .hold .kept .1 .1 .1 .1 .1 .0, c .before .before .before .before .before .before .before .before .before .before .before .before .before .give .kept .1 .1 .1 .1 .1 .1 .0, s .pre .size, s .pre .header .0)
 
 slice-write-words-2 : tie.Need-slice-write-words-2
-slice-write-words-2 c = simp length-set (let s = c .before .before .before .before .before .before .before .before .before .before .before .before .before .before .before .before .before .before .before .before .before .before .before .before .before in omega (arith, c .before .before .before .before .before .before .hold .kept .1 .1 .1 .1 .1 .0, c .before .before .before .before .before .before .before .before .before .before .before .before .before .before .give .kept .1 .1 .1 .1 .1 .1 .0, s .pre .size, s .pre .header .0))
+slice-write-words-2 c = simp length-set (let s = c .before .before .before .before .before .before .before .before .before .before .before .before .before .before .before .before .before .before .before .before .before .before .before .before .before .before .before in omega (arith, c .before .before .before .before .before .before .hold .kept .1 .1 .1 .1 .1 .0, c .before .before .before .before .before .before .before .before .before .before .before .before .before .before .give .kept .1 .1 .1 .1 .1 .1 .0, s .pre .size, s .pre .header .0))
 
 closed-with-requires : tie.Need-closed-with-requires
-closed-with-requires c κs = let few = c .before .before .before .before .before .before .before .before .before .before .before .before .before .before .before .before .before .before .before .before .before .before .before .before .before .good .1 .1 .1 .1 .1 .1 .0 .1 in omega (arith, c .count .ensures)
+closed-with-requires c κs = let few = c .before .before .before .before .before .before .before .before .before .before .before .before .before .before .before .before .before .before .before .before .before .before .before .before .before .before .before .good .1 .1 .1 .1 .1 .1 .0 .1 in omega (arith, c .count .ensures)
 
 slice-write-words-3 : tie.Need-slice-write-words-3
-slice-write-words-3 c = simp length-set (let s = c .before .before .before .before .before .before .before .before .before .before .before .before .before .before .before .before .before .before .before .before .before .before .before .before .before .before in omega (arith, c .before .before .before .before .before .before .before .hold .kept .1 .1 .1 .1 .1 .0, c .before .before .before .before .before .before .before .before .before .before .before .before .before .before .before .give .kept .1 .1 .1 .1 .1 .1 .0, s .pre .size, s .pre .header .0))
+slice-write-words-3 c = simp length-set (let s = c .before .before .before .before .before .before .before .before .before .before .before .before .before .before .before .before .before .before .before .before .before .before .before .before .before .before .before .before in omega (arith, c .before .before .before .before .before .before .before .hold .kept .1 .1 .1 .1 .1 .0, c .before .before .before .before .before .before .before .before .before .before .before .before .before .before .before .give .kept .1 .1 .1 .1 .1 .1 .0, s .pre .size, s .pre .header .0))
 
 same-length : tie.Need-same-length
 same-length c = simp length-set (c .before .before .before .before .before .before .before .hold .kept .1 .1 .1 .1 .1 .0 ∙ c .before .before .before .before .before .before .before .before .before .before .before .before .before .before .before .give .kept .1 .1 .1 .1 .1 .1 .0)
 
 returns : tie.Need-returns
 returns c fs ended =
-    let s = c .before .before .before .before .before .before .before .before .before .before .before .before .before .before .before .before .before .before .before .before .before .before .before .before .before .before in
+    let s = c .before .before .before .before .before .before .before .before .before .before .before .before .before .before .before .before .before .before .before .before .before .before .before .before .before .before .before .before in
     let a = s .args in
     let g = c .before .before .before .before .before .before .before .before .before .before .before .before .before .before .before .give in
     let h = c .before .before .before .before .before .before .before .hold in
     let d = c .before .before .before .before .before .before .before .before .before .before .before .before .before .before .before .before .before .before .before .before in
-    let fits = fits-of (a .entries) (a .count) (a .ends) (a .number) (a .most) (a .base) (a .words .now) (d .before .before .lay-out .result) (d .lay-tops .result) (s .pre)
+    let fits = fits-of (a .entries) (a .count) (a .t3) (a .number) (a .most) (a .base) (a .words .now) (d .before .before .before .lay-out .last .1 .1 .0) (d .lay-tops .result) (s .pre)
     fs ended (d .lay-tops .ensures fs ended) in
     emitted
     (a .records .now)
@@ -83,7 +89,7 @@ returns c fs ended =
     (s .pre .header .2)
     (s .pre .formulas)
     (s .pre .small .0)
-    (λ i. c .before .before .before .before .before .before .before .before .before .before .before .before .before .before .before .before .before .before .before .before .before .before .before .before .before .shared-slice-known .given i .fits)
+    (λ i. c .before .before .before .before .before .before .before .before .before .before .before .before .before .before .before .before .before .before .before .before .before .before .before .before .before .before .before .shared-slice-known .given i .fits)
     (g .ensures (a .base) fs fits (s .pre .header .2))
     (h .ensures (a .base) fs (rw (g .kept .1 .1 .1 .1 .1 .1 .0) fits))
     (c .before .before .last-time .ensures)
@@ -96,7 +102,7 @@ pub emit-spec : {M : Type 1} → statement M
 emit-spec =
     tie.close
     (tie.spec
-    (λ c κs. search needs)
+    lay-out-requires
     (λ c κs. search needs)
     give-requires
     hold-requires

@@ -5,7 +5,7 @@ use mathlib.Core.Path.{_≡_, refl, ap, _∙_}
 use lib.ListN.{length, take}
 use borrow.Author.Needs.{needs}
 use Rattle.verdicts.proofs.Columns.{few-taken}
-use Rattle.verdicts.proofs.Written.{written, written-none, written-more, length-written}
+use Rattle.verdicts.proofs.Written.{written, written-none, written-more, length-written, full-word}
 use Rattle.verdicts.proofs.write_answers.Statement.{statement}
 use Rattle.verdicts.proofs.write_answers.Tie as tie
 
@@ -15,14 +15,26 @@ Inv-loop sheet₀ from n answers columns i₀ sheet i = (i ≤ n) × (length she
 abbrev μ-loop : tie.MeasureT-loop
 μ-loop sheet₀ from n answers columns i₀ sheet i = n - i
 
+write-word-requires : tie.Need-write-word-requires Inv-loop μ-loop
+write-word-requires c κs =
+    let a = c .before .before .before .before .args in
+    let full = full-word (a .columns) (a .n) (c .before .before .if1 .taken) in
+    omega arith
+
+returns : tie.Need-returns Inv-loop μ-loop
+returns c =
+    let a = c .before .before .before .before .before .before .before .args in
+    let full = full-word (a .columns) (a .n) (c .before .before .before .before .before .if1 .taken) in
+    rw (full .0, full .1) (c .before .before .write-word .ensures)
+
 loop-holds : tie.Need-loop-holds Inv-loop μ-loop
 loop-holds c =
-    let a = c .before .args in
+    let a = c .before .before .args in
     (omega arith, refl, written-none (a .from) (take (a .columns) (a .answers .now)) (a .sheet .now))
 
 loop-again : tie.Need-loop-again Inv-loop μ-loop
 loop-again c =
-    let a = c .before .before .before .before .before .before .before .before .before .args in
+    let a = c .before .before .before .before .before .before .before .before .before .before .args in
     let l = c .before .before .before .before .before .before .before .loop in
     let words = take (a .columns) (a .answers .now) in
     let write = c .before .before .write-all in
@@ -32,15 +44,15 @@ loop-again c =
     (c .before .before .before .before .verdicts-at .ensures) (write .ensures) (l .inv .2) in
     (omega arith, ap length new ∙ length-written (a .from) (l .i + 8) words (a .sheet .now) (omega arith), new)
 
-returns : tie.Need-returns Inv-loop μ-loop
-returns c =
-    let l = c .before .before .loop in
-    let last : l .i ≡ c .before .before .before .before .args .n = omega arith in
-    rw last at (l .inv .2)
-
 returns-2 : tie.Need-returns-2 Inv-loop μ-loop
 returns-2 c =
-    let a = c .before .before .before .before .before .before .before .before .before .before .args in
+    let l = c .before .before .loop in
+    let last : l .i ≡ c .before .before .before .before .before .args .n = omega arith in
+    rw last at (l .inv .2)
+
+returns-3 : tie.Need-returns-3 Inv-loop μ-loop
+returns-3 c =
+    let a = c .before .before .before .before .before .before .before .before .before .before .before .args in
     let l = c .before .before .before .before .before .before .before .before .loop in
     let words = take (a .columns) (a .answers .now) in
     let write = c .before .before .write-first in
@@ -57,6 +69,9 @@ write-answers-spec =
     (tie.spec
     Inv-loop
     μ-loop
+    write-word-requires
+    (λ c. search needs)
+    returns
     loop-holds
     (λ c. search needs)
     (λ c κs. search needs)
@@ -66,10 +81,10 @@ write-answers-spec =
     (λ c. search needs)
     loop-again
     (λ c. search needs)
-    returns
+    returns-2
     (λ c κs. search needs)
     (λ c. search needs)
     (λ c. search needs)
     (λ c κs. search needs)
     (λ c. search needs)
-    returns-2)
+    returns-3)

@@ -37,11 +37,14 @@ returns c =
 add-at : tie.Need-add-at Inv-loop μ-loop
 add-at c = search needs
 
+mark-place-requires : tie.Need-mark-place-requires Inv-loop μ-loop
+mark-place-requires c κs = search needs
+
 mul-at : tie.Need-mul-at Inv-loop μ-loop
 mul-at c = search needs
 
 array-write-at : tie.Need-array-write-at Inv-loop μ-loop
-array-write-at c = omega (arith, c .before .before .before .loop .inv .1 .deep)
+array-write-at c = omega (arith, c .mark-place .ensures)
 
 add-depth : tie.Need-add-depth Inv-loop μ-loop
 add-depth c = search needs
@@ -54,11 +57,11 @@ loop-less c = search needs
 
 loop-again : tie.Need-loop-again Inv-loop μ-loop
 loop-again c =
-    let i = c .before .before .before .loop in
-    let a = c .before .before .before .before .args in
-    let e = c .before .operands-of .ensures in
+    let i = c .before .before .before .before .loop in
+    let a = c .before .before .before .before .before .args in
+    let e = c .before .before .operands-of .ensures in
     let l : operands (entry (a .t1) (i .k) .kind) ≤ i .depth = omega (arith, e) in
-    (omega arith, rw e (mark-more (a .t1) (i .at) (i .depth) (i .k) (i .inv .1) (omega arith) (omega arith) l))
+    (omega arith, rw (c .mark-place .ensures, e) (mark-more (a .t1) (i .at) (i .depth) (i .k) (i .inv .1) (omega arith) (omega arith) l))
 
 returns-2 : tie.Need-returns-2 Inv-loop μ-loop
 returns-2 c =
@@ -79,6 +82,7 @@ ends-of-spec =
     operands-of-requires
     returns
     add-at
+    mark-place-requires
     mul-at
     array-write-at
     add-depth

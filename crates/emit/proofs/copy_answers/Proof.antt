@@ -1,4 +1,4 @@
--- `held_answers` meets its contract. The invariant: the words of the first k formulas stand in their places.
+-- `copy_answers` meets its contract. The invariant: the words of the first k formulas stand in their places.
 use Prim.Native.Nat.{ℕ, _+_, _-_, _≤_, _<_, _^_, zero-le}
 use borrow.Author.Needs.{needs}
 use mathlib.Core.Path.{_≡_, refl, ap, _∙_}
@@ -9,8 +9,8 @@ use lib.Seq.{getD-set-same, getD-set-other}
 use Rattle.mtl.proofs.Bounded.{le-or-lt}
 use Rattle.blocks.specs.Block.{word}
 use Rattle.engine.specs.Tops.{place}
-use Rattle.emit.proofs.held_answers.Statement.{statement}
-use Rattle.emit.proofs.held_answers.Tie as tie
+use Rattle.emit.proofs.copy_answers.Statement.{statement}
+use Rattle.emit.proofs.copy_answers.Tie as tie
 
 abbrev Inv-loop : tie.InvT-loop
 Inv-loop tops number words answers₀ k₀ answers k =
@@ -20,20 +20,23 @@ abbrev μ-loop : tie.MeasureT-loop
 μ-loop tops number words answers₀ k₀ answers k = number - k
 
 loop-holds : tie.Need-loop-holds Inv-loop μ-loop
-loop-holds c = (zero-le, refl, λ j h. absurd (omega arith), λ e. refl)
+loop-holds c =
+    let s = c .before in
+    let first = length-set (s .args .answers .now) 0 _ in
+    (zero-le, first ∙ s .pre .1, λ j h. absurd (omega arith), λ e. getD-set-same (s .args .answers .now) 0 _ 0 (omega (arith, s .pre .1)))
 
 shared-slice-read-answers : tie.Need-shared-slice-read-answers Inv-loop μ-loop
-shared-slice-read-answers c = omega (arith, c .before .before .before .before .before .pre .1 (c .before .before .before .loop .k) (omega arith), c .before .place .ensures)
+shared-slice-read-answers c = omega (arith, c .before .before .before .before .before .pre .2 (c .before .before .before .loop .k) (omega arith), c .before .place .ensures)
 
 add-answers : tie.Need-add-answers Inv-loop μ-loop
 add-answers c =
     let most = c .before .before .before .before .good .1 .1 .0 .1 in
-    record { fits = omega (arith, c .before .before .before .before .pre .1 (c .before .before .loop .k) (omega arith), c .place .ensures) }
+    record { fits = omega (arith, c .before .before .before .before .pre .2 (c .before .before .loop .k) (omega arith), c .place .ensures) }
 
 mul-answers : tie.Need-mul-answers Inv-loop μ-loop
 mul-answers c =
     let most = c .before .before .before .before .good .1 .1 .0 .1 in
-    record { fits = omega (arith, c .before .before .before .before .pre .1 (c .before .before .loop .k) (omega arith), c .place .ensures) }
+    record { fits = omega (arith, c .before .before .before .before .pre .2 (c .before .before .loop .k) (omega arith), c .place .ensures) }
 
 loop-again : tie.Need-loop-again Inv-loop μ-loop
 loop-again c =
@@ -56,8 +59,8 @@ returns c =
     let l = c .before .loop in
     record { long = l .inv .1; each = λ k h. l .inv .2 k (omega arith); none = λ e. l .inv .3 (omega arith) }
 
-pub held-answers-spec : {M : Type 1} → statement M
-held-answers-spec =
+pub copy-answers-spec : {M : Type 1} → statement M
+copy-answers-spec =
     tie.close
     (tie.spec
     Inv-loop
