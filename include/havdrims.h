@@ -24,8 +24,10 @@ extern "C" {
  * A length counts the elements of its buffer: bytes, or 64-bit words for a point. A buffer of length 0 is not
  * touched, and its pointer may be null. Words are aligned as uint64_t is.
  *
- * The last two pointers of measure, resume, close, summary and tally, the last of parse and of worst_log, and the last
- * four of status and of simulate each point to a number of the caller's and are never null.
+ * The last two pointers of measure, resume and close, the last of formulas, parse and worst_log, and the last four of status
+ * and of simulate each point to a number of the caller's and are never null. Nor are the last two of summary and of tally,
+ * each of which points to HAVDRIMS_MOST_FORMULAS numbers: the first of them, as many as there are formulas, are written,
+ * number k for formula k, and the others are kept.
  *
  * What a call writes (point, sheet, a rule or log that it makes, the numbers behind its last pointers) shares no byte with
  * anything else that the call is given. What it only reads may overlap.
@@ -38,15 +40,15 @@ extern "C" {
 /* Why a call is refused. */
 enum havdrims_refusal {
     HAVDRIMS_RULE_MARK = 1,       /* the rule is shorter than 8 bytes or lacks its mark */
-    HAVDRIMS_RULE_VERSION = 2,    /* the rule's version is not 1 */
+    HAVDRIMS_RULE_VERSION = 2,    /* the rule's version is not 1 or 2 */
                                   /* 3 no longer occurs: a rule without entries says yes at every position */
     HAVDRIMS_RULE_LENGTH = 4,     /* the count is above 128, a spare byte is not zero, or the length is not
                                      8 + 10 * count */
     HAVDRIMS_ENTRY_FIELD = 5,     /* some kind is above 6, some letter above 31, or some unused field not zero */
     HAVDRIMS_INTERVAL = 6,        /* some low or finite high is above 3,600, some low is above its high, or until has
                                      no upper end */
-    HAVDRIMS_SHAPE = 7,           /* some entry lacks an operand, or the whole leaves other than one formula and the
-                                     count is not 0 */
+    HAVDRIMS_SHAPE = 7,           /* some entry lacks an operand, or the whole leaves other than one formula (version 1,
+                                     unless the count is 0) or other than one to eight formulas (version 2) */
     HAVDRIMS_TOO_MANY_WORDS = 8,  /* the need is above 8,192 words */
     HAVDRIMS_SHORT_POINT = 9,     /* the lent point is shorter than the need */
     HAVDRIMS_FOREIGN_POINT = 10,  /* the point does not begin as a point of this library with a copy of this rule */
@@ -57,7 +59,8 @@ enum havdrims_refusal {
     HAVDRIMS_FEWER_RECORDS = 13,  /* the log has fewer records than the point has seen */
     HAVDRIMS_TIME_FALLS = 14,     /* some record after the first still wanted has a time below that of the record
                                      before it, or the first new record's time is below the last time seen */
-    HAVDRIMS_SHEET_BYTE = 15,     /* a sheet given to tally has a byte above 1 */
+    HAVDRIMS_SHEET_BYTE = 15,     /* a sheet given to tally has a byte with a bit beyond the number of formulas, or that
+                                     number is outside 1 to 8 */
     HAVDRIMS_UNKNOWN_WORD = 16,   /* a word, sign or form of number of a text is unknown, or it has more than 1,024
                                      bytes */
     HAVDRIMS_NOT_DERIVED = 17,    /* the grammar does not derive the text */
@@ -77,6 +80,9 @@ enum havdrims_refusal {
 /* No position: what havdrims_summary gives as the latest no where there is none. */
 #define HAVDRIMS_NONE UINT64_MAX
 
+/* The most formulas of a rule, and the numbers to which the last two pointers of havdrims_summary and havdrims_tally point. */
+#define HAVDRIMS_MOST_FORMULAS 8
+
 /* The most words that a point can need. */
 #define HAVDRIMS_MOST_WORDS 8192
 
@@ -95,11 +101,18 @@ enum havdrims_refusal {
  *
  * *words becomes the number of words that a point of this rule needs, 16 to 8,192. *reach becomes the rule's reach
  * in seconds: a record has its verdict, at the latest, once the log has a record more than that much later; or
- * HAVDRIMS_NO_REACH.
+ * HAVDRIMS_NO_REACH. Of several formulas it is the largest.
  *
  * Refusals: 1 to 8.
  */
 uint32_t havdrims_measure(const uint8_t *rule, size_t rule_len, uint64_t *words, uint64_t *reach);
+
+/*
+ * Counts the formulas of a rule: *formulas becomes 1 to 8. A rule of version 1 has one, also where it has no entries.
+ *
+ * Refusals: 1 to 8.
+ */
+uint32_t havdrims_formulas(const uint8_t *rule, size_t rule_len, uint64_t *formulas);
 
 /*
  * Writes a fresh point for a rule into the first words of `point`, as many as havdrims_measure gives for the rule.
@@ -111,7 +124,9 @@ uint32_t havdrims_open(const uint8_t *rule, size_t rule_len, uint64_t *point, si
 
 /*
  * Carries on from a point: judges the log as far as it goes and writes the verdicts that are new since the last
- * accepted call with this point, one byte for each record in turn, 1 for yes and 0 for no.
+ * accepted call with this point, one byte for each record in turn, 1 for yes and 0 for no. Where the rule has several
+ * formulas, bit k of the byte, the bit worth 2 to the k, is the answer of formula k, counted from 0 in the rule's order. A
+ * record has its verdict when every formula has answered it.
  *
  * rule    the rule that the point was opened for, byte for byte.
  * log     the whole log from its header on, with the records of the accepted calls before and any number of new
@@ -123,7 +138,7 @@ uint32_t havdrims_open(const uint8_t *rule, size_t rule_len, uint64_t *point, si
  * sheet   takes the verdicts. Its bytes behind them are kept. It may be of any length, 0 included.
  *
  * The first record still wanted is the number of verdicts given with this point so far, less k, or 0 where it is below
- * k: k is the largest number of previous entries on a path from the rule's last entry to a letter. So a rule without
+ * k: k is the largest number of previous entries on a path from a formula's last entry to a letter. So a rule without
  * previous wants the records that have no verdict yet, and no others. havdrims_status gives it.
  *
  * *given becomes the number of verdicts written. *more becomes 1 if the log settles further records, for which the
@@ -150,9 +165,9 @@ uint32_t havdrims_close(const uint8_t *rule, size_t rule_len, const uint8_t *log
                         uint64_t *given, uint64_t *more);
 
 /*
- * What the point itself knows of the verdicts given with it, all calls together: *no becomes the count of no among them,
- * *latest the position of the latest no, or HAVDRIMS_NONE. They are what havdrims_tally and a scan would give over the
- * verdicts of all calls laid end to end. The point is not changed.
+ * What the point itself knows of the verdicts given with it, all calls together: for each formula k of the rule no[k] becomes
+ * the count of its no among them, and latest[k] the position of its latest no, or HAVDRIMS_NONE. They are what
+ * havdrims_tally and a scan would give over the verdicts of all calls laid end to end. The point is not changed.
  *
  * Refusals: 1 to 11.
  */
@@ -170,16 +185,17 @@ uint32_t havdrims_status(const uint8_t *rule, size_t rule_len, const uint64_t *p
                          uint64_t *given, uint64_t *seen, uint64_t *wanted, uint64_t *closed);
 
 /*
- * Counts the verdicts of a sheet of sheet_len bytes: *no becomes the number of bytes 0, *yes that of bytes 1.
- * Give it the verdicts alone, not the rest of the sheet.
+ * Counts the verdicts of a sheet of sheet_len bytes, for a rule with so many formulas, 1 to 8: for each formula k no[k]
+ * becomes the number of bytes in which bit k is 0, yes[k] that of bytes in which it is 1. Give it the verdicts alone, not the
+ * rest of the sheet.
  *
  * Refusal: 15.
  */
-uint32_t havdrims_tally(const uint8_t *sheet, size_t sheet_len, uint64_t *no, uint64_t *yes);
+uint32_t havdrims_tally(const uint8_t *sheet, size_t sheet_len, uint64_t formulas, uint64_t *no, uint64_t *yes);
 
 /*
- * Writes the rule that a text of text_len bytes says into the first bytes of `rule`. The bytes behind them are kept.
- * HAVDRIMS_MOST_RULE bytes are enough for every text.
+ * Writes the rule that a text of text_len bytes says, of version 1, into the first bytes of `rule`. The bytes behind them are
+ * kept. HAVDRIMS_MOST_RULE bytes are enough for every text.
  *
  * A text is a formula, as in "not e2 or e0 until[0,90] e1". Letters are e0 to e31. not, prev and next bind tightest,
  * then since and until, grouping to the right, then or, grouping to the left; round brackets override. prev, next,

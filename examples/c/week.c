@@ -1,5 +1,6 @@
 /*
  * A week of one kiosk in C: a log that grows, a point that carries on, a card that is overwritten, and the month's end.
+ * Then two rules on one sheet.
  *
  *     cc -Wall -Wextra -Iinclude examples/c/week.c target/staticlib/libhavdrims.a -o week && ./week
  *
@@ -58,9 +59,52 @@ static void print(const char *evening, const uint8_t *sheet, uint64_t from, uint
     }
 }
 
+enum { WARM = 1, PRINTS = 2 };
+
+/* A rule of version 2: the head stays warm until the print starts, within ninety seconds; and no print starts. */
+static const uint8_t both[58] = {
+    'K', 'R', 'L', 0, 2, 5, 0, 0,
+    0, 0, 0, 0, 0, 0, 0, 0, 0, 0,  /* formula 0: letter 0 */
+    0, 1, 0, 0, 0, 0, 0, 0, 0, 0,  /*            letter 1 */
+    6, 0, 0, 0, 0, 0, 0, 0, 0, 90, /*            until, 0 to 90 seconds */
+    0, 1, 0, 0, 0, 0, 0, 0, 0, 0,  /* formula 1: letter 1 */
+    1, 0, 0, 0, 0, 0, 0, 0, 0, 0,  /*            not */
+};
+
+/* Two rules on one sheet: bit k of a verdict is the answer of formula k. A record waits for both. */
+static void two_rules(void) {
+    uint64_t point[HAVDRIMS_MOST_WORDS], formulas, given, more;
+    uint64_t no[HAVDRIMS_MOST_FORMULAS], yes[HAVDRIMS_MOST_FORMULAS], latest[HAVDRIMS_MOST_FORMULAS];
+    uint8_t sheet[16];
+
+    accepted("formulas", havdrims_formulas(both, sizeof both, &formulas));
+    check(formulas == 2, "the number of formulas");
+    accepted("open", havdrims_open(both, sizeof both, point, HAVDRIMS_MOST_WORDS));
+    log_length = 8;
+    record(100, WARM);
+    record(150, PRINTS);
+    record(200, 0);
+    record(300, WARM);
+    accepted("resume", havdrims_resume(both, sizeof both, log_file, log_length, point, HAVDRIMS_MOST_WORDS, sheet,
+                                       sizeof sheet, &given, &more));
+    check(given == 3 && more == 0, "the count for both");
+    for (uint64_t i = 0; i < given; i++) {
+        printf("%u %s %s\n", (unsigned)i, sheet[i] & 1 ? "yes" : "no", sheet[i] & 2 ? "yes" : "no");
+    }
+    check(memcmp(sheet, "\3\1\2", 3) == 0, "the verdicts for both");
+    accepted("tally", havdrims_tally(sheet, given, formulas, no, yes));
+    check(no[0] == 1 && yes[0] == 2 && no[1] == 1 && yes[1] == 2, "the tally for both");
+    accepted("summary", havdrims_summary(both, sizeof both, point, HAVDRIMS_MOST_WORDS, no, latest));
+    /* Each has a no here; where a formula has none, latest[k] is HAVDRIMS_NONE. */
+    for (uint64_t k = 0; k < formulas; k++) {
+        printf("formula %u: %u no, the latest at record %u\n", (unsigned)k, (unsigned)no[k], (unsigned)latest[k]);
+    }
+    check(no[0] == 1 && latest[0] == 2 && no[1] == 1 && latest[1] == 1, "the summary for both");
+}
+
 int main(void) {
-    enum { WARM = 1, PRINTS = 2 };
-    uint64_t words, reach, given, more, no, yes, latest;
+    uint64_t words, reach, given, more;
+    uint64_t no[HAVDRIMS_MOST_FORMULAS], yes[HAVDRIMS_MOST_FORMULAS], latest[HAVDRIMS_MOST_FORMULAS];
     uint8_t sheet[16];
 
     accepted("measure", havdrims_measure(rule, sizeof rule, &words, &reach));
@@ -100,14 +144,14 @@ int main(void) {
     check(memcmp(sheet + first, "\1\1\0\7", 4) == 0, "Tuesday's verdicts");
     uint64_t all = first + given;
 
-    accepted("tally", havdrims_tally(sheet, all, &no, &yes));
-    printf("the week so far: %u yes, %u no\n", (unsigned)yes, (unsigned)no);
-    check(yes == 5 && no == 3, "the tally");
+    accepted("tally", havdrims_tally(sheet, all, 1, no, yes));
+    printf("the week so far: %u yes, %u no\n", (unsigned)yes[0], (unsigned)no[0]);
+    check(yes[0] == 5 && no[0] == 3, "the tally");
 
     /* The point knows the count of no without any sheet, and where the latest is. */
-    accepted("summary", havdrims_summary(rule, sizeof rule, point, words, &no, &latest));
-    printf("the latest no is record %u\n", (unsigned)latest);
-    check(no == 3 && latest == 7, "the summary");
+    accepted("summary", havdrims_summary(rule, sizeof rule, point, words, no, latest));
+    printf("the latest no is record %u\n", (unsigned)latest[0]);
+    check(no[0] == 3 && latest[0] == 7, "the summary");
 
     /* A log that has lost a record is refused, and the point is as it was. */
     uint32_t number = havdrims_resume(rule, sizeof rule, log_file, log_length - 8, point, words, sheet, sizeof sheet,
@@ -125,5 +169,6 @@ int main(void) {
     check(number == HAVDRIMS_POINT_CLOSED, "the refusal once closed");
 
     free(point);
+    two_rules();
     return 0;
 }

@@ -95,6 +95,18 @@ FreshBlock b = (i : ℕ) → i < 12 → word b i ≡ 0
 abbrev pub KeptBlock : List ℕ → List ℕ → Type 0
 KeptBlock b b′ = (i : ℕ) → 12 ≤ i → i < 16 → word b′ i ≡ word b i
 
+-- words 12 and 13 of the block of a formula's last entry: for how many positions the formula has answered and was not given yet, and
+-- the word of those answers
+abbrev pub held-count : List ℕ → ℕ
+held-count b = word b 12
+
+abbrev pub held-bits : List ℕ → ℕ
+held-bits b = word b 13
+
+-- words 14 and 15, the copy of the entry, are as they were
+abbrev pub KeptCopy : List ℕ → List ℕ → Type 0
+KeptCopy b b′ = (i : ℕ) → 14 ≤ i → i < 16 → word b′ i ≡ word b i
+
 -- the cells of an entry's ring: a since has one, the other kinds none
 abbrev pub cells-of : (kind high : ℕ) → ℕ
 cells-of kind high = cond (eqb kind 5) (ring-words high) 0

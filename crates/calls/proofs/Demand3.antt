@@ -1,8 +1,8 @@
 -- The theorem of demand 3, stated in specs/Calls.antt, by induction on the list of calls. Assumes nothing.
-use Prim.Native.Nat.{ℕ, suc, _+_, _*_, _-_, _≤_, _<_}
+use Prim.Native.Nat.{ℕ, zero, suc, _+_, _*_, _-_, _≤_, _<_}
 use mathlib.Core.Bool.{Bool, true, false, cond, false≢true}
 use mathlib.Core.Logic.{⊎-elim}
-use mathlib.Core.Path.{_≡_, refl, sym, _∙_, ap, subst}
+use mathlib.Core.Path.{_≡_, refl, sym, _∙_, ap, ap₂, subst}
 use mathlib.Core.List.{List, [], _∷_, _++_}
 use native.Mathlib.Nat.{le-of-eq}
 use native.Mathlib.Omega.{arith}
@@ -13,7 +13,9 @@ use borrow.Author.Tests.{le-leb, leb-true, le-ltb, lt-ltb, ltb-true, ltb-false, 
 use Rattle.mtl.specs.Log.{Log, closing, NeverFalls, Agree, Continues}
 use Rattle.mtl.specs.Wanted.{wanted}
 use Rattle.mtl.proofs.Bounded.{same-test, le-or-lt}
-use Rattle.rule.specs.Entries.{count, decoded}
+use Rattle.verdicts.specs.Counts.{Noes, noes-in}
+use Rattle.rule.specs.Entries.{version, count, decoded}
+use Rattle.rule.specs.Postfix.{most}
 use Rattle.rule.specs.Refusal.{first, refusal}
 use Rattle.rule.specs.Measure.{measured}
 use Rattle.rule.proofs.Headers.{before-none}
@@ -22,14 +24,14 @@ use Rattle.trace.specs.Log.{log-of}
 use Rattle.trace.specs.Order.{disordered}
 use Rattle.trace.proofs.Laws.{well-formed-iff, well-formed-records, ordered-iff, agree, keeps-agreed, prefix-continues, count-prefix}
 use Rattle.blocks.specs.Step.{Agrees}
-use Rattle.checkpoint.specs.Checkpoint.{given, seen, last, closed-with, need, foreign, outside}
+use Rattle.checkpoint.specs.Checkpoint.{given, seen, last, closed-with, stored-noes, need, foreign, outside}
 use Rattle.checkpoint.specs.Refusal.{open-refusal, resumes-closed, closes-more, resume-refusal, summary-refusal}
 use Rattle.checkpoint.proofs.Sizes.{enough-words}
-use Rattle.monitor.specs.Verdicts.{formulas-of, verdicts, first-records, answered, all-verdicts}
+use Rattle.emit.specs.Verdicts.{formulas-of, columns, verdicts, first-records, answered, all-verdicts}
 use Rattle.monitor.specs.Stands.{Stands}
 use Rattle.monitor.specs.Open.{Opens}
 use Rattle.monitor.specs.Resume.{resumed-number, Gives, Resumes}
-use Rattle.monitor.specs.Summary.{noes-in, told, summarized}
+use Rattle.monitor.specs.Summary.{position-or, no-position, listed, Told, Summarizes}
 use Rattle.monitor.specs.Status.{facts, known}
 use Rattle.monitor.specs.Status.{told as known-told}
 use Rattle.monitor.specs.declared.Opened.{Opened}
@@ -37,12 +39,15 @@ use Rattle.monitor.specs.declared.Opened.the-variants.{Done}
 use Rattle.monitor.specs.declared.Opened.the-variants.{Refused as OpenRefused}
 use Rattle.monitor.specs.declared.Resumed.{Resumed}
 use Rattle.monitor.specs.declared.Resumed.the-variants.{Given, Refused}
+use Rattle.monitor.specs.declared.Summarized.{Summarized}
+use Rattle.monitor.specs.declared.Summarized.the-variants.{Counted}
+use Rattle.monitor.specs.declared.Summarized.the-variants.{Refused as SummaryRefused}
 use Rattle.monitor.proofs.OwnCheckpoint.{own-given, own-within, not-outside}
 use Rattle.monitor.proofs.VerdictBytes.{length-verdicts, verdicts-more, take-verdicts, verdicts-stay}
 use Rattle.calls.specs.Calls.{Untouched, Call, given-by, brought-by, closed-by, closed-at, laid, the-call, Brings, BringsAfter, Lends, point-after, OneCall, Calls, Each, AllWhenCaughtUp, OneRun, Keeps, expected-refusal, Demand3}
 use Rattle.calls.specs.Calls.OneCall.{refused, accepted}
 use Rattle.calls.specs.Calls.Calls.{opened, and-then}
-use Rattle.calls.proofs.Lending.{after-unchanged, after-whole, stands-alone, stands-lent}
+use Rattle.calls.proofs.Lending.{after-unchanged, after-whole, given-settled, stands-alone, stands-lent}
 
 -- REFUSALS
 
@@ -119,7 +124,7 @@ module _ (rule log : List ℕ) (untouched : Untouched log) where
   first-size : (n : ℕ) → n ≤ record-count records → first-records false log n .size ≡ n
   first-size n h = ap (λ k. record-count (take k records)) (eight n) ∙ count-prefix records n h
 
-  first-longer : (was closed : Bool) (m n : ℕ) → m ≤ n → (was ≡ true → (closed ≡ true) × (m ≡ n)) →
+  pub first-longer : (was closed : Bool) (m n : ℕ) → m ≤ n → (was ≡ true → (closed ≡ true) × (m ≡ n)) →
       Continues (first-records was log m) (first-records closed log n)
   first-longer was closed m n h allowed =
       let grown =
@@ -131,7 +136,7 @@ module _ (rule log : List ℕ) (untouched : Untouched log) where
         ended = λ e. let only = allowed e in (only .0, ap (λ k. first-records false log k .size) (sym (only .1)));
       }
 
-  first-falls : (closed : Bool) (n : ℕ) → NeverFalls (first-records closed log n)
+  pub first-falls : (closed : Bool) (n : ℕ) → NeverFalls (first-records closed log n)
   first-falls closed n i j le h =
       let c = prefix-continues records (8 * n) in
       let l = c .longer in
@@ -258,7 +263,7 @@ module _ (rule log : List ℕ) (untouched : Untouched log) where
       gives-bytes : (sheet : List ℕ) (c : ℕ) (b : Bool) (p′ sheet′ : List ℕ) → Resumes closed rule log′ p sheet (Given c b) p′ sheet′ →
           verdicts (formulas-of rule) old d ++ take c sheet′ ≡ verdicts (formulas-of rule) new (d + c)
       gives-bytes sheet c b p′ sheet′ resumes =
-          let within = stands .top .held .within in
+          let settled = given-settled rule fine old d p stands in
           let room = resumes .words .room in
           let kept = resumes .sheet-length in
           let bytes = gives sheet c b p′ sheet′ resumes .bytes in
@@ -292,7 +297,7 @@ module _ (rule log : List ℕ) (untouched : Untouched log) where
           fine = opened-fine;
           size = length-take-le (need rule) p (opened-stands .enough);
           within = omega arith;
-          stands = stands-alone rule (first-records false log 0) 0 p opened-stands;
+          stands = stands-alone rule opened-fine (first-records false log 0) 0 p opened-stands;
           bytes = refl;
           at-first = λ e. absurd (false≢true e);
           all = refl;
@@ -311,7 +316,7 @@ module _ (rule log : List ℕ) (untouched : Untouched log) where
 
     accepted-stands : Stands rule (first-records (closed-by h) log (brought-by h)) (given-by h) p
     accepted-stands =
-        stands-lent rule (first-records (closed-by h) log (brought-by h)) (given-by h) point p (before .size) lends accepted-whole (before .stands)
+        stands-lent rule (before .fine) (first-records (closed-by h) log (brought-by h)) (given-by h) point p (before .size) lends accepted-whole (before .stands)
 
     -- the first closing brought as many records
     accepted-at : cond (closed-by h) (closed-at h) n ≡ n
@@ -337,7 +342,7 @@ module _ (rule log : List ℕ) (untouched : Untouched log) where
         let bytes : laid h ++ take c sheet′ ≡ verdicts fs new (d + c) =
         ap (λ vs. vs ++ take c sheet′) (before .bytes) ∙
         gives-bytes closed d n log′ (brought .brings) (closed-by h) old p (brought .no-fewer) (before .fine) accepted-stands sheet c more p′ sheet′ resumes in
-        let within = step .stands .top .held .within in
+        let settled = given-settled rule (before .fine) new (d + c) p′ (step .stands) in
         let same-length = resumes .sheet-length in
         let whole = accepted-whole in
         let kept = resumes .point-length in
@@ -348,7 +353,7 @@ module _ (rule log : List ℕ) (untouched : Untouched log) where
           fine = before .fine;
           size = length-take-le (need rule) p′ (step .stands .enough);
           within = brought .brings .within;
-          stands = stands-alone rule new (d + c) p′ (step .stands);
+          stands = stands-alone rule (before .fine) new (d + c) p′ (step .stands);
           bytes = bytes;
           at-first = λ e. accepted-at;
           all = (
@@ -425,10 +430,35 @@ none-met rule K d p fine stands =
       not-outside rule K d p fine stands,
     )
 
--- the count of no and the latest of them, as a checkpoint has them
+-- numbers that are the same one by one
+listed-same : (f g : ℕ → ℕ) (n : ℕ) → ((k : ℕ) → k < n → f k ≡ g k) → listed f n ≡ listed g n
+unfolding listed
+listed-same f g zero same = refl
+listed-same f g (suc n) same = ap₂ (λ l x. l ++ (x ∷ [])) (listed-same f g n (λ k h. same k (omega arith))) (same n (omega arith))
+
+told-same : (n : ℕ) (x y : ℕ → Noes) (nos latest nos′ latest′ : List ℕ) → ((k : ℕ) → k < n → x k ≡ y k) →
+    Told n x nos latest nos′ latest′ → Told n y nos latest nos′ latest′
+told-same n x y nos latest nos′ latest′ same (counts, positions) = (
+  counts ∙ ap (λ l. l ++ drop n nos) (listed-same _ _ n (λ k h. ap (λ (a : Noes). a .count) (same k h))),
+  positions ∙ ap (λ l. l ++ drop n latest) (listed-same _ _ n (λ k h. ap (λ (a : Noes). position-or (a .latest) no-position) (same k h))),
+)
+
+-- of each formula the count of no and the latest of them, as a checkpoint has them
 own-summary : (rule : List ℕ) (K : Log) (d : ℕ) (p : List ℕ) → refusal rule ≡ 0 → Stands rule K d p →
-    summarized rule p ≡ told (noes-in (verdicts (formulas-of rule) K d) d)
-own-summary rule K d p fine stands = rw (eq-eqb (summary-refusal rule p) 0 (none-met rule K d p fine stands)) (ap told (stands .noes))
+    (nos latest : List ℕ) (r : Summarized) (nos′ latest′ : List ℕ) → Summarizes rule p nos latest r nos′ latest′ →
+    (r ≡ Counted (columns (formulas-of rule))) ×
+    Told (columns (formulas-of rule)) (λ k. noes-in k (verdicts (formulas-of rule) K d) d) nos latest nos′ latest′
+own-summary rule K d p fine stands nos latest (SummaryRefused n) nos′ latest′ told =
+    let none = none-met rule K d p fine stands in
+    let number = told .number in
+    let some = told .words .0 in
+    absurd (omega arith)
+own-summary rule K d p fine stands nos latest (Counted n) nos′ latest′ told =
+    let (all, words) = told .words in (
+      ap Counted all,
+      told-same (columns (formulas-of rule)) (stored-noes (most (version rule)) p) _ nos latest nos′ latest′ (stands .noes)
+          (subst (λ m. Told m (stored-noes (most (version rule)) p) nos latest nos′ latest′) all words),
+    )
 
 -- a closing was accepted exactly where its records were noted
 closed-told : (b : Bool) (n w : ℕ) → w ≡ cond b (suc n) 0 → ltb 0 w ≡ b
@@ -464,7 +494,7 @@ demand-3 rule log untouched h point calls =
     let i = invariant rule log untouched calls in
     let fs = formulas-of rule in
     let L = first-records (closed-by h) log (brought-by h) in
-    let within = i .stands .top .held .within in
+    let settled = given-settled rule (i .fine) L (given-by h) point (i .stands) in
     let size = i .size in
     record {
       first = rw (i .bytes, length-verdicts fs L (given-by h)) (sym (take-verdicts fs L (given-by h) (answered (closed-by h) rule log (brought-by h)) (omega arith)));
@@ -473,7 +503,7 @@ demand-3 rule log untouched h point calls =
       not-refused = λ p lends whole closed n log′ sheet brought r p′ sheet′ resumes.
           resumes .number ∙
           number-met rule log untouched closed (given-by h) n log′ (brought .brings) (closed-by h) (brought-by h) p (brought .no-fewer) (i .fine)
-          (stands-lent rule L (given-by h) point p size lends whole (i .stands)) ∙
+          (stands-lent rule (i .fine) L (given-by h) point p size lends whole (i .stands)) ∙
           expected-at closed (closed-by h) (closed-at h) (brought-by h) n (i .at-first);
       too-few = λ p short closed log′ sheet r p′ sheet′. nine closed rule log′ p sheet r p′ sheet′ (i .fine) (omega arith);
       size = size ∙ sym (exactly-enough rule (i .fine) .1);
@@ -482,14 +512,14 @@ demand-3 rule log untouched h point calls =
       open-keeps = λ words r fresh. open-keeps rule words r fresh (i .fine);
       call-keeps = λ p p′ h′. call-keeps rule log p (i .fine);
       one-run = one-run-writes rule log untouched;
-      summary = λ p lends whole r is.
+      summary = λ p lends whole nos latest r nos′ latest′ told.
           let d = given-by h in
           let laid-length : length (laid h) ≡ d = ap length (i .bytes) ∙ length-verdicts fs L d in
-          is ∙ own-summary rule L d p (i .fine) (stands-lent rule L d point p size lends whole (i .stands)) ∙
-          ap told (rw (laid-length, i .bytes));
+          rw (laid-length, i .bytes)
+          (own-summary rule L d p (i .fine) (stands-lent rule (i .fine) L d point p size lends whole (i .stands)) nos latest r nos′ latest′ told);
       status = λ p lends whole r is.
           let d = given-by h in
-          is ∙ own-status rule L d p (i .fine) (stands-lent rule L d point p size lends whole (i .stands)) ∙
+          is ∙ own-status rule L d p (i .fine) (stands-lent rule (i .fine) L d point p size lends whole (i .stands)) ∙
           ap (λ n. known-told (facts rule d n (closed-by h))) (first-size rule log untouched (brought-by h) (i .within));
     }
 
@@ -503,9 +533,9 @@ bytes-of-one-run rule log untouched h point calls r sheet′ run =
 -- "a point that this library left never meets" refusal 11, nor 10 with its rule: in no words that hold it whole
 pub own-checkpoint : (rule log : List ℕ) → Untouched log → (h : List Call) (point : List ℕ) → Calls rule log h point →
     (p : List ℕ) → Lends point p → length point ≤ length p →
-    (foreign (decoded rule) (count rule) p ≡ false) × (outside (decoded rule) (count rule) p ≡ false)
+    (foreign (version rule) (decoded rule) (count rule) p ≡ false) × (outside (version rule) (decoded rule) (count rule) p ≡ false)
 own-checkpoint rule log untouched h point calls p lends whole =
     let i = invariant rule log untouched calls in
     let L = first-records (closed-by h) log (brought-by h) in
-    let stands = stands-lent rule L (given-by h) point p (i .size) lends whole (i .stands) in
+    let stands = stands-lent rule (i .fine) L (given-by h) point p (i .size) lends whole (i .stands) in
     (stands .own, not-outside rule L (given-by h) p (i .fine) stands)

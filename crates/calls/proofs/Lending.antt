@@ -1,17 +1,28 @@
 -- The point in the words that a call lends: it stands for the same wherever it is lent, and what a call leaves of it. Assumes nothing.
-use Prim.Native.Nat.{ℕ, _≤_, _<_}
-use mathlib.Core.Path.{_≡_, sym, _∙_, ap, subst}
+use Prim.Native.Nat.{ℕ, _+_, _≤_, _<_}
+use mathlib.Core.Path.{_≡_, sym, _∙_, ap, ap₂, subst}
+use mathlib.Core.Logic.{⊎-map}
 use mathlib.Core.List.{List, _++_, append-nil}
 use native.Mathlib.Omega.{arith}
 use lib.ListN.{length, getD, take, drop, take-append-drop, drop-of-length-le}
 use lib.Seq.{getD-take, length-take-le, take-all}
 use Rattle.mtl.specs.Log.{Log}
-use Rattle.rule.specs.Entries.{count, decoded}
+use Rattle.mtl.specs.Progress.{joint-progress}
+use Rattle.rule.specs.Entries.{version, count, decoded}
+use Rattle.rule.specs.Postfix.{most}
+use Rattle.rule.specs.Words.{header-words}
+use Rattle.rule.specs.Refusal.{refusal}
+use Rattle.rule.proofs.Spans.{header-least}
 use Rattle.blocks.specs.Block.{word}
-use Rattle.checkpoint.specs.Checkpoint.{need}
+use Rattle.checkpoint.specs.Checkpoint.{no-count, after-latest, need, block-at}
+use Rattle.verdicts.specs.Counts.{latest-of}
+use Rattle.checkpoint.proofs.Offsets.{block-fits, noes-within}
 use Rattle.checkpoint.proofs.Copies.{foreign-within}
-use Rattle.monitor.specs.Verdicts.{formulas-of}
-use Rattle.monitor.specs.Stands.{Top, Stands}
+use Rattle.emit.specs.Verdicts.{formulas-of}
+use Rattle.emit.specs.Top.{Top}
+use Rattle.emit.proofs.Meaning.{joint-least}
+use Rattle.monitor.specs.Stands.{Stands}
+use Rattle.monitor.proofs.Meaning.{few-columns}
 use Rattle.calls.specs.Calls.{Lends, point-after}
 
 -- words that hold the point whole begin with it
@@ -27,24 +38,45 @@ pub after-whole : (point p : List ℕ) → length point ≤ length p → point-a
 after-whole point p enough =
     ap (λ ws. take (length point) p ++ ws) (drop-of-length-le point enough) ∙ append-nil (take (length point) p)
 
-module _ (rule : List ℕ) (K : Log) (d : ℕ) where
+module _ (rule : List ℕ) (fine : refusal rule ≡ 0) (K : Log) (d : ℕ) where
+  -- every verdict given is settled
+  pub given-settled : (p : List ℕ) → Stands rule K d p → d ≤ joint-progress (formulas-of rule) K
+  given-settled p stands =
+      joint-least (formulas-of rule) K d (stands .top .within) (λ k h. omega (arith, stands .top .each k h .buffer .within))
+
   -- a checkpoint stands for what its need's words say
   pub stands-on : (p q : List ℕ) → take (need rule) p ≡ take (need rule) q → need rule ≤ length q → Stands rule K d p → Stands rule K d q
   stands-on p q e enough stands =
       record {
         enough = enough;
-        own = foreign-within (decoded rule) (count rule) q p same ∙ stands .own;
-        size = same 2 (omega arith) ∙ stands .size;
+        own = foreign-within (version rule) (decoded rule) (count rule) q p same ∙ stands .own;
+        size = header 2 (omega arith) ∙ stands .size;
         few = stands .few;
-        time = same 3 (omega arith) ∙ stands .time;
-        fits = omega (arith, same 3 (omega arith), stands .fits);
-        closed = same 7 (omega arith) ∙ stands .closed;
-        top = subst (Top (formulas-of rule) K d) e (stands .top);
-        noes = rw (same 8 (omega arith), same 9 (omega arith)) (stands .noes);
+        time = header 3 (omega arith) ∙ stands .time;
+        fits = omega (arith, header 3 (omega arith), stands .fits);
+        closed = header 5 (omega arith) ∙ stands .closed;
+        top = subst (Top (header-words (version rule)) (formulas-of rule) K d) e (stands .top);
+        noes = λ k l. ap₂ (λ c a. record { count = c; latest = latest-of a }) (counted k (omega (arith, few-columns rule fine))) (latest k (omega (arith, few-columns rule fine))) ∙ stands .noes k l;
+        unused = λ k lo hi. let (count, after) = stands .unused k lo hi in (counted k hi ∙ count, latest k hi ∙ after);
+        spare = λ j h. ⊎-map (λ last. last) (λ none. in-block j h ∙ none) (stands .spare j h);
       }
     where
       same : (i : ℕ) → i < need rule → word q i ≡ word p i
       same i l = sym (getD-take (need rule) q i 0 l) ∙ ap (λ ws. getD ws i 0) (sym e) ∙ getD-take (need rule) p i 0 l
+
+      header : (i : ℕ) → i < 16 → word q i ≡ word p i
+      header i l = same i (omega (arith, header-least (version rule)))
+
+      counted : (k : ℕ) → k < most (version rule) → no-count q k ≡ no-count p k
+      counted k l = same (8 + k) (omega (arith, noes-within (version rule)))
+
+      latest : (k : ℕ) → k < most (version rule) → after-latest (most (version rule)) q k ≡ after-latest (most (version rule)) p k
+      latest k l = same (8 + most (version rule) + k) (omega (arith, noes-within (version rule)))
+
+      in-block : (j : ℕ) → j < count rule → word q (block-at (header-words (version rule)) (decoded rule) j + 12) ≡ word p (block-at (header-words (version rule)) (decoded rule) j + 12)
+      in-block j l =
+          same (block-at (header-words (version rule)) (decoded rule) j + 12)
+          (omega (arith, block-fits (header-words (version rule)) (decoded rule) (count rule) j l))
 
   -- the point alone, out of the words that it stands in
   pub stands-alone : (p : List ℕ) → Stands rule K d p → Stands rule K d (take (need rule) p)

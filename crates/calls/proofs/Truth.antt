@@ -1,12 +1,14 @@
--- The theorem of demand 2 for lists of calls, stated in specs/Calls.antt: each byte written says whether the rule's formula holds.
+-- The theorem of demand 2 for lists of calls, stated in specs/Calls.antt: each byte written says which of the rule's formulas hold.
 -- Assumes nothing.
-use Prim.Native.Nat.{ℕ, _+_, _*_, _/_, _%_, _≤_, _<_}
+use Prim.Native.Nat.{ℕ, zero, suc, _+_, _*_, _/_, _%_, _<_, _^_}
 use mathlib.Core.Bool.{Bool, true, false, cond}
 use mathlib.Core.Logic.{_↔_, Iff·trans}
 use mathlib.Core.Path.{_≡_, refl, sym, _∙_, ap, subst}
 use mathlib.Core.List.{List, [], _∷_, _++_}
+use native.Mathlib.Nat.{div-eq-of-lt}
 use native.Mathlib.Omega.{arith}
-use lib.ListN.{length, getD, length-append, List·getD-append}
+use lib.Dec.{ltb}
+use lib.ListN.{length, getD, length-map, length-append, List·getD-append}
 use borrow.Author.Tests.{le-ltb}
 use Rattle.mtl.specs.Formula.{Formula}
 use Rattle.mtl.specs.Log.{Log}
@@ -18,17 +20,19 @@ use Rattle.mtl.proofs.Streams.{stream-iff}
 use Rattle.mtl.proofs.Closing.{settled-open, settled-stays}
 use Rattle.bits.specs.Packed.{number}
 use Rattle.bits.proofs.Laws.{number-lt}
-use Rattle.rule.specs.Entries.{count, decoded}
-use Rattle.rule.specs.Accepted.{Whole}
-use Rattle.rule.proofs.Acceptance.{accepted}
-use Rattle.monitor.specs.Verdicts.{formulas-of, byte-of, verdict, first-records, answered}
-use Rattle.monitor.specs.Summary.{noes-in}
-use Rattle.monitor.specs.Tally.{above-one, tallied}
-use Rattle.monitor.proofs.Meaning.{rule-whole}
+use Rattle.verdicts.specs.Bytes.{byte-of}
+use Rattle.verdicts.specs.Counts.{counts, noes-in}
+use Rattle.verdicts.specs.Tally.{beyond, tally-refusal}
+use Rattle.verdicts.proofs.Bytes.{byte-of-one, byte-of-lt}
+use Rattle.rule.specs.Entries.{version}
+use Rattle.emit.specs.Verdicts.{formulas-of, answers-of, columns, verdict, first-records, answered}
+use Rattle.monitor.specs.Summary.{listed, counts-of}
+use Rattle.monitor.proofs.Meaning.{most-few, rule-reads, few-columns}
 use Rattle.monitor.proofs.VerdictBytes.{length-verdicts, verdict-at}
 use Rattle.calls.specs.Calls.{Untouched, Call, given-by, brought-by, closed-by, before-closing, laid, Calls, Says, Demand2}
 use Rattle.calls.specs.Calls.OneCall.{refused, accepted as accepted-call}
 use Rattle.calls.specs.Calls.Calls.{opened, and-then}
+use Rattle.calls.proofs.Lending.{given-settled}
 use Rattle.calls.proofs.Demand3.{invariant}
 
 number-iff : (b : Bool) → (number b ≡ 1) ↔ (b ≡ true)
@@ -43,7 +47,7 @@ Settles Holds i K = (φ : Formula) → i < settled-to φ K → (sat φ K i ≡ t
 says : (Holds : Formula → Type 0) (fs : List Formula) (K : Log) (i : ℕ) → i < joint-progress fs K → Settles Holds i K → Says Holds fs (verdict fs K i)
 unfolding joint-progress byte-of
 says Holds [] K i h each = refl
-says Holds (φ ∷ []) K i h each = Iff·trans (number-iff (sat φ K i)) (each φ (omega arith))
+says Holds (φ ∷ []) K i h each = rw (byte-of-one (sat φ K i)) (Iff·trans (number-iff (sat φ K i)) (each φ (omega arith)))
 says Holds (φ ∷ (ψ ∷ fs)) K i h each =
     let low = number-lt (sat φ K i) in
     let rest = verdict (ψ ∷ fs) K i in
@@ -53,23 +57,26 @@ says Holds (φ ∷ (ψ ∷ fs)) K i h each =
       subst (Says Holds (ψ ∷ fs)) others (says Holds (ψ ∷ fs) K i (omega arith) each),
     )
 
--- at most one formula, so the byte is 1 or 0
-at-most-1 : (fs : List Formula) (rule : List ℕ) (K : Log) (i : ℕ) → Whole (decoded rule) (count rule) fs → verdict fs K i ≤ 1
-unfolding byte-of
-at-most-1 [] rule K i whole = omega arith
-at-most-1 (φ ∷ []) rule K i whole = omega (arith, number-lt (sat φ K i))
-at-most-1 (φ ∷ (ψ ∷ fs)) rule K i whole = absurd whole
+-- one answer a formula, and one of an empty rule
+pub length-answers : (holds : Formula → Bool) (fs : List Formula) → length (answers-of holds fs) ≡ columns fs
+length-answers holds [] = refl
+length-answers holds (φ ∷ fs) = omega (arith, length-map (φ ∷ fs) holds)
+
+no-bit-beyond : (fs : List Formula) (K : Log) (i : ℕ) → verdict fs K i < 2 ^ columns fs
+no-bit-beyond fs K i =
+    let answers = answers-of (λ φ. sat φ K i) fs in
+    subst (λ n. byte-of answers < 2 ^ n) (length-answers (λ φ. sat φ K i) fs) (byte-of-lt answers)
 
 module _ (rule log : List ℕ) (untouched : Untouched log) (h : List Call) (point : List ℕ) (calls : Calls rule log h point) where
   -- byte i is the verdict at position i, which is settled
-  byte-at : (i : ℕ) → i < length (laid h) →
+  pub byte-at : (i : ℕ) → i < length (laid h) →
       (i < answered (closed-by h) rule log (brought-by h)) ×
       (getD (laid h) i 0 ≡ verdict (formulas-of rule) (first-records (closed-by h) log (brought-by h)) i)
   byte-at i l =
       let inv = invariant rule log untouched calls in
       let fs = formulas-of rule in
       let L = first-records (closed-by h) log (brought-by h) in
-      let within = inv .stands .top .held .within in
+      let settled = given-settled rule (inv .fine) L (given-by h) point (inv .stands) in
       let size = ap length (inv .bytes) ∙ length-verdicts fs L (given-by h) in
       (omega arith, ap (λ s. getD s i 0) (inv .bytes) ∙ verdict-at fs L (given-by h) i (omega arith))
 
@@ -80,10 +87,19 @@ module _ (rule log : List ℕ) (untouched : Untouched log) (h : List Call) (poin
       subst (Says Holds (formulas-of rule)) (sym is)
       (says Holds (formulas-of rule) (first-records (closed-by h) log (brought-by h)) i answered-there each)
 
+nothing-left : (byte n : ℕ) → byte < 2 ^ n → ltb 0 (byte / 2 ^ n) ≡ false
+nothing-left byte n h = rw (div-eq-of-lt h)
+
+-- the counts of `tally` are those of the scan
+counts-listed : (s : List ℕ) (n : ℕ) → counts false n s ≡ counts-of (λ k. noes-in k s (length s)) n
+unfolding counts listed
+counts-listed s zero = refl
+counts-listed s (suc n) = ap (λ l. l ++ (noes-in n s (length s) .count ∷ [])) (counts-listed s n)
+
 -- BEFORE THE FIRST CLOSING
 
 -- the calls up to it are a list of calls
-calls-before : {rule log : List ℕ} {h : List Call} {point : List ℕ} → Calls rule log h point →
+pub calls-before : {rule log : List ℕ} {h : List Call} {point : List ℕ} → Calls rule log h point →
     (earlier : List ℕ) × Calls rule log (before-closing h) earlier
 unfolding before-closing
 calls-before (opened lent p opens) = (_, opened lent p opens)
@@ -93,7 +109,7 @@ calls-before (and-then calls p p′ lends (accepted-call false n log′ sheet c 
     (_, and-then calls p p′ lends (accepted-call false n log′ sheet c more q sheet′ brought resumes))
 
 -- they leave the point open
-open-before : (h : List Call) → closed-by (before-closing h) ≡ false
+pub open-before : (h : List Call) → closed-by (before-closing h) ≡ false
 unfolding before-closing closed-by
 open-before [] = refl
 open-before (c ∷ older) = by (c .closing) refl (open-before older)
@@ -103,7 +119,7 @@ open-before (c ∷ older) = by (c .closing) refl (open-before older)
     by false e older-open = e
 
 -- their bytes are the first
-laid-before : (h : List Call) (i : ℕ) → i < length (laid (before-closing h)) →
+pub laid-before : (h : List Call) (i : ℕ) → i < length (laid (before-closing h)) →
     (i < length (laid h)) × (getD (laid h) i 0 ≡ getD (laid (before-closing h)) i 0)
 unfolding before-closing laid
 laid-before [] i l = (l, refl)
@@ -133,9 +149,8 @@ module _ (rule log : List ℕ) (untouched : Untouched log) (h : List Call) (poin
       let early = first-records false log (brought-by (before-closing h)) in
       let fine = invariant rule log untouched calls .fine in
       record {
-        reads = rw (accepted rule fine .reads);
-        binary = λ i l.
-            omega (arith, byte-at rule log untouched h point calls i l .1, at-most-1 (formulas-of rule) rule K i (rule-whole rule fine));
+        reads = rule-reads rule fine;
+        no-bit-beyond = λ i l. rw (byte-at rule log untouched h point calls i l .1) (no-bit-beyond (formulas-of rule) K i);
         on-log = λ L longer falls i l.
             early-says _ i l (λ φ there. rw (settled-stays φ early L longer falls i there) (sat-iff φ L i));
         on-stream = λ σ begins falls i l.
@@ -143,10 +158,14 @@ module _ (rule log : List ℕ) (untouched : Untouched log) (h : List Call) (poin
         as-it-ends = λ i l. byte-says rule log untouched h point calls _ i l (λ φ there. sat-iff φ K i);
       }
 
-  -- `tally` takes these bytes, and its count of no is the one that `summary` gives (Demand3 .summary)
-  pub tally-agrees : (tallied (laid h) .refused ≡ false) × (tallied (laid h) .no-count ≡ noes-in (laid h) (length (laid h)) .count)
+  -- `tally` takes these bytes, and its counts of no are those that `summary` gives (Demand3 .summary)
+  pub tally-agrees : (tally-refusal (columns (formulas-of rule)) (laid h) ≡ 0) ×
+      (counts false (columns (formulas-of rule)) (laid h) ≡ counts-of (λ k. noes-in k (laid h) (length (laid h))) (columns (formulas-of rule)))
   tally-agrees =
       let bytes = laid h in
-      let none : any (length bytes) (above-one bytes) ≡ false =
-      any-false-iff (length bytes) (above-one bytes) .1 (λ i l. le-ltb 1 (getD bytes i 0) (demand-2 .binary i l)) in
-      rw none (refl, refl)
+      let n = columns (formulas-of rule) in
+      let few = few-columns rule (invariant rule log untouched calls .fine) in
+      let eight = most-few (version rule) in
+      let none : any (length bytes) (beyond n bytes) ≡ false =
+      any-false-iff (length bytes) (beyond n bytes) .1 (λ i l. nothing-left (getD bytes i 0) n (demand-2 .no-bit-beyond i l)) in
+      (rw (le-ltb n 1 (omega arith), le-ltb 8 n (omega arith), none), counts-listed bytes n)

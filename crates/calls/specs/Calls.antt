@@ -1,6 +1,6 @@
 -- Demands 2 and 3 as claims about a whole list of calls. Its steps are the records that the calls' `ensures` name, and nothing
 -- here names the inside of a checkpoint. proofs/Truth.antt proves demand 2's claim, proofs/Demand3.antt demand 3's.
-use Prim.Native.Nat.{ℕ, _+_, _*_, _-_, _/_, _%_, _≤_, _<_, min}
+use Prim.Native.Nat.{ℕ, _+_, _*_, _-_, _/_, _%_, _≤_, _<_, _^_, min}
 use mathlib.Core.Bool.{Bool, true, false, cond, _&&_}
 use mathlib.Core.Path.{_≡_}
 use mathlib.Core.Logic.{_↔_}
@@ -14,13 +14,14 @@ use Rattle.mtl.specs.Wanted.{wanted}
 use Rattle.mtl.specs.Reading.{HoldsIn, HoldsOn}
 use Rattle.trace.specs.Format.{record-count, records-of, malformed}
 use Rattle.trace.specs.Log.{log-of}
-use Rattle.rule.specs.Entries.{count, decoded}
+use Rattle.verdicts.specs.Counts.{noes-in}
+use Rattle.rule.specs.Entries.{version, count, decoded}
 use Rattle.rule.specs.Postfix.{formulas}
 use Rattle.rule.specs.Measure.{measured}
-use Rattle.monitor.specs.Verdicts.{formulas-of, first-records, answered, all-verdicts}
+use Rattle.emit.specs.Verdicts.{formulas-of, columns, first-records, answered, all-verdicts}
 use Rattle.monitor.specs.Open.{Opens}
 use Rattle.monitor.specs.Resume.{resumed-number, Resumes}
-use Rattle.monitor.specs.Summary.{noes-in, told, answer, summarized}
+use Rattle.monitor.specs.Summary.{Told, Summarizes}
 use Rattle.monitor.specs.Status.{facts, known}
 use Rattle.monitor.specs.Status.{told as known-told, answer as standing-of}
 use Rattle.monitor.specs.declared.Opened.{Opened}
@@ -28,6 +29,7 @@ use Rattle.monitor.specs.declared.Opened.the-variants.{Done}
 use Rattle.monitor.specs.declared.Resumed.{Resumed}
 use Rattle.monitor.specs.declared.Resumed.the-variants.{Given, Refused}
 use Rattle.monitor.specs.declared.Summarized.{Summarized}
+use Rattle.monitor.specs.declared.Summarized.the-variants.{Counted}
 use Rattle.monitor.specs.declared.Standing.{Standing}
 
 -- "One untouched log belongs to the list: a header without fault, then at most 1,000,000 records whose times never fall"
@@ -149,8 +151,9 @@ pub record OneRun (closing : Bool) (rule log : List ℕ) (n : ℕ) (r : Resumed)
   pub left : List ℕ
   pub resumes : Resumes closing rule brought fresh sheet r left sheet′
 
--- What a verdict byte says, where Holds says which formulas hold. Of an empty rule, "every position is yes". Of several formulas,
--- which no rule has yet, bit k would be that of formula k.
+-- What a verdict byte says, where Holds says which formulas hold. Of an empty rule, "every position is yes"; of several formulas, "bit k
+-- of the verdict byte is formula k's answer, in rule order from 0" (document 02, paper 8): the lowest bit is the first formula's, and the
+-- bits above it say the same of the others.
 abbrev pub Says : (Formula → Type 0) → List Formula → ℕ → Type 0
 Says Holds [] byte = byte ≡ 1
 Says Holds (φ ∷ []) byte = (byte ≡ 1) ↔ Holds φ
@@ -159,12 +162,12 @@ Says Holds (φ ∷ (ψ ∷ fs)) byte = ((byte % 2 ≡ 1) ↔ Holds φ) × Says H
 -- DEMAND 2, for every list. "Verdicts are those of metric temporal logic as documents 000 and 002 define it, on the log and on
 -- every accepted lengthening of it"
 pub record Demand2 (rule log : List ℕ) (h : List Call) : Type 0 where
-  -- the rule's entries are these formulas: one, or none where it has no entry
-  pub reads : formulas (decoded rule) (count rule) ≡ some (formulas-of rule)
-  -- "each byte 1 for yes or 0 for no"
-  pub binary : (i : ℕ) → i < length (laid h) → getD (laid h) i 0 ≤ 1
-  -- byte i of those before the first closing is yes exactly if the formula, where there is one, holds at position i of the records
-  -- brought, however they are lengthened: by any number of records, none among them,
+  -- the rule's entries are these formulas: one, or none where it has no entry; of version 2 one to eight
+  pub reads : formulas (version rule) (decoded rule) (count rule) ≡ some (formulas-of rule)
+  -- "each byte 1 for yes or 0 for no", of several formulas each bit; no byte has "a bit beyond" them
+  pub no-bit-beyond : (i : ℕ) → i < length (laid h) → getD (laid h) i 0 < 2 ^ columns (formulas-of rule)
+  -- byte i of those before the first closing says of each formula whether it holds at position i of the records brought, however they
+  -- are lengthened: by any number of records, none among them,
   pub on-log : (L : Log) → Continues (first-records false log (brought-by (before-closing h))) L → NeverFalls L →
       (i : ℕ) → i < length (laid (before-closing h)) → Says (λ φ. HoldsIn L φ i) (formulas-of rule) (getD (laid h) i 0)
   -- or to an infinite stream
@@ -212,10 +215,12 @@ pub record Demand3 (rule log : List ℕ) (h : List Call) (point : List ℕ) : Ty
   -- 6. one run "writes just these", and so the bytes of 1 are its first bytes
   pub one-run : (closing : Bool) (n : ℕ) (r : Resumed) (sheet′ : List ℕ) → OneRun closing rule log n r sheet′ →
       (r ≡ Given (answered closing rule log n) false) × (sheet′ ≡ all-verdicts closing rule log n)
-  -- 7. of document 02, paper 7: `summary` of the point, whole in the words lent, is not refused, and gives "what tally and a scan give
-  -- over all verdict bytes written from that point, laid end to end"
+  -- 7. of document 02, papers 7 and 8: `summary` of the point, whole in the words lent, is not refused, and gives of each formula "what
+  -- tally and a scan give over all verdict bytes written from that point, laid end to end"
   pub summary : (p : List ℕ) → Lends point p → length point ≤ length p →
-      (r : Summarized) → answer r ≡ summarized rule p → answer r ≡ told (noes-in (laid h) (length (laid h)))
+      (nos latest : List ℕ) (r : Summarized) (nos′ latest′ : List ℕ) → Summarizes rule p nos latest r nos′ latest′ →
+      (r ≡ Counted (columns (formulas-of rule))) ×
+      Told (columns (formulas-of rule)) (λ k. noes-in k (laid h) (length (laid h))) nos latest nos′ latest′
   -- 8. `status` of the point, whole in the words lent, is not refused: given is the sum of c, seen and closed are those of the last
   -- accepted call, and wanted is the record from which `BringsAfter` asks the log to stand
   pub status : (p : List ℕ) → Lends point p → length point ≤ length p →

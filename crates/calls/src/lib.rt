@@ -1,1 +1,1 @@
-// Lists of calls: demands 2 and 3 stand in specs/, their proofs in proofs/. No code.
+// Lists of calls: what is claimed of them stands in specs/, the proofs in proofs/. No code.

@@ -1,38 +1,44 @@
 -- What the checks of a call tell by their outcome: a refusal's number, or what holds where none is met.
+-- (Examples is named first so that the worked rows are checked before any law.)
+use Rattle.checkpoint.specs.Examples
 use Prim.Native.Nat.{ℕ, _+_, _-_, _≤_, _<_, _^_}
 use mathlib.Core.Bool.{Bool, true, false, cond, _&&_}
 use mathlib.Core.Bool.{not as negate}
-use mathlib.Core.Path.{_≡_, refl, sym, ap, ap₂, _∙_}
+use mathlib.Core.Path.{_≡_, refl, sym, ap, ap₂, subst, _∙_}
 use mathlib.Core.List.{List}
 use native.Mathlib.Omega.{arith}
-use borrow.Author.Tests.{ne-eqb, eqb-true, eqb-false, not-false, ltb-false}
+use borrow.Author.Tests.{ne-eqb, eqb-true, eqb-false, not-false, not-true, ltb-false}
 use lib.Dec.{eqb, leb, ltb}
-use lib.ListN.{length}
+use lib.ListN.{length, drop}
+use lib.Seq.{getD-drop}
 use Rattle.mtl.specs.Satisfaction.{any}
-use Rattle.mtl.proofs.Bounded.{and-iff, leb-iff}
+use Rattle.mtl.proofs.Bounded.{and-iff, leb-iff, any-false-iff}
 use Rattle.rule.specs.declared.Entry.{Entry}
-use Rattle.rule.specs.Entries.{count, decoded}
+use Rattle.rule.specs.Entries.{version, count, decoded}
 use Rattle.rule.specs.Refusal.{before, refusal}
-use Rattle.rule.proofs.Headers.{first-zero, or-left, Decoded, before-none, measured-once}
+use Rattle.rule.proofs.Headers.{first-zero, or-left, or-right, Decoded, before-none, measured-once}
 use Rattle.rule.specs.declared.refusals.Header.{Header}
 use Rattle.rule.specs.declared.Measured.{Measured}
 use Rattle.rule.specs.declared.Measured.the-variants.{Words as Weighed}
 use Rattle.rule.specs.declared.Measured.the-variants.{Refused as Unmeasured}
-use Rattle.rule.specs.Words.{offset}
+use Rattle.rule.specs.Postfix.{most}
+use Rattle.rule.specs.Words.{header-words, offset}
 use Rattle.rule.specs.Measure.{measured}
 use Rattle.rule.specs.Measure.{answer as weighing}
-use Rattle.rule.specs.Code.{header, header-count, filled, measured-by}
+use Rattle.rule.specs.Code.{header, header-version, header-count, filled, measured-by}
 use Rattle.rule.proofs.Outcome.{passes-with}
+use Rattle.blocks.specs.Block.{word}
 use Rattle.trace.specs.Format.{record-count, records-of, malformed}
 use Rattle.trace.proofs.Laws.{well-formed-records}
-use Rattle.checkpoint.specs.Checkpoint.{given, seen, last, closed-with, held-count, no-count, after-latest, need, room, foreign, block-outside, noes-in-range, closed-in-range, outside, header-in-range}
+use Rattle.checkpoint.specs.Checkpoint.{given, seen, last, closed-with, no-count, after-latest, need, foreign, block-at, block-outside, block-in-range, room, noes-outside, closed-in-range, outside, header-in-range}
+use Rattle.verdicts.specs.Counts.{noes-in-range}
 use Rattle.checkpoint.specs.Refusal.{open-refusal, resumes-closed, point-refusal, words-refusal, summary-refusal}
 use Rattle.checkpoint.specs.Code.{sized-of, sized-number, checked-by, checked-number, sized-by, Covers, own-checked}
 use Rattle.checkpoint.specs.declared.check.Sized.{Sized}
 use Rattle.checkpoint.specs.declared.check.Sized.the-variants.{Words, Stopped}
 use Rattle.checkpoint.specs.declared.check.Checked.{Checked}
 use Rattle.checkpoint.specs.declared.check.Checked.the-variants.{Passed, Failed}
-use Rattle.checkpoint.proofs.Sizes.{sized-refusal, enough, stops, sized-is, is-decoded, fits-in, enough-words}
+use Rattle.checkpoint.proofs.Sizes.{sized-refusal, enough, stops, sized-is, is-decoded, is-version, fits-in, enough-words}
 
 -- n is the number of a refusal: of 1 to 9 where one applies, else `other`
 pub record Met (rule p : List ℕ) (other n : ℕ) : Type 0 where
@@ -87,58 +93,79 @@ failed rule p number w r m n sized checked fails numbered =
     record { number = e .0 ∙ sym (not-stopped rule p number w sized); some = e .1 }
 
 -- what the refusals that are not met tell
-pub record Passes (log p : List ℕ) : Type 0 where
+pub record Passes (rule log p : List ℕ) : Type 0 where
   pub given : given p ≤ 1000000
-  pub counted : no-count p ≤ 1000000
+  pub counted : (k : ℕ) → k < most (version rule) → no-count p k ≤ 1000000
+  pub held : (k : ℕ) → k < count rule → word p (block-at (header-words (version rule)) (decoded rule) k + 12) ≤ 64
   pub records : record-count (records-of log) ≤ 1000000
 
-header-given : (p : List ℕ) → header-in-range p ≡ true → (no-count p ≤ given p) × (given p ≤ 1000000)
-header-given p fits =
-    let ends = and-iff _ (noes-in-range (given p) (no-count p) (after-latest p)) .0 (and-iff _ (closed-in-range (closed-with p) (seen p)) .0 fits .0) in
-    let halves = and-iff (leb (seen p) 1000000 && leb (held-count p) 64) (room (given p) (held-count p) (seen p)) .0 (and-iff _ (ltb (last p) (2 ^ 32)) .0 (ends .0) .0) in
-    let rooms = and-iff (leb (held-count p) (seen p)) (leb (given p) (seen p - held-count p)) .0 (halves .1) in
-    let few = leb-iff (seen p) 1000000 .0 (and-iff (leb (seen p) 1000000) (leb (held-count p) 64) .0 (halves .0) .0) in
-    let low = leb-iff (given p) (seen p - held-count p) .0 (rooms .1) in
-    let noes = leb-iff (no-count p) (given p) .0 (and-iff (leb (no-count p) (given p)) (leb (after-latest p) (given p)) .0 (and-iff _ _ .0 (ends .1) .0) .0) in
-    (noes, omega arith)
+header-given : (m : ℕ) (p : List ℕ) → header-in-range m p ≡ true → (given p ≤ 1000000) × ((k : ℕ) → k < m → no-count p k ≤ given p)
+header-given m p fits =
+    let first = and-iff _ (negate (any m (noes-outside m p))) .0 fits in
+    let second = and-iff _ (closed-in-range (closed-with p) (seen p)) .0 (first .0) in
+    let third = and-iff (leb (seen p) 1000000 && leb (given p) (seen p)) (ltb (last p) (2 ^ 32)) .0 (second .0) in
+    let fourth = and-iff (leb (seen p) 1000000) (leb (given p) (seen p)) .0 (third .0) in
+    let few = leb-iff (seen p) 1000000 .0 (fourth .0) in
+    let low = leb-iff (given p) (seen p) .0 (fourth .1) in (
+      omega arith,
+      λ k h.
+          let fits-k = not-false _ (any-false-iff m (noes-outside m p) .0 (not-true _ (first .1)) k h) in
+          let both = and-iff (leb (no-count p k) (given p) && leb (after-latest m p k) (given p)) _ .0 fits-k in
+          leb-iff (no-count p k) (given p) .0 (and-iff (leb (no-count p k) (given p)) (leb (after-latest m p k) (given p)) .0 (both .0) .0),
+    )
 
-pub passes : (closing : Bool) (rule log p : List ℕ) → point-refusal closing (decoded rule) (count rule) log p ≡ 0 → Passes log p
+-- what a formula's last entry has answered and was not given yet is at most one word
+held-few : (given size cells : ℕ) (b : List ℕ) → block-in-range given size cells b ≡ true → word b 12 ≤ 64
+held-few given size cells b fits =
+    let others = leb (word b 0) size && leb (word b 1) 64 && leb (word b 3) 64 && leb (word b 5) size && leb (word b 6) 1 && leb (word b 7) 1
+    && ltb (word b 8) (2 ^ 32) && leb (word b 9) cells && leb (word b 10) cells in
+    leb-iff (word b 12) 64 .0 (and-iff others (leb (word b 12) 64) .0 (and-iff (others && leb (word b 12) 64) (room given (word b 12) size) .0 fits .0) .1)
+
+pub passes : (closing : Bool) (rule log p : List ℕ) → point-refusal closing (version rule) (decoded rule) (count rule) log p ≡ 0 →
+    Passes rule log p
 passes closing rule log p none =
+    let v = version rule in
+    let base = header-words v in
     let t = decoded rule in
     let n = count rule in
-    let tenth = first-zero 9 (foreign t n p) _ none in
-    let eleventh = first-zero 10 (outside t n p) _ (tenth .1) in
+    let tenth = first-zero 9 (foreign v t n p) _ none in
+    let eleventh = first-zero 10 (outside v t n p) _ (tenth .1) in
     let twentieth = first-zero 19 (resumes-closed closing (closed-with p)) _ (eleventh .1) in
     let twelfth = first-zero 11 (malformed log) _ (twentieth .1) in
-    let (noes, few) = header-given p (not-false (header-in-range p) (or-left (negate (header-in-range p)) (any n (block-outside t p)) (eleventh .0))) in
+    let (few, noes) = header-given (most v) p
+    (not-false (header-in-range (most v) p) (or-left (negate (header-in-range (most v) p)) (any n (block-outside base t p)) (eleventh .0))) in
+    let blocks = any-false-iff n (block-outside base t p) .0 (or-right (negate (header-in-range (most v) p)) (any n (block-outside base t p)) (eleventh .0)) in
     record {
       given = few;
-      counted = omega arith;
+      counted = λ k h. omega (arith, noes k h);
+      held = λ k h. subst (λ (w : ℕ). w ≤ 64) (getD-drop (block-at base t k) p 12 0) (held-few _ _ _ (drop (block-at base t k) p) (not-false _ (blocks k h)));
       records = well-formed-records log (twelfth .0) .1 .few;
     }
 
 -- enough words are lent where weighing gives no more of them
-covered-by : (b : Bool) (t : List Entry) (n lent w v : ℕ) → ltb lent v ≡ b → Covers (Weighed v 0) t n → Words w ≡ cond b (Stopped 9) (Words v) →
-    (n ≤ 128) × (16 + offset t n ≤ lent)
-covered-by true t n lent w v test room e = let z : _≡_ {A = ℕ} 0 1 = cc in absurd (omega arith)
-covered-by false t n lent w v test (few, room) e = let h = ltb-false lent v test in (few, omega arith)
+covered-by : (b : Bool) (version : ℕ) (t : List Entry) (n lent w v : ℕ) → ltb lent v ≡ b → Covers (Weighed v 0) version t n →
+    Words w ≡ cond b (Stopped 9) (Words v) → (version ≤ 2) × (n ≤ 128) × (header-words version + offset t n ≤ lent)
+covered-by true version t n lent w v test room e = let z : _≡_ {A = ℕ} 0 1 = cc in absurd (omega arith)
+covered-by false version t n lent w v test (known, few, room) e = let h = ltb-false lent v test in (known, few, omega arith)
 
-pub covered : (m : Measured) (t : List Entry) (n lent w : ℕ) → Covers m t n → Words w ≡ sized-by m lent → (n ≤ 128) × (16 + offset t n ≤ lent)
-covered (Unmeasured k) t n lent w room e = let z : _≡_ {A = ℕ} 0 1 = cc in absurd (omega arith)
-covered (Weighed v far) t n lent w room e = covered-by (ltb lent v) t n lent w v refl room e
+pub covered : (m : Measured) (version : ℕ) (t : List Entry) (n lent w : ℕ) → Covers m version t n → Words w ≡ sized-by m lent →
+    (version ≤ 2) × (n ≤ 128) × (header-words version + offset t n ≤ lent)
+covered (Unmeasured k) version t n lent w room e = let z : _≡_ {A = ℕ} 0 1 = cc in absurd (omega arith)
+covered (Weighed v far) version t n lent w room e = covered-by (ltb lent v) version t n lent w v refl room e
 
 -- what weighing a rule answers covers the entries decoded
-covers-by : (s : List ℕ) (t : List Entry) (n : ℕ) → (refusal s ≡ 0 → Decoded s t n) → (m : Measured) → weighing m ≡ measured s → Covers m t n
-covers-by s t n decoded-if (Unmeasured k) e = tt
-covers-by s t n decoded-if (Weighed w far) e =
+covers-by : (s : List ℕ) (v : ℕ) (t : List Entry) (n : ℕ) → (refusal s ≡ 0 → v ≡ version s) → (refusal s ≡ 0 → Decoded s t n) → (m : Measured) →
+    weighing m ≡ measured s → Covers m v t n
+covers-by s v t n version-if decoded-if (Unmeasured k) e = tt
+covers-by s v t n version-if decoded-if (Weighed w far) e =
     let o = passes-with s w far e in
     let is = o .words-are in
-    fits-in s t n w (o .accepted) (decoded-if (o .accepted)) (omega arith)
+    fits-in s v t n w (o .accepted) (version-if (o .accepted)) (decoded-if (o .accepted)) (omega arith)
 
 module _ (rule p : List ℕ) where
   -- the number of refusal 10 or 11, or 0
   abbrev own-number : ℕ
-  own-number = words-refusal (decoded rule) (count rule) p 0
+  own-number = words-refusal (version rule) (decoded rule) (count rule) p 0
 
   -- one of refusals 1 to 9
   own-failed : (n : ℕ) → Met rule p own-number n → Failed n ≡ checked-by (summary-refusal rule p)
@@ -148,12 +175,14 @@ module _ (rule p : List ℕ) where
       rw (ne-eqb (summary-refusal rule p) 0 (omega arith)) (ap Failed number)
 
   -- the checks by the entries decoded, which are those of a rule that is accepted
-  own-by : (t : List Entry) (n : ℕ) → (refusal rule ≡ 0 → Decoded rule t n) → (r : Sized) → r ≡ sized-of rule (length p) →
-      own-checked r t n p ≡ checked-by (summary-refusal rule p)
-  own-by t n decoded-if (Stopped m) sized = own-failed m (stopped rule p own-number (Stopped m) m m sized refl refl)
-  own-by t n decoded-if (Words w) sized =
-      let d = decoded-if (enough rule (length p) w sized .accepted) in
-      ap₂ (λ (t : List Entry) (n : ℕ). checked-by (words-refusal t n p 0)) (d .entries-are) (d .count-is)
+  own-by : (v : ℕ) (t : List Entry) (n : ℕ) → (refusal rule ≡ 0 → v ≡ version rule) → (refusal rule ≡ 0 → Decoded rule t n) → (r : Sized) →
+      r ≡ sized-of rule (length p) → own-checked r v t n p ≡ checked-by (summary-refusal rule p)
+  own-by v t n version-if decoded-if (Stopped m) sized = own-failed m (stopped rule p own-number (Stopped m) m m sized refl refl)
+  own-by v t n version-if decoded-if (Words w) sized =
+      let ok = enough rule (length p) w sized .accepted in
+      let d = decoded-if ok in
+      ap (λ (v : ℕ). checked-by (words-refusal v t n p 0)) (version-if ok)
+      ∙ ap₂ (λ (t : List Entry) (n : ℕ). checked-by (words-refusal (version rule) t n p 0)) (d .entries-are) (d .count-is)
       ∙ ap checked-by (sym (not-stopped rule p own-number w sized))
 
   -- where none of 1 to 11 is met
@@ -165,11 +194,23 @@ module _ (rule p : List ℕ) where
     has-room = enough-words rule (length p) (before-none _ own-number none .0)
 
 -- of the entries decoded once by the rule's header, and what weighing them answers
-module _ (s : List ℕ) (h : Header) (t : List Entry) (n : ℕ) (is : h ≡ header s) (e : n ≡ header-count h) (e′ : t ≡ filled s n) (m : Measured) (weighed : weighing m ≡ measured-by h t) where
-  pub covers : Covers m t n
-  covers = covers-by s t n (is-decoded s h t n is e e′) m (weighed ∙ measured-once s h is t n e e′)
+module _
+    (s : List ℕ)
+    (h : Header)
+    (v : ℕ)
+    (t : List Entry)
+    (n : ℕ)
+    (is : h ≡ header s)
+    (e₀ : v ≡ header-version h)
+    (e : n ≡ header-count h)
+    (e′ : t ≡ filled s n)
+    (m : Measured)
+    (weighed : weighing m ≡ measured-by h t)
+  where
+    pub covers : Covers m v t n
+    covers = covers-by s v t n (is-version s h v is e₀) (is-decoded s h t n is e e′) m (weighed ∙ measured-once s h is t n e e′)
 
-  pub own-is : (p : List ℕ) → own-checked (sized-by m (length p)) t n p ≡ checked-by (summary-refusal s p)
-  own-is p =
-      own-by s p t n (is-decoded s h t n is e e′) (sized-by m (length p))
-      (sized-is s m (length p) (weighed ∙ measured-once s h is t n e e′))
+    pub own-is : (p : List ℕ) → own-checked (sized-by m (length p)) v t n p ≡ checked-by (summary-refusal s p)
+    own-is p =
+        own-by s p v t n (is-version s h v is e₀) (is-decoded s h t n is e e′) (sized-by m (length p))
+        (sized-is s m (length p) (weighed ∙ measured-once s h is t n e e′))

@@ -13,10 +13,10 @@ use borrow.Author.Tests.{eq-eqb}
 use Rattle.mtl.proofs.Bounded.{le-or-lt, any-congr, any-false-iff}
 use Rattle.rule.specs.declared.Entry.{Entry}
 use Rattle.rule.specs.Entries.{entry}
-use Rattle.rule.specs.Words.{words}
-use Rattle.rule.proofs.Spans.{offset-mono}
+use Rattle.rule.specs.Words.{header-words, words}
+use Rattle.rule.proofs.Spans.{header-least, offset-mono}
 use Rattle.blocks.specs.Block.{word}
-use Rattle.checkpoint.specs.Checkpoint.{format, block-at, copy-head, copy-ends, copy-differs, foreign}
+use Rattle.checkpoint.specs.Checkpoint.{format, copy-start, block-at, copy-head, copy-ends, copy-differs, foreign}
 use Rattle.checkpoint.specs.Code.{Fresh, copies}
 use Rattle.checkpoint.proofs.Offsets.{block-fits}
 
@@ -38,115 +38,122 @@ module _ (b : List ℕ) (at : ℕ) (e : Entry) where
   stored-ends room =
       let l = length-set b (at + 14) (copy-head e) in getD-set-same (set b (at + 14) (copy-head e)) (at + 15) (copy-ends e) 0 (omega arith)
 
-module _ (t : List Entry) (ws : List ℕ) where
-  pub copies-more : (n : ℕ) → copies t (n + 1) ws ≡ stored (copies t n ws) (block-at t n) (entry t n)
+module _ (base : ℕ) (t : List Entry) (ws : List ℕ) where
+  pub copies-more : (n : ℕ) → copies base t (n + 1) ws ≡ stored (copies base t n ws) (block-at base t n) (entry t n)
   unfolding copies
-  copies-more n = ap (λ (m : ℕ). copies t m ws) (add-one n)
+  copies-more n = ap (λ (m : ℕ). copies base t m ws) (add-one n)
 
-  pub copies-length : (n : ℕ) → length (copies t n ws) ≡ length ws
+  pub copies-length : (n : ℕ) → length (copies base t n ws) ≡ length ws
   unfolding copies
   copies-length zero = refl
   copies-length (suc n) = simp length-set (copies-length n)
 
   -- a word that is in no copy is kept
-  copies-keep : (n i : ℕ) → ((k : ℕ) → k < n → (i ≡ block-at t k + 14 → ⊥) × (i ≡ block-at t k + 15 → ⊥)) →
-      word (copies t n ws) i ≡ word ws i
+  copies-keep : (n i : ℕ) → ((k : ℕ) → k < n → (i ≡ block-at base t k + 14 → ⊥) × (i ≡ block-at base t k + 15 → ⊥)) →
+      word (copies base t n ws) i ≡ word ws i
   unfolding copies
   copies-keep zero i out = refl
   copies-keep (suc n) i out =
       let o = out n (omega arith) in
-      stored-keeps (copies t n ws) (block-at t n) (entry t n) i (o .0) (o .1) ∙ copies-keep n i (λ k l. out k (omega arith))
+      stored-keeps (copies base t n ws) (block-at base t n) (entry t n) i (o .0) (o .1) ∙ copies-keep n i (λ k l. out k (omega arith))
 
   -- word j of a block is what a store of its entry's copy makes it: a later entry's copy stands behind the block
   copies-has : (j : ℕ) → j < 16 → (value : Entry → ℕ) →
       ((b : List ℕ) (at : ℕ) (e : Entry) → at + 16 ≤ length b → word (stored b at e) (at + j) ≡ value e) →
-      (n k : ℕ) → k < n → words t n ≤ length ws → word (copies t n ws) (block-at t k + j) ≡ value (entry t k)
+      (n k : ℕ) → k < n → block-at base t n ≤ length ws → word (copies base t n ws) (block-at base t k + j) ≡ value (entry t k)
   unfolding copies
   copies-has j inside value here zero k h room = absurd (not-suc-le-zero h)
   copies-has j inside value here (suc n) k h room =
-      let b = copies t n ws in
+      let b = copies base t n ws in
       ⊎-elim
       (λ (l : n ≤ k).
       let same : n ≡ k = omega arith in
-      subst (λ (x : ℕ). word (stored b (block-at t n) (entry t n)) (block-at t x + j) ≡ value (entry t x)) same
-      (here b (block-at t n) (entry t n) (omega (arith, block-fits t (suc n) n (omega arith), copies-length n))))
+      subst (λ (x : ℕ). word (stored b (block-at base t n) (entry t n)) (block-at base t x + j) ≡ value (entry t x)) same
+      (here b (block-at base t n) (entry t n) (omega (arith, block-fits base t (suc n) n (omega arith), copies-length n))))
       (λ (l : k < n).
-      let f = block-fits t n k l in
-      stored-keeps b (block-at t n) (entry t n) (block-at t k + j) (omega arith) (omega arith) ∙
+      let f = block-fits base t n k l in
+      stored-keeps b (block-at base t n) (entry t n) (block-at base t k + j) (omega arith) (omega arith) ∙
       copies-has j inside value here n k l (omega (arith, offset-mono t n (suc n) (omega arith))))
       (le-or-lt n k)
 
 -- no block's first words are in another's copy
-apart : (t : List Entry) (k k′ i j : ℕ) → i < 14 → 14 ≤ j → j < 16 → block-at t k + i ≡ block-at t k′ + j → ⊥
-apart t k k′ i j h l l′ e =
+apart : (base : ℕ) (t : List Entry) (k k′ i j : ℕ) → i < 14 → 14 ≤ j → j < 16 → block-at base t k + i ≡ block-at base t k′ + j → ⊥
+apart base t k k′ i j h l l′ e =
     ⊎-elim
     (λ (a : k′ ≤ k).
     ⊎-elim
-    (λ (b : k ≤ k′). let s : block-at t k ≡ block-at t k′ = ap (block-at t) (omega arith) in omega arith)
-    (λ (b : k′ < k). omega (arith, block-fits t k k′ b))
+    (λ (b : k ≤ k′). let s : block-at base t k ≡ block-at base t k′ = ap (block-at base t) (omega arith) in omega arith)
+    (λ (b : k′ < k). omega (arith, block-fits base t k k′ b))
     (le-or-lt k k′))
-    (λ (a : k < k′). omega (arith, block-fits t k′ k a))
+    (λ (a : k < k′). omega (arith, block-fits base t k′ k a))
     (le-or-lt k′ k)
 
-module _ (t : List Entry) (n m : ℕ) (room : words t n ≤ m) where
+module _ (version : ℕ) (t : List Entry) (n m : ℕ) (room : words version t n ≤ m) where
+  abbrev base : ℕ
+  base = header-words version
+
   abbrev headed : List ℕ
-  headed = set (set (replicate m 0) 0 format) 6 n
+  headed = set (set (replicate m 0) 0 format) 4 (copy-start version n)
 
   headed-length : length headed ≡ m
   headed-length = simp (length-set, length-replicate)
 
-  -- zeros, the format's number, the number of entries, and the copies are a fresh checkpoint
-  pub fresh-words : Fresh t n (copies t n (set (set (replicate m 0) 0 format) 6 n))
+  -- zeros, the format's number, the rule's version and number of entries, and the copies are a fresh checkpoint
+  pub fresh-words : Fresh version t n (copies (header-words version) t n (set (set (replicate m 0) 0 format) 4 (copy-start version n)))
   fresh-words =
       let l = headed-length in
+      let least = header-least version in
       let zero-word : ℕ = 0 in
       let z = length-replicate m zero-word in
       let s = length-set (replicate m 0) 0 format in
-      let outside : (i : ℕ) → i < 16 → word (copies t n headed) i ≡ word headed i =
-      λ i h. copies-keep t headed n i (λ k b. (omega arith, omega arith))
+      let outside : (i : ℕ) → i < base → word (copies base t n headed) i ≡ word headed i =
+      λ i h. copies-keep base t headed n i (λ k b. (omega arith, omega arith))
       in
-      let zeros : (i : ℕ) → (i ≡ 0 → ⊥) → (i ≡ 6 → ⊥) → i < m → word headed i ≡ 0 =
-      λ i h h′ b. getD-set-other (set (replicate m 0) 0 format) 6 i n 0 h′ ∙ getD-set-other (replicate m 0) 0 i format 0 h ∙ getD-replicate m i 0 0 b
+      let zeros : (i : ℕ) → (i ≡ 0 → ⊥) → (i ≡ 4 → ⊥) → i < m → word headed i ≡ 0 =
+      λ i h h′ b. getD-set-other (set (replicate m 0) 0 format) 4 i (copy-start version n) 0 h′ ∙ getD-set-other (replicate m 0) 0 i format 0 h ∙ getD-replicate m i 0 0 b
       in
       record {
         first-word =
-            outside 0 (omega arith) ∙ getD-set-other (set (replicate m 0) 0 format) 6 0 n 0 (omega arith) ∙ getD-set-same (replicate m 0) 0 format 0 (omega arith);
-        entries = outside 6 (omega arith) ∙ getD-set-same (set (replicate m 0) 0 format) 6 n 0 (omega arith);
+            outside 0 (omega arith) ∙ getD-set-other (set (replicate m 0) 0 format) 4 0 (copy-start version n) 0 (omega arith) ∙ getD-set-same (replicate m 0) 0 format 0 (omega arith);
+        start = outside 4 (omega arith) ∙ getD-set-same (set (replicate m 0) 0 format) 4 (copy-start version n) 0 (omega arith);
         header = λ i h h′ ne. outside i (omega arith) ∙ zeros i (omega arith) ne (omega arith);
         blocks =
             λ k h i h′.
-            let b = block-fits t n k h in
-            copies-keep t headed n (block-at t k + i) (λ k′ l′. (apart t k k′ i 14 h′ (omega arith) (omega arith), apart t k k′ i 15 h′ (omega arith) (omega arith)))
-            ∙ zeros (block-at t k + i) (omega arith) (omega arith) (omega arith);
-        heads = λ k h. copies-has t headed 14 (omega arith) copy-head stored-head n k h (omega arith);
-        ends = λ k h. copies-has t headed 15 (omega arith) copy-ends stored-ends n k h (omega arith);
+            let b = block-fits base t n k h in
+            copies-keep base t headed n (block-at base t k + i) (λ k′ l′. (apart base t k k′ i 14 h′ (omega arith) (omega arith), apart base t k k′ i 15 h′ (omega arith) (omega arith)))
+            ∙ zeros (block-at base t k + i) (omega arith) (omega arith) (omega arith);
+        heads = λ k h. copies-has base t headed 14 (omega arith) copy-head stored-head n k h (omega arith);
+        ends = λ k h. copies-has base t headed 15 (omega arith) copy-ends stored-ends n k h (omega arith);
       }
 
 -- REFUSAL 10
 
 -- a fresh checkpoint has its rule's copy
-pub fresh-own : (t : List Entry) (n : ℕ) (ws : List ℕ) → Fresh t n ws → foreign t n ws ≡ false
-fresh-own t n ws f =
+pub fresh-own : (version : ℕ) (t : List Entry) (n : ℕ) (ws : List ℕ) → Fresh version t n ws → foreign version t n ws ≡ false
+fresh-own version t n ws f =
     rw (
       eq-eqb (word ws 0) format (f .first-word),
-      eq-eqb (word ws 6) n (f .entries),
-      any-false-iff n (copy-differs t ws) .1 (λ k h. rw (eq-eqb _ _ (f .heads k h), eq-eqb _ _ (f .ends k h))),
+      eq-eqb (word ws 4) (copy-start version n) (f .start),
+      any-false-iff n (copy-differs (header-words version) t ws) .1 (λ k h. rw (eq-eqb _ _ (f .heads k h), eq-eqb _ _ (f .ends k h))),
     )
 
-module _ (t : List Entry) (n : ℕ) (p q : List ℕ) where
-  -- the number in the first word, the number of entries, and their copies
-  pub foreign-same : word p 0 ≡ word q 0 → word p 6 ≡ word q 6 →
-      ((k i : ℕ) → k < n → 12 ≤ i → i < 16 → word p (block-at t k + i) ≡ word q (block-at t k + i)) → foreign t n p ≡ foreign t n q
-  foreign-same first entries copies =
+module _ (version : ℕ) (t : List Entry) (n : ℕ) (p q : List ℕ) where
+  -- the number in the first word, the rule's version and number of entries, and their copies
+  pub foreign-same : word p 0 ≡ word q 0 → word p 4 ≡ word q 4 →
+      ((k i : ℕ) → k < n → 14 ≤ i → i < 16 →
+      word p (block-at (header-words version) t k + i) ≡ word q (block-at (header-words version) t k + i)) →
+      foreign version t n p ≡ foreign version t n q
+  foreign-same first start copies =
       rw (
         first,
-        entries,
-        any-congr n (copy-differs t p) (copy-differs t q)
+        start,
+        any-congr n (copy-differs (header-words version) t p) (copy-differs (header-words version) t q)
             (λ k h. rw (copies k 14 h (omega arith) (omega arith), copies k 15 h (omega arith) (omega arith))),
       )
 
   -- they all lie in the words that the entries need
-  pub foreign-within : ((i : ℕ) → i < words t n → word p i ≡ word q i) → foreign t n p ≡ foreign t n q
+  pub foreign-within : ((i : ℕ) → i < words version t n → word p i ≡ word q i) → foreign version t n p ≡ foreign version t n q
   foreign-within same =
-      foreign-same (same 0 (omega arith)) (same 6 (omega arith))
-      (λ k i h l m. same (block-at t k + i) (omega (arith, block-fits t n k h)))
+      let least = header-least version in
+      foreign-same (same 0 (omega arith)) (same 4 (omega arith))
+      (λ k i h l m. same (block-at (header-words version) t k + i) (omega (arith, block-fits (header-words version) t n k h)))

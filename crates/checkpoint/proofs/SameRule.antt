@@ -1,4 +1,4 @@
--- Refusal 10 compares the rule: no two accepted rules have the copy that one checkpoint holds. Assumes nothing.
+-- Refusal 10 compares the rule, its version included: no two accepted rules have the copy that one checkpoint holds. Assumes nothing.
 use Prim.Native.Nat.{ℕ, zero, suc, _+_, _-_, _*_, _/_, _%_, _≤_, _<_, _^_}
 use mathlib.Core.Bool.{false, _&&_, _||_}
 use mathlib.Core.Bool.{not as negate}
@@ -14,15 +14,15 @@ use Rattle.mtl.specs.Satisfaction.{any}
 use Rattle.mtl.proofs.Bounded.{any-false-iff, le-or-lt, and-iff}
 use Rattle.rule.specs.declared.Entry.{Entry}
 use Rattle.rule.specs.Bytes.{byte, word16, word32}
-use Rattle.rule.specs.Entries.{count, decoded, entry, entry-of}
-use Rattle.rule.specs.Words.{offset, own}
+use Rattle.rule.specs.Entries.{version, count, decoded, entry, entry-of}
+use Rattle.rule.specs.Words.{header-words, offset, own}
 use Rattle.rule.specs.Refusal.{marked, unmarked, other-version, malformed, header-refusal, entries-refusal, refusal}
 use Rattle.rule.specs.Accepted.{InRange}
 use Rattle.rule.proofs.Headers.{first-zero, before-none, or-left, or-right}
 use Rattle.rule.proofs.Decoded.{decoded-at}
 use Rattle.rule.proofs.Acceptance.{accepted}
 use Rattle.blocks.specs.Block.{word}
-use Rattle.checkpoint.specs.Checkpoint.{format, block-at, copy-head, copy-ends, copy-differs, foreign}
+use Rattle.checkpoint.specs.Checkpoint.{format, copy-start, block-at, copy-head, copy-ends, copy-differs, foreign}
 
 -- a list of bytes; past the end it reads as 0
 abbrev pub Bytes : List ℕ → Type 0
@@ -38,12 +38,11 @@ last-byte a b c d l r same = (omega arith, omega arith)
 
 -- WHAT THE BYTES OF A RULE ARE
 
--- the header of an accepted rule: mark, version and spare bytes
+-- the header of an accepted rule: mark and spare bytes
 record Header (s : List ℕ) : Type 0 where
   first-mark : byte s 0 ≡ 0x4B
   second-mark : byte s 1 ≡ 0x52
   third-mark : byte s 2 ≡ 0x4C
-  version : word16 s 3 ≡ 1
   first-spare : byte s 6 ≡ 0
   second-spare : byte s 7 ≡ 0
 
@@ -61,7 +60,6 @@ header-of s e =
       first-mark = eqb-true (byte s 0) 0x4B (two .0);
       second-mark = eqb-true (byte s 1) 0x52 (two .1);
       third-mark = eqb-true (byte s 2) 0x4C (marks .1);
-      version = eqb-true (word16 s 3) 1 (not-false _ (b .0));
       first-spare =
           eqb-true (byte s 6) 0
           (not-false _ (or-right (ltb 128 (count s)) (negate (eqb (byte s 6) 0)) (or-left _ (negate (eqb (byte s 7) 0)) spares)));
@@ -70,7 +68,7 @@ header-of s e =
     }
 
 header-accepted : (s : List ℕ) → refusal s ≡ 0 → header-refusal s ≡ 0
-header-accepted s e = before-none (header-refusal s) (entries-refusal (decoded s) (count s)) e .0
+header-accepted s e = before-none (header-refusal s) (entries-refusal (version s) (decoded s) (count s)) e .0
 
 -- WHAT A COPY IS
 
@@ -92,18 +90,20 @@ same-entry e f range range′ head ends =
 both-equal : (v w x y : ℕ) → negate (eqb v w && eqb x y) ≡ false → (v ≡ w) × (x ≡ y)
 both-equal v w x y e = let both = and-iff (eqb v w) (eqb x y) .0 (not-false _ e) in (eqb-true v w (both .0), eqb-true x y (both .1))
 
--- a checkpoint with a rule's copy: its count, and its entries in their blocks
-record Copied (t : List Entry) (n : ℕ) (p : List ℕ) : Type 0 where
-  entries : word p 6 ≡ n
-  head : (k : ℕ) → k < n → word p (block-at t k + 14) ≡ copy-head (entry t k)
-  ends : (k : ℕ) → k < n → word p (block-at t k + 15) ≡ copy-ends (entry t k)
+-- a checkpoint with a rule's copy: its version and count, and its entries in their blocks
+record Copied (version : ℕ) (t : List Entry) (n : ℕ) (p : List ℕ) : Type 0 where
+  start : word p 4 ≡ copy-start version n
+  head : (k : ℕ) → k < n → word p (block-at (header-words version) t k + 14) ≡ copy-head (entry t k)
+  ends : (k : ℕ) → k < n → word p (block-at (header-words version) t k + 15) ≡ copy-ends (entry t k)
 
-copied : (t : List Entry) (n : ℕ) (p : List ℕ) → foreign t n p ≡ false → Copied t n p
-copied t n p fits =
-    let rest = or-right (negate (eqb (word p 0) format)) (negate (eqb (word p 6) n) || any n (copy-differs t p)) fits in
-    let none = any-false-iff n (copy-differs t p) .0 (or-right (negate (eqb (word p 6) n)) (any n (copy-differs t p)) rest) in
+copied : (version : ℕ) (t : List Entry) (n : ℕ) (p : List ℕ) → foreign version t n p ≡ false → Copied version t n p
+copied version t n p fits =
+    let other = negate (eqb (word p 4) (copy-start version n)) in
+    let differs = copy-differs (header-words version) t p in
+    let rest = or-right (negate (eqb (word p 0) format)) (other || any n differs) fits in
+    let none = any-false-iff n differs .0 (or-right other (any n differs) rest) in
     record {
-      entries = eqb-true (word p 6) n (not-false _ (or-left (negate (eqb (word p 6) n)) (any n (copy-differs t p)) rest));
+      start = eqb-true (word p 4) (copy-start version n) (not-false _ (or-left other (any n differs) rest));
       head = λ k h. both-equal _ (copy-head (entry t k)) _ (copy-ends (entry t k)) (none k h) .0;
       ends = λ k h. both-equal _ (copy-head (entry t k)) _ (copy-ends (entry t k)) (none k h) .1;
     }
@@ -143,23 +143,23 @@ module _ (a b : List ℕ) (bytes : Bytes a) (bytes′ : Bytes b) where
       (le-or-lt 4 r)
 
   module _ (fine : refusal a ≡ 0) (fine′ : refusal b ≡ 0) where
-    header-bytes : count a ≡ count b → (i : ℕ) → i < 8 → byte a i ≡ byte b i
-    header-bytes counts i h = by i h (header-of a (header-accepted a fine)) (header-of b (header-accepted b fine′))
+    header-bytes : version a ≡ version b → count a ≡ count b → (i : ℕ) → i < 8 → byte a i ≡ byte b i
+    header-bytes versions counts i h = by i h (header-of a (header-accepted a fine)) (header-of b (header-accepted b fine′))
       where
         by : (i : ℕ) → i < 8 → Header a → Header b → byte a i ≡ byte b i
         by zero h x y = x .first-mark ∙ sym (y .first-mark)
         by (suc zero) h x y = x .second-mark ∙ sym (y .second-mark)
         by (suc (suc zero)) h x y = x .third-mark ∙ sym (y .third-mark)
-        by (suc (suc (suc zero))) h x y = last-byte (byte a 3) (byte a 4) (byte b 3) (byte b 4) (bytes 4) (bytes′ 4) (x .version ∙ sym (y .version)) .0
-        by (suc (suc (suc (suc zero)))) h x y = last-byte (byte a 3) (byte a 4) (byte b 3) (byte b 4) (bytes 4) (bytes′ 4) (x .version ∙ sym (y .version)) .1
+        by (suc (suc (suc zero))) h x y = last-byte (byte a 3) (byte a 4) (byte b 3) (byte b 4) (bytes 4) (bytes′ 4) versions .0
+        by (suc (suc (suc (suc zero)))) h x y = last-byte (byte a 3) (byte a 4) (byte b 3) (byte b 4) (bytes 4) (bytes′ 4) versions .1
         by (suc (suc (suc (suc (suc zero))))) h x y = counts
         by (suc (suc (suc (suc (suc (suc zero)))))) h x y = x .first-spare ∙ sym (y .first-spare)
         by (suc (suc (suc (suc (suc (suc (suc zero))))))) h x y = x .second-spare ∙ sym (y .second-spare)
         by (suc (suc (suc (suc (suc (suc (suc (suc i)))))))) h x y = absurd (omega arith)
 
-    -- the same entries are the same bytes
-    pub same-bytes : count a ≡ count b → ((k : ℕ) → k < count a → entry (decoded a) k ≡ entry (decoded b) k) → a ≡ b
-    same-bytes counts same =
+    -- the same version and entries are the same bytes
+    pub same-bytes : version a ≡ version b → count a ≡ count b → ((k : ℕ) → k < count a → entry (decoded a) k ≡ entry (decoded b) k) → a ≡ b
+    same-bytes versions counts same =
         let x = accepted a fine in
         let y = accepted b fine′ in
         let size = x .size in
@@ -173,30 +173,43 @@ module _ (a b : List ℕ) (bytes : Bytes a) (bytes′ : Bytes b) where
         let inside : k < count a = omega arith in
         let entries = sym (decoded-at a k (omega arith)) ∙ same k inside ∙ decoded-at b k (omega arith) in
         moved a b (8 + k * 10 + (i - 8) % 10) i (omega arith) (entry-bytes k entries ((i - 8) % 10) (omega arith)))
-        (λ (l : i < 8). header-bytes counts i l)
+        (λ (l : i < 8). header-bytes versions counts i l)
         (le-or-lt 8 i))
 
     -- THE THEOREM: a checkpoint that has the copies of both has one rule's copy
-    module _ (p : List ℕ) (own-a : foreign (decoded a) (count a) p ≡ false) (own-b : foreign (decoded b) (count b) p ≡ false) where
-      counts-same : count a ≡ count b
-      counts-same = sym (copied (decoded a) (count a) p own-a .entries) ∙ copied (decoded b) (count b) p own-b .entries
+    module _
+        (p : List ℕ)
+        (own-a : foreign (version a) (decoded a) (count a) p ≡ false)
+        (own-b : foreign (version b) (decoded b) (count b) p ≡ false)
+      where
+        starts-same : (version a ≡ version b) × (count a ≡ count b)
+        starts-same =
+            last-byte (version a) (count a) (version b) (count b) (bytes 5) (bytes′ 5)
+            (sym (copied (version a) (decoded a) (count a) p own-a .start) ∙ copied (version b) (decoded b) (count b) p own-b .start)
 
-      -- the same entry, where the blocks before it are as long
-      same-at : (k : ℕ) → k < count a → offset (decoded a) k ≡ offset (decoded b) k → entry (decoded a) k ≡ entry (decoded b) k
-      same-at k h e =
-          let x = copied (decoded a) (count a) p own-a in
-          let y = copied (decoded b) (count b) p own-b in
-          let h′ : k < count b = omega (arith, counts-same) in
-          same-entry (entry (decoded a) k) (entry (decoded b) k) (accepted a fine .well-formed .in-range k h) (accepted b fine′ .well-formed .in-range k h′)
-          (sym (x .head k h) ∙ ap (λ o. word p (16 + o + 14)) e ∙ y .head k h′)
-          (sym (x .ends k h) ∙ ap (λ o. word p (16 + o + 15)) e ∙ y .ends k h′)
+        versions-same : version a ≡ version b
+        versions-same = starts-same .0
 
-      offsets-same : (k : ℕ) → k ≤ count a → offset (decoded a) k ≡ offset (decoded b) k
-      unfolding offset
-      offsets-same zero h = refl
-      offsets-same (suc k) h =
-          let before = offsets-same k (omega arith) in
-          ap₂ (λ o w. o + w) before (ap own (same-at k h before))
+        counts-same : count a ≡ count b
+        counts-same = starts-same .1
 
-      pub same-rule : a ≡ b
-      same-rule = same-bytes counts-same (λ k h. same-at k h (offsets-same k (omega arith)))
+        -- the same entry, where the blocks before it are as long
+        same-at : (k : ℕ) → k < count a → offset (decoded a) k ≡ offset (decoded b) k → entry (decoded a) k ≡ entry (decoded b) k
+        same-at k h e =
+            let x = copied (version a) (decoded a) (count a) p own-a in
+            let y = copied (version b) (decoded b) (count b) p own-b in
+            let base = ap header-words versions-same in
+            let h′ : k < count b = omega (arith, counts-same) in
+            same-entry (entry (decoded a) k) (entry (decoded b) k) (accepted a fine .well-formed .in-range k h) (accepted b fine′ .well-formed .in-range k h′)
+            (sym (x .head k h) ∙ ap₂ (λ (b o : ℕ). word p (b + o + 14)) base e ∙ y .head k h′)
+            (sym (x .ends k h) ∙ ap₂ (λ (b o : ℕ). word p (b + o + 15)) base e ∙ y .ends k h′)
+
+        offsets-same : (k : ℕ) → k ≤ count a → offset (decoded a) k ≡ offset (decoded b) k
+        unfolding offset
+        offsets-same zero h = refl
+        offsets-same (suc k) h =
+            let before = offsets-same k (omega arith) in
+            ap₂ (λ o w. o + w) before (ap own (same-at k h before))
+
+        pub same-rule : a ≡ b
+        same-rule = same-bytes versions-same counts-same (λ k h. same-at k h (offsets-same k (omega arith)))

@@ -4,7 +4,8 @@ use Rattle.checkpoint.specs.Examples
 use Prim.Native.Nat.{ℕ, _+_, _≤_, _<_}
 use native.Mathlib.Omega.{arith}
 use mathlib.Core.Bool.{Bool, true, false, cond}
-use mathlib.Core.Path.{_≡_, refl}
+use mathlib.Core.Logic.{⊎-elim}
+use mathlib.Core.Path.{_≡_, refl, _∙_}
 use mathlib.Core.List.{List}
 use lib.Dec.{eqb, ltb}
 use borrow.Author.Tests.{eqb-true, eqb-false, ltb-false, ne-eqb}
@@ -12,12 +13,13 @@ use Rattle.rule.specs.declared.Entry.{Entry}
 use Rattle.rule.specs.declared.refusals.Header.{Header}
 use Rattle.rule.specs.declared.Measured.{Measured}
 use Rattle.rule.specs.declared.Measured.the-variants.{Words as Weighed, Refused}
-use Rattle.rule.specs.Words.{offset}
+use Rattle.rule.specs.Entries.{version}
+use Rattle.rule.specs.Words.{header-words, offset}
 use Rattle.rule.specs.Refusal.{refusal}
 use Rattle.rule.specs.Measure.{answer, measured}
-use Rattle.rule.specs.Code.{header, header-count, filled}
+use Rattle.rule.specs.Code.{header, header-version, header-count, filled}
 use Rattle.rule.proofs.Acceptance.{accepted}
-use Rattle.rule.proofs.Headers.{first-zero, before-none, Decoded, decoded-once}
+use Rattle.rule.proofs.Headers.{first-zero, before-none, Decoded, decoded-once, version-once}
 use Rattle.rule.proofs.Outcome.{passes-with, stops-with}
 use Rattle.checkpoint.specs.Checkpoint.{need}
 use Rattle.checkpoint.specs.Code.{sized-by, sized-of, sized-number}
@@ -73,10 +75,18 @@ pub is-decoded : (s : List ℕ) (h : Header) (t : List Entry) (n : ℕ) → h �
     refusal s ≡ 0 → Decoded s t n
 is-decoded s h t n is e e′ ok = decoded-once s h is t n e e′ (before-none _ _ ok .0)
 
+-- and the version that it tells
+pub is-version : (s : List ℕ) (h : Header) (v : ℕ) → h ≡ header s → v ≡ header-version h → refusal s ≡ 0 → v ≡ version s
+is-version s h v is e ok = e ∙ version-once s h is (before-none _ _ ok .0)
+
+-- a rule that is accepted is of version 1 or 2
+pub version-most : (s : List ℕ) → refusal s ≡ 0 → version s ≤ 2
+version-most s ok = ⊎-elim (λ (e : version s ≡ 1). omega arith) (λ (e : version s ≡ 2). omega arith) (accepted s ok .one-or-two)
+
 -- they fit into a checkpoint of the rule's need
-pub fits-in : (s : List ℕ) (t : List Entry) (n lent : ℕ) → refusal s ≡ 0 → Decoded s t n → need s ≤ lent →
-    (n ≤ 128) × (16 + offset t n ≤ lent)
-fits-in s t n lent ok d h = rw (d .entries-are, d .count-is) (accepted s ok .few-entries, h)
+pub fits-in : (s : List ℕ) (v : ℕ) (t : List Entry) (n lent : ℕ) → refusal s ≡ 0 → v ≡ version s → Decoded s t n → need s ≤ lent →
+    (v ≤ 2) × (n ≤ 128) × (header-words v + offset t n ≤ lent)
+fits-in s v t n lent ok e d h = rw (e, d .entries-are, d .count-is) (version-most s ok, accepted s ok .few-entries, h)
 
 -- `open` takes no fewer words than the need
 pub enough-words : (rule : List ℕ) (lent : ℕ) → open-refusal rule lent ≡ 0 → need rule ≤ lent

@@ -1,19 +1,22 @@
--- The words of a checkpoint (document 01's point): 16 of its own, then each entry's block in entry order. docs/CHECKPOINT.md has the table.
+-- The words of a checkpoint (document 01's point): 16 of its own, 24 for a rule of version 2, then each entry's block in entry order.
+-- docs/CHECKPOINT.md has the table.
 use Prim.Native.Nat.{ℕ, _+_, _*_, _-_, _^_}
-use mathlib.Core.Bool.{Bool, Bool·beq, _&&_, _||_}
+use mathlib.Core.Bool.{Bool, _&&_, _||_}
 use mathlib.Core.Bool.{not as negate}
 use mathlib.Core.List.{List}
 use lib.ListN.{drop}
 use lib.Dec.{leb, ltb, eqb}
 use Rattle.mtl.specs.Satisfaction.{any}
 use Rattle.rule.specs.declared.Entry.{Entry}
-use Rattle.rule.specs.Entries.{count, decoded, entry}
-use Rattle.rule.specs.Words.{offset, words}
+use Rattle.rule.specs.Entries.{version, count, decoded, entry}
+use Rattle.rule.specs.Words.{header-words, offset, words}
+use Rattle.rule.specs.Postfix.{most}
 use Rattle.blocks.specs.Block.{word, cells-of}
+use Rattle.verdicts.specs.Counts.{Noes, latest-of, noes-in-range}
 
 -- the number in a checkpoint's first word: the bytes HAVD, and the format's number
 abbrev pub format : ℕ
-format = 0x4841564400000005
+format = 0x4841564400000006
 
 -- "the verdicts given d, the records seen, and the last time seen"
 abbrev pub given : List ℕ → ℕ
@@ -25,31 +28,34 @@ seen p = word p 2
 abbrev pub last : List ℕ → ℕ
 last p = word p 3
 
--- what was answered and not yet given: for how many positions from `given` on, and the word of answers
-abbrev pub held-count : List ℕ → ℕ
-held-count p = word p 4
-
-abbrev pub held-bits : List ℕ → ℕ
-held-bits p = word p 5
+-- the rule's version and its number of entries in one word, with which the copy of the rule begins
+abbrev pub copy-start : (version n : ℕ) → ℕ
+copy-start version n = version * 256 + n
 
 -- the records at the first accepted closing, and 1; 0 while no closing was accepted
 abbrev pub closed-with : List ℕ → ℕ
-closed-with p = word p 7
+closed-with p = word p 5
 
--- how many of the verdicts given are no, and one more than the position of the latest of them: 0 where none is
-abbrev pub no-count : List ℕ → ℕ
-no-count p = word p 8
+-- of formula k: how many of the verdicts given are no, and one more than the position of the latest of them: 0 where none is. The
+-- latest stand behind the counts, of which there are as many as a rule of that version has formulas at most.
+abbrev pub no-count : List ℕ → (k : ℕ) → ℕ
+no-count p k = word p (8 + k)
 
-abbrev pub after-latest : List ℕ → ℕ
-after-latest p = word p 9
+abbrev pub after-latest : (most : ℕ) → List ℕ → (k : ℕ) → ℕ
+after-latest most p k = word p (8 + most + k)
+
+-- "A point now stores the count of no among verdicts given and the position of the latest, or none", and since document 02, paper 8,
+-- "one per formula"
+abbrev pub stored-noes : (most : ℕ) → List ℕ → (k : ℕ) → Noes
+stored-noes most p k = record { count = no-count p k; latest = latest-of (after-latest most p k) }
 
 -- "Words needed": those that `measure` gives
 abbrev pub need : List ℕ → ℕ
-need rule = words (decoded rule) (count rule)
+need rule = words (version rule) (decoded rule) (count rule)
 
--- where the block of entry k stands
-abbrev pub block-at : List Entry → ℕ → ℕ
-block-at t k = 16 + offset t k
+-- where the block of entry k stands, behind so many words of the checkpoint's own
+abbrev pub block-at : (base : ℕ) → List Entry → ℕ → ℕ
+block-at base t k = base + offset t k
 
 -- the copy that a block keeps of its entry
 abbrev pub copy-head : Entry → ℕ
@@ -59,44 +65,46 @@ abbrev pub copy-ends : Entry → ℕ
 copy-ends e = e .low * 2 ^ 32 + e .high
 
 -- the block of entry k has another entry's copy
-abbrev pub copy-differs : List Entry → List ℕ → ℕ → Bool
-copy-differs t p k =
-    negate (eqb (word p (block-at t k + 14)) (copy-head (entry t k)) && eqb (word p (block-at t k + 15)) (copy-ends (entry t k)))
+abbrev pub copy-differs : (base : ℕ) → List Entry → List ℕ → ℕ → Bool
+copy-differs base t p k =
+    negate (eqb (word p (block-at base t k + 14)) (copy-head (entry t k)) && eqb (word p (block-at base t k + 15)) (copy-ends (entry t k)))
 
 -- refusal 10: "The point does not begin as a point of this library with a copy of this rule"
-abbrev pub foreign : List Entry → ℕ → List ℕ → Bool
-foreign t n p = negate (eqb (word p 0) format) || (negate (eqb (word p 6) n) || any n (copy-differs t p))
+abbrev pub foreign : (version : ℕ) → List Entry → ℕ → List ℕ → Bool
+foreign version t n p =
+    negate (eqb (word p 0) format) || (negate (eqb (word p 4) (copy-start version n)) || any n (copy-differs (header-words version) t p))
 
 -- count positions from `at` on lie within so many
 abbrev pub room : (at count total : ℕ) → Bool
 room at count total = leb count total && leb at (total - count)
 
 -- the words of one block lie in their ranges
-abbrev pub block-in-range : (size cells : ℕ) → List ℕ → Bool
-block-in-range size cells b =
+abbrev pub block-in-range : (given size cells : ℕ) → List ℕ → Bool
+block-in-range given size cells b =
     leb (word b 0) size && leb (word b 1) 64 && leb (word b 3) 64 && leb (word b 5) size
     && leb (word b 6) 1 && leb (word b 7) 1 && ltb (word b 8) (2 ^ 32)
     && leb (word b 9) cells && leb (word b 10) cells
+    && leb (word b 12) 64 && room given (word b 12) size
 
 -- a word of the block of entry k is outside its range
-abbrev pub block-outside : List Entry → List ℕ → ℕ → Bool
-block-outside t p k =
-    negate (block-in-range (seen p) (cells-of (entry t k .kind) (entry t k .high)) (drop (block-at t k) p))
+abbrev pub block-outside : (base : ℕ) → List Entry → List ℕ → ℕ → Bool
+block-outside base t p k =
+    negate (block-in-range (given p) (seen p) (cells-of (entry t k .kind) (entry t k .high)) (drop (block-at base t k) p))
 
--- of the d verdicts given no more are no than there are, the latest is one of them, and there is none exactly where none is counted
-abbrev pub noes-in-range : (d count after : ℕ) → Bool
-noes-in-range d count after = leb count d && leb after d && Bool·beq (eqb count 0) (eqb after 0)
+-- the count of formula k or its latest is outside its range; where the rule has no formula k, the library leaves both 0
+abbrev pub noes-outside : (most : ℕ) → List ℕ → (k : ℕ) → Bool
+noes-outside most p k = negate (noes-in-range (given p) (no-count p k) (after-latest most p k))
 
 -- after an accepted closing no call that brings more records is accepted, nor one that brings fewer
 abbrev pub closed-in-range : (closed-with seen : ℕ) → Bool
 closed-in-range closed-with seen = eqb closed-with 0 || eqb (closed-with - 1) seen
 
 -- "at most 1,000,000 records", "d above the records seen"
-abbrev pub header-in-range : List ℕ → Bool
-header-in-range p =
-    leb (seen p) 1000000 && leb (held-count p) 64 && room (given p) (held-count p) (seen p) && ltb (last p) (2 ^ 32)
-    && noes-in-range (given p) (no-count p) (after-latest p) && closed-in-range (closed-with p) (seen p)
+abbrev pub header-in-range : (most : ℕ) → List ℕ → Bool
+header-in-range most p =
+    leb (seen p) 1000000 && leb (given p) (seen p) && ltb (last p) (2 ^ 32) && closed-in-range (closed-with p) (seen p)
+    && negate (any most (noes-outside most p))
 
 -- refusal 11: "A word of the point is outside its range"
-abbrev pub outside : List Entry → ℕ → List ℕ → Bool
-outside t n p = negate (header-in-range p) || any n (block-outside t p)
+abbrev pub outside : (version : ℕ) → List Entry → ℕ → List ℕ → Bool
+outside version t n p = negate (header-in-range (most version) p) || any n (block-outside (header-words version) t p)

@@ -10,10 +10,10 @@ use Rattle.rule.specs.declared.Measured.{Measured}
 use Rattle.rule.specs.declared.Measured.the-variants.{Words as Weighed}
 use Rattle.rule.specs.declared.Measured.the-variants.{Refused as Unmeasured}
 use Rattle.rule.specs.Entries.{entry}
-use Rattle.rule.specs.Words.{offset}
+use Rattle.rule.specs.Words.{header-words, offset}
 use Rattle.rule.specs.Refusal.{refusal}
 use Rattle.blocks.specs.Block.{word}
-use Rattle.checkpoint.specs.Checkpoint.{format, need, block-at, copy-head, copy-ends}
+use Rattle.checkpoint.specs.Checkpoint.{format, need, copy-start, block-at, copy-head, copy-ends}
 use Rattle.checkpoint.specs.Refusal.{words-refusal}
 use Rattle.checkpoint.specs.declared.check.Sized.{Sized}
 use Rattle.checkpoint.specs.declared.check.Sized.the-variants.{Words, Stopped}
@@ -42,27 +42,27 @@ checked-number (Failed n) = n
 abbrev pub checked-by : ℕ → Checked
 checked-by number = cond (eqb number 0) Passed (Failed number)
 
--- the words that weighing gives hold the header and the blocks of the first n entries of t
-abbrev pub Covers : Measured → List Entry → (n : ℕ) → Type 0
-Covers (Weighed w far) t n = (n ≤ 128) × (16 + offset t n ≤ w)
-Covers (Unmeasured m) t n = Unit {0}
+-- the version is at most 2, and the words that weighing gives hold the header and the blocks of the first n entries of t
+abbrev pub Covers : Measured → (version : ℕ) → List Entry → (n : ℕ) → Type 0
+Covers (Weighed w far) version t n = (version ≤ 2) × (n ≤ 128) × (header-words version + offset t n ≤ w)
+Covers (Unmeasured m) version t n = Unit {0}
 
--- refusals 1 to 9, and after them 10 and 11 of a rule's n entries and a checkpoint's words
-abbrev pub own-checked : Sized → List Entry → (n : ℕ) → List ℕ → Checked
-own-checked (Words w) t n p = checked-by (words-refusal t n p 0)
-own-checked (Stopped m) t n p = Failed m
+-- refusals 1 to 9, and after them 10 and 11 of a rule's version and n entries and a checkpoint's words
+abbrev pub own-checked : Sized → (version : ℕ) → List Entry → (n : ℕ) → List ℕ → Checked
+own-checked (Words w) version t n p = checked-by (words-refusal version t n p 0)
+own-checked (Stopped m) version t n p = Failed m
 
 -- the words of a fresh checkpoint: nothing given, seen or held, and each entry's copy in its block
-pub record Fresh (t : List Entry) (n : ℕ) (ws : List ℕ) : Type 0 where
+pub record Fresh (version : ℕ) (t : List Entry) (n : ℕ) (ws : List ℕ) : Type 0 where
   pub first-word : word ws 0 ≡ format
-  pub entries : word ws 6 ≡ n
-  pub header : (i : ℕ) → 0 < i → i < 16 → (i ≡ 6 → ⊥) → word ws i ≡ 0
-  pub blocks : (k : ℕ) → k < n → (i : ℕ) → i < 14 → word ws (block-at t k + i) ≡ 0
-  pub heads : (k : ℕ) → k < n → word ws (block-at t k + 14) ≡ copy-head (entry t k)
-  pub ends : (k : ℕ) → k < n → word ws (block-at t k + 15) ≡ copy-ends (entry t k)
+  pub start : word ws 4 ≡ copy-start version n
+  pub header : (i : ℕ) → 0 < i → i < header-words version → (i ≡ 4 → ⊥) → word ws i ≡ 0
+  pub blocks : (k : ℕ) → k < n → (i : ℕ) → i < 14 → word ws (block-at (header-words version) t k + i) ≡ 0
+  pub heads : (k : ℕ) → k < n → word ws (block-at (header-words version) t k + 14) ≡ copy-head (entry t k)
+  pub ends : (k : ℕ) → k < n → word ws (block-at (header-words version) t k + 15) ≡ copy-ends (entry t k)
 
--- the copies of the first n entries, written into their blocks
-unfoldable pub copies : List Entry → ℕ → List ℕ → List ℕ
-copies t zero ws = ws
-copies t (suc n) ws =
-    set (set (copies t n ws) (block-at t n + 14) (copy-head (entry t n))) (block-at t n + 15) (copy-ends (entry t n))
+-- the copies of the first n entries, written into their blocks, the first of which begins at `base`
+unfoldable pub copies : (base : ℕ) → List Entry → ℕ → List ℕ → List ℕ
+copies base t zero ws = ws
+copies base t (suc n) ws =
+    set (set (copies base t n ws) (block-at base t n + 14) (copy-head (entry t n))) (block-at base t n + 15) (copy-ends (entry t n))

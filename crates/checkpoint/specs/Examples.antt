@@ -1,23 +1,90 @@
--- The place of refusal 20 among the others, worked by hand on the point of an empty rule and a log without a byte, which is malformed.
+-- Rows worked by hand, proved by computation: what is refused of the words of a small rule's checkpoint, letter 0, in both versions.
 use Prim.Native.Nat.{ℕ}
-use mathlib.Core.Bool.{true, false}
+use mathlib.Core.Bool.{false}
 use mathlib.Core.List.{List, [], _∷_}
 use mathlib.Core.Path.{_≡_, refl}
-use lib.ListN.{replicate}
+use lib.ListN.{set, replicate}
 use Rattle.mtl.specs.Satisfaction.{any}
-use Rattle.checkpoint.specs.Checkpoint.{format}
-use Rattle.checkpoint.specs.Refusal.{point-refusal}
+use Rattle.mtl.specs.Wanted.{depth, deepest}
+use Rattle.rule.specs.declared.Entry.{Entry}
+use Rattle.rule.specs.Words.{offset}
+use Rattle.rule.specs.Postfix.{push-kind, read}
+use Rattle.checkpoint.specs.Checkpoint.{format, copy-start}
+use Rattle.checkpoint.specs.Refusal.{words-refusal, point-refusal}
 
--- d verdicts given, no record seen, and the word of the first closing
-abbrev point : (d closed-with : ℕ) → List ℕ
-point d closed-with = format ∷ d ∷ 0 ∷ 0 ∷ 0 ∷ 0 ∷ 0 ∷ closed-with ∷ replicate 8 0
+abbrev table : List Entry
+table = record { kind = 0; letter = 0; low = 0; high = 0 } ∷ []
 
--- a resume on the closed point is 20 before 12; a closing is 12
-pub closed-and-malformed : (point-refusal false [] 0 [] (point 0 1) ≡ 20) × (point-refusal true [] 0 [] (point 0 1) ≡ 12)
-unfolding any
-closed-and-malformed = (refl, refl)
+-- its fresh checkpoint, in 40 words: both words of the entry's copy are 0, so that they are found where version 1 looks and where
+-- version 2 does
+abbrev fresh : (version : ℕ) → List ℕ
+fresh version = set (set (replicate 40 0) 0 format) 4 (copy-start version 1)
 
--- 11 comes before 20: more was given than seen
-pub closed-and-damaged : point-refusal false [] 0 [] (point 1 1) ≡ 11
-unfolding any
-closed-and-damaged = refl
+abbrev refused : (version : ℕ) → List ℕ → ℕ
+refused version p = words-refusal version table 1 p 0
+
+own-1 : refused 1 (fresh 1) ≡ 0
+unfolding any offset
+own-1 = refl
+
+own-2 : refused 2 (fresh 2) ≡ 0
+unfolding any offset
+own-2 = refl
+
+-- 10: the entries are the same, the version is not
+other-version-1 : refused 2 (fresh 1) ≡ 10
+unfolding any offset
+other-version-1 = refl
+
+other-version-2 : refused 1 (fresh 2) ≡ 10
+unfolding any offset
+other-version-2 = refl
+
+-- 10: a copy of two entries
+other-count : refused 2 (set (fresh 2) 4 (copy-start 2 2)) ≡ 10
+unfolding any offset
+other-count = refl
+
+-- 11: word 15, a count of no that is above the verdicts given, is formula 7's; a rule of version 1 does not use it
+count-of-formula-7 : refused 2 (set (fresh 2) 15 1) ≡ 11
+unfolding any offset
+count-of-formula-7 = refl
+
+free-word : refused 1 (set (fresh 1) 15 1) ≡ 0
+unfolding any offset
+free-word = refl
+
+-- 11: a latest no where none is counted, in the last word of the 24
+latest-of-formula-7 : refused 2 (set (set (set (fresh 2) 1 1) 2 1) 23 1) ≡ 11
+unfolding any offset
+latest-of-formula-7 = refl
+
+-- 11: an answer that is held, and no record
+held-past-records : refused 1 (set (fresh 1) 28 1) ≡ 11
+unfolding any offset
+held-past-records = refl
+
+held-of-version-2 : refused 2 (set (fresh 2) 36 1) ≡ 11
+unfolding any offset
+held-of-version-2 = refl
+
+-- a closed point of one record, resumed with a log that is no log: 20 comes before 12, and 11 before 20
+abbrev closed : List ℕ
+closed = set (set (fresh 1) 2 1) 5 2
+
+closed-before-12 : point-refusal false 1 table 1 [] closed ≡ 20
+unfolding any offset
+closed-before-12 = refl
+
+closed-after-11 : point-refusal false 1 table 1 [] (set closed 1 2) ≡ 11
+unfolding any offset
+closed-after-11 = refl
+
+-- two records, at times 2³² - 1 and 5: the first was overwritten after its verdict was given. Order is looked at from the first record
+-- still wanted on.
+abbrev overwritten : List ℕ
+overwritten = 0x4B ∷ 0x4C ∷ 0x47 ∷ 0 ∷ 1 ∷ 0 ∷ 0 ∷ 0 ∷ 255 ∷ 255 ∷ 255 ∷ 255 ∷ 0 ∷ 0 ∷ 0 ∷ 0 ∷ 0 ∷ 0 ∷ 0 ∷ 5 ∷ replicate 4 0
+
+overwritten-before-wanted : point-refusal false 1 table 1 overwritten (set (set (set (fresh 1) 1 1) 2 1) 3 5) ≡ 0
+unfolding any offset deepest depth read push-kind
+overwritten-before-wanted = refl

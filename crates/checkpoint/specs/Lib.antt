@@ -1,5 +1,5 @@
--- The words of a checkpoint and where a call stops. Read Checkpoint, then Refusal. Examples has cases worked by hand, Code the promises
--- of inner functions.
+-- The words of a checkpoint and where a call stops. Read Checkpoint, then Refusal. Examples has rows worked by hand, Code the promises of
+-- inner functions.
 pub mod Checkpoint
 pub mod Refusal
 pub mod Examples

@@ -7,7 +7,7 @@ use lib.ListN.{length}
 use lib.Dec.{leb, ltb}
 use Rattle.mtl.specs.Wanted.{wanted}
 use Rattle.rule.specs.declared.Entry.{Entry}
-use Rattle.rule.specs.Entries.{count, decoded}
+use Rattle.rule.specs.Entries.{version, count, decoded}
 use Rattle.rule.specs.Postfix.{formulas, formulas-or}
 use Rattle.rule.specs.Refusal.{first, before, refusal}
 use Rattle.trace.specs.Format.{record-count, records-of, malformed}
@@ -35,21 +35,22 @@ log-refusal closing log from seen last closed-with =
     (first 13 (ltb (record-count (records-of log)) seen)
     (first 21 (closes-more closing closed-with (record-count (records-of log))) (first 14 (disordered (records-of log) from seen last) 0))))
 
--- refusals 10 and 11, of a rule's n entries and a checkpoint's words, or what comes after them
-abbrev pub words-refusal : List Entry → ℕ → List ℕ → ℕ → ℕ
-words-refusal t n p other = first 10 (foreign t n p) (first 11 (outside t n p) other)
+-- refusals 10 and 11, of a rule's version and n entries and a checkpoint's words, or what comes after them
+abbrev pub words-refusal : (version : ℕ) → List Entry → ℕ → List ℕ → ℕ → ℕ
+words-refusal version t n p other = first 10 (foreign version t n p) (first 11 (outside version t n p) other)
 
--- refusals 10 and 11 and these, of a rule's n entries, a log's bytes and a checkpoint's words
-abbrev pub point-refusal : (closing : Bool) → List Entry → ℕ → List ℕ → List ℕ → ℕ
-point-refusal closing t n log p =
-    words-refusal t n p (log-refusal closing log (wanted (formulas-or (formulas t n)) (given p)) (seen p) (last p) (closed-with p))
+-- refusals 10 and 11 and these, of a rule's version and n entries, a log's bytes and a checkpoint's words
+abbrev pub point-refusal : (closing : Bool) (version : ℕ) → List Entry → ℕ → List ℕ → List ℕ → ℕ
+point-refusal closing version t n log p =
+    words-refusal version t n p
+    (log-refusal closing log (wanted (formulas-or (formulas version t n)) (given p)) (seen p) (last p) (closed-with p))
 
 -- resume and closing: all refusals, for every rule, log and checkpoint, forged ones included
 abbrev pub resume-refusal : (closing : Bool) (rule log point : List ℕ) → ℕ
 resume-refusal closing rule log point =
-    before (open-refusal rule (length point)) (point-refusal closing (decoded rule) (count rule) log point)
+    before (open-refusal rule (length point)) (point-refusal closing (version rule) (decoded rule) (count rule) log point)
 
 -- summary: "checks 1 to 11", for every rule and checkpoint
 abbrev pub summary-refusal : (rule point : List ℕ) → ℕ
 summary-refusal rule point =
-    before (open-refusal rule (length point)) (words-refusal (decoded rule) (count rule) point 0)
+    before (open-refusal rule (length point)) (words-refusal (version rule) (decoded rule) (count rule) point 0)

@@ -6,8 +6,9 @@ ghost use Rattle.mtl.specs.Satisfaction.{any};
 ghost use Rattle.mtl.specs.Wanted.{wanted};
 ghost use Rattle.rule.specs.Postfix.{formulas, formulas-or};
 ghost use Rattle.rule.specs.Refusal.{first};
-ghost use Rattle.rule.specs.Words.{offset};
-ghost use Rattle.checkpoint.specs.Checkpoint.{seen, last, closed-with, copy-head, copy-ends, copy-differs, foreign, room, block-in-range, block-outside, noes-in-range, closed-in-range, outside};
+ghost use Rattle.rule.specs.Words.{header-words, offset};
+ghost use Rattle.checkpoint.specs.Checkpoint.{seen, last, closed-with, copy-start, copy-head, copy-ends, copy-differs, foreign, room, block-in-range, block-outside, noes-outside, closed-in-range, outside};
+ghost use Rattle.verdicts.specs.Counts.{noes-in-range};
 ghost use Rattle.checkpoint.specs.Code.{sized-by, sized-number, checked-by, checked-number, Covers, own-checked};
 ghost use Rattle.checkpoint.specs.Refusal.{log-refusal, words-refusal, point-refusal};
 ghost use Rattle.blocks.specs.Block.{cells-of};
@@ -17,7 +18,7 @@ use rule::Entry;
 use rule::Measured;
 
 // The number in a checkpoint's first word: the bytes HAVD, and the format's number.
-pub const FORMAT: u64 = 5206537494274768901;
+pub const FORMAT: u64 = 5206537494274768902;
 
 // Refusals 1 to 9, or the words that the rule needs.
 pub enum Sized {
@@ -73,6 +74,14 @@ fn refuse(number: u32, bad: bool, other: u32) -> u32
     if bad { number } else { other }
 }
 
+// A rule's version and its number of entries, as a checkpoint keeps them.
+pub fn copy_start(version: usize, count: usize) -> u64
+    requires { ⌜ (version ≤ 2) × (count ≤ 128) ⌝ }
+    ensures { λ r. ⌜ r ≡ copy-start version count ⌝ }
+{
+    version as u64 * 256 + count as u64
+}
+
 // An entry's kind and letter, as its block keeps them.
 pub fn head_of(e: Entry) -> u64
     ensures { λ r. ⌜ r ≡ copy-head e ⌝ }
@@ -87,12 +96,12 @@ pub fn ends_of(e: Entry) -> u64
     e.low as u64 * 4294967296 + e.high as u64
 }
 
-// Some entry's block, of the first count, has another copy than the entry's.
-fn copies_differ(entries: [Entry; 128], count: usize, point: &[u64]) -> bool
-    requires { ⌜ (count ≤ 128) × (16 + offset entries count ≤ length (now point)) ⌝ }
-    ensures { λ r. ⌜ r ≡ any count (copy-differs entries (now (point .entry))) ⌝ }
+// Some entry's block, of the first count, has another copy than the entry's. The first block begins at `base`.
+fn copies_differ(base: usize, entries: [Entry; 128], count: usize, point: &[u64]) -> bool
+    requires { ⌜ (count ≤ 128) × (base + offset entries count ≤ length (now point)) ⌝ }
+    ensures { λ r. ⌜ r ≡ any count (copy-differs base entries (now (point .entry))) ⌝ }
 {
-    let mut at: usize = 16;
+    let mut at = base;
     let mut k: usize = 0;
     let mut differ = false;
     while k < count {
@@ -107,12 +116,14 @@ fn copies_differ(entries: [Entry; 128], count: usize, point: &[u64]) -> bool
 }
 
 // Refusal 10.
-fn is_foreign(entries: [Entry; 128], count: usize, point: &[u64]) -> bool
-    requires { ⌜ (count ≤ 128) × (16 + offset entries count ≤ length (now point)) ⌝ }
-    ensures { λ r. ⌜ r ≡ foreign entries count (now (point .entry)) ⌝ }
+fn is_foreign(version: usize, entries: [Entry; 128], count: usize, point: &[u64]) -> bool
+    requires { ⌜ (version ≤ 2) × (count ≤ 128) × (header-words version + offset entries count ≤ length (now point)) ⌝ }
+    ensures { λ r. ⌜ r ≡ foreign version entries count (now (point .entry)) ⌝ }
 {
+    let base = rule::header_words(version);
     (point[header::FORMAT] != FORMAT)
-        | ((point[header::ENTRIES] != count as u64) | copies_differ(entries, count, point))
+        | ((point[header::COPY_START] != copy_start(version, count))
+            | copies_differ(base, entries, count, point))
 }
 
 // count positions from `at` on lie within so many.
@@ -138,9 +149,9 @@ fn cells(e: Entry) -> u64
 }
 
 // The words of the block that begins at `at` lie in their ranges.
-fn block_fits(size: u64, cells: u64, point: &[u64], at: usize) -> bool
+fn block_fits(given: u64, size: u64, cells: u64, point: &[u64], at: usize) -> bool
     requires { ⌜ at + 16 ≤ length (now point) ⌝ }
-    ensures { λ r. ⌜ r ≡ block-in-range size cells (drop at (now (point .entry))) ⌝ }
+    ensures { λ r. ⌜ r ≡ block-in-range given size cells (drop at (now (point .entry))) ⌝ }
 {
     (point[at] <= size)
         & (point[at + word::LEFT_COUNT] <= 64)
@@ -151,20 +162,23 @@ fn block_fits(size: u64, cells: u64, point: &[u64], at: usize) -> bool
         & (point[at + word::LAST_TIME] < 4294967296)
         & (point[at + word::RING_START] <= cells)
         & (point[at + word::RING_COUNT] <= cells)
+        & (point[at + word::HELD_COUNT] <= 64)
+        & has_room(given, point[at + word::HELD_COUNT], size)
 }
 
-// Some entry's block, of the first count, has a word outside its range.
-fn blocks_outside(entries: [Entry; 128], count: usize, point: &[u64]) -> bool
-    requires { ⌜ (count ≤ 128) × (16 + offset entries count ≤ length (now point)) ⌝ }
-    ensures { λ r. ⌜ r ≡ any count (block-outside entries (now (point .entry))) ⌝ }
+// Some entry's block, of the first count, has a word outside its range. The first block begins at `base`.
+fn blocks_outside(base: usize, entries: [Entry; 128], count: usize, point: &[u64]) -> bool
+    requires { ⌜ (count ≤ 128) × (16 ≤ base) × (base + offset entries count ≤ length (now point)) ⌝ }
+    ensures { λ r. ⌜ r ≡ any count (block-outside base entries (now (point .entry))) ⌝ }
 {
+    let given = point[header::GIVEN];
     let size = point[header::SEEN];
-    let mut at: usize = 16;
+    let mut at = base;
     let mut k: usize = 0;
     let mut outside = false;
     while k < count {
         let e = entries[k];
-        outside = outside | !block_fits(size, cells(e), point, at);
+        outside = outside | !block_fits(given, size, cells(e), point, at);
         at += rule::own_words(e) as usize;
         k += 1;
     }
@@ -178,6 +192,22 @@ fn noes_fit(given: u64, count: u64, after: u64) -> bool
     (count <= given) & (after <= given) & ((count == 0) == (after == 0))
 }
 
+// Of some formula, of the most that the rule may have, the count of no and the end of the latest are not so.
+fn some_noes_outside(most: usize, point: &[u64]) -> bool
+    requires { ⌜ 8 + most + most ≤ length (now point) ⌝ }
+    ensures { λ r. ⌜ r ≡ any most (noes-outside most (now (point .entry))) ⌝ }
+{
+    let given = point[header::GIVEN];
+    let mut k: usize = 0;
+    let mut outside = false;
+    while k < most {
+        let at = header::NO_COUNT + k;
+        outside = outside | !noes_fit(given, point[at], point[header::NO_COUNT + most + k]);
+        k += 1;
+    }
+    outside
+}
+
 // No closing was accepted, or one of as many records as were seen.
 fn closed_fits(noted: u64, seen: u64) -> bool
     ensures { λ r. ⌜ r ≡ closed-in-range noted seen ⌝ }
@@ -186,30 +216,27 @@ fn closed_fits(noted: u64, seen: u64) -> bool
 }
 
 // Refusal 11.
-fn is_outside(entries: [Entry; 128], count: usize, point: &[u64]) -> bool
-    requires { ⌜ (count ≤ 128) × (16 + offset entries count ≤ length (now point)) ⌝ }
-    ensures { λ r. ⌜ r ≡ outside entries count (now (point .entry)) ⌝ }
+fn is_outside(version: usize, entries: [Entry; 128], count: usize, point: &[u64]) -> bool
+    requires { ⌜ (version ≤ 2) × (count ≤ 128) × (header-words version + offset entries count ≤ length (now point)) ⌝ }
+    ensures { λ r. ⌜ r ≡ outside version entries count (now (point .entry)) ⌝ }
 {
+    let most = rule::most_of(version);
+    let base = rule::header_words(version);
     let seen = point[header::SEEN];
     let fits = (seen <= 1000000)
-        & (point[header::HELD_COUNT] <= 64)
-        & has_room(point[header::GIVEN], point[header::HELD_COUNT], seen)
+        & (point[header::GIVEN] <= seen)
         & (point[header::LAST] < 4294967296)
-        & noes_fit(
-            point[header::GIVEN],
-            point[header::NO_COUNT],
-            point[header::AFTER_LATEST],
-        )
-        & closed_fits(point[header::CLOSED_WITH], seen);
-    !fits | blocks_outside(entries, count, point)
+        & closed_fits(point[header::CLOSED_WITH], seen)
+        & !some_noes_outside(most, point);
+    !fits | blocks_outside(base, entries, count, point)
 }
 
 // The first record still wanted: those before it may have been overwritten.
-pub fn first_wanted(entries: [Entry; 128], count: usize, given: usize) -> usize
+pub fn first_wanted(version: usize, entries: [Entry; 128], count: usize, given: usize) -> usize
     requires { ⌜ count ≤ 128 ⌝ }
-    ensures { λ r. ⌜ r ≡ wanted (formulas-or (formulas entries count)) given ⌝ }
+    ensures { λ r. ⌜ r ≡ wanted (formulas-or (formulas version entries count)) given ⌝ }
 {
-    let depth = rule::depth(entries, count) as usize;
+    let depth = rule::depth(version, entries, count) as usize;
     if depth <= given { given - depth } else { 0 }
 }
 
@@ -237,14 +264,20 @@ fn log_reason(log: &[u8], closing: bool, point: &[u64], from: usize) -> u32
 }
 
 // 10 or 11 where it applies, else what comes after them.
-fn words_reason(entries: [Entry; 128], count: usize, point: &[u64], other: u32) -> u32
-    requires { ⌜ (count ≤ 128) × (16 + offset entries count ≤ length (now point)) ⌝ }
-    ensures { λ r. ⌜ r ≡ words-refusal entries count (now (point .entry)) other ⌝ }
+fn words_reason(
+    version: usize,
+    entries: [Entry; 128],
+    count: usize,
+    point: &[u64],
+    other: u32,
+) -> u32
+    requires { ⌜ (version ≤ 2) × (count ≤ 128) × (header-words version + offset entries count ≤ length (now point)) ⌝ }
+    ensures { λ r. ⌜ r ≡ words-refusal version entries count (now (point .entry)) other ⌝ }
 {
     refuse(
         10,
-        is_foreign(entries, count, point),
-        refuse(11, is_outside(entries, count, point), other),
+        is_foreign(version, entries, count, point),
+        refuse(11, is_outside(version, entries, count, point), other),
     )
 }
 
@@ -259,27 +292,29 @@ fn checked_by(number: u32) -> Checked
 }
 
 // Refusals 10 and 11.
-fn check_words(entries: [Entry; 128], count: usize, point: &[u64]) -> Checked
-    requires { ⌜ (count ≤ 128) × (16 + offset entries count ≤ length (now point)) ⌝ }
-    ensures { λ r. ⌜ r ≡ checked-by (words-refusal entries count (now (point .entry)) 0) ⌝ }
+fn check_words(version: usize, entries: [Entry; 128], count: usize, point: &[u64]) -> Checked
+    requires { ⌜ (version ≤ 2) × (count ≤ 128) × (header-words version + offset entries count ≤ length (now point)) ⌝ }
+    ensures { λ r. ⌜ r ≡ checked-by (words-refusal version entries count (now (point .entry)) 0) ⌝ }
 {
-    checked_by(words_reason(entries, count, point, 0))
+    checked_by(words_reason(version, entries, count, point, 0))
 }
 
 // Refusals 10 to 14, and 20 or 21.
 pub fn check_point(
+    version: usize,
     entries: [Entry; 128],
     count: usize,
     log: &[u8],
     closing: bool,
     point: &[u64],
 ) -> Checked
-    requires { ⌜ (count ≤ 128) × (16 + offset entries count ≤ length (now point)) ⌝ }
-    ensures { λ r. ⌜ r ≡ checked-by (point-refusal closing entries count (now (log .entry)) (now (point .entry))) ⌝ }
+    requires { ⌜ (version ≤ 2) × (count ≤ 128) × (header-words version + offset entries count ≤ length (now point)) ⌝ }
+    ensures { λ r. ⌜ r ≡ checked-by (point-refusal closing version entries count (now (log .entry)) (now (point .entry))) ⌝ }
 {
     let given = point[header::GIVEN] as usize;
-    let wanted = first_wanted(entries, count, given);
+    let wanted = first_wanted(version, entries, count, given);
     checked_by(words_reason(
+        version,
         entries,
         count,
         point,
@@ -288,13 +323,19 @@ pub fn check_point(
 }
 
 // Refusals 1 to 11, which look at no log.
-pub fn check_own(measured: Measured, entries: [Entry; 128], count: usize, point: &[u64]) -> Checked
-    requires { ⌜ Covers measured entries count ⌝ }
-    ensures { λ r. ⌜ r ≡ own-checked (sized-by measured (length (now (point .entry)))) entries count (now (point .entry)) ⌝ }
+pub fn check_own(
+    measured: Measured,
+    version: usize,
+    entries: [Entry; 128],
+    count: usize,
+    point: &[u64],
+) -> Checked
+    requires { ⌜ Covers measured version entries count ⌝ }
+    ensures { λ r. ⌜ r ≡ own-checked (sized-by measured (length (now (point .entry)))) version entries count (now (point .entry)) ⌝ }
 {
     let sized = size_of(measured, point.len());
     let Sized::Words(_) = sized else {
         return Checked::Failed(sized.number());
     };
-    check_words(entries, count, point)
+    check_words(version, entries, count, point)
 }

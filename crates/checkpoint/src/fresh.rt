@@ -1,4 +1,4 @@
-// A fresh checkpoint: zeros, the format's number, and each entry's copy in its block.
+// A fresh checkpoint: zeros, the format's number, and the copy of the rule: how it begins, and each entry's copy in its block.
 ghost use mathlib.Core.Path.{_≡_};
 ghost use Prim.Native.Nat.{_+_, _≤_, _<_};
 ghost use lib.ListN.{length, replicate};
@@ -21,12 +21,12 @@ fn clear(words: &mut [u64])
     }
 }
 
-// Writes the copies of the first count entries into their blocks.
-fn write_copies(entries: [Entry; 128], count: usize, words: &mut [u64])
-    requires { ⌜ (count ≤ 128) × (16 + offset entries count ≤ length (now words)) ⌝ }
-    ensures { λ _. ⌜ now (words .exit) ≡ copies entries count (now (words .entry)) ⌝ }
+// Writes the copies of the first count entries into their blocks, the first of which begins at `base`.
+fn write_copies(base: usize, entries: [Entry; 128], count: usize, words: &mut [u64])
+    requires { ⌜ (count ≤ 128) × (base + offset entries count ≤ length (now words)) ⌝ }
+    ensures { λ _. ⌜ now (words .exit) ≡ copies base entries count (now (words .entry)) ⌝ }
 {
-    let mut at: usize = 16;
+    let mut at = base;
     let mut k: usize = 0;
     while k < count {
         let e = entries[k];
@@ -38,12 +38,14 @@ fn write_copies(entries: [Entry; 128], count: usize, words: &mut [u64])
 }
 
 // Writes a fresh checkpoint into exactly the words that the entries need.
-pub fn write(entries: [Entry; 128], count: usize, words: &mut [u64])
-    requires { ⌜ (count ≤ 128) × (length (now words) ≡ needed entries count) ⌝ }
-    ensures { λ _. ⌜ Fresh entries count (now (words .exit)) ⌝ }
+pub fn write(version: usize, entries: [Entry; 128], count: usize, words: &mut [u64])
+    requires { ⌜ (version ≤ 2) × (count ≤ 128) × (length (now words) ≡ needed version entries count) ⌝ }
+    ensures { λ _. ⌜ Fresh version entries count (now (words .exit)) ⌝ }
 {
+    let start = check::copy_start(version, count);
+    let base = rule::header_words(version);
     clear(words);
     words[header::FORMAT] = check::FORMAT;
-    words[header::ENTRIES] = count as u64;
-    write_copies(entries, count, words);
+    words[header::COPY_START] = start;
+    write_copies(base, entries, count, words);
 }

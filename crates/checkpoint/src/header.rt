@@ -7,14 +7,8 @@ pub const SEEN: usize = 2;
 
 pub const LAST: usize = 3;
 
-pub const HELD_COUNT: usize = 4;
+pub const COPY_START: usize = 4;
 
-pub const HELD_BITS: usize = 5;
-
-pub const ENTRIES: usize = 6;
-
-pub const CLOSED_WITH: usize = 7;
+pub const CLOSED_WITH: usize = 5;
 
 pub const NO_COUNT: usize = 8;
-
-pub const AFTER_LATEST: usize = 9;

@@ -2,7 +2,7 @@
 use Prim.Native.Nat.{ℕ, zero, suc, _+_, _-_, _≤_, _<_}
 use mathlib.Core.Bool.{Bool, true, false, cond}
 use mathlib.Core.Logic.{inl, ⊎-elim}
-use mathlib.Core.Path.{_≡_, refl, sym, _∙_, ap, ap₂, subst}
+use mathlib.Core.Path.{_≡_, refl, sym, _∙_, ap, subst}
 use mathlib.Core.List.{List, [], _∷_}
 use native.Mathlib.Nat.{not-suc-le-zero}
 use native.Mathlib.Omega.{arith}
@@ -18,10 +18,10 @@ use Rattle.rule.specs.Entries.{entry}
 use Rattle.rule.specs.Words.{ring-words, own-words, own, offset}
 use Rattle.rule.specs.Postfix.{root}
 use Rattle.rule.specs.Operands.{operands, left, part, FormulaAt, Unary, Binary}
-use Rattle.rule.specs.Accepted.{WellFormed, One}
+use Rattle.rule.specs.Accepted.{WellFormed}
 use Rattle.rule.proofs.Spans.{own-least, offset-mono}
-use Rattle.blocks.specs.Block.{word, taken, left-count, right-count, kind-of, high-of, FreshBlock, KeptBlock, cells-of, InRange, Own, Core, Buffers, Ready}
-use Rattle.engine.specs.State.{words, Parts, Absent, State, KeptParts, KeptNone, Kept}
+use Rattle.blocks.specs.Block.{word, taken, left-count, right-count, kind-of, high-of, FreshBlock, KeptBlock, KeptCopy, cells-of, InRange, Own, Core, Buffers, Ready}
+use Rattle.engine.specs.State.{words, Parts, Absent, State, KeptParts, KeptNone, Kept, KeptCopies}
 use Rattle.engine.specs.Layout.{first}
 use Rattle.engine.proofs.Rows.{words-at, fields-of}
 use Rattle.blocks.proofs.Words.{empty-buffer}
@@ -70,7 +70,7 @@ range-same b b′ same r =
 
 module _ (t : List Entry) (W : List ℕ) where
   -- from a part's first entry to behind its last
-  part-ends : (k : ℕ) → offset t (first t k) + part t k ≡ offset t (suc k)
+  pub part-ends : (k : ℕ) → offset t (first t k) + part t k ≡ offset t (suc k)
   part-ends k = let g = offset-mono t (first t k) (suc k) (omega arith) in omega arith
 
   module _ (k a c : ℕ) (all : part t k ≡ a + c + own (entry t k)) where
@@ -236,6 +236,16 @@ own-kept t W W′ k a c all kept j l l′ =
     subst (KeptEntry t W W′) (omega arith)
     (λ i h m. sym (own-same t W′ k a c all i m) ∙ kept i h m ∙ own-same t W k a c all i m)
 
+-- the block of entry j where entry k is the last of a formula: of that one, words 14 and 15
+abbrev pub CopiedEntry : List Entry → (W W′ : List ℕ) → (k j : ℕ) → Type 0
+CopiedEntry t W W′ k j = (i : ℕ) → 12 ≤ i → i < 16 → (j ≡ k → 14 ≤ i) → word (drop (offset t j) W′) i ≡ word (drop (offset t j) W) i
+
+own-copied : (t : List Entry) (W W′ : List ℕ) (k a c : ℕ) → part t k ≡ a + c + own (entry t k) →
+    KeptCopy (drop (a + c) (part-words t k W)) (drop (a + c) (part-words t k W′)) → (j : ℕ) → k ≤ j → j ≤ k → CopiedEntry t W W′ k j
+own-copied t W W′ k a c all kept j l l′ =
+    subst (CopiedEntry t W W′ k) (omega arith)
+    (λ i h m late. sym (own-same t W′ k a c all i m) ∙ kept i (late refl) m ∙ own-same t W k a c all i m)
+
 -- BLOCK BY BLOCK
 
 -- every block of the entries from f to k is fresh, in its ranges, or kept
@@ -247,6 +257,13 @@ RangedFrom t W size f k = (j : ℕ) → f ≤ j → j ≤ k → Ranged t W size 
 
 abbrev pub KeptFrom : List Entry → (W W′ : List ℕ) → ℕ → ℕ → Type 0
 KeptFrom t W W′ f k = (j : ℕ) → f ≤ j → j ≤ k → KeptEntry t W W′ j
+
+abbrev pub CopiedFrom : List Entry → (W W′ : List ℕ) → ℕ → ℕ → Type 0
+CopiedFrom t W W′ f k = (j : ℕ) → f ≤ j → j ≤ k → CopiedEntry t W W′ k j
+
+-- the operands' entries have all four words
+copied-from : (t : List Entry) (W W′ : List ℕ) (f m k : ℕ) → KeptFrom t W W′ f m → (j : ℕ) → f ≤ j → j ≤ m → CopiedEntry t W W′ k j
+copied-from t W W′ f m k kept j from to i h l late = kept j from to i h l
 
 -- an entry of χ with one operand φ
 module _ (t : List Entry) (n : ℕ) (ok : WellFormed t n) (χ φ : Formula) (k : ℕ) (h : k < n) (is : entry t k ≡ root χ)
@@ -278,6 +295,13 @@ module _ (t : List Entry) (n : ℕ) (ok : WellFormed t n) (χ φ : Formula) (k :
       (Kept φ (part-words t (k - 1) W) (part-words t (k - 1) W′) → KeptFrom t W W′ (first t (k - 1)) (k - 1)) → KeptFrom t W W′ (first t k) k
   kept-one W W′ s right =
       from-one (KeptEntry t W W′) (own-kept t W W′ k 0 (words φ) one-part (s .own)) (right (rw (one-right W, one-right W′) at (s .right)))
+
+  copied-one : (W W′ : List ℕ) → KeptCopy (drop (0 + words φ) (part-words t k W)) (drop (0 + words φ) (part-words t k W′)) →
+      Kept φ (take (words φ) (drop 0 (part-words t k W))) (take (words φ) (drop 0 (part-words t k W′))) →
+      (Kept φ (part-words t (k - 1) W) (part-words t (k - 1) W′) → KeptFrom t W W′ (first t (k - 1)) (k - 1)) → CopiedFrom t W W′ (first t k) k
+  copied-one W W′ own s right =
+      from-one (CopiedEntry t W W′ k) (own-copied t W W′ k 0 (words φ) one-part own)
+      (copied-from t W W′ (first t (k - 1)) (k - 1) k (right (rw (one-right W, one-right W′) at s)))
 
   module _ (W : List ℕ) (L : Log) where
     fresh-one : offset t n ≤ length W → FreshFrom t W (first t k) k →
@@ -346,6 +370,16 @@ module _ (t : List Entry) (n : ℕ) (ok : WellFormed t n) (χ φ ψ : Formula) (
       from-two (KeptEntry t W W′) (own-kept t W W′ k (words φ) (words ψ) two-part (s .own))
       (lefts (rw (two-left W, two-left W′) at (s .left)))
       (rights (rw (two-right W, two-right W′) at (s .right)))
+
+  copied-two : (W W′ : List ℕ) → KeptCopy (drop (words φ + words ψ) (part-words t k W)) (drop (words φ + words ψ) (part-words t k W′)) →
+      Kept φ (take (words φ) (part-words t k W)) (take (words φ) (part-words t k W′)) →
+      Kept ψ (take (words ψ) (drop (words φ) (part-words t k W))) (take (words ψ) (drop (words φ) (part-words t k W′))) →
+      (Kept φ (part-words t (left t k) W) (part-words t (left t k) W′) → KeptFrom t W W′ (first t (left t k)) (left t k)) →
+      (Kept ψ (part-words t (k - 1) W) (part-words t (k - 1) W′) → KeptFrom t W W′ (first t (k - 1)) (k - 1)) → CopiedFrom t W W′ (first t k) k
+  copied-two W W′ own s s′ lefts rights =
+      from-two (CopiedEntry t W W′ k) (own-copied t W W′ k (words φ) (words ψ) two-part own)
+      (copied-from t W W′ (first t (left t k)) (left t k) k (lefts (rw (two-left W, two-left W′) at s)))
+      (copied-from t W W′ (first t (k - 1)) (k - 1) k (rights (rw (two-right W, two-right W′) at s′)))
 
   module _ (W : List ℕ) (L : Log) where
     fresh-two : offset t n ≤ length W → FreshFrom t W (first t k) k →
@@ -441,37 +475,27 @@ entries-kept t n ok W W′ (until low high φ ψ) k h (e, b, f, f′) s =
     kept-two t n ok (until low high φ ψ) φ ψ k h e refl f f′ W W′ s (entries-kept t n ok W W′ φ (left t k) (omega arith) f)
     (entries-kept t n ok W W′ ψ (k - 1) (omega arith) f′)
 
--- THEOREMS, of a whole rule whose entries are one formula.
-module _ (t : List Entry) (n : ℕ) (ok : WellFormed t n) (φ : Formula) (one : One t n φ) where
-  rule-last : n - 1 < n
-  rule-last = let some = one .some-entries in omega arith
-
-  rule-first : first t (n - 1) ≡ 0
-  rule-first = let some = one .some-entries in let whole = one .spans-all in omega arith
-
-  rule-words : (W : List ℕ) → part-words t (n - 1) W ≡ take (words φ) W
-  unfolding offset
-  rule-words W =
-      ap₂ (λ w x. take w (drop (offset t x) W)) (words-at t n ok φ (n - 1) rule-last (one .at-last)) rule-first
-
-  -- the words behind the header are those of the formula
-  pub rule-size : offset t n ≡ words φ
-  rule-size =
-      let w = words-at t n ok φ (n - 1) rule-last (one .at-last) in
-      let r = one .words-are in
-      omega arith
-
-  pub fresh-rule : (W : List ℕ) → offset t n ≤ length W →
-      ((j : ℕ) → j < n → FreshBlock (drop (offset t j) W)) →
-      (L : Log) → State φ L 0 (take (words φ) W)
-  fresh-rule W room fresh L =
-      let last = rule-last in
-      rw (rule-words W) at (fresh-state t n ok W room φ (n - 1) last (one .at-last) L (λ j l l′. fresh j (omega arith)))
-
-  pub rule-ranges : (W : List ℕ) (L : Log) (g : ℕ) → State φ L g (take (words φ) W) → (j : ℕ) → j < n → Ranged t W (L .size) j
-  rule-ranges W L g s j h =
-      state-ranges t n ok W φ (n - 1) rule-last (one .at-last) L g (rw (rule-words W) s) j (omega (arith, rule-first)) (omega arith)
-
-  pub rule-kept : (W W′ : List ℕ) → Kept φ (take (words φ) W) (take (words φ) W′) → (j : ℕ) → j < n → KeptEntry t W W′ j
-  rule-kept W W′ s j h =
-      entries-kept t n ok W W′ φ (n - 1) rule-last (one .at-last) (rw (rule-words W, rule-words W′) s) j (omega (arith, rule-first)) (omega arith)
+-- THEOREM: the same but for words 12 and 13 of the formula's own block.
+pub entries-copied : (t : List Entry) (n : ℕ) → WellFormed t n → (W W′ : List ℕ) (φ : Formula) (k : ℕ) → k < n → FormulaAt t k φ →
+    KeptCopies φ (part-words t k W) (part-words t k W′) → CopiedFrom t W W′ (first t k) k
+unfolding FormulaAt
+entries-copied t n ok W W′ (letter l) k h e s =
+    let p = ok .leaf k h (ap (λ x. operands (x .kind)) e) in
+    let q = p .span-is in
+    let q′ = p .part-is in
+    λ j from to. own-copied t W W′ k 0 0 (omega arith) (s .own) j (omega arith) to
+entries-copied t n ok W W′ (not φ) k h (e, b, f) s =
+    copied-one t n ok (not φ) φ k h e refl f W W′ (s .own) (s .right) (entries-kept t n ok W W′ φ (k - 1) (omega arith) f)
+entries-copied t n ok W W′ (or φ ψ) k h (e, b, f, f′) s =
+    copied-two t n ok (or φ ψ) φ ψ k h e refl f f′ W W′ (s .own) (s .left) (s .right) (entries-kept t n ok W W′ φ (left t k) (omega arith) f)
+    (entries-kept t n ok W W′ ψ (k - 1) (omega arith) f′)
+entries-copied t n ok W W′ (previous low high φ) k h (e, b, f) s =
+    copied-one t n ok (previous low high φ) φ k h e refl f W W′ (s .own) (s .right) (entries-kept t n ok W W′ φ (k - 1) (omega arith) f)
+entries-copied t n ok W W′ (next low high φ) k h (e, b, f) s =
+    copied-one t n ok (next low high φ) φ k h e refl f W W′ (s .own) (s .right) (entries-kept t n ok W W′ φ (k - 1) (omega arith) f)
+entries-copied t n ok W W′ (since low high φ ψ) k h (e, b, f, f′) s =
+    copied-two t n ok (since low high φ ψ) φ ψ k h e refl f f′ W W′ (s .own) (s .left) (s .right) (entries-kept t n ok W W′ φ (left t k) (omega arith) f)
+    (entries-kept t n ok W W′ ψ (k - 1) (omega arith) f′)
+entries-copied t n ok W W′ (until low high φ ψ) k h (e, b, f, f′) s =
+    copied-two t n ok (until low high φ ψ) φ ψ k h e refl f f′ W W′ (s .own) (s .left) (s .right) (entries-kept t n ok W W′ φ (left t k) (omega arith) f)
+    (entries-kept t n ok W W′ ψ (k - 1) (omega arith) f′)

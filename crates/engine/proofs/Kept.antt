@@ -4,20 +4,16 @@ use Prim.Native.Nat.{ℕ, _+_}
 use mathlib.Core.Bool.{Bool, true, false}
 use mathlib.Core.Path.{_≡_, refl, _∙_}
 use mathlib.Core.List.{List}
+use native.Mathlib.Omega.{arith}
 use lib.ListN.{take, drop}
 use Rattle.mtl.specs.Formula.{Formula}
 use Rattle.mtl.specs.Formula.Formula.{letter, not, or, previous, next, since, until}
 use Rattle.blocks.specs.Block.{KeptBlock}
 use Rattle.blocks.specs.Step.{has-left, has-right, left-of, right-of}
-use Rattle.engine.specs.State.{Kept, KeptParts, KeptNone, left-words, right-words}
+use Rattle.engine.specs.State.{Kept, KeptParts, KeptOperand, KeptCopies, left-words, right-words}
 use Rattle.engine.proofs.Parts.{Side, lent, lent-left, lent-right}
 use Rattle.engine.proofs.Parts.Side.{on-left, on-right}
 use Rattle.engine.proofs.Uniform.{has, of}
-
--- an operand's blocks, where there is one
-abbrev KeptOperand : Bool → Formula → List ℕ → List ℕ → Type 0
-KeptOperand true φ = Kept φ
-KeptOperand false φ = KeptNone
 
 -- the blocks of a formula whose operands have a and c words
 abbrev KeptView : (a c : ℕ) → Formula → List ℕ → List ℕ → Type 0
@@ -55,15 +51,16 @@ kept-trans (next low high φ) ws ws′ ws″ = parts-trans (λ x y. tt) (kept-tr
 kept-trans (since low high φ ψ) ws ws′ ws″ = parts-trans (kept-trans φ _ _ _) (kept-trans ψ _ _ _)
 kept-trans (until low high φ ψ) ws ws′ ws″ = parts-trans (kept-trans φ _ _ _) (kept-trans ψ _ _ _)
 
-kept-view : (φ : Formula) (ws ws′ : List ℕ) → KeptView (left-words φ) (right-words φ) φ ws ws′ → Kept φ ws ws′
+same-kept : (φ : Formula) (ws ws′ : List ℕ) →
+    (KeptView (left-words φ) (right-words φ) φ ws ws′ → Kept φ ws ws′) × (Kept φ ws ws′ → KeptView (left-words φ) (right-words φ) φ ws ws′)
 unfolding Kept
-kept-view (letter k) ws ws′ v = v
-kept-view (not φ) ws ws′ v = v
-kept-view (or φ ψ) ws ws′ v = v
-kept-view (previous low high φ) ws ws′ v = v
-kept-view (next low high φ) ws ws′ v = v
-kept-view (since low high φ ψ) ws ws′ v = v
-kept-view (until low high φ ψ) ws ws′ v = v
+same-kept (letter k) ws ws′ = (λ v. v, λ v. v)
+same-kept (not φ) ws ws′ = (λ v. v, λ v. v)
+same-kept (or φ ψ) ws ws′ = (λ v. v, λ v. v)
+same-kept (previous low high φ) ws ws′ = (λ v. v, λ v. v)
+same-kept (next low high φ) ws ws′ = (λ v. v, λ v. v)
+same-kept (since low high φ ψ) ws ws′ = (λ v. v, λ v. v)
+same-kept (until low high φ ψ) ws ws′ = (λ v. v, λ v. v)
 
 kept-operand : (b : Bool) (φ : Formula) (ws ws′ : List ℕ) → (b ≡ true → Kept φ ws ws′) → KeptOperand b φ ws ws′
 kept-operand true φ ws ws′ s = s refl
@@ -85,4 +82,39 @@ kept-of {a} {c} φ ws ws′ ea ec own parts =
           kept-operand (has-right φ) (right-of φ) (take c (drop a ws)) (take c (drop a ws′))
           (λ e. rw (lent-right a c ws, lent-right a c ws′) at (parts on-right e));
     } in
-    kept-view φ ws ws′ (rw (ea, ec) at view)
+    same-kept φ ws ws′ .0 (rw (ea, ec) at view)
+
+-- WORDS 14 AND 15
+
+-- what is kept whole is kept there
+pub kept-copies : (φ : Formula) (ws ws′ : List ℕ) → Kept φ ws ws′ → KeptCopies φ ws ws′
+kept-copies φ ws ws′ s =
+    let v = same-kept φ ws ws′ .1 s in
+    record { own = λ i h l. v .own i (omega arith) l; left = v .left; right = v .right }
+
+operand-refl : (b : Bool) (φ : Formula) (ws : List ℕ) → KeptOperand b φ ws ws
+operand-refl true φ ws = kept-refl φ ws
+operand-refl false φ ws = tt
+
+operand-trans : (b : Bool) (φ : Formula) (ws ws′ ws″ : List ℕ) → KeptOperand b φ ws ws′ → KeptOperand b φ ws′ ws″ → KeptOperand b φ ws ws″
+operand-trans true φ ws ws′ ws″ x y = kept-trans φ ws ws′ ws″ x y
+operand-trans false φ ws ws′ ws″ x y = tt
+
+pub copies-refl : (φ : Formula) (ws : List ℕ) → KeptCopies φ ws ws
+copies-refl φ ws =
+    record {
+      own = λ i h l. refl;
+      left = operand-refl (has-left φ) (left-of φ) (take (left-words φ) ws);
+      right = operand-refl (has-right φ) (right-of φ) (take (right-words φ) (drop (left-words φ) ws));
+    }
+
+pub copies-trans : (φ : Formula) (ws ws′ ws″ : List ℕ) → KeptCopies φ ws ws′ → KeptCopies φ ws′ ws″ → KeptCopies φ ws ws″
+copies-trans φ ws ws′ ws″ x y =
+    let a = left-words φ in
+    let c = right-words φ in
+    record {
+      own = λ i h l. y .own i h l ∙ x .own i h l;
+      left = operand-trans (has-left φ) (left-of φ) (take a ws) (take a ws′) (take a ws″) (x .left) (y .left);
+      right =
+          operand-trans (has-right φ) (right-of φ) (take c (drop a ws)) (take c (drop a ws′)) (take c (drop a ws″)) (x .right) (y .right);
+    }

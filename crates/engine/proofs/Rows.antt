@@ -36,13 +36,13 @@ set-below f l k v h below e j g = ⊎-elim last earlier (le-or-lt k j)
     earlier : j < k → getD (set l k v) j 0 ≡ f j
     earlier h′ = getD-set-other l k j v 0 (λ i. omega arith) ∙ below j h′
 
-sets-out : (vs l : List ℕ) (i m : ℕ) → (m < i) ⊎ (i + length vs ≤ m) → getD (sets l i vs) m 0 ≡ getD l m 0
+pub sets-out : (vs l : List ℕ) (i m : ℕ) → (m < i) ⊎ (i + length vs ≤ m) → getD (sets l i vs) m 0 ≡ getD l m 0
 sets-out [] l i m h = refl
 sets-out (a ∷ vs) l i m h =
     sets-out vs (set l i a) (suc i) m (⊎-elim (λ b. inl (omega arith)) (λ b. inr (omega arith)) h) ∙
     getD-set-other l i m a 0 (⊎-elim (λ b e. omega arith) (λ b e. omega arith) h)
 
-sets-in : (vs l : List ℕ) (i j : ℕ) → i + length vs ≤ length l → j < length vs → getD (sets l i vs) (i + j) 0 ≡ getD vs j 0
+pub sets-in : (vs l : List ℕ) (i j : ℕ) → i + length vs ≤ length l → j < length vs → getD (sets l i vs) (i + j) 0 ≡ getD vs j 0
 sets-in [] l i j h g = absurd (not-suc-le-zero g)
 sets-in (a ∷ vs) l i zero h g =
     let e : i + 0 ≡ i = omega arith in
@@ -57,7 +57,10 @@ zeros zero i = refl
 zeros (suc n) zero = refl
 zeros (suc n) (suc i) = zeros n i
 
--- eight stores one behind the other
+-- four stores and eight one behind the other
+pub four-stores : (l : List ℕ) (at a b c d : ℕ) → set (set (set (set l at a) (at + 1) b) (at + 2) c) (at + 3) d ≡ sets l at (a ∷ b ∷ c ∷ d ∷ [])
+four-stores l at a b c d = simp towards-suc
+
 pub eight-stores : (l : List ℕ) (at a b c d e f g h : ℕ) →
     set (set (set (set (set (set (set (set l at a) (at + 1) b) (at + 2) c) (at + 3) d) (at + 4) e) (at + 5) f) (at + 6) g) (at + 7) h ≡
     sets l at (a ∷ b ∷ c ∷ d ∷ e ∷ f ∷ g ∷ h ∷ [])

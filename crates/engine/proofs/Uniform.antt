@@ -195,8 +195,8 @@ operand-rows (since low high φ ψ) t k h =
 operand-rows (until low high φ ψ) t k h =
     by-side (HasOperand (until low high φ ψ) t k) on-left (λ e. h .1) (λ e. h .2)
 
--- the row says how many words the formula has
-all-words : (φ : Formula) → words φ ≡ left-words φ + right-words φ + own-words (kind-of φ) (high-of φ)
+-- its operands' words and its own block's are all that a formula has
+pub all-words : (φ : Formula) → words φ ≡ left-words φ + right-words φ + own-words (kind-of φ) (high-of φ)
 unfolding words
 all-words (letter c) = refl
 all-words (not φ) = omega arith
@@ -206,6 +206,7 @@ all-words (next low high φ) = omega arith
 all-words (since low high φ ψ) = refl
 all-words (until low high φ ψ) = refl
 
+-- the row says how many words the formula has
 pub row-words : (φ : Formula) (t : List ℕ) (k : ℕ) → RowOk t k → Row φ t k → words φ ≡ column 7 t k
 row-words φ t k ok r =
     all-words φ ∙

@@ -1,7 +1,8 @@
--- What the engine promises. Read State (a whole subformula), Table, Layout and Answer. Ask is what its two functions promise each
+-- What the engine promises. Read State (a whole subformula), Table, Layout, Tops and Answer. Ask is what its two functions promise each
 -- other.
 pub mod State
 pub mod Table
 pub mod Layout
+pub mod Tops
 pub mod Answer
 pub mod Ask

@@ -1,12 +1,15 @@
 -- The state of a whole subformula: its part of the checkpoint is its operands' words, left then right, and its own block.
-use Prim.Native.Nat.{ℕ, _+_, _*_}
+use Prim.Native.Nat.{ℕ, zero, suc, _+_, _*_}
+use mathlib.Core.Bool.{Bool, true, false}
 use mathlib.Core.List.{List}
 use lib.ListN.{take, drop}
 use Rattle.mtl.specs.Formula.{Formula}
 use Rattle.mtl.specs.Formula.Formula.{letter, not, or, previous, next, since, until}
 use Rattle.mtl.specs.Log.{Log}
 use Rattle.rule.specs.Words.{ring-words}
-use Rattle.blocks.specs.Block.{taken, left-count, right-count, KeptBlock, Ready}
+use Rattle.rule.specs.Postfix.{formula}
+use Rattle.blocks.specs.Block.{taken, left-count, right-count, KeptBlock, KeptCopy, Ready}
+use Rattle.blocks.specs.Step.{has-left, has-right, left-of, right-of}
 
 -- "16 for each entry, and for since with a finite high (high + 1), for since without upper end 1, for until 2 × (high + 1)"
 unfoldable pub words : Formula → ℕ
@@ -36,6 +39,19 @@ right-words (previous low high φ) = words φ
 right-words (next low high φ) = words φ
 right-words (since low high φ ψ) = words ψ
 right-words (until low high φ ψ) = words ψ
+
+-- where the operator's own block stands: behind its operands' words
+abbrev pub own-at : Formula → ℕ
+own-at φ = left-words φ + right-words φ
+
+-- the words before those of formula k of a rule: its formulas stand one after the other
+unfoldable pub words-before : List Formula → ℕ → ℕ
+words-before fs zero = 0
+words-before fs (suc k) = words-before fs k + words (formula fs k)
+
+-- the words of formula k, out of those of all
+abbrev pub formula-words : List Formula → ℕ → List ℕ → List ℕ
+formula-words fs k ws = take (words (formula fs k)) (drop (words-before fs k) ws)
 
 -- a part of a words for the left operand and one of c words for the right, then the operator's own block; each operand
 -- itself stands where its buffer ends
@@ -76,3 +92,15 @@ Kept (previous low high φ) = KeptParts KeptNone (Kept φ) 0 (words φ)
 Kept (next low high φ) = KeptParts KeptNone (Kept φ) 0 (words φ)
 Kept (since low high φ ψ) = KeptParts (Kept φ) (Kept ψ) (words φ) (words ψ)
 Kept (until low high φ ψ) = KeptParts (Kept φ) (Kept ψ) (words φ) (words ψ)
+
+-- an operand's blocks, where there is one
+abbrev pub KeptOperand : Bool → Formula → List ℕ → List ℕ → Type 0
+KeptOperand true φ = Kept φ
+KeptOperand false φ = KeptNone
+
+-- every block of the formula has words 14 and 15 as before, and every one but its own has words 12 and 13 as before too: those two
+-- words of its own hold what it has answered and was not given yet
+pub record KeptCopies (φ : Formula) (ws ws′ : List ℕ) : Type 0 where
+  pub own : KeptCopy (drop (own-at φ) ws) (drop (own-at φ) ws′)
+  pub left : KeptOperand (has-left φ) (left-of φ) (take (left-words φ) ws) (take (left-words φ) ws′)
+  pub right : KeptOperand (has-right φ) (right-of φ) (take (right-words φ) (drop (left-words φ) ws)) (take (right-words φ) (drop (left-words φ) ws′))

@@ -2,13 +2,18 @@
 ghost use mathlib.Core.Path.{_≡_};
 ghost use mathlib.Core.Bool.{true, cond};
 ghost use Prim.Native.Nat.{ℕ, _+_, _*_, _-_, _≤_, _<_};
-ghost use lib.ListN.{getD};
+ghost use lib.ListN.{length, getD};
 ghost use lib.Seq.{sets};
 ghost use Rattle.rule.specs.Accepted.{WellFormed};
 ghost use Rattle.blocks.specs.Kinds.{takes-left};
 ghost use Rattle.engine.specs.Table.{column};
+ghost use mathlib.Core.List.{List};
+ghost use Rattle.mtl.specs.Formula.{Formula};
 ghost use Rattle.engine.specs.Layout.{first, first-from, left-from, row-of, Laid};
+ghost use Rattle.engine.specs.Tops.{Tops, Ended};
 use super::table;
+use super::tops;
+use blocks::word;
 use rule::Entry;
 
 // or, since, until.
@@ -91,22 +96,47 @@ fn put(table: &mut [u64; 1024], at: usize, e: Entry, left: usize, a: u64, c: u64
     table[at + table::WORDS] = a + c + rule::own_words(e);
 }
 
-// The rows of an accepted rule's entries, each from those of its operands, which stand before it; 0 behind them.
-pub fn lay_out(entries: [Entry; 128], count: usize) -> [u64; 1024]
-    requires { ⌜ (count ≤ 128) × WellFormed entries count ⌝ }
-    ensures { λ r. ⌜ Laid entries count r ⌝ }
+// Writes the rows of an accepted rule's entries into a table of zeros, each from those of its operands, which stand before it.
+pub fn lay_out(entries: [Entry; 128], count: usize, table: &mut [u64; 1024])
+    requires { ⌜ (count ≤ 128) × WellFormed entries count × (length (now table) ≡ 1024) × ((i : ℕ) → getD (now table) i 0 ≡ 0) ⌝ }
+    ensures { λ _. ⌜ Laid entries count (now (table .exit)) ⌝ }
 {
     let firsts = first_entries(entries, count);
-    let mut table = [0u64; 1024];
     let mut k: usize = 0;
     while k < count {
         let e = entries[k];
         let takes = takes_left(e.kind);
         let left = left_entry(takes, k, &firsts);
-        let left_words = words_of(takes, left, &table);
-        let right_words = words_of(e.kind != 0, one_less(k), &table);
-        put(&mut table, k * 8, e, left, left_words, right_words);
+        let left_words = words_of(takes, left, table);
+        let right_words = words_of(e.kind != 0, one_less(k), table);
+        put(table, k * 8, e, left, left_words, right_words);
         k += 1;
     }
-    table
+}
+
+// The rows of the rule's formulas, whose words begin at `base` and stand one after the other; `ends` has for each the number of entries up
+// to and with its last.
+pub fn lay_tops(
+    entries: [Entry; 128],
+    count: usize,
+    ends: &[usize; 9],
+    number: usize,
+    table: &[u64; 1024],
+    base: usize,
+) -> [usize; 32]
+    requires { ⌜ (count ≤ 128) × WellFormed entries count × Laid entries count (now table) × (base ≤ 24) × ((fs : List Formula) × Ended entries count (now ends) number fs) ⌝ }
+    ensures { λ r. ⌜ ((fs : List Formula) → Ended entries count (now (ends .entry)) number fs → Tops (now (table .entry)) r base number fs) ⌝ }
+{
+    let mut rows = [0usize; 32];
+    let mut from = base;
+    let mut k: usize = 0;
+    while k < number {
+        let last = one_less(ends[k]);
+        let to = from + table::field(table, last, table::WORDS) as usize;
+        let own = to - rule::own_words(entries[last]) as usize;
+        tops::put(&mut rows, k * 4, last, from, to, own + word::HELD_COUNT);
+        from = to;
+        k += 1;
+    }
+    rows
 }

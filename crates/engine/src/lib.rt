@@ -9,6 +9,7 @@ ghost use Rattle.engine.specs.Table.{RowsOk, column};
 
 pub mod layout;
 mod table;
+pub mod tops;
 
 use blocks::Step;
 use blocks::word;

@@ -2,36 +2,39 @@
 use Prim.Native.Nat.{ℕ, _<_}
 use mathlib.Core.Bool.{Bool, true, false, cond, true≢false}
 use mathlib.Core.Path.{_≡_, refl, sym, _∙_, ap, subst}
-use mathlib.Core.List.{List}
+use mathlib.Core.List.{List, _++_}
 use native.Mathlib.Omega.{arith}
 use borrow.Author.Tests.{eqb-false, ne-eqb}
 use mir.Val.{boolByte}
-use Rattle.mtl.specs.Satisfaction.{any}
 use lib.Dec.{eqb}
-use lib.ListN.{length}
+use lib.ListN.{length, drop}
+use Rattle.rule.specs.Entries.{version}
+use Rattle.rule.specs.Postfix.{most}
+use Rattle.rule.specs.Refusal.{refusal}
 use Rattle.rule.specs.declared.Measured.{Measured}
 use Rattle.rule.specs.declared.Measured.the-variants.{Words}
 use Rattle.rule.specs.declared.Measured.the-variants.{Refused as Unmeasured}
 use Rattle.rule.specs.Measure.{measured}
 use Rattle.rule.specs.Measure.{Answer as Measure, answer as measure-of}
 use Rattle.rule.proofs.Outcome.{stops-with}
+use Rattle.checkpoint.specs.Checkpoint.{stored-noes}
 use Rattle.checkpoint.specs.Refusal.{summary-refusal}
 use Rattle.monitor.specs.declared.Opened.{Opened}
-use Rattle.monitor.specs.declared.Resumed.{Resumed}
-use Rattle.monitor.specs.declared.Resumed.the-variants.{Given, Refused}
-use Rattle.monitor.specs.declared.Tallied.{Tallied}
-use Rattle.monitor.specs.declared.Tallied.the-variants.{Counts}
-use Rattle.monitor.specs.declared.Tallied.the-variants.{Refused as Untallied}
+use Rattle.verdicts.specs.declared.Tallied.{Tallied}
+use Rattle.verdicts.specs.declared.Tallied.the-variants.{Counted}
+use Rattle.verdicts.specs.declared.Tallied.the-variants.{Refused as Untallied}
+use Rattle.verdicts.specs.Counts.{Noes, counts}
+use Rattle.verdicts.specs.Tally.{tallied-number, Tallies}
+use Rattle.emit.specs.Verdicts.{formulas-of, columns}
 use Rattle.monitor.specs.Open.{Opens, opened-number}
-use Rattle.monitor.specs.Resume.{Resumes, resumed-number, resumed-count, resumed-more}
-use Rattle.monitor.specs.Tally.{tallied, count-of, above-one}
-use Rattle.monitor.specs.Tally.{Answer as Tally, answer as tally-of}
-use Rattle.monitor.specs.declared.Latest.{Latest}
 use Rattle.monitor.specs.declared.Summarized.{Summarized}
-use Rattle.monitor.specs.declared.Summarized.the-variants.{Counted}
-use Rattle.monitor.specs.declared.Summarized.the-variants.{Refused as Unsummarized}
-use Rattle.monitor.specs.Summary.{Noes, stored-noes, told, refused-with, position, position-or, summarized}
-use Rattle.monitor.specs.Summary.{Answer as Summary, answer as summary-of}
+use Rattle.monitor.specs.declared.Summarized.the-variants.{Counted as Counted-of, Refused as Unsummarized}
+use Rattle.monitor.specs.Summary.{counts-of, latest-words, Told, summarized-number, Summarizes}
+use Rattle.monitor.specs.declared.FormulaCount.{FormulaCount}
+use Rattle.monitor.specs.declared.FormulaCount.the-variants.{Formulas}
+use Rattle.monitor.specs.declared.FormulaCount.the-variants.{Refused as Uncounted}
+use Rattle.monitor.specs.Formulas.{formula-count}
+use Rattle.monitor.specs.Formulas.{Answer as FormulasAnswer, answer as formulas-answer}
 use Rattle.monitor.specs.declared.Standing.{Standing}
 use Rattle.monitor.specs.declared.Standing.the-variants.{Known}
 use Rattle.monitor.specs.declared.Standing.the-variants.{Refused as Unknown}
@@ -49,11 +52,15 @@ use Rattle.worst.specs.declared.Made.the-variants.{Refused as Unmade}
 use Rattle.worst.specs.Call.{answered, Writes}
 use Rattle.worst.specs.Call.{Answer as Making, answer as made-of}
 use Rattle.worst.proofs.Outcome.{not-zero}
-use Rattle.havdrims.specs.Interface.{or-kept, flag, no-position, MeasureCall, OpenCall, ResumeCall, TallyCall, SummaryCall, StatusCall, ParseCall, WorstLogCall}
+use Rattle.havdrims.specs.Interface.{or-kept, flag, MeasureCall, OpenCall, TallyCall, SummaryCall, FormulasCall, StatusCall, ParseCall, WorstLogCall}
 
 -- a number that is not 0 keeps what stood behind the pointer
-pub kept : (n old new : ℕ) → (n ≡ 0 → ⊥) → old ≡ or-kept n old new
+pub kept : {A : Type 0} → (n : ℕ) (old new : A) → (n ≡ 0 → ⊥) → old ≡ or-kept n old new
 kept n old new h = rw (ne-eqb n 0 h)
+
+-- and 0 takes the new value
+taken : {A : Type 0} → (n : ℕ) (old new : A) → n ≡ 0 → or-kept n old new ≡ new
+taken n old new h = rw h
 
 byte-is : (b : Bool) → boolByte b ≡ flag b
 byte-is true = refl
@@ -83,90 +90,81 @@ module _ (s : List ℕ) (words reach : ℕ) (o : Measured) (e : measure-of o ≡
 pub opening : (s p : List ℕ) (o : Opened) (p′ : List ℕ) → Opens s p o p′ → (n : ℕ) → n ≡ opened-number o → OpenCall s p n p′
 opening s p o p′ h n is = record { outcome = o; opens = h; number = is }
 
-module _ (closing : Bool) (s log p sheet : List ℕ) (given more : ℕ) (o : Resumed) (p′ sheet′ : List ℕ) (h : Resumes closing s log p sheet o p′ sheet′) where
-  pub not-resumed : (n : ℕ) → o ≡ Refused n → (r : ℕ) → r ≡ resumed-number o → ResumeCall closing s log p sheet given more r p′ sheet′ given more
-  not-resumed n is r number =
-      let q : Resumes closing s log p sheet (Refused n) p′ sheet′ = subst (λ (r : Resumed). Resumes closing s log p sheet r p′ sheet′) is h in
-      let some : 0 < n = q .words .0 in
-      let same : r ≡ n = number ∙ ap resumed-number is in
+-- the counts stand in the first words where the number is 0, and all words are kept where it is not
+pub tallying : (formulas : ℕ) (s nos yeses : List ℕ) (o : Tallied) (nos′ yeses′ : List ℕ) → Tallies formulas s nos yeses o nos′ yeses′ → (r : ℕ) →
+    r ≡ tallied-number o →
+    TallyCall formulas s nos yeses r nos′ yeses′
+tallying formulas s nos yeses Counted nos′ yeses′ h r is =
+    record {
+      number = is ∙ h .number;
+      no-counts = h .words .0 ∙ sym (taken r nos (counts false formulas s ++ drop formulas nos) is);
+      yes-counts = h .words .1 ∙ sym (taken r yeses (counts true formulas s ++ drop formulas yeses) is);
+    }
+tallying formulas s nos yeses (Untallied n) nos′ yeses′ h r is =
+    let some : 0 < n = h .words .0 in
+    let z : r ≡ 0 → ⊥ = λ e. omega arith in
+    record {
+      number = is ∙ h .number;
+      no-counts = h .words .1 ∙ kept r nos (counts false formulas s ++ drop formulas nos) z;
+      yes-counts = h .words .2 ∙ kept r yeses (counts true formulas s ++ drop formulas yeses) z;
+    }
+
+module _ (s p nos latest : List ℕ) where
+  abbrev formulas : ℕ
+  formulas = columns (formulas-of s)
+
+  abbrev noes : ℕ → Noes
+  noes = stored-noes (most (version s)) p
+
+  abbrev no-words : List ℕ
+  no-words = counts-of noes formulas ++ drop formulas nos
+
+  abbrev late-words : List ℕ
+  late-words = latest-words noes formulas ++ drop formulas latest
+
+  -- so many formulas are those of the rule
+  told-words : (n : ℕ) → n ≡ formulas → (nos′ latest′ : List ℕ) → Told n noes nos latest nos′ latest′ → (nos′ ≡ no-words) × (latest′ ≡ late-words)
+  told-words n is nos′ latest′ h = subst (λ (k : ℕ). Told k noes nos latest nos′ latest′) is h
+
+  pub summarizing : (o : Summarized) (nos′ latest′ : List ℕ) → Summarizes s p nos latest o nos′ latest′ → (r : ℕ) → r ≡ summarized-number o →
+      SummaryCall s p nos latest r nos′ latest′
+  summarizing (Counted-of n) nos′ latest′ h r is =
+      let w = told-words n (h .words .0) nos′ latest′ (h .words .1) in
+      record {
+        number = is ∙ h .number;
+        no-counts = w .0 ∙ sym (taken r nos no-words is);
+        latest = w .1 ∙ sym (taken r latest late-words is);
+      }
+  summarizing (Unsummarized n) nos′ latest′ h r is =
+      let some : 0 < n = h .words .0 in
       let z : r ≡ 0 → ⊥ = λ e. omega arith in
       record {
-        outcome = o;
-        resumes = h;
-        number = number;
-        given = kept r given (resumed-count o) z;
-        more = kept r more (flag (resumed-more o)) z;
+        number = is ∙ h .number;
+        no-counts = h .words .1 ∙ kept r nos no-words z;
+        latest = h .words .2 ∙ kept r latest late-words z;
       }
 
-  pub is-resumed : (c : ℕ) (m : Bool) → o ≡ Given c m → ResumeCall closing s log p sheet given more 0 p′ sheet′ c (boolByte m)
-  is-resumed c m is =
-      record {
-        outcome = o;
-        resumes = h;
-        number = sym (ap resumed-number is);
-        given = sym (ap resumed-count is);
-        more = byte-is m ∙ sym (ap (λ (r : Resumed). flag (resumed-more r)) is);
-      }
+-- a refused rule has another number than 0: an accepted one has some formula
+not-counted-by : (b : Bool) (k n m : ℕ) → eqb k 0 ≡ b → 0 < m →
+    formulas-answer (Uncounted n) ≡ cond b (record { number = 0; formulas = m }) (record { number = k; formulas = 0 }) →
+    n ≡ 0 →
+    ⊥
+not-counted-by true k n m t some e z = omega (arith, ap (λ (a : FormulasAnswer). a .formulas) e)
+not-counted-by false k n m t some e z = omega (arith, ap (λ (a : FormulasAnswer). a .number) e, eqb-false k 0 t)
 
--- a refused tally has the number 15
-number-by : (b : Bool) (n noes yeses : ℕ) →
-    tally-of (Untallied n) ≡
-    cond b
-    (record { refused = true; number = 15; no-count = 0; yes-count = 0 })
-    (record { refused = false; number = 0; no-count = noes; yes-count = yeses }) →
-    n ≡ 15
-number-by true n noes yeses e = ap (λ (a : Tally). a .number) e
-number-by false n noes yeses e = absurd (true≢false (ap (λ (a : Tally). a .refused) e))
+module _ (s : List ℕ) (old : ℕ) (o : FormulaCount) (e : formulas-answer o ≡ formula-count s) where
+  pub not-counted : (n : ℕ) → o ≡ Uncounted n → (r : ℕ) → r ≡ formulas-answer o .number → FormulasCall s old r old
+  not-counted n is r number =
+      let q : formulas-answer (Uncounted n) ≡ formula-count s = ap formulas-answer (sym is) ∙ e in
+      let same : r ≡ n = number ∙ ap (λ (a : FormulaCount). formulas-answer a .number) is in
+      let some : 0 < columns (formulas-of s) = omega arith in
+      let z : r ≡ 0 → ⊥ = λ g. not-counted-by (eqb (refusal s) 0) (refusal s) n (columns (formulas-of s)) refl some q (sym same ∙ g) in
+      record { number = same ∙ ap (λ (a : FormulasAnswer). a .number) q; formulas = kept r old (formula-count s .formulas) z }
 
-module _ (s : List ℕ) (noes yeses : ℕ) (o : Tallied) (e : tally-of o ≡ tallied s) where
-  pub not-tallied : (n : ℕ) → o ≡ Untallied n → (r : ℕ) → r ≡ tally-of o .number → TallyCall s noes yeses r noes yeses
-  not-tallied n is r number =
-      let q : tally-of (Untallied n) ≡ tallied s = ap tally-of (sym is) ∙ e in
-      let f = number-by (any (length s) (above-one s)) n (count-of 0 s (length s)) (count-of 1 s (length s)) q in
-      let same : r ≡ n = number ∙ ap (λ (a : Tallied). tally-of a .number) is in
-      let z : r ≡ 0 → ⊥ = λ g. omega arith in
-      record {
-        number = same ∙ ap (λ (a : Tally). a .number) q;
-        no-count = kept r noes (tallied s .no-count) z;
-        yes-count = kept r yeses (tallied s .yes-count) z;
-      }
-
-  pub is-tallied : (x y : ℕ) → o ≡ Counts x y → TallyCall s noes yeses 0 x y
-  is-tallied x y is =
-      let q : tally-of (Counts x y) ≡ tallied s = ap tally-of (sym is) ∙ e in
-      record {
-        number = ap (λ (a : Tally). a .number) q;
-        no-count = ap (λ (a : Tally). a .no-count) q;
-        yes-count = ap (λ (a : Tally). a .yes-count) q;
-      }
-
--- a refused summary has another number than 0
-not-zero-by : (b : Bool) (k n : ℕ) (noes : Noes) → eqb k 0 ≡ b → refused-with n ≡ cond b (told noes) (refused-with k) → n ≡ 0 → ⊥
-not-zero-by true k n noes t e z = true≢false (ap (λ (a : Summary). a .refused) e)
-not-zero-by false k n noes t e z = omega (arith, ap (λ (a : Summary). a .number) e, eqb-false k 0 t)
-
-module _ (s p : List ℕ) (noes latest : ℕ) (o : Summarized) (e : summary-of o ≡ summarized s p) where
-  pub not-summarized : (n : ℕ) → o ≡ Unsummarized n → (r : ℕ) → r ≡ summary-of o .number → SummaryCall s p noes latest r noes latest
-  not-summarized n is r number =
-      let q : summary-of (Unsummarized n) ≡ summarized s p = ap summary-of (sym is) ∙ e in
-      let same : r ≡ n = number ∙ ap (λ (a : Summarized). summary-of a .number) is in
-      let z : r ≡ 0 → ⊥ =
-      λ g. not-zero-by (eqb (summary-refusal s p) 0) (summary-refusal s p) n (stored-noes p) refl q (sym same ∙ g) in
-      record {
-        number = same ∙ ap (λ (a : Summary). a .number) q;
-        no-count = kept r noes (summarized s p .noes .count) z;
-        latest = kept r latest (position-or (summarized s p .noes .latest) no-position) z;
-      }
-
-  pub is-summarized : (x : ℕ) (at : Latest) → o ≡ Counted x at → (y : ℕ) → y ≡ position-or (position at) no-position →
-      SummaryCall s p noes latest 0 x y
-  is-summarized x at is y value =
-      let q : summary-of (Counted x at) ≡ summarized s p = ap summary-of (sym is) ∙ e in
-      record {
-        number = ap (λ (a : Summary). a .number) q;
-        no-count = ap (λ (a : Summary). a .noes .count) q;
-        latest = value ∙ ap (λ (a : Summary). position-or (a .noes .latest) no-position) q;
-      }
+  pub is-counted : (n : ℕ) → o ≡ Formulas n → FormulasCall s old 0 n
+  is-counted n is =
+      let q : formulas-answer (Formulas n) ≡ formula-count s = ap formulas-answer (sym is) ∙ e in
+      record { number = ap (λ (a : FormulasAnswer). a .number) q; formulas = ap (λ (a : FormulasAnswer). a .formulas) q }
 
 -- a refused status has another number than 0
 not-known-by : (b : Bool) (k n : ℕ) (facts : Facts) → eqb k 0 ≡ b → known-refused n ≡ cond b (known-told facts) (known-refused k) → n ≡ 0 → ⊥

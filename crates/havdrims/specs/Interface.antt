@@ -1,20 +1,28 @@
 -- What the exported functions promise, in terms of the calls' own definitions: the number returned, and each lent byte, word and
 -- number afterwards. Where the number is not 0, the numbers behind the pointers are kept.
-use Prim.Native.Nat.{ℕ, _-_, _^_}
-use mathlib.Core.Bool.{Bool, cond}
+use Prim.Native.Nat.{ℕ}
+use mathlib.Core.Bool.{Bool, true, false, cond}
 use mathlib.Core.Path.{_≡_}
-use mathlib.Core.List.{List}
+use mathlib.Core.List.{List, _++_}
 use lib.Dec.{eqb}
-use lib.ListN.{length}
+use lib.ListN.{length, drop}
 use Rattle.bits.specs.Packed.{number}
+use Rattle.rule.specs.Entries.{version}
+use Rattle.rule.specs.Postfix.{most}
 use Rattle.rule.specs.Measure.{measured}
+use Rattle.verdicts.specs.Counts.{counts}
+use Rattle.verdicts.specs.Tally.{tally-refusal}
+use Rattle.checkpoint.specs.Checkpoint.{stored-noes}
+use Rattle.checkpoint.specs.Refusal.{summary-refusal}
+use Rattle.emit.specs.Verdicts.{formulas-of, columns}
 use Rattle.monitor.specs.Open.{Opens, opened-number}
-use Rattle.monitor.specs.Resume.{Resumes, resumed-number, resumed-count, resumed-more}
-use Rattle.monitor.specs.Tally.{tallied}
-use Rattle.monitor.specs.Summary.{position-or, summarized}
+use Rattle.monitor.specs.Resume.{Resumes, resumed-number}
+use Rattle.monitor.specs.Summary.{counts-of, latest-words}
+use Rattle.monitor.specs.Formulas.{formula-count}
 use Rattle.monitor.specs.Status.{known}
 use Rattle.monitor.specs.declared.Opened.{Opened}
 use Rattle.monitor.specs.declared.Resumed.{Resumed}
+use Rattle.monitor.specs.declared.Resumed.the-variants.{Given, Refused}
 use Rattle.text.specs.declared.Parsed.{Parsed}
 use Rattle.text.specs.Parse.{answer, Parses}
 use Rattle.worst.specs.Call.{answered, buffer-after}
@@ -22,12 +30,25 @@ use Rattle.simulation.specs.Simulate.{simulated, log-after}
 use Rattle.simulation.specs.declared.Settings.{Settings}
 
 -- the new value where the call was accepted, else the old one
-abbrev pub or-kept : (number old new : ℕ) → ℕ
+abbrev pub or-kept : {A : Type 0} → (number : ℕ) (old new : A) → A
 or-kept number old new = cond (eqb number 0) new old
+
+-- the values for the first n formulas, and the others of the lent words as they were; where the call was refused, all of them
+abbrev pub first-or-kept : (number n : ℕ) (old first : List ℕ) → List ℕ
+first-or-kept number n old first = or-kept number old (first ++ drop n old)
 
 -- 1 for more, 0 for caught up; 1 for closed, 0 for open
 abbrev pub flag : Bool → ℕ
 flag more = number more
+
+-- the verdicts that a call gave and whether there are more, or, where it was refused, the old numbers
+abbrev pub count-or-kept : Resumed → ℕ → ℕ
+count-or-kept (Given c more) old = c
+count-or-kept (Refused n) old = old
+
+abbrev pub more-or-kept : Resumed → ℕ → ℕ
+more-or-kept (Given c more) old = flag more
+more-or-kept (Refused n) old = old
 
 pub record MeasureCall (rule : List ℕ) (w far r w′ far′ : ℕ) : Type 0 where
   pub number : r ≡ measured rule .number
@@ -39,27 +60,35 @@ pub record OpenCall (rule p : List ℕ) (r : ℕ) (p′ : List ℕ) : Type 0 whe
   pub opens : Opens rule p outcome p′
   pub number : r ≡ opened-number outcome
 
+-- what a resume or a closing makes of the numbers behind the last pointers
+pub record HandsOver (outcome : Resumed) (c m r c′ m′ : ℕ) : Type 0 where
+  pub number : r ≡ resumed-number outcome
+  pub given : c′ ≡ count-or-kept outcome c
+  pub more : m′ ≡ more-or-kept outcome m
+
 -- a resume, or a closing
 pub record ResumeCall (closing : Bool) (rule log p sheet : List ℕ) (c m r : ℕ) (p′ sheet′ : List ℕ) (c′ m′ : ℕ) : Type 0 where
   pub outcome : Resumed
   pub resumes : Resumes closing rule log p sheet outcome p′ sheet′
-  pub number : r ≡ resumed-number outcome
-  pub given : c′ ≡ or-kept r c (resumed-count outcome)
-  pub more : m′ ≡ or-kept r m (flag (resumed-more outcome))
+  pub numbers : HandsOver outcome c m r c′ m′
 
-pub record TallyCall (sheet : List ℕ) (noes yeses r noes′ yeses′ : ℕ) : Type 0 where
-  pub number : r ≡ tallied sheet .number
-  pub no-count : noes′ ≡ or-kept r noes (tallied sheet .no-count)
-  pub yes-count : yeses′ ≡ or-kept r yeses (tallied sheet .yes-count)
+-- for formula k the count of no stands in word k of the one buffer, and that of yes in word k of the other
+pub record TallyCall (formulas : ℕ) (sheet nos yeses : List ℕ) (r : ℕ) (nos′ yeses′ : List ℕ) : Type 0 where
+  pub number : r ≡ tally-refusal formulas sheet
+  pub no-counts : nos′ ≡ first-or-kept r formulas nos (counts false formulas sheet)
+  pub yes-counts : yeses′ ≡ first-or-kept r formulas yeses (counts true formulas sheet)
 
--- where there is no position, the greatest number of 64 bits
-abbrev pub no-position : ℕ
-no-position = 2 ^ 64 - 1
+-- for formula k the count of no stands in word k of the one buffer, and the position of the latest no in word k of the other
+pub record SummaryCall (rule p nos places : List ℕ) (r : ℕ) (nos′ places′ : List ℕ) : Type 0 where
+  pub number : r ≡ summary-refusal rule p
+  pub no-counts : nos′ ≡ first-or-kept r (columns (formulas-of rule)) nos (counts-of (stored-noes (most (version rule)) p) (columns (formulas-of rule)))
+  pub latest : places′ ≡
+      first-or-kept r (columns (formulas-of rule)) places (latest-words (stored-noes (most (version rule)) p) (columns (formulas-of rule)))
 
-pub record SummaryCall (rule p : List ℕ) (noes at r noes′ at′ : ℕ) : Type 0 where
-  pub number : r ≡ summarized rule p .number
-  pub no-count : noes′ ≡ or-kept r noes (summarized rule p .noes .count)
-  pub latest : at′ ≡ or-kept r at (position-or (summarized rule p .noes .latest) no-position)
+-- how many answers a verdict of the rule has
+pub record FormulasCall (rule : List ℕ) (n r n′ : ℕ) : Type 0 where
+  pub number : r ≡ formula-count rule .number
+  pub formulas : n′ ≡ or-kept r n (formula-count rule .formulas)
 
 pub record StatusCall (rule p : List ℕ) (d n w ended r d′ n′ w′ ended′ : ℕ) : Type 0 where
   pub number : r ≡ known rule p .number

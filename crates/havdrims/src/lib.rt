@@ -1,12 +1,11 @@
 // The C interface: the library's calls under plain names. Each answers 0, or the refusal's number, and then every number
 // behind a pointer is as it was. include/havdrims.h says what a C programmer needs to know.
 ghost use mathlib.Core.Bool.{true, false};
-ghost use Rattle.havdrims.specs.Interface.{MeasureCall, OpenCall, ResumeCall, TallyCall, SummaryCall, StatusCall, ParseCall, WorstLogCall, settings, SimulateCall};
+ghost use Rattle.havdrims.specs.Interface.{MeasureCall, OpenCall, HandsOver, ResumeCall, TallyCall, SummaryCall, FormulasCall, StatusCall, ParseCall, WorstLogCall, settings, SimulateCall};
+use monitor::FormulaCount;
 use monitor::Opened;
 use monitor::Resumed;
 use monitor::Standing;
-use monitor::Summarized;
-use monitor::Tallied;
 use rule::Measured;
 use simulation::Settings;
 use simulation::Simulated;
@@ -43,6 +42,18 @@ pub extern "C" fn havdrims_open(rule: &[u8], point: &mut [u64]) -> u32
     0
 }
 
+// Hands over how many verdicts a call gave, and 1 or 0 for whether more are settled; or its refusal's number alone.
+fn hand_over(resumed: Resumed, given: &mut u64, more: &mut u64) -> u32
+    ensures { λ r. ⌜ HandsOver resumed (now (given .entry)) (now (more .entry)) r (now (given .exit)) (now (more .exit)) ⌝ }
+{
+    let Resumed::Given { count, more: left } = resumed else {
+        return resumed.number();
+    };
+    *given = count as u64;
+    *more = left as u64;
+    0
+}
+
 // Document 01's carry on. `more` becomes 1 or 0.
 #[no_mangle]
 pub extern "C" fn havdrims_resume(
@@ -56,12 +67,7 @@ pub extern "C" fn havdrims_resume(
     ensures { λ r. ⌜ ResumeCall false (now (rule .entry)) (now (log .entry)) (now (point .entry)) (now (sheet .entry)) (now (given .entry)) (now (more .entry)) r (now (point .exit)) (now (sheet .exit)) (now (given .exit)) (now (more .exit)) ⌝ }
 {
     let resumed = monitor::resume(rule, log, point, sheet);
-    let Resumed::Given { count, more: left } = resumed else {
-        return resumed.number();
-    };
-    *given = count as u64;
-    *more = left as u64;
-    0
+    hand_over(resumed, given, more)
 }
 
 // Says that no record will follow, and writes the verdicts on the log as it ends. `more` becomes 1 or 0.
@@ -77,52 +83,48 @@ pub extern "C" fn havdrims_close(
     ensures { λ r. ⌜ ResumeCall true (now (rule .entry)) (now (log .entry)) (now (point .entry)) (now (sheet .entry)) (now (given .entry)) (now (more .entry)) r (now (point .exit)) (now (sheet .exit)) (now (given .exit)) (now (more .exit)) ⌝ }
 {
     let closed = monitor::close(rule, log, point, sheet);
-    let Resumed::Given {
-        count: written,
-        more: left,
-    } = closed
-    else {
-        return closed.number();
-    };
-    *given = written as u64;
-    *more = left as u64;
-    0
+    hand_over(closed, given, more)
 }
 
-// Counts the verdicts of a sheet.
+// Counts the verdicts of a sheet: one count of no and one of yes for each formula.
 #[no_mangle]
-pub extern "C" fn havdrims_tally(sheet: &[u8], no: &mut u64, yes: &mut u64) -> u32
-    ensures { λ r. ⌜ TallyCall (now (sheet .entry)) (now («no» .entry)) (now («yes» .entry)) r (now («no» .exit)) (now («yes» .exit)) ⌝ }
+pub extern "C" fn havdrims_tally(
+    sheet: &[u8],
+    formulas: u64,
+    no: &mut [u64; 8],
+    yes: &mut [u64; 8],
+) -> u32
+    ensures { λ r. ⌜ TallyCall formulas (now (sheet .entry)) (now («no» .entry)) (now («yes» .entry)) r (now («no» .exit)) (now («yes» .exit)) ⌝ }
 {
-    let tallied = monitor::tally(sheet);
-    let Tallied::Counts { no: n, yes: y } = tallied else {
-        return tallied.number();
-    };
-    *no = n as u64;
-    *yes = y as u64;
-    0
+    let tallied = verdicts::tally(sheet, formulas, no, yes);
+    tallied.number()
 }
 
-// The count of no among the verdicts given from a checkpoint (point), and the position of the latest: `u64::MAX` for none.
+// For each formula the count of no among the verdicts given from a checkpoint (point), and the position of the latest: `u64::MAX` for
+// none.
 #[no_mangle]
 pub extern "C" fn havdrims_summary(
     rule: &[u8],
     point: &[u64],
-    no: &mut u64,
-    latest: &mut u64,
+    no: &mut [u64; 8],
+    latest: &mut [u64; 8],
 ) -> u32
     ensures { λ r. ⌜ SummaryCall (now (rule .entry)) (now (point .entry)) (now («no» .entry)) (now (latest .entry)) r (now («no» .exit)) (now (latest .exit)) ⌝ }
 {
-    let summarized = monitor::summary(rule, point);
-    let Summarized::Counted {
-        no: count,
-        latest: position,
-    } = summarized
-    else {
-        return summarized.number();
+    let summarized = monitor::summary(rule, point, no, latest);
+    summarized.number()
+}
+
+// How many formulas a rule has: 1 for an empty rule too, which gives one answer at each position.
+#[no_mangle]
+pub extern "C" fn havdrims_formulas(rule: &[u8], formulas: &mut u64) -> u32
+    ensures { λ r. ⌜ FormulasCall (now (rule .entry)) (now (formulas .entry)) r (now (formulas .exit)) ⌝ }
+{
+    let counted = monitor::formulas(rule);
+    let FormulaCount::Formulas(number) = counted else {
+        return counted.number();
     };
-    *no = count;
-    *latest = position.or(u64::MAX);
+    *formulas = number;
     0
 }
 

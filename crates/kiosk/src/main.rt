@@ -21,7 +21,7 @@ fn main() {
     let mut log = [0u8; 65537];
     let rule_len = read_file(b"rule.krl", &mut rule);
     let log_len = read_file(b"day.klg", &mut log);
-    let mut text = [0u8; 73741];
+    let mut text = [0u8; 303089];
     let len = report::report(&rule[..rule_len], &log[..log_len], &mut text);
     io::write_all(STDOUT_FILENO, &text[..len]);
 }

@@ -1,9 +1,9 @@
 -- From an accepted call on the words that the rule needs to what `resume` promises of the whole checkpoint.
-use Prim.Native.Nat.{ℕ, _+_, _-_, _≤_, _<_, zero-le}
+use Prim.Native.Nat.{ℕ, suc, _+_, _-_, _≤_, _<_, zero-le}
 use mathlib.Core.Bool.{Bool, true, false, cond}
 use mathlib.Core.Path.{_≡_, refl, sym, ap, ap₂, _∙_}
 use mathlib.Core.List.{List, _++_}
-use mathlib.Core.Logic.{⊎-elim}
+use mathlib.Core.Logic.{_⊎_, inl, inr, ⊎-elim}
 use native.Mathlib.Omega.{arith}
 use native.Mathlib.Nat.{sub-zero}
 use borrow.Author.Tests.{le-ltb, lt-ltb, ne-eqb, eqb-false}
@@ -12,51 +12,68 @@ use lib.ListN.{length, take, drop, length-append, length-drop, List·getD-append
 use lib.Seq.{length-take-le, take-at, drop-at, getD-take}
 use Rattle.mtl.specs.Formula.{Formula}
 use Rattle.mtl.specs.Log.{Log, NeverFalls, Continues}
+use Rattle.mtl.specs.Progress.{joint-progress}
 use Rattle.mtl.specs.Wanted.{wanted}
 use Rattle.mtl.proofs.Bounded.{le-or-lt}
-use Rattle.mtl.proofs.Joint.{joint-le-size}
+use Rattle.verdicts.specs.Counts.{Noes, noes-in, laid-behind}
 use Rattle.rule.specs.declared.Entry.{Entry}
-use Rattle.rule.specs.Entries.{count, decoded}
+use Rattle.rule.specs.declared.measuring.Ends.{Ends}
+use Rattle.rule.specs.Entries.{version, count, decoded}
+use Rattle.rule.specs.Postfix.{most, formula, start}
 use Rattle.rule.specs.Refusal.{refusal}
+use Rattle.rule.specs.Words.{header-words, offset}
+use Rattle.rule.specs.Code.{EndsOf}
 use Rattle.rule.proofs.Headers.{Decoded}
 use Rattle.rule.proofs.Acceptance.{accepted}
+use Rattle.rule.proofs.Spans.{header-least, header-most}
 use Rattle.trace.specs.Format.{record-count, records-of}
 use Rattle.trace.specs.Order.{last-time}
 use Rattle.blocks.specs.Block.{word}
 use Rattle.blocks.specs.Step.{Agrees}
 use Rattle.engine.specs.Ask.{part}
+use Rattle.engine.specs.State.{KeptCopies, formula-words}
+use Rattle.engine.proofs.Formulas.{last-next, rule-copies, rule-others}
+use Rattle.engine.proofs.Longer.{buffer-longer, state-longer}
 use Rattle.engine.proofs.Parts.{put-back}
-use Rattle.checkpoint.specs.Checkpoint.{given, seen, last, held-count, held-bits, need, foreign}
+use Rattle.checkpoint.specs.Checkpoint.{given, seen, last, stored-noes, need, block-at, foreign}
 use Rattle.checkpoint.specs.Refusal.{point-refusal}
 use Rattle.checkpoint.specs.Code.{sized-of}
 use Rattle.checkpoint.specs.declared.check.Sized.the-variants.{Words}
 use Rattle.checkpoint.proofs.Checks.{Met, passes}
 use Rattle.checkpoint.proofs.Copies.{foreign-same, foreign-within}
+use Rattle.checkpoint.proofs.Offsets.{in-block, block-fits, noes-within}
 use Rattle.checkpoint.proofs.Sizes.{enough}
-use Rattle.monitor.specs.Verdicts.{formulas-of}
-use Rattle.monitor.specs.Stands.{Top, last-of, Stands}
+use Rattle.emit.specs.Verdicts.{formulas-of, columns, verdicts}
+use Rattle.emit.specs.Top.{held-count, held-bits, part-of, Waiting, Top}
+use Rattle.emit.specs.Code.{Giving, Emits, Emission, Ready}
+use Rattle.emit.specs.declared.Emitted.{Emitted}
+use Rattle.emit.proofs.Meaning.{joint-least}
+use Rattle.monitor.specs.Stands.{last-of, Stands}
 use Rattle.monitor.specs.Resume.{Resumes}
-use Rattle.monitor.specs.Summary.{Noes, noes-in, laid-behind, stored-noes}
-use Rattle.monitor.specs.Code.{Ready, Giving, Proceeded, Proceeds}
-use Rattle.monitor.specs.declared.Resumed.{Resumed}
 use Rattle.monitor.specs.declared.Resumed.the-variants.{Given, Refused}
-use Rattle.monitor.proofs.Meaning.{rule-whole}
-use Rattle.monitor.proofs.Held.{held-longer, states-longer}
+use Rattle.monitor.proofs.Meaning.{most-few, rule-whole, few-formulas, few-columns, rule-ended, part-is}
 use Rattle.monitor.proofs.VerdictBytes.{noes-more, verdicts-stay}
 
 -- where a refusal is met nothing is written
-pub resume-refused : (closing : Bool) (rule log p sheet : List ℕ) (n : ℕ) → Met rule p (point-refusal closing (decoded rule) (count rule) log p) n →
-    Resumes closing rule log p sheet (Refused n) p sheet
+pub resume-refused : (closing : Bool) (rule log p sheet : List ℕ) (n : ℕ) →
+    Met rule p (point-refusal closing (version rule) (decoded rule) (count rule) log p) n → Resumes closing rule log p sheet (Refused n) p sheet
 resume-refused closing rule log p sheet n met =
     record { number = met .number; point-length = refl; sheet-length = refl; words = (met .some, refl, refl) }
 
--- the header and the state survive a longer log
-top-longer : (fs : List Formula) (K L : Log) (d : ℕ) (ws : List ℕ) → Continues K L → NeverFalls L → Top fs K d ws → Top fs L d ws
-top-longer fs K L d ws longer never top =
+-- what is held and the states survive a longer log
+waiting-longer : (φ : Formula) (K L : Log) (d : ℕ) (ws : List ℕ) → Continues K L → NeverFalls L → Waiting φ K d ws → Waiting φ L d ws
+waiting-longer φ K L d ws longer never w =
+    record {
+      buffer = buffer-longer K L longer never φ d (held-count φ ws) (held-bits φ ws) (w .buffer);
+      state = state-longer φ K L longer never (d + held-count φ ws) ws (w .state);
+    }
+
+top-longer : (base : ℕ) (fs : List Formula) (K L : Log) (d : ℕ) (ws : List ℕ) → Continues K L → NeverFalls L → Top base fs K d ws → Top base fs L d ws
+top-longer base fs K L d ws longer never top =
     record {
       at = top .at;
-      held = held-longer fs K L longer never d (held-count ws) (held-bits ws) (top .held);
-      state = states-longer fs K L longer never (d + held-count ws) (drop 16 ws) (top .state);
+      within = omega (arith, top .within, longer .longer);
+      each = λ k h. waiting-longer (formula fs k) K L d (part-of base fs k ws) longer never (top .each k h);
     }
 
 cond-same : (b : Bool) (x y : ℕ) → (b ≡ false → x ≡ y) → cond b 0 x ≡ cond b 0 y
@@ -89,8 +106,18 @@ module _ {closed : Bool} (s : List ℕ) (K L : Log) (first : ℕ) (longer : Cont
 
 -- an accepted call: the words that the rule needs are ws′ then, the others are kept
 module _ (closing : Bool) (rule log p sheet : List ℕ) (ok : refusal rule ≡ 0) (room : need rule ≤ length p)
-    (none : point-refusal closing (decoded rule) (count rule) log p ≡ 0) (c : ℕ) (more : Bool) (ws′ sheet′ : List ℕ)
-    (done : Proceeded closing (decoded rule) (count rule) (records-of log) (take (need rule) p) sheet c more ws′ sheet′) where
+    (none : point-refusal closing (version rule) (decoded rule) (count rule) log p ≡ 0) (r : Emitted) (ws′ sheet′ : List ℕ)
+    (done : Emits (header-words (version rule)) (most (version rule)) (formulas-of rule) (records-of log) closing (take (need rule) p) sheet r ws′ sheet′) where
+  abbrev base : ℕ
+  base = header-words (version rule)
+
+  abbrev fs : List Formula
+  fs = formulas-of rule
+
+  -- the words then
+  abbrev after : List ℕ
+  after = ws′ ++ drop (need rule) p
+
   size : length ws′ ≡ need rule
   size = done .words-length ∙ length-take-le (need rule) p room
 
@@ -98,54 +125,125 @@ module _ (closing : Bool) (rule log p sheet : List ℕ) (ok : refusal rule ≡ 0
   was : (i : ℕ) → i < need rule → word (take (need rule) p) i ≡ word p i
   was i low = getD-take (need rule) p i 0 low
 
-  now : (i : ℕ) → i < need rule → word (ws′ ++ drop (need rule) p) i ≡ word ws′ i
+  now : (i : ℕ) → i < need rule → word after i ≡ word ws′ i
   now i low = List·getD-append ws′ (drop (need rule) p) 0 i (omega (arith, size))
 
+  -- the words of the header up to word 7, and those of formula k's counts, are among them
+  own-header : (i : ℕ) → i < 8 → i < need rule
+  own-header i h = omega (arith, header-least (version rule))
+
+  own-counts : (k : ℕ) → k < most (version rule) → (8 + k < need rule) × (8 + most (version rule) + k < need rule)
+  own-counts k h = omega (arith, noes-within (version rule))
+
+  -- each formula's words, as its entries' blocks have them
+  kept-words : (k : ℕ) → k < length fs →
+      KeptCopies (formula fs k) (formula-words fs k (drop base (take (need rule) p))) (formula-words fs k (drop base ws′))
+  kept-words k h = rw (← part-is base fs k (take (need rule) p), ← part-is base fs k ws′) (done .kept k h)
+
   -- the rule's copy is what it was
-  foreign-now : foreign (decoded rule) (count rule) (ws′ ++ drop (need rule) p) ≡ foreign (decoded rule) (count rule) p
+  copies-now : (k i : ℕ) → k < count rule → 14 ≤ i → i < 16 →
+      word ws′ (block-at base (decoded rule) k + i) ≡ word (take (need rule) p) (block-at base (decoded rule) k + i)
+  copies-now k i h late l =
+      sym (in-block base (decoded rule) ws′ k i) ∙
+      rule-copies (decoded rule) (count rule) (accepted rule ok .well-formed) fs (rule-whole rule ok) _ _ kept-words k h i late l ∙
+      in-block base (decoded rule) (take (need rule) p) k i
+
+  foreign-now : foreign (version rule) (decoded rule) (count rule) after ≡ foreign (version rule) (decoded rule) (count rule) p
   foreign-now =
+      let v = version rule in
       let t = decoded rule in
       let n = count rule in
-      foreign-within t n (ws′ ++ drop (need rule) p) ws′ now ∙
-      foreign-same t n ws′ (take (need rule) p) (done .first-word) (done .entries) (done .kept) ∙
-      foreign-within t n (take (need rule) p) p was
+      foreign-within v t n after ws′ now ∙
+      foreign-same v t n ws′ (take (need rule) p) (done .copy .0) (done .copy .1) copies-now ∙
+      foreign-within v t n (take (need rule) p) p was
 
-  length-now : length (ws′ ++ drop (need rule) p) ≡ length p
+  -- an entry that is no formula's last holds what it held
+  spare-now : (j : ℕ) → j < count rule → word p (block-at base (decoded rule) j + 12) ≡ 0 →
+      ((k : ℕ) × (k < length fs) × (suc j ≡ start fs (suc k))) ⊎ (word after (block-at base (decoded rule) j + 12) ≡ 0)
+  spare-now j h zero =
+      let t = decoded rule in
+      let n = count rule in
+      let good = accepted rule ok .well-formed in
+      let whole = rule-whole rule ok in
+      let inside = block-fits base t n j h in
+      let at = block-at base t j + 12 in
+      ⊎-elim
+      (λ is.
+      let (k, l, e) = is in
+      inl (k, l, omega (arith, last-next t n good fs whole k l)))
+      (λ kept.
+      inr (now at (omega arith) ∙ sym (in-block base t ws′ j 12) ∙ kept 12 (omega arith) (omega arith) ∙
+      in-block base t (take (need rule) p) j 12 ∙ was at (omega arith) ∙ zero))
+      (rule-others t n good fs whole _ _ kept-words j h)
+
+  length-now : length after ≡ length p
   length-now = simp (length-append, size, length-drop) (omega arith)
 
   -- the no among the bytes written are counted behind those from before
-  noes-now : stored-noes (ws′ ++ drop (need rule) p) ≡ laid-behind (stored-noes p) (given p) (noes-in sheet′ c)
-  noes-now = rw (now 8 (omega arith), now 9 (omega arith), ← was 1 (omega arith), ← was 8 (omega arith), ← was 9 (omega arith)) (done .noes)
+  noes-now : (k : ℕ) → k < columns fs →
+      stored-noes (most (version rule)) after k ≡ laid-behind (stored-noes (most (version rule)) p k) (given p) (noes-in k sheet′ (r .count))
+  noes-now k h =
+      let m = most (version rule) in
+      let inside = own-counts k (omega (arith, few-columns rule ok)) in
+      rw (
+        now (8 + k) (inside .0),
+        now (8 + m + k) (inside .1),
+        ← was 1 (own-header 1 (omega arith)),
+        ← was (8 + k) (inside .0),
+        ← was (8 + m + k) (inside .1),
+      )
+      (done .noes k h)
 
-  stands-now : (K L : Log) (d : ℕ) → Stands rule K d p → Continues K L → NeverFalls L → Agrees closing (records-of log) L (wanted (formulas-of rule) d) →
-      Giving (formulas-of rule) L d c ws′ sheet′ → Stands rule L (d + c) (ws′ ++ drop (need rule) p)
+  unused-now : (k : ℕ) → columns fs ≤ k → k < most (version rule) →
+      (word after (8 + k) ≡ word p (8 + k)) × (word after (8 + most (version rule) + k) ≡ word p (8 + most (version rule) + k))
+  unused-now k h l =
+      let m = most (version rule) in
+      let inside = own-counts k l in
+      let same = done .untouched k (omega arith) l in (
+        now (8 + k) (inside .0) ∙ same .0 ∙ was (8 + k) (inside .0),
+        now (8 + m + k) (inside .1) ∙ same .1 ∙ was (8 + m + k) (inside .1),
+      )
+
+  stands-now : (K L : Log) (d : ℕ) → Stands rule K d p → Continues K L → NeverFalls L → Agrees closing (records-of log) L (wanted fs d) →
+      Giving base fs L d (r .count) ws′ sheet′ → Stands rule L (d + r .count) after
   stands-now K L d stands longer never agrees giving =
-      let fs = formulas-of rule in
-      let within = stands .top .held .within in
       let first = wanted fs d in
-      let reached : first ≤ K .size = omega (arith, joint-le-size fs K) in
-      let at-d : given p ≡ d = sym (was 1 (omega arith)) ∙ stands .top .at in
-      let stay = ap (λ (vs : List ℕ). noes-in vs d) (verdicts-stay fs K L longer never d (omega arith)) in
+      let within = stands .top .within in
+      let reached : first ≤ K .size = omega arith in
+      let one = own-header 1 (omega arith) in
+      let two = own-header 2 (omega arith) in
+      let three = own-header 3 (omega arith) in
+      let five = own-header 5 (omega arith) in
+      let at-d : given p ≡ d = sym (was 1 one) ∙ stands .top .at in
+      let answered : d ≤ joint-progress fs K =
+      joint-least fs K d within (λ k h. let b = stands .top .each k h .buffer in omega (arith, b .within)) in
+      let stay : (k : ℕ) → noes-in k (verdicts fs K d) d ≡ noes-in k (verdicts fs L d) d =
+      λ k. ap (λ (vs : List ℕ). noes-in k vs d) (verdicts-stay fs K L longer never d answered) in
       let before : last-time (records-of log) (seen (take (need rule) p)) (last (take (need rule) p)) ≡ last-of L =
-      rw (was 2 (omega arith), was 3 (omega arith), stands .size, stands .time)
+      rw (was 2 two, was 3 three, stands .size, stands .time)
       (time-seen (records-of log) K L first longer agrees reached) in
       record {
         enough = omega (arith, length-now);
         own = foreign-now ∙ stands .own;
-        size = now 2 (omega arith) ∙ done .size ∙ agrees .size;
+        size = now 2 two ∙ done .size ∙ agrees .size;
         few = omega (arith, passes closing rule log p none .records, agrees .size);
-        time = now 3 (omega arith) ∙ done .time ∙ before;
-        fits = rw (now 3 (omega arith)) (done .fits (rw (was 3 (omega arith)) (stands .fits)));
-        closed = now 7 (omega arith) ∙ done .ended ∙ rw (agrees .ends, agrees .size);
+        time = now 3 three ∙ done .time ∙ before;
+        fits = rw (now 3 three) (done .fits (rw (was 3 three) (stands .fits)));
+        closed = now 5 five ∙ done .ended ∙ rw (agrees .ends, agrees .size);
         top = rw (take-at ws′ (drop (need rule) p) (need rule) size) (giving .top);
-        noes =
-            noes-now ∙
-            ap₂ (λ (x : Noes) (n : ℕ). laid-behind x n (noes-in sheet′ c)) (stands .noes ∙ stay) at-d ∙
-            noes-more fs L d c sheet′ (giving .bytes);
+        noes = λ k h.
+            noes-now k h ∙
+            ap₂ (λ (x : Noes) (n : ℕ). laid-behind x n (noes-in k sheet′ (r .count))) (stands .noes k h ∙ stay k) at-d ∙
+            noes-more fs L k d (r .count) sheet′ (giving .bytes);
+        unused = λ k h l. (unused-now k h l .0 ∙ stands .unused k h l .0, unused-now k h l .1 ∙ stands .unused k h l .1);
+        spare = λ j h. ⊎-elim (λ is. inl is) (λ zero. spare-now j h zero) (stands .spare j h);
       }
 
-  pub resumed : Resumes closing rule log p sheet (Given c more) (ws′ ++ drop (need rule) p) sheet′
+  pub resumed : Resumes closing rule log p sheet (Given (r .count) (r .more)) after sheet′
   resumed =
+      let one = own-header 1 (omega arith) in
+      let two = own-header 2 (omega arith) in
+      let three = own-header 3 (omega arith) in
       record {
         number = rw (ok, le-ltb (length p) (need rule) room) (sym none);
         point-length = length-now;
@@ -155,17 +253,16 @@ module _ (closing : Bool) (rule log p sheet : List ℕ) (ok : refusal rule ≡ 0
               room = done .room;
               rest = done .rest;
               beyond = drop-at ws′ (drop (need rule) p) (need rule) size;
-              count = now 1 (omega arith) ∙ done .count ∙ ap (λ (k : ℕ). k + c) (was 1 (omega arith));
-              size = now 2 (omega arith) ∙ done .size;
-              time =
-                  now 3 (omega arith) ∙
-                  done .time ∙
-                  rw (was 2 (omega arith), was 3 (omega arith));
-              closed = now 7 (omega arith) ∙ done .ended;
+              count = now 1 one ∙ done .count ∙ ap (λ (k : ℕ). k + r .count) (was 1 one);
+              size = now 2 two ∙ done .size;
+              time = now 3 three ∙ done .time ∙ rw (was 2 two, was 3 three);
+              closed = now 5 (own-header 5 (omega arith)) ∙ done .ended;
               noes = noes-now;
+              unused = unused-now;
+              own = foreign-now;
               meaning = λ K L d stands longer never agrees.
-                  let top = top-longer (formulas-of rule) K L d (take (need rule) p) longer never (stands .top) in
-                  let (giving, count, further) = done .meaning (formulas-of rule) L d (rule-whole rule ok) never agrees top in
+                  let top = top-longer base fs K L d (take (need rule) p) longer never (stands .top) in
+                  let (giving, count, further) = done .meaning L d never agrees top in
                   record {
                     count = count;
                     bytes = giving .bytes;
@@ -175,19 +272,45 @@ module _ (closing : Bool) (rule log p sheet : List ℕ) (ok : refusal rule ≡ 0
             };
       }
 
--- the decoded entries of an accepted rule are ready
-pub ready-of : (rule : List ℕ) (t : List Entry) (n : ℕ) → refusal rule ≡ 0 → Decoded rule t n → Ready t n
-ready-of rule t n ok d =
-    let a = accepted rule ok in
-    rw (d .entries-are, d .count-is)
-    (record { few = a .few-entries; well-formed = a .well-formed; the-formulas = a .the-formulas; whole = a .whole })
+-- the entries as they were decoded, where their formulas end, the records and the words as they were lent
+module _ (closing : Bool) (rule log p : List ℕ) (v : ℕ) (t : List Entry) (n : ℕ) (ends : Ends) (w : ℕ)
+    (sized : Words w ≡ sized-of rule (length p)) (is-version : v ≡ version rule) (d : Decoded rule t n) (ended : EndsOf t n ends)
+    (none : point-refusal closing (version rule) (decoded rule) (count rule) log p ≡ 0) where
+  the-words : w - 0 ≡ need rule
+  the-words = sub-zero w ∙ enough rule (length p) w sized .words-are
 
--- the entries as they were decoded, the records and the words as they were lent, and the words as they came back
-pub resume-given : (closing : Bool) (rule log p sheet : List ℕ) (t : List Entry) (n : ℕ) (records : List ℕ) (w : ℕ) (r : Resumed) (ws′ sheet′ : List ℕ) →
-    Words w ≡ sized-of rule (length p) → Decoded rule t n → point-refusal closing (decoded rule) (count rule) log p ≡ 0 → records ≡ records-of log →
-    Proceeds closing t n records (part 0 w p) sheet r ws′ sheet′ → Resumes closing rule log p sheet r (put-back 0 w ws′ p) sheet′
-resume-given closing rule log p sheet t n records w (Given c more) ws′ sheet′ sized d none handed done =
-    let e = enough rule (length p) w sized in
-    let is : w - 0 ≡ need rule = sub-zero w ∙ e .words-are in
-    rw is (resumed closing rule log p sheet (e .accepted) (e .room) none c more ws′ sheet′ (rw (is, handed, d .entries-are, d .count-is) at done))
-resume-given closing rule log p sheet t n records w (Refused m) ws′ sheet′ sized d none handed done = absurd done
+  -- the accepted rule is ready
+  pub ready-of : Ready t n (ends .at) (ends .number) (most v) (header-words v) (part 0 w p)
+  ready-of =
+      let e = enough rule (length p) w sized in
+      let a = accepted rule (e .accepted) in
+      let own-ends : EndsOf (decoded rule) (count rule) ends = rw (d .entries-are, d .count-is) at ended in
+      let where-ended = rule-ended rule (e .accepted) ends own-ends in
+      let checks = passes closing rule log p none in
+      let least = header-least (version rule) in
+      let most-words = header-most (version rule) in
+      let within = noes-within (version rule) in
+      rw (the-words, is-version, d .entries-are, d .count-is)
+      (record {
+        few = a .few-entries;
+        well-formed = a .well-formed;
+        the-formulas = formulas-of rule;
+        ended = where-ended;
+        formulas = omega (arith, where-ended .number, few-formulas rule (e .accepted));
+        small = most-few (version rule);
+        header = (least, most-words, within);
+        size = length-take-le (need rule) p (e .room);
+        given = omega (arith, checks .given, getD-take (need rule) p 1 0 (omega arith));
+        noes = λ k h. omega (arith, checks .counted k h, getD-take (need rule) p (8 + k) 0 (omega arith));
+      })
+
+  -- the words as they came back
+  pub resume-given : (sheet records : List ℕ) (r : Emitted) (ws′ sheet′ : List ℕ) → records ≡ records-of log →
+      Emission closing t n (ends .at) (ends .number) (most v) (header-words v) records (part 0 w p) sheet r ws′ sheet′ →
+      Resumes closing rule log p sheet (Given (r .count) (r .more)) (put-back 0 w ws′ p) sheet′
+  resume-given sheet records r ws′ sheet′ handed done =
+      let e = enough rule (length p) w sized in
+      let own-ends : EndsOf (decoded rule) (count rule) ends = rw (d .entries-are, d .count-is) at ended in
+      let where-ended = rule-ended rule (e .accepted) ends own-ends in
+      let is-done = rw (the-words, handed, is-version, d .entries-are, d .count-is) at done in
+      rw the-words (resumed closing rule log p sheet (e .accepted) (e .room) none r ws′ sheet′ (is-done (formulas-of rule) where-ended))

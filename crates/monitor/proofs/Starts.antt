@@ -2,83 +2,108 @@
 use Prim.Native.Nat.{ℕ, _+_, _≤_, _<_, zero-le}
 use native.Mathlib.Omega.{arith}
 use mathlib.Core.Bool.{false}
+use mathlib.Core.Logic.{inr}
 use mathlib.Core.Path.{_≡_, sym, ap, subst, _∙_}
-use mathlib.Core.List.{List, [], _∷_, _++_}
+use mathlib.Core.List.{List, _++_}
 use lib.ListN.{length, take, drop, length-drop}
-use lib.Seq.{getD-take, take-all, take-at, drop-at, length-front, length-take-le}
+use lib.Seq.{getD-take, take-at, drop-at, length-front, length-take-le}
 use borrow.Author.Tests.{eq-eqb}
 use Rattle.mtl.specs.Formula.{Formula}
 use Rattle.mtl.specs.Log.{Log}
-use Rattle.rule.specs.Accepted.{Whole, Accepted}
-use Rattle.rule.specs.Entries.{count, decoded}
+use Rattle.verdicts.specs.Counts.{count-of, latest-no}
+use Rattle.rule.specs.Entries.{version, count, decoded}
+use Rattle.rule.specs.Postfix.{most, formula}
 use Rattle.rule.specs.Refusal.{refusal}
-use Rattle.rule.specs.Words.{offset}
+use Rattle.rule.specs.Words.{header-words, offset}
 use Rattle.rule.proofs.Acceptance.{accepted}
+use Rattle.rule.proofs.Spans.{header-least}
 use Rattle.blocks.specs.Block.{word, FreshBlock}
-use Rattle.engine.specs.State.{words, State}
-use Rattle.engine.proofs.Entries.{fresh-rule, rule-size}
-use Rattle.checkpoint.specs.Checkpoint.{held-count, held-bits, need}
+use Rattle.blocks.proofs.Words.{empty-buffer}
+use Rattle.engine.specs.State.{State}
+use Rattle.engine.proofs.Formulas.{last-entry, last-below, fresh-rule}
+use Rattle.checkpoint.specs.Checkpoint.{need, block-at}
 use Rattle.checkpoint.specs.Code.{Fresh, sized-of, sized-number}
 use Rattle.checkpoint.specs.declared.check.Sized.the-variants.{Words}
-use Rattle.checkpoint.proofs.Offsets.{in-block}
+use Rattle.checkpoint.proofs.Offsets.{in-block, block-fits, noes-within}
 use Rattle.checkpoint.proofs.Copies.{fresh-own, foreign-within}
 use Rattle.checkpoint.proofs.Sizes.{enough, sized-refusal}
+use Rattle.emit.specs.Verdicts.{formulas-of}
+use Rattle.emit.specs.Top.{held-count, held-bits, part-of, Waiting, Top}
 use Rattle.monitor.specs.Open.{Opens}
-use Rattle.monitor.specs.Stands.{States, Top, Stands}
-use Rattle.monitor.specs.Tally.{count-of, latest-no}
-use Rattle.monitor.specs.Verdicts.{formulas-of}
+use Rattle.monitor.specs.Stands.{Stands}
 use Rattle.monitor.specs.declared.Opened.the-variants.{Done}
-use Rattle.monitor.proofs.Meaning.{rule-whole}
-use Rattle.monitor.proofs.Held.{held-none}
+use Rattle.monitor.proofs.Meaning.{rule-whole, few-columns, part-is, held-word}
 
-module _ (rule ws : List ℕ) (a : Accepted rule) (size : length ws ≡ need rule) (f : Fresh (decoded rule) (count rule) ws) (L : Log) where
-  fresh-block : (j : ℕ) → j < count rule → FreshBlock (drop (offset (decoded rule) j) (drop 16 ws))
-  fresh-block j h i l = in-block (decoded rule) ws j i ∙ f .blocks j h i (omega arith)
+module _ (rule ws : List ℕ) (fine : refusal rule ≡ 0) (size : length ws ≡ need rule) (f : Fresh (version rule) (decoded rule) (count rule) ws) (L : Log) where
+  abbrev base : ℕ
+  base = header-words (version rule)
 
-  fresh-states : (fs : List Formula) → Whole (decoded rule) (count rule) fs → States fs L 0 (drop 16 ws)
-  fresh-states [] none = tt
-  fresh-states (φ ∷ []) one =
+  abbrev fs : List Formula
+  fs = formulas-of rule
+
+  fresh-block : (j : ℕ) → j < count rule → FreshBlock (drop (offset (decoded rule) j) (drop base ws))
+  fresh-block j h i l = in-block base (decoded rule) ws j i ∙ f .blocks j h i (omega arith)
+
+  fresh-waiting : (k : ℕ) → k < length fs → Waiting (formula fs k) L 0 (part-of base fs k ws)
+  fresh-waiting k h =
       let t = decoded rule in
-      let l = length-drop 16 ws in
-      let z = rule-size t (count rule) (a .well-formed) φ one in
-      let s = fresh-rule t (count rule) (a .well-formed) φ one (drop 16 ws) (omega arith) fresh-block L in
-      subst (State φ L 0) (take-all (words φ) (drop 16 ws) (omega arith)) s
-  fresh-states (φ ∷ (ψ ∷ fs)) several = several
-
-  fresh-top : (fs : List Formula) → Whole (decoded rule) (count rule) fs → Top fs L 0 ws
-  fresh-top fs whole =
-      let held = f .header 4 (omega arith) (omega arith) (omega arith) in
+      let n = count rule in
+      let ok = accepted rule fine .well-formed in
+      let whole = rule-whole rule fine in
+      let φ = formula fs k in
+      let none : held-count φ (part-of base fs k ws) ≡ 0 =
+      held-word base t n ok fs whole k h ws ∙ f .blocks (last-entry fs k) (last-below t n ok fs whole k h) 12 (omega arith) in
+      let state = fresh-rule t n ok fs whole (drop base ws) (omega (arith, length-drop base ws)) fresh-block L k h in
       record {
-        at = f .header 1 (omega arith) (omega arith) (omega arith);
-        held = held-none fs L 0 (held-count ws) (held-bits ws) zero-le held;
-        state = rw held (fresh-states fs whole);
+        buffer = empty-buffer φ L 0 (held-count φ (part-of base fs k ws)) (held-bits φ (part-of base fs k ws)) zero-le none;
+        state = rw none (subst (State φ L 0) (sym (part-is base fs k ws)) state);
+      }
+
+  fresh-top : Top base fs L 0 ws
+  fresh-top =
+      record {
+        at = f .header 1 (omega arith) (omega (arith, header-least (version rule))) (omega arith);
+        within = zero-le;
+        each = fresh-waiting;
       }
 
 pub fresh-stands : (rule p : List ℕ) → refusal rule ≡ 0 → need rule ≤ length p →
-    Fresh (decoded rule) (count rule) (take (need rule) p) → (L : Log) → L .size ≡ 0 → L .closed ≡ false → Stands rule L 0 p
+    Fresh (version rule) (decoded rule) (count rule) (take (need rule) p) → (L : Log) → L .size ≡ 0 → L .closed ≡ false → Stands rule L 0 p
 unfolding count-of latest-no
 fresh-stands rule p ok room f L none is-open =
+    let v = version rule in
+    let t = decoded rule in
+    let n = count rule in
+    let least = header-least v in
+    let noes = noes-within v in
     let at : (i : ℕ) → i < need rule → word p i ≡ word (take (need rule) p) i = λ i h. sym (getD-take (need rule) p i 0 h) in
-    let clear : (i : ℕ) → 0 < i → i < 16 → (i ≡ 6 → ⊥) → word p i ≡ 0 = λ i h l ne. at i (omega arith) ∙ f .header i h l ne in
+    let clear : (i : ℕ) → 0 < i → i < header-words v → (i ≡ 4 → ⊥) → word p i ≡ 0 = λ i h l ne. at i (omega arith) ∙ f .header i h l ne in
     let two = clear 2 (omega arith) (omega arith) (omega arith) in
     let three = clear 3 (omega arith) (omega arith) (omega arith) in
+    let no-counted : (k : ℕ) → k < most v → word p (8 + k) ≡ 0 = λ k h. clear (8 + k) (omega arith) (omega arith) (omega arith) in
+    let no-latest : (k : ℕ) → k < most v → word p (8 + most v + k) ≡ 0 =
+    λ k h. clear (8 + most v + k) (omega arith) (omega arith) (omega arith) in
     record {
       enough = room;
-      own =
-          foreign-within (decoded rule) (count rule) p (take (need rule) p) at ∙
-          fresh-own (decoded rule) (count rule) (take (need rule) p) f;
+      own = foreign-within v t n p (take (need rule) p) at ∙ fresh-own v t n (take (need rule) p) f;
       size = omega arith;
       few = omega arith;
       time = rw (eq-eqb (L .size) 0 none) three;
       fits = omega arith;
-      closed = clear 7 (omega arith) (omega arith) (omega arith) ∙ rw is-open;
-      top = fresh-top rule (take (need rule) p) (accepted rule ok) (length-take-le (need rule) p room) f L (formulas-of rule) (rule-whole rule ok);
-      noes = rw (clear 8 (omega arith) (omega arith) (omega arith), clear 9 (omega arith) (omega arith) (omega arith));
+      closed = clear 5 (omega arith) (omega arith) (omega arith) ∙ rw is-open;
+      top = fresh-top rule (take (need rule) p) ok (length-take-le (need rule) p room) f L;
+      noes = λ k h.
+          let in-most : k < most v = omega (arith, few-columns rule ok) in
+          rw (no-counted k in-most, no-latest k in-most);
+      unused = λ k h l. (no-counted k l, no-latest k l);
+      spare = λ j h.
+          let inside = block-fits (header-words v) t n j h in
+          inr (at (block-at (header-words v) t j + 12) (omega arith) ∙ f .blocks j h 12 (omega arith));
     }
 
 -- `open`, once a fresh checkpoint stands in the first k words
 pub opens-done : (rule p ws : List ℕ) (w k : ℕ) → Words w ≡ sized-of rule (length p) → k ≡ w → length ws ≡ length (take k p) →
-    Fresh (decoded rule) (count rule) ws → Opens rule p Done (ws ++ drop k p)
+    Fresh (version rule) (decoded rule) (count rule) ws → Opens rule p Done (ws ++ drop k p)
 opens-done rule p ws w k e same l f =
     let n = enough rule (length p) w e in
     let m = length-take-le k p (omega arith) in

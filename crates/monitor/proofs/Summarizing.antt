@@ -1,43 +1,124 @@
--- What `summary` and `status` promise, by the outcome of their checks.
-use Prim.Native.Nat.{ℕ, _<_}
-use mathlib.Core.Path.{_≡_, ap, ap₂, _∙_}
-use mathlib.Core.List.{List}
+-- What `summary`, `status` and `formulas` promise, by the outcome of their checks.
+use Prim.Native.Nat.{ℕ, zero, suc, _+_, _≤_, _<_, max}
+use mathlib.Core.Path.{_≡_, refl, sym, ap, ap₂, _∙_}
+use mathlib.Core.List.{List, [], _∷_, _++_, append-assoc}
+use native.Mathlib.Numerals.{add-one}
 use native.Mathlib.Omega.{arith}
 use lib.Dec.{ltb}
+use lib.ListN.{length, getD, drop, set, length-append}
+use lib.Seq.{drop-cons, set-at}
 use borrow.Author.Tests.{eq-eqb, ne-eqb}
 use Rattle.mtl.specs.Wanted.{wanted}
+use Rattle.verdicts.specs.Counts.{Noes}
 use Rattle.rule.specs.declared.Entry.{Entry}
-use Rattle.rule.specs.Postfix.{formulas, formulas-or}
+use Rattle.rule.specs.declared.measuring.Ends.{Ends}
+use Rattle.rule.specs.Entries.{version}
+use Rattle.rule.specs.Postfix.{most, formulas, formulas-or}
+use Rattle.rule.specs.Refusal.{refusal}
+use Rattle.rule.specs.Code.{EndsOf}
 use Rattle.rule.proofs.Headers.{Decoded}
-use Rattle.checkpoint.specs.Checkpoint.{given, seen, closed-with, no-count, after-latest}
+use Rattle.checkpoint.specs.Checkpoint.{given, seen, closed-with, stored-noes, need}
 use Rattle.checkpoint.specs.Refusal.{summary-refusal}
-use Rattle.monitor.specs.Verdicts.{formulas-of}
-use Rattle.monitor.specs.Summary.{told, refused-with, latest-of, position, answer, summarized}
+use Rattle.checkpoint.proofs.Checks.{is-accepted, has-room}
+use Rattle.checkpoint.proofs.Offsets.{noes-within}
+use Rattle.emit.specs.Verdicts.{formulas-of, columns}
+use Rattle.monitor.specs.Summary.{position-or, no-position, listed, counts-of, latest-words, Told, Summarizes}
 use Rattle.monitor.specs.Status.{known}
 use Rattle.monitor.specs.Status.{answer as standing-of, told as known-told, refused-with as known-refused}
-use Rattle.monitor.specs.declared.Latest.{Latest}
+use Rattle.monitor.specs.Formulas.{Answer, answer, formula-count}
 use Rattle.monitor.specs.declared.Summarized.the-variants.{Counted, Refused}
 use Rattle.monitor.specs.declared.Standing.the-variants.{Known}
 use Rattle.monitor.specs.declared.Standing.the-variants.{Refused as Unknown}
-use Rattle.monitor.proofs.Noes.{noes}
+use Rattle.monitor.specs.declared.FormulaCount.the-variants.{Formulas}
+use Rattle.monitor.specs.declared.FormulaCount.the-variants.{Refused as Uncounted}
+use Rattle.monitor.proofs.Meaning.{most-few, few-columns, rule-ended}
+
+-- ONE NUMBER FOR EACH FORMULA
+
+module _ (f : ℕ → ℕ) where
+  length-listed : (n : ℕ) → length (listed f n) ≡ n
+  unfolding listed
+  length-listed zero = refl
+  length-listed (suc k) =
+      let e = length-listed k in
+      let sum = length-append (listed f k) (f k ∷ []) in
+      omega arith
+
+  pub listed-none : (l : List ℕ) → l ≡ listed f 0 ++ drop 0 l
+  unfolding listed
+  listed-none l = refl
+
+  -- one formula more
+  pub listed-more : (k v : ℕ) (l l′ : List ℕ) → k < length l → v ≡ f k → l′ ≡ listed f k ++ drop k l →
+      set l′ k v ≡ listed f (k + 1) ++ drop (k + 1) l
+  unfolding listed
+  listed-more k v l l′ below e before =
+      ap (λ (m : List ℕ). set m k v) (before ∙ ap (λ (m : List ℕ). listed f k ++ m) (drop-cons l k 0 below)) ∙
+      set-at (listed f k) (getD l k 0) (drop (suc k) l) v k (length-listed k) ∙
+      ap (λ (w : ℕ). listed f k ++ (w ∷ drop (suc k) l)) e ∙
+      sym (append-assoc (listed f k) (f k ∷ []) (drop (suc k) l)) ∙
+      ap (λ (m : ℕ). listed f m ++ drop m l) (sym (add-one k))
+
+-- the numbers are the same where those of each formula are
+pub listed-same : (f g : ℕ → ℕ) (n : ℕ) → ((k : ℕ) → k < n → f k ≡ g k) → listed f n ≡ listed g n
+unfolding listed
+listed-same f g zero same = refl
+listed-same f g (suc n) same =
+    ap₂ (λ (l : List ℕ) (v : ℕ). l ++ (v ∷ [])) (listed-same f g n (λ k h. same k (omega arith))) (same n (omega arith))
+
+-- what is told of counts is told of the same counts
+pub told-same : (n : ℕ) (x y : ℕ → Noes) (nos latest nos′ latest′ : List ℕ) → ((k : ℕ) → k < n → x k ≡ y k) → Told n x nos latest nos′ latest′ →
+    Told n y nos latest nos′ latest′
+told-same n x y nos latest nos′ latest′ same (counts, ends) =
+    let counts-are : counts-of x n ≡ counts-of y n =
+    listed-same (λ k. x k .count) (λ k. y k .count) n (λ k h. ap (λ (z : Noes). z .count) (same k h)) in
+    let ends-are : latest-words x n ≡ latest-words y n =
+    listed-same (λ k. position-or (x k .latest) no-position) (λ k. position-or (y k .latest) no-position) n
+    (λ k h. ap (λ (z : Noes). position-or (z .latest) no-position) (same k h)) in
+    (counts ∙ ap (λ (l : List ℕ). l ++ drop n nos) counts-are, ends ∙ ap (λ (l : List ℕ). l ++ drop n latest) ends-are)
+
+-- WHAT IS ANSWERED
+
+module _ (rule : List ℕ) where
+  -- by where the formulas of the entries decoded end, which are the rule's
+  pub columns-are : refusal rule ≡ 0 → (t : List Entry) (n : ℕ) → Decoded rule t n → (r : Ends) → EndsOf t n r → (m : ℕ) → m ≡ max 1 (r .number) →
+      m ≡ columns (formulas-of rule)
+  columns-are fine t n d r ends m e =
+      omega (arith, rule-ended rule fine r (rw (d .entries-are, d .count-is) at ends) .number)
+
+  pub formulas-refused : (n : ℕ) → n ≡ refusal rule → (n ≡ 0 → ⊥) → answer (Uncounted n) ≡ formula-count rule
+  formulas-refused n number some =
+      rw (ne-eqb (refusal rule) 0 (λ z. some (number ∙ z))) (ap (λ (k : ℕ). answer (Uncounted k)) number)
+
+  pub formulas-told : refusal rule ≡ 0 → (m : ℕ) → m ≡ columns (formulas-of rule) → answer (Formulas m) ≡ formula-count rule
+  formulas-told fine m is = rw (eq-eqb (refusal rule) 0 fine) (ap (λ (k : ℕ). answer (Formulas k)) is)
 
 module _ (rule p : List ℕ) where
-  pub summary-refused : (n : ℕ) → (n ≡ summary-refusal rule p) × (0 < n) → answer (Refused n) ≡ summarized rule p
-  summary-refused n (number, some) = rw (ne-eqb (summary-refusal rule p) 0 (omega arith)) (ap refused-with number)
+  pub summary-refused : (nos latest : List ℕ) (n : ℕ) → (n ≡ summary-refusal rule p) × (0 < n) → Summarizes rule p nos latest (Refused n) nos latest
+  summary-refused nos latest n (number, some) = record { number = number; words = (some, refl, refl) }
 
   pub status-refused : (n : ℕ) → (n ≡ summary-refusal rule p) × (0 < n) → standing-of (Unknown n) ≡ known rule p
   status-refused n (number, some) = rw (ne-eqb (summary-refusal rule p) 0 (omega arith)) (ap known-refused number)
 
   -- where none of 1 to 11 is met
   module _ (none : summary-refusal rule p ≡ 0) where
-    pub summary-told : (latest : Latest) → position latest ≡ latest-of (after-latest p) → answer (Counted (no-count p) latest) ≡ summarized rule p
-    summary-told latest is = rw (eq-eqb (summary-refusal rule p) 0 none) (ap (λ l. told (noes (no-count p) l)) is)
+    -- the counts of all formulas stand in the checkpoint
+    pub counts-fit : (v : ℕ) → v ≡ version rule → (m : ℕ) → m ≡ columns (formulas-of rule) →
+        (m ≤ 8) × (m ≤ most v) × (8 + most v + most v ≤ length p)
+    counts-fit v is m e =
+        let fine = is-accepted rule p none in
+        let room = has-room rule p none in
+        let within = noes-within (version rule) in
+        rw is (omega (arith, few-columns rule fine, most-few (version rule)))
+
+    pub summary-told : (nos latest nos′ latest′ : List ℕ) (v : ℕ) → v ≡ version rule → (m : ℕ) → m ≡ columns (formulas-of rule) →
+        Told m (stored-noes (most v) p) nos latest nos′ latest′ → Summarizes rule p nos latest (Counted m) nos′ latest′
+    summary-told nos latest nos′ latest′ v is m e told = record { number = sym none; words = (e, rw is at told) }
 
     -- first is the first record wanted by the entries decoded, which are the rule's
-    pub status-told : (t : List Entry) (n : ℕ) → Decoded rule t n → (first : ℕ) → first ≡ wanted (formulas-or (formulas t n)) (given p) →
-        standing-of (Known (given p) (seen p) first (ltb 0 (closed-with p))) ≡ known rule p
-    status-told t n e first is =
-        let own : first ≡ wanted (formulas-of rule) (given p) =
-        is ∙ ap₂ (λ (t : List Entry) (n : ℕ). wanted (formulas-or (formulas t n)) (given p)) (e .entries-are) (e .count-is) in
+    pub status-told : (v : ℕ) → v ≡ version rule → (t : List Entry) (n : ℕ) → Decoded rule t n → (first : ℕ) →
+        first ≡ wanted (formulas-or (formulas v t n)) (given p) → standing-of (Known (given p) (seen p) first (ltb 0 (closed-with p))) ≡ known rule p
+    status-told v is-version t n e first is =
+        let own : first ≡ wanted (formulas-of rule) (given p) = rw (is-version, e .entries-are, e .count-is) at is in
         rw (eq-eqb (summary-refusal rule p) 0 none)
         (ap (λ w. known-told (record { given = given p; seen = seen p; wanted = w; closed = ltb 0 (closed-with p) })) own)

@@ -11,10 +11,10 @@ use Rattle.mtl.specs.Formula.{Formula}
 use Rattle.mtl.specs.Log.{Log, NeverFalls, Continues}
 use Rattle.mtl.specs.Progress.{joint-progress}
 use Rattle.mtl.proofs.Bounded.{le-or-lt}
-use Rattle.monitor.specs.Summary.{Noes, noes-in, laid-behind}
-use Rattle.monitor.specs.Verdicts.{verdict, verdicts}
-use Rattle.monitor.proofs.Meaning.{verdict-stays}
-use Rattle.monitor.proofs.Noes.{noes-same, noes-behind}
+use Rattle.verdicts.specs.Counts.{Noes, noes-in, laid-behind}
+use Rattle.verdicts.proofs.Noes.{noes-same, noes-behind}
+use Rattle.emit.specs.Verdicts.{verdict, verdicts}
+use Rattle.emit.proofs.Meaning.{verdict-stays}
 
 module _ (fs : List Formula) (L : Log) where
   pub length-verdicts : (n : ℕ) → length (verdicts fs L n) ≡ n
@@ -60,14 +60,14 @@ module _ (fs : List Formula) (L : Log) where
       ext-getD 0 (take d (verdicts fs L m)) (verdicts fs L d) (few ∙ sym (length-verdicts d))
       (λ i l. getD-take d (verdicts fs L m) i 0 (omega arith) ∙ verdict-at m i (omega arith) ∙ sym (verdict-at d i (omega arith)))
 
-  -- the no among them, once c more are given
-  pub noes-more : (d c : ℕ) (s : List ℕ) → VerdictsFrom d c s →
-      laid-behind (noes-in (verdicts fs L d) d) d (noes-in s c) ≡ noes-in (verdicts fs L (d + c)) (d + c)
-  noes-more d c s bytes =
+  -- the no of formula k among them, once c more are given
+  pub noes-more : (k d c : ℕ) (s : List ℕ) → VerdictsFrom d c s →
+      laid-behind (noes-in k (verdicts fs L d) d) d (noes-in k s c) ≡ noes-in k (verdicts fs L (d + c)) (d + c)
+  noes-more k d c s bytes =
       let all = verdicts fs L (d + c) in
-      ap (λ (x : Noes). laid-behind x d (noes-in s c))
-      (noes-same (verdicts fs L d) all d (λ i h. verdict-at d i h ∙ sym (verdict-at (d + c) i (omega arith)))) ∙
-      sym (noes-behind all s d c (λ i h. verdict-at (d + c) (d + i) (omega arith) ∙ sym (bytes i h)))
+      ap (λ (x : Noes). laid-behind x d (noes-in k s c))
+      (noes-same k (verdicts fs L d) all d (λ i h. verdict-at d i h ∙ sym (verdict-at (d + c) i (omega arith)))) ∙
+      sym (noes-behind k all s d c (λ i h. verdict-at (d + c) (d + i) (omega arith) ∙ sym (bytes i h)))
 
 -- verdicts that are settled stay on a longer log
 pub verdicts-stay : (fs : List Formula) (K L : Log) → Continues K L → NeverFalls L → (d : ℕ) → d ≤ joint-progress fs K → verdicts fs K d ≡ verdicts fs L d

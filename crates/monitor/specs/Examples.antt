@@ -1,5 +1,5 @@
 -- Document 01's "Worked by hand", and cases of document 02's requests: one table, from the bytes of rules and logs to numbers, verdicts and refusals, proved by computation;
--- the count of no after calls of that table, and what a card has to know of a checkpoint.
+-- the counts of no after calls of that table, what a card has to know of a checkpoint, and how many formulas a rule has.
 use Prim.Native.Nat.{ℕ, suc, _+_, _/_, _%_, _^_}
 use mathlib.Core.Bool.{Bool, true, false, cond, _&&_}
 use mathlib.Core.Bool.{not as negate}
@@ -20,11 +20,13 @@ use Rattle.rule.specs.Measure.{farthest, measured}
 use Rattle.trace.specs.Format.{record-count, records-of}
 use Rattle.trace.specs.Order.{last-time}
 use Rattle.checkpoint.specs.Refusal.{log-refusal, resume-refusal}
-use Rattle.checkpoint.specs.Checkpoint.{format}
-use Rattle.monitor.specs.Summary.{Noes, noes-in, laid-behind}
+use Rattle.checkpoint.specs.Checkpoint.{format, copy-start, stored-noes}
+use Rattle.verdicts.specs.Bytes.{byte-of}
+use Rattle.verdicts.specs.Counts.{count-of, latest-no, Noes, noes-in, laid-behind}
+use Rattle.emit.specs.Verdicts.{formulas-of, verdicts, answered, all-verdicts}
+use Rattle.monitor.specs.Summary.{no-position, listed, counts-of, latest-words}
 use Rattle.monitor.specs.Status.{Answer, told, refused-with, known}
-use Rattle.monitor.specs.Tally.{count-of, latest-no}
-use Rattle.monitor.specs.Verdicts.{formulas-of, byte-of, verdicts, answered, all-verdicts}
+use Rattle.monitor.specs.Formulas.{formula-count}
 
 -- BYTES
 
@@ -243,8 +245,11 @@ abbrev no : ℕ
 no = 0
 
 -- P1's rule, "letter 0, letter 1, until 0 to 2", and its records
+abbrev entries-1 : List ℕ
+entries-1 = letter 0 ++ letter 1 ++ until 0 2
+
 abbrev rule-1 : List ℕ
-rule-1 = rule 1 3 (letter 0 ++ letter 1 ++ until 0 2)
+rule-1 = rule 1 3 entries-1
 
 abbrev records-1 : List ℕ
 records-1 =
@@ -289,6 +294,50 @@ more-23 = records-23 ++ at 12 (1 ∷ []) ++ at 12 (0 ∷ [])
 abbrev call-23 : Row
 call-23 = on-fresh (rule 1 4 (letter 0 ++ letter 1 ++ until 0 2 ++ previous 0 9)) (log records-23) 86 2 1 (no ∷ [])
 
+-- several formulas: P1's until and its not, over P1's records; "bit k of the verdict byte is formula k's answer"
+abbrev rule-28 : List ℕ
+rule-28 = rule 2 7 (entries-1 ++ entries-1 ++ negation)
+
+abbrev no-yes : ℕ
+no-yes = 2
+
+abbrev yes-no : ℕ
+yes-no = 1
+
+abbrev call-28 : Row
+call-28 = on-fresh rule-28 (log records-1) 148 2 5 (no-yes ∷ no-yes ∷ no-yes ∷ yes-no ∷ yes-no ∷ [])
+
+-- the next call, as P2 is after P1
+abbrev call-29 : Row
+call-29 =
+    after call-28 (log (records-1 ++ at 21 (1 ∷ []))) (log (replicate 40 255 ++ at 20 (0 ∷ []) ++ at 21 (1 ∷ []))) 7 (yes-no ∷ yes-no ∷ [])
+
+-- letter 0, P1's until, and letter 0 again
+abbrev rule-30 : List ℕ
+rule-30 = rule 2 5 (letter 0 ++ entries-1 ++ letter 0)
+
+abbrev yes-no-yes : ℕ
+yes-no-yes = 5
+
+-- the letters 0 to 7
+abbrev letters : List ℕ
+letters = letter 0 ++ letter 1 ++ letter 2 ++ letter 3 ++ letter 4 ++ letter 5 ++ letter 6 ++ letter 7
+
+-- letter 0, and P10's rule with a since in place of its second until: one second more is one word more
+abbrev rule-36 : ℕ → List ℕ
+rule-36 high = rule 2 6 (letter 0 ++ letter 0 ++ letter 1 ++ until 0 3600 ++ letter 2 ++ since 0 high)
+
+-- P4's rule, letter 0, and P4's rule again, over P4's records and as `after-4` goes on
+abbrev no-yes-no : ℕ
+no-yes-no = 2
+
+abbrev call-38 : Row
+call-38 =
+    on-fresh (rule 2 5 (letter 0 ++ previous 0 0 ++ letter 0 ++ letter 0 ++ previous 0 0)) (log records-4) 104 0 3 (no-yes-no ∷ yes-no-yes ∷ no-yes-no ∷ [])
+
+abbrev after-38 : List ℕ → Row
+after-38 kept = after call-38 (log (records-4 ++ at 6 [])) (log (kept ++ at 6 [])) 4 (yes-no-yes ∷ [])
+
 unfoldable pub rows : List Row
 rows =
     -- 1: P1 The run above.
@@ -315,10 +364,10 @@ rows =
     -- 11 and 12: P10 Two untils over three letters, highs 3,600 and 446: 8,192 words; with 447: refusal 8.
     ∷ on-fresh (rule-10 446) (log []) 8192 4046 0 []
     ∷ refused (rule-10 447) 8
-    -- 13 to 15: High 3,600 passes, 3,601 is refusal 6; two errors, version 2 and a wrong length, give 2.
+    -- 13 to 15: High 3,600 passes, 3,601 is refusal 6; two errors, by request 8 version 3 and a wrong length, give 2.
     ∷ on-fresh (rule 1 3 (letter 0 ++ letter 1 ++ until 0 3600)) (log []) 7266 3600 0 []
     ∷ refused (rule 1 3 (letter 0 ++ letter 1 ++ until 0 3601)) 6
-    ∷ refused (rule 2 1 []) 2
+    ∷ refused (rule 3 1 []) 2
     -- 16 to 18: request 6: next, 1 to no end, of letter 0, over gaps 0, 1, 3,601 and 4,294,967,295 to records with letter 0; an
     -- until without upper end is refused
     ∷ on-fresh (rule 1 2 (letter 0 ++ next 1 no-end))
@@ -340,12 +389,35 @@ rows =
     -- 25 and 26: after P4 record 2 is still wanted. With records 0 and 1 set to all ones: yes; with record 2, too: refusal 14
     ∷ after-4 (replicate 16 255 ++ at 6 (0 ∷ []))
     ∷ stopped (after-4 (replicate 24 255)) 14
+    -- 27: request 8: P1 as a rule of version 2 with one formula: 8 words more, and the same verdicts
+    ∷ on-fresh (rule 2 3 entries-1) (log records-1) 78 2 5 (no ∷ no ∷ no ∷ yes ∷ yes ∷ [])
+    -- 28 and 29: P1's until and its not; then as P2
+    ∷ call-28
+    ∷ call-29
+    -- 30 and 31: P1's until between two letters over P7's logs: the until is open, and holds the letters' answers back; then yes, no and
+    -- yes, then open
+    ∷ on-fresh rule-30 (log records-23) 110 2 0 []
+    ∷ on-fresh rule-30 (log (records-23 ++ at 13 (0 ∷ []))) 110 2 1 (yes-no-yes ∷ [])
+    -- 32: eight formulas over three records
+    ∷ on-fresh (rule 2 8 letters) (log (at 5 (0 ∷ 1 ∷ 4 ∷ 7 ∷ []) ++ at 5 [] ++ at 6 (0 ∷ 1 ∷ 2 ∷ 3 ∷ 4 ∷ 5 ∷ 6 ∷ 7 ∷ []))) 152 0 3 (147 ∷ 0 ∷ 255 ∷ [])
+    -- 33 to 35: nine formulas, and none, are refusal 7; a version 2 with a wrong length is 4
+    ∷ refused (rule 2 9 (letters ++ letter 8)) 7
+    ∷ refused (rule 2 0 []) 7
+    ∷ refused (rule 2 1 []) 4
+    -- 36 and 37: 8,192 words with the 24, and one more
+    ∷ on-fresh (rule-36 869) (log []) 8192 3600 0 []
+    ∷ refused (rule-36 870) 8
+    -- 38 to 40: letter 0 between two of P4's rules: "paper 2's k, are the largest over the formulas", so that record 2 is still wanted, as
+    -- in 25 and 26
+    ∷ call-38
+    ∷ after-38 (replicate 16 255 ++ at 6 (0 ∷ []))
+    ∷ stopped (after-38 (replicate 24 255)) 14
     ∷ []
 
 -- every row computes; an edit of the definitions that breaks a row has its number in an error
 pub every-row : Right 1 rows
 unfolding Right wrong rows computes computes-refusal computes-verdicts same event-set first-entries offset push-kind read header-refusal entries-refusal has-next reach any all sat run progress settled-to farthest depth deepest joint-progress byte-of verdicts
-every-row = (refl, (refl, (refl, (refl, (refl, (refl, (refl, (refl, (refl, (refl, (refl, (refl, (refl, (refl, (refl, (refl, (refl, (refl, (refl, (refl, (refl, (refl, (refl, (refl, (refl, (refl, tt))))))))))))))))))))))))))
+every-row = (refl, (refl, (refl, (refl, (refl, (refl, (refl, (refl, (refl, (refl, (refl, (refl, (refl, (refl, (refl, (refl, (refl, (refl, (refl, (refl, (refl, (refl, (refl, (refl, (refl, (refl, (refl, (refl, (refl, (refl, (refl, (refl, (refl, (refl, (refl, (refl, (refl, (refl, (refl, (refl, tt))))))))))))))))))))))))))))))))))))))))
 
 -- CLOSINGS: document 02, paper 9
 
@@ -409,17 +481,20 @@ closing-rows =
     ∷ closes-again (stopped (after close-7 (log records-7) (log (at 10 (0 ∷ []) ++ at 12 (0 ∷ []))) 0 []) 13)
     -- 12: an empty log closed: 0 verdicts, caught up
     ∷ closes (on-fresh rule-1 (log []) 70 2 0 [])
+    -- 13: three formulas closed: P1's until between two letters, over P7's second log
+    ∷ closes (on-fresh rule-30 (log records-7) 110 2 3 (yes-no-yes ∷ yes-no-yes ∷ yes-no-yes ∷ []))
     ∷ []
 
 pub every-closing : AllClose 1 closing-rows
 unfolding AllClose closing-rows computes computes-refusal computes-verdicts same event-set first-entries offset push-kind read header-refusal entries-refusal has-next reach any all sat run progress settled-to farthest depth deepest joint-progress byte-of verdicts
-every-closing = (refl, (refl, (refl, (refl, (refl, (refl, (refl, (refl, (refl, (refl, (refl, (refl, tt))))))))))))
+every-closing = (refl, (refl, (refl, (refl, (refl, (refl, (refl, (refl, (refl, (refl, (refl, (refl, (refl, tt)))))))))))))
 
--- THE COUNT OF NO
+-- THE COUNTS OF NO
 
--- a call of the table, and the count of no and the latest of them before it and after it
+-- a call of the table, a formula by its number, and the count of its no and the latest of them before the call and after it
 pub record SummaryRow : Type 0 where
   pub call : Row
+  pub formula : ℕ
   pub before : Noes
   pub after : Noes
 
@@ -432,7 +507,7 @@ Counts s =
     let c = length (s .call .verdicts) in
     let d = s .call .given in
     let all = all-verdicts false (s .call .rule) (s .call .untouched) (record-count (records-of (s .call .brought))) in
-    (laid-behind (s .before) d (noes-in (s .call .verdicts) c) ≡ s .after) × (noes-in all (d + c) ≡ s .after)
+    (laid-behind (s .before) d (noes-in (s .formula) (s .call .verdicts) c) ≡ s .after) × (noes-in (s .formula) all (d + c) ≡ s .after)
 
 unfoldable pub AllCount : List SummaryRow → Type 0
 AllCount [] = Unit {0}
@@ -441,39 +516,58 @@ AllCount (s ∷ rest) = Counts s × AllCount rest
 unfoldable pub summary-rows : List SummaryRow
 summary-rows =
     -- a fresh point, and a log without a record: 0, none
-    record { call = on-fresh rule-1 (log []) 70 2 0 []; before = noes 0 none; after = noes 0 none }
+    record { call = on-fresh rule-1 (log []) 70 2 0 []; formula = 0; before = noes 0 none; after = noes 0 none }
     -- after P1: 3 no, the latest at position 2
-    ∷ record { call = call-1; before = noes 0 none; after = noes 3 (some 2) }
+    ∷ record { call = call-1; formula = 0; before = noes 0 none; after = noes 3 (some 2) }
     -- after P2 the same
-    ∷ record { call = call-2; before = noes 3 (some 2); after = noes 3 (some 2) }
+    ∷ record { call = call-2; formula = 0; before = noes 3 (some 2); after = noes 3 (some 2) }
+    -- P1's until and its not: the until as P1, its not 2 no, the latest at position 4; then as P2, where the not is no twice more
+    ∷ record { call = call-28; formula = 0; before = noes 0 none; after = noes 3 (some 2) }
+    ∷ record { call = call-28; formula = 1; before = noes 0 none; after = noes 2 (some 4) }
+    ∷ record { call = call-29; formula = 0; before = noes 3 (some 2); after = noes 3 (some 2) }
+    ∷ record { call = call-29; formula = 1; before = noes 2 (some 4); after = noes 4 (some 6) }
+    -- an empty rule has no no
+    ∷ record { call = call-20; formula = 0; before = noes 0 none; after = noes 0 none }
     ∷ []
 
 pub every-summary : AllCount summary-rows
 unfolding AllCount Counts summary-rows count-of latest-no event-set first-entries offset push-kind read any all sat run progress settled-to joint-progress byte-of verdicts
-every-summary = ((refl, refl), ((refl, refl), ((refl, refl), tt)))
+every-summary = ((refl, refl), ((refl, refl), ((refl, refl), ((refl, refl), ((refl, refl), ((refl, refl), ((refl, refl), ((refl, refl), tt))))))))
 
 -- WHAT A CARD HAS TO KNOW
 
--- the checkpoint's own words, of d verdicts given, n records seen, the rule's entries, the word of the first closing, the count of no
--- and one more than the position of the latest
+-- the checkpoint's own words up to word 7, of d verdicts given, n records seen, the rule's version and entries, and the word of the first
+-- closing
+abbrev first-words : (d n version entries closed-with : ℕ) → List ℕ
+first-words d n version entries closed-with =
+    format ∷ d ∷ n ∷ 0 ∷ copy-start version entries ∷ closed-with ∷ 0 ∷ 0 ∷ []
+
+-- of version 1, with the count of no and one more than the position of the latest
 abbrev own-words : (d n entries closed-with count after : ℕ) → List ℕ
 own-words d n entries closed-with count after =
-    format ∷ d ∷ n ∷ 0 ∷ 0 ∷ 0 ∷ entries ∷ closed-with ∷ count ∷ after ∷ replicate 6 0
+    first-words d n 1 entries closed-with ++ (count ∷ after ∷ replicate 6 0)
 
 -- a block with its copy, and 0 in its other words
 abbrev block : (head ends : ℕ) → List ℕ
 block head ends = replicate 14 0 ++ (head ∷ ends ∷ [])
 
 -- P1's rule and P4's, without a no where none is named
+abbrev blocks-1 : List ℕ
+blocks-1 = block 0 0 ++ block 1 0 ++ block 1536 2 ++ replicate 6 0
+
 abbrev point-1-with : (d n closed-with count after : ℕ) → List ℕ
-point-1-with d n closed-with count after =
-    own-words d n 3 closed-with count after ++ block 0 0 ++ block 1 0 ++ block 1536 2 ++ replicate 6 0
+point-1-with d n closed-with count after = own-words d n 3 closed-with count after ++ blocks-1
 
 abbrev point-1 : (d n closed-with : ℕ) → List ℕ
 point-1 d n closed-with = point-1-with d n closed-with 0 0
 
 abbrev point-4 : (d n : ℕ) → List ℕ
 point-4 d n = own-words d n 2 0 0 0 ++ block 0 0 ++ block 768 0
+
+-- P1's until and its not, with the count of each formula and one more than the position of the latest of each
+abbrev point-28 : (d n count after count′ after′ : ℕ) → List ℕ
+point-28 d n count after count′ after′ =
+    first-words d n 2 7 0 ++ (count ∷ count′ ∷ replicate 6 0) ++ (after ∷ after′ ∷ replicate 6 0) ++ blocks-1 ++ blocks-1 ++ block 256 0
 
 pub record StatusRow : Type 0 where
   pub rule : List ℕ
@@ -508,14 +602,37 @@ status-rows =
     ∷ record { rule = rule-1; point = point-1 5 6 6; answer = refused-with 11 }
     ∷ record { rule = rule-1; point = point-1-with 5 6 0 0 1; answer = refused-with 11 }
     ∷ record { rule = rule-1; point = point-1-with 5 6 0 1 6; answer = refused-with 11 }
+    -- P1's until and its not: after 28; a latest no of the second without a count is 11
+    ∷ tells rule-28 (point-28 5 6 3 3 2 5) 5 6 5 false
+    ∷ record { rule = rule-28; point = point-28 5 6 3 3 0 5; answer = refused-with 11 }
+    -- a point of version 1 is 10 under the same entries of version 2
+    ∷ record { rule = rule 2 3 entries-1; point = point-1 5 6 0 ++ replicate 8 0; answer = refused-with 10 }
     ∷ []
 
 pub every-status : AllKnown status-rows
 unfolding AllKnown status-rows first-entries offset push-kind read header-refusal entries-refusal has-next reach any depth deepest
-every-status = (refl, (refl, (refl, (refl, (refl, (refl, (refl, (refl, (refl, (refl, (refl, (refl, tt))))))))))))
+every-status = (refl, (refl, (refl, (refl, (refl, (refl, (refl, (refl, (refl, (refl, (refl, (refl, (refl, (refl, (refl, tt)))))))))))))))
 
 -- 20 "after 11": a resume on P1's point, closed, is 20, and 11 where more was given than seen besides
 pub closed-and-damaged :
     (resume-refusal false rule-1 (log records-7) (point-1 6 6 7) ≡ 20) × (resume-refusal false rule-1 (log records-7) (point-1 7 6 7) ≡ 11)
 unfolding first-entries offset push-kind read header-refusal entries-refusal has-next reach any depth deepest event-set
 closed-and-damaged = (refl, refl)
+
+-- what `summary` writes of the two formulas after 28, and of a fresh point
+pub two-told :
+    (counts-of (stored-noes 8 (point-28 5 6 3 3 2 5)) 2 ≡ 3 ∷ 2 ∷ []) × (latest-words (stored-noes 8 (point-28 5 6 3 3 2 5)) 2 ≡ 2 ∷ 4 ∷ []) ×
+    (counts-of (stored-noes 8 (point-28 0 0 0 0 0 0)) 2 ≡ 0 ∷ 0 ∷ []) ×
+    (latest-words (stored-noes 8 (point-28 0 0 0 0 0 0)) 2 ≡ no-position ∷ no-position ∷ [])
+unfolding listed
+two-told = (refl, refl, refl, refl)
+
+-- HOW MANY FORMULAS
+
+abbrev Has : List ℕ → (number formulas : ℕ) → Type 0
+Has rule number formulas = formula-count rule ≡ record { number = number; formulas = formulas }
+
+-- one of version 1, the empty rule included; two; eight; and nine are refusal 7
+pub formulas-counted : Has rule-1 0 1 × Has (rule 1 0 []) 0 1 × Has rule-28 0 2 × Has (rule 2 8 letters) 0 8 × Has (rule 2 9 (letters ++ letter 8)) 7 0
+unfolding first-entries offset push-kind read header-refusal entries-refusal any
+formulas-counted = (refl, refl, refl, refl, refl)

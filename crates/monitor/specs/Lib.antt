@@ -1,11 +1,9 @@
--- What the product's calls promise. Read Verdicts and Stands, then Open, Resume, Tally, Summary and Status, which the calls' `ensures`
--- name. Examples has the cases worked by hand, Code the promises of inner functions.
-pub mod Verdicts
+-- What the product's calls promise. Read emit's Verdicts and Top, then Stands, and Open, Resume, Summary, Status and Formulas, which the
+-- calls' `ensures` name. Examples has the cases worked by hand.
 pub mod Stands
 pub mod Open
 pub mod Resume
-pub mod Tally
 pub mod Summary
 pub mod Status
+pub mod Formulas
 pub mod Examples
-pub mod Code

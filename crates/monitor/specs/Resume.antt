@@ -11,11 +11,14 @@ use Rattle.mtl.specs.Wanted.{wanted}
 use Rattle.trace.specs.Format.{record-count, records-of}
 use Rattle.trace.specs.Order.{last-time}
 use Rattle.blocks.specs.Step.{Agrees}
-use Rattle.checkpoint.specs.Checkpoint.{given, seen, last, closed-with, need}
+use Rattle.verdicts.specs.Counts.{noes-in, laid-behind}
+use Rattle.rule.specs.Entries.{version, decoded}
+use Rattle.rule.specs.Entries.{count as entry-count}
+use Rattle.rule.specs.Postfix.{most}
+use Rattle.checkpoint.specs.Checkpoint.{given, seen, last, closed-with, no-count, after-latest, stored-noes, need, foreign}
 use Rattle.checkpoint.specs.Refusal.{resume-refusal}
-use Rattle.monitor.specs.Verdicts.{formulas-of, verdict}
+use Rattle.emit.specs.Verdicts.{formulas-of, columns, verdict}
 use Rattle.monitor.specs.Stands.{Stands}
-use Rattle.monitor.specs.Summary.{noes-in, laid-behind, stored-noes}
 use Rattle.monitor.specs.declared.Resumed.{Resumed}
 use Rattle.monitor.specs.declared.Resumed.the-variants.{Given, Refused}
 
@@ -50,8 +53,14 @@ pub record Accepted (closing : Bool) (rule log p sheet : List ℕ) (c : ℕ) (mo
   pub size : seen p′ ≡ record-count (records-of log)
   pub time : last p′ ≡ last-time (records-of log) (seen p) (last p)
   pub closed : closed-with p′ ≡ cond closing (suc (record-count (records-of log))) 0
-  -- the no among the bytes written, behind those from before
-  pub noes : stored-noes p′ ≡ laid-behind (stored-noes p) (given p) (noes-in sheet′ c)
+  -- the no of each formula among the bytes written, behind those from before
+  pub noes : (k : ℕ) → k < columns (formulas-of rule) →
+      stored-noes (most (version rule)) p′ k ≡ laid-behind (stored-noes (most (version rule)) p k) (given p) (noes-in k sheet′ c)
+  -- where the rule has no formula k, both words of its counts are kept
+  pub unused : (k : ℕ) → columns (formulas-of rule) ≤ k → k < most (version rule) →
+      (no-count p′ k ≡ no-count p k) × (after-latest (most (version rule)) p′ k ≡ after-latest (most (version rule)) p k)
+  -- the copy of the rule is kept, whatever else the words hold: as this call does not meet 10, no later one with the rule does
+  pub own : foreign (version rule) (decoded rule) (entry-count rule) p′ ≡ foreign (version rule) (decoded rule) (entry-count rule) p
   pub meaning : (K L : Log) (d : ℕ) → Stands rule K d p → Continues K L → NeverFalls L → Agrees closing (records-of log) L (wanted (formulas-of rule) d) →
       Gives rule L d sheet c more p′ sheet′
 

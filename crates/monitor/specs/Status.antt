@@ -6,7 +6,7 @@ use lib.Dec.{eqb, ltb}
 use Rattle.mtl.specs.Wanted.{wanted}
 use Rattle.checkpoint.specs.Checkpoint.{given, seen, closed-with}
 use Rattle.checkpoint.specs.Refusal.{summary-refusal}
-use Rattle.monitor.specs.Verdicts.{formulas-of}
+use Rattle.emit.specs.Verdicts.{formulas-of}
 use Rattle.monitor.specs.declared.Standing.{Standing}
 use Rattle.monitor.specs.declared.Standing.the-variants.{Known, Refused}
 

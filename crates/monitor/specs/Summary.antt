@@ -1,53 +1,20 @@
--- What `summary` promises (document 02, paper 7): the count of no among the verdicts given from a checkpoint, and the position of the
--- latest of them, or none.
-use Prim.Native.Nat.{ℕ, zero, suc, _+_}
-use mathlib.Core.Bool.{Bool, true, false, cond}
-use mathlib.Core.List.{List}
+-- What `summary` promises (document 02, papers 7 and 8): for each formula the count of no among the verdicts given from a checkpoint, and
+-- the position of the latest of them, or none.
+use Prim.Native.Nat.{ℕ, zero, suc, _-_, _<_, _^_}
+use mathlib.Core.Path.{_≡_}
+use mathlib.Core.List.{List, [], _∷_, _++_}
 use mathlib.Core.Option.{Option, none, some}
-use lib.Dec.{eqb}
-use Rattle.checkpoint.specs.Checkpoint.{no-count, after-latest}
+use lib.ListN.{drop}
+use Rattle.verdicts.specs.Counts.{Noes}
+use Rattle.rule.specs.Entries.{version}
+use Rattle.rule.specs.Postfix.{most}
+use Rattle.checkpoint.specs.Checkpoint.{stored-noes}
 use Rattle.checkpoint.specs.Refusal.{summary-refusal}
-use Rattle.monitor.specs.Tally.{count-of, latest-no}
+use Rattle.emit.specs.Verdicts.{formulas-of, columns}
 use Rattle.monitor.specs.declared.Latest.{Latest}
 use Rattle.monitor.specs.declared.Latest.the-variants.{At, Never}
 use Rattle.monitor.specs.declared.Summarized.{Summarized}
 use Rattle.monitor.specs.declared.Summarized.the-variants.{Counted, Refused}
-
-pub record Noes : Type 0 where
-  pub count : ℕ
-  pub latest : Option ℕ
-
--- "what tally and a scan give over" the first n bytes
-abbrev pub noes-in : List ℕ → ℕ → Noes
-noes-in s n = record { count = count-of 0 s n; latest = latest-no s n }
-
--- bytes laid behind d others: the counts are added, and where one of these bytes is no, the latest is theirs
-abbrev pub later : Option ℕ → ℕ → Option ℕ → Option ℕ
-later old d none = old
-later old d (some i) = some (d + i)
-
-abbrev pub laid-behind : Noes → ℕ → Noes → Noes
-laid-behind old d new = record { count = old .count + new .count; latest = later (old .latest) d (new .latest) }
-
--- "A point now stores the count of no among verdicts given and the position of the latest, or none": one more than the position, or 0
-abbrev pub latest-of : ℕ → Option ℕ
-latest-of zero = none
-latest-of (suc i) = some i
-
-abbrev pub stored-noes : List ℕ → Noes
-stored-noes p = record { count = no-count p; latest = latest-of (after-latest p) }
-
--- the paper's number and values for each case; `refused` tells the cases apart
-pub record Answer : Type 0 where
-  pub refused : Bool
-  pub number : ℕ
-  pub noes : Noes
-
-abbrev pub told : Noes → Answer
-told noes = record { refused = false; number = 0; noes = noes }
-
-abbrev pub refused-with : ℕ → Answer
-refused-with n = record { refused = true; number = n; noes = record { count = 0; latest = none } }
 
 abbrev pub position : Latest → Option ℕ
 position (At i) = some i
@@ -58,10 +25,37 @@ abbrev pub position-or : Option ℕ → ℕ → ℕ
 position-or none other = other
 position-or (some i) other = i
 
-abbrev pub answer : Summarized → Answer
-answer (Counted n latest) = told (record { count = n; latest = position latest })
-answer (Refused n) = refused-with n
+-- the lent word where no verdict given is no: no position is that large
+abbrev pub no-position : ℕ
+no-position = 2 ^ 64 - 1
 
--- "A call with checks 1 to 11 gives both."
-abbrev pub summarized : (rule point : List ℕ) → Answer
-summarized rule p = cond (eqb (summary-refusal rule p) 0) (told (stored-noes p)) (refused-with (summary-refusal rule p))
+-- one number for each of the first n formulas, that of formula 0 first
+unfoldable pub listed : (f : ℕ → ℕ) (n : ℕ) → List ℕ
+listed f zero = []
+listed f (suc k) = listed f k ++ (f k ∷ [])
+
+abbrev pub counts-of : (noes : ℕ → Noes) (n : ℕ) → List ℕ
+counts-of noes n = listed (λ k. noes k .count) n
+
+abbrev pub latest-words : (noes : ℕ → Noes) (n : ℕ) → List ℕ
+latest-words noes n = listed (λ k. position-or (noes k .latest) no-position) n
+
+-- "The stored .. counts, the latest positions .. become one per formula": those of n formulas stand in the first lent words, and the
+-- others are kept
+abbrev pub Told : (n : ℕ) (noes : ℕ → Noes) (nos latest nos′ latest′ : List ℕ) → Type 0
+Told n noes nos latest nos′ latest′ = (nos′ ≡ counts-of noes n ++ drop n nos) × (latest′ ≡ latest-words noes n ++ drop n latest)
+
+-- the paper's number for each case: 0, or the refusal's
+abbrev pub summarized-number : Summarized → ℕ
+summarized-number (Counted n) = 0
+summarized-number (Refused n) = n
+
+-- "A call with checks 1 to 11 gives both."; "Every refusal returns its number only"
+abbrev pub Summarizing : (rule p nos latest : List ℕ) → Summarized → (nos′ latest′ : List ℕ) → Type 0
+Summarizing rule p nos latest (Counted n) nos′ latest′ =
+    (n ≡ columns (formulas-of rule)) × Told n (stored-noes (most (version rule)) p) nos latest nos′ latest′
+Summarizing rule p nos latest (Refused n) nos′ latest′ = (0 < n) × (nos′ ≡ nos) × (latest′ ≡ latest)
+
+pub record Summarizes (rule p nos latest : List ℕ) (r : Summarized) (nos′ latest′ : List ℕ) : Type 0 where
+  pub number : summarized-number r ≡ summary-refusal rule p
+  pub words : Summarizing rule p nos latest r nos′ latest′

@@ -1,21 +1,25 @@
 // Checkpoints over a growing log: open one for a rule, resume from it with the records at hand, close it when no record will follow,
-// ask how far it has come, and count the verdicts.
+// and ask how far it has come.
 ghost use mathlib.Core.Bool.{true, false};
 ghost use mathlib.Core.Path.{_≡_};
+ghost use mathlib.Core.List.{_++_};
+ghost use Prim.Native.Nat.{_+_, _≤_};
+ghost use lib.ListN.{length, drop};
+ghost use Rattle.checkpoint.specs.Checkpoint.{stored-noes};
+ghost use Rattle.verdicts.specs.Counts.{latest-of};
 ghost use Rattle.monitor.specs.Open.{Opens, opened-number};
 ghost use Rattle.monitor.specs.Resume.{Resumes, resumed-number};
-ghost use Rattle.monitor.specs.Tally.{answer, tallied};
-ghost use Rattle.monitor.specs.Summary.{latest-of, position, position-or, summarized};
-ghost use Rattle.monitor.specs.Summary.{answer as summary-of};
+ghost use Rattle.monitor.specs.Summary.{position, position-or, counts-of, latest-words, summarized-number, Summarizes};
+ghost use Rattle.monitor.specs.Formulas.{answer, formula-count};
 ghost use Rattle.monitor.specs.Status.{known};
 ghost use Rattle.monitor.specs.Status.{answer as standing-of};
-
-mod give;
-mod sheet;
-
 use checkpoint::Checked;
 use checkpoint::Sized;
 use checkpoint::header;
+use rule::Measured;
+
+// The lent word of a latest position where there is none.
+const NO_POSITION: u64 = 18446744073709551615;
 
 // What `open` answers.
 pub enum Opened {
@@ -51,23 +55,6 @@ impl Resumed {
     }
 }
 
-// What `tally` answers.
-pub enum Tallied {
-    Counts { no: usize, yes: usize },
-    Refused(u32),
-}
-
-impl Tallied {
-    pub fn number(self) -> u32
-        ensures { λ r. ⌜ r ≡ answer self .number ⌝ }
-    {
-        match self {
-            Tallied::Counts { no: _, yes: _ } => 0,
-            Tallied::Refused(n) => n,
-        }
-    }
-}
-
 // The position of the latest no among the verdicts given.
 pub enum Latest {
     At(u64),
@@ -86,19 +73,36 @@ impl Latest {
     }
 }
 
-// What `summary` answers.
+// What `summary` answers: how many formulas there are counts of.
 pub enum Summarized {
-    Counted { no: u64, latest: Latest },
+    Counted { formulas: u64 },
     Refused(u32),
 }
 
 impl Summarized {
     pub fn number(self) -> u32
-        ensures { λ r. ⌜ r ≡ summary-of self .number ⌝ }
+        ensures { λ r. ⌜ r ≡ summarized-number self ⌝ }
     {
         match self {
-            Summarized::Counted { no: _, latest: _ } => 0,
+            Summarized::Counted { formulas: _ } => 0,
             Summarized::Refused(n) => n,
+        }
+    }
+}
+
+// What `formulas` answers.
+pub enum FormulaCount {
+    Formulas(u64),
+    Refused(u32),
+}
+
+impl FormulaCount {
+    pub fn number(self) -> u32
+        ensures { λ r. ⌜ r ≡ answer self .number ⌝ }
+    {
+        match self {
+            FormulaCount::Formulas(_) => 0,
+            FormulaCount::Refused(n) => n,
         }
     }
 }
@@ -135,13 +139,14 @@ pub fn open(rule: &[u8], point: &mut [u64]) -> Opened
     ensures { λ r. ⌜ Opens (now (rule .entry)) (now (point .entry)) r (now (point .exit)) ⌝ }
 {
     let header = rule::check_header(rule);
+    let version = header.version();
     let count = header.count();
     let entries = rule::decode(rule, count);
     let sized = checkpoint::size_of(rule::measure_decoded(header, entries), point.len());
     let Sized::Words(words) = sized else {
         return Opened::Refused(sized.number());
     };
-    checkpoint::fresh::write(entries, count, &mut point[0..words]);
+    checkpoint::fresh::write(version, entries, count, &mut point[0..words]);
     Opened::Done
 }
 
@@ -156,24 +161,35 @@ fn resume_or_close(
     ensures { λ r. ⌜ Resumes closing (now (rule .entry)) (now (log .entry)) (now (point .entry)) (now (sheet .entry)) r (now (point .exit)) (now (sheet .exit)) ⌝ }
 {
     let header = rule::check_header(rule);
+    let version = header.version();
     let count = header.count();
     let entries = rule::decode(rule, count);
     let sized = checkpoint::size_of(rule::measure_decoded(header, entries), point.len());
     let Sized::Words(words) = sized else {
         return Resumed::Refused(sized.number());
     };
-    let checked = checkpoint::check_point(entries, count, log, closing, point);
+    let checked = checkpoint::check_point(version, entries, count, log, closing, point);
     let Checked::Passed = checked else {
         return Resumed::Refused(checked.number());
     };
-    give::proceed(
+    let ends = rule::ends_of(entries, count);
+    let at = ends.at;
+    let emitted = emit::emit(
         entries,
         count,
+        at,
+        ends.number,
+        rule::most_of(version),
+        rule::header_words(version),
         trace::records(log),
         closing,
         &mut point[0..words],
         sheet,
-    )
+    );
+    Resumed::Given {
+        count: emitted.count,
+        more: emitted.more,
+    }
 }
 
 // Carry on: writes the verdicts that are settled and not yet given.
@@ -190,13 +206,6 @@ pub fn close(rule: &[u8], log: &[u8], point: &mut [u64], sheet: &mut [u8]) -> Re
     resume_or_close(rule, log, true, point, sheet)
 }
 
-// Counts the verdicts of a sheet.
-pub fn tally(sheet: &[u8]) -> Tallied
-    ensures { λ r. ⌜ answer r ≡ tallied (now (sheet .entry)) ⌝ }
-{
-    sheet::count(sheet)
-}
-
 // The latest no, by one more than its position, and 0 for none.
 fn latest_of(after: u64) -> Latest
     ensures { λ r. ⌜ position r ≡ latest-of after ⌝ }
@@ -208,21 +217,38 @@ fn latest_of(after: u64) -> Latest
     }
 }
 
-// The count of no among the verdicts given, and the latest of them, as the checkpoint has them.
-pub fn summary(rule: &[u8], point: &[u64]) -> Summarized
-    ensures { λ r. ⌜ summary-of r ≡ summarized (now (rule .entry)) (now (point .entry)) ⌝ }
+// Writes the counts of no and the latest positions of the first formulas, as the checkpoint has them.
+fn write_noes(point: &[u64], most: usize, formulas: usize, no: &mut [u64], latest: &mut [u64])
+    requires { ⌜ (formulas ≤ most) × (8 + most + most ≤ length (now point)) × (formulas ≤ length (now «no»)) × (formulas ≤ length (now latest)) ⌝ }
+    ensures { λ _. ⌜ now («no» .exit) ≡ counts-of (stored-noes most (now (point .entry))) formulas ++ drop formulas (now («no» .entry)) ⌝ }
+    ensures { λ _. ⌜ now (latest .exit) ≡ latest-words (stored-noes most (now (point .entry))) formulas ++ drop formulas (now (latest .entry)) ⌝ }
+{
+    let mut k: usize = 0;
+    while k < formulas {
+        no[k] = point[header::NO_COUNT + k];
+        latest[k] = latest_of(point[header::NO_COUNT + most + k]).or(NO_POSITION);
+        k += 1;
+    }
+}
+
+// For each formula the count of no among the verdicts given, and the latest of them, as the checkpoint has them.
+pub fn summary(rule: &[u8], point: &[u64], no: &mut [u64; 8], latest: &mut [u64; 8]) -> Summarized
+    ensures { λ r. ⌜ Summarizes (now (rule .entry)) (now (point .entry)) (now («no» .entry)) (now (latest .entry)) r (now («no» .exit)) (now (latest .exit)) ⌝ }
 {
     let header = rule::check_header(rule);
+    let version = header.version();
     let count = header.count();
     let entries = rule::decode(rule, count);
     let measured = rule::measure_decoded(header, entries);
-    let checked = checkpoint::check_own(measured, entries, count, point);
+    let checked = checkpoint::check_own(measured, version, entries, count, point);
     let Checked::Passed = checked else {
         return Summarized::Refused(checked.number());
     };
+    let ends = rule::ends_of(entries, count);
+    let formulas = emit::columns_of(ends.number);
+    write_noes(point, rule::most_of(version), formulas, no, latest);
     Summarized::Counted {
-        no: point[header::NO_COUNT],
-        latest: latest_of(point[header::AFTER_LATEST]),
+        formulas: formulas as u64,
     }
 }
 
@@ -231,10 +257,11 @@ pub fn status(rule: &[u8], point: &[u64]) -> Standing
     ensures { λ r. ⌜ standing-of r ≡ known (now (rule .entry)) (now (point .entry)) ⌝ }
 {
     let header = rule::check_header(rule);
+    let version = header.version();
     let count = header.count();
     let entries = rule::decode(rule, count);
     let measured = rule::measure_decoded(header, entries);
-    let checked = checkpoint::check_own(measured, entries, count, point);
+    let checked = checkpoint::check_own(measured, version, entries, count, point);
     let Checked::Passed = checked else {
         return Standing::Refused(checked.number());
     };
@@ -242,7 +269,22 @@ pub fn status(rule: &[u8], point: &[u64]) -> Standing
     Standing::Known {
         given: given,
         seen: point[header::SEEN],
-        wanted: checkpoint::first_wanted(entries, count, given as usize) as u64,
+        wanted: checkpoint::first_wanted(version, entries, count, given as usize) as u64,
         closed: 0 < point[header::CLOSED_WITH],
     }
+}
+
+// How many answers a verdict of the rule has: one for each formula, and one where there is none.
+pub fn formulas(rule: &[u8]) -> FormulaCount
+    ensures { λ r. ⌜ answer r ≡ formula-count (now (rule .entry)) ⌝ }
+{
+    let header = rule::check_header(rule);
+    let count = header.count();
+    let entries = rule::decode(rule, count);
+    let measured = rule::measure_decoded(header, entries);
+    let Measured::Words { words: _, reach: _ } = measured else {
+        return FormulaCount::Refused(measured.number());
+    };
+    let ends = rule::ends_of(entries, count);
+    FormulaCount::Formulas(emit::columns_of(ends.number) as u64)
 }

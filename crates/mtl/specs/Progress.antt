@@ -56,7 +56,7 @@ unfoldable pub settled-to : Formula → Log → ℕ
 settled-to φ L = cond (L .closed) (L .size) (progress φ L)
 
 -- "The rule's answered number A is that of its last entry." A rule with no entry has no formula, and "A equals N". Of several
--- formulas, which no rule has yet, it is as many positions as each of them has answered.
+-- formulas, "Position i has a verdict when every formula has answered it" (document 02, paper 8).
 unfoldable pub joint-progress : List Formula → Log → ℕ
 joint-progress [] L = L .size
 joint-progress (φ ∷ fs) L = min (settled-to φ L) (joint-progress fs L)

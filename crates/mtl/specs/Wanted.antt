@@ -15,7 +15,7 @@ depth (next low high φ) = depth φ
 depth (since low high φ ψ) = max (depth φ) (depth ψ)
 depth (until low high φ ψ) = max (depth φ) (depth ψ)
 
--- of a rule's formulas the largest; of none 0
+-- of a rule's formulas the largest, "paper 2's k, are the largest over the formulas" (paper 8); of none 0
 unfoldable pub deepest : List Formula → ℕ
 deepest [] = 0
 deepest (φ ∷ fs) = max (depth φ) (deepest fs)

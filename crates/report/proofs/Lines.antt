@@ -1,11 +1,11 @@
 -- How long the lines of a text are. Assumes nothing.
 use Prim.Native.Nat.{ℕ, zero, suc, _+_, _*_, _≤_, _<_}
-use mathlib.Core.Bool.{Bool, true, false, cond}
+use mathlib.Core.Bool.{Bool, true, false}
 use mathlib.Core.List.{List, _++_}
 use native.Mathlib.Omega.{arith}
-use lib.Dec.{eqb}
 use lib.ListN.{length, getD, length-append}
-use Rattle.report.specs.Report.{ascii, decimal, first-line, line, lines}
+use Rattle.bits.specs.Packed.{bit}
+use Rattle.report.specs.Report.{ascii, decimal, first-line, word, words, line, lines}
 use Rattle.report.proofs.Decimals.{four-digits}
 
 pub short-first-line : (given records : ℕ) → given < 10000 → records < 10000 → length (first-line given records) ≤ 22
@@ -19,23 +19,34 @@ short-first-line given records few few′ =
     let four = length-append (ascii "verdicts " ++ decimal given ++ ascii " of " ++ decimal records) (ascii "\n") in
     omega arith
 
-short-word : (b : Bool) → length (cond b (ascii " yes\n") (ascii " no\n")) ≤ 5
+short-word : (b : Bool) → length (word b) ≤ 4
 unfolding ascii
 short-word true = omega arith
 short-word false = omega arith
 
-short-line : (i v : ℕ) → i < 10000 → length (line i v) ≤ 9
-short-line i v few =
-    let d = four-digits i few in
-    let w = short-word (eqb v 1) in
-    let sum = length-append (decimal i) (cond (eqb v 1) (ascii " yes\n") (ascii " no\n")) in
+pub short-words : (v n : ℕ) → length (words v n) ≤ n * 4
+unfolding words
+short-words v zero = omega arith
+short-words v (suc n) =
+    let before = short-words v n in
+    let last = short-word (bit v n) in
+    let sum = length-append (words v n) (word (bit v n)) in
     omega arith
 
-pub short-lines : (vs : List ℕ) (n : ℕ) → n ≤ 10000 → length (lines vs n) ≤ n * 9
+short-line : (i columns v : ℕ) → i < 10000 → columns ≤ 8 → length (line i columns v) ≤ 37
+unfolding ascii
+short-line i columns v few most =
+    let d = four-digits i few in
+    let w = short-words v columns in
+    let front = length-append (decimal i) (words v columns) in
+    let sum = length-append (decimal i ++ words v columns) (ascii "\n") in
+    omega arith
+
+pub short-lines : (columns : ℕ) (vs : List ℕ) (n : ℕ) → columns ≤ 8 → n ≤ 10000 → length (lines columns vs n) ≤ n * 37
 unfolding lines
-short-lines vs zero few = omega arith
-short-lines vs (suc n) few =
-    let before = short-lines vs n (omega arith) in
-    let last = short-line n (getD vs n 0) (omega arith) in
-    let sum = length-append (lines vs n) (line n (getD vs n 0)) in
+short-lines columns vs zero most few = omega arith
+short-lines columns vs (suc n) most few =
+    let before = short-lines columns vs n most (omega arith) in
+    let last = short-line n columns (getD vs n 0) (omega arith) most in
+    let sum = length-append (lines columns vs n) (line n columns (getD vs n 0)) in
     omega arith

@@ -13,6 +13,7 @@ use Rattle.mtl.specs.Log.{Log, NeverFalls}
 use Rattle.mtl.specs.Progress.{joint-progress}
 use Rattle.mtl.specs.Wanted.{wanted}
 use Rattle.mtl.proofs.Joint.{joint-le-size}
+use Rattle.rule.specs.Entries.{version}
 use Rattle.rule.specs.Refusal.{first, refusal}
 use Rattle.rule.proofs.Headers.{first-zero, before-none, or-right}
 use Rattle.rule.proofs.Acceptance.{accepted}
@@ -22,19 +23,44 @@ use Rattle.trace.specs.Order.{disordered}
 use Rattle.trace.proofs.Laws.{well-formed-records, ordered-iff}
 use Rattle.checkpoint.specs.Checkpoint.{need}
 use Rattle.checkpoint.specs.Refusal.{open-refusal, log-refusal, resume-refusal}
-use Rattle.monitor.specs.Verdicts.{formulas-of, verdicts, first-records, all-verdicts}
+use Rattle.emit.specs.Verdicts.{formulas-of, columns, verdicts, first-records, all-verdicts}
 use Rattle.monitor.specs.Stands.{Stands}
 use Rattle.monitor.specs.Open.{Opens, opened-number}
 use Rattle.monitor.specs.Resume.{Gives, Resumes, resumed-number}
+use Rattle.monitor.specs.Formulas.{Answer, answer, formula-count}
 use Rattle.monitor.specs.declared.Opened.{Opened}
 use Rattle.monitor.specs.declared.Opened.the-variants.{Done}
 use Rattle.monitor.specs.declared.Opened.the-variants.{Refused as NotOpened}
 use Rattle.monitor.specs.declared.Resumed.{Resumed}
 use Rattle.monitor.specs.declared.Resumed.the-variants.{Given}
 use Rattle.monitor.specs.declared.Resumed.the-variants.{Refused as NotResumed}
+use Rattle.monitor.specs.declared.FormulaCount.{FormulaCount}
+use Rattle.monitor.specs.declared.FormulaCount.the-variants.{Formulas}
+use Rattle.monitor.specs.declared.FormulaCount.the-variants.{Refused as NotCounted}
+use Rattle.monitor.proofs.Meaning.{few-columns, most-few}
 use Rattle.monitor.proofs.OwnCheckpoint.{own-given, not-outside}
 use Rattle.monitor.proofs.VerdictBytes.{verdicts-more}
 use Rattle.report.specs.Report.{refused-text, first-line, lines, verdicts-text, run-refusal, too-long, report}
+
+-- of an accepted rule
+module _ (rule : List ℕ) (fine : refusal rule ≡ 0) where
+  -- eight words on a line are the most
+  pub eight-columns : columns (formulas-of rule) ≤ 8
+  eight-columns = omega (arith, few-columns rule fine, most-few (version rule))
+
+  module _ (r : FormulaCount) (told : answer r ≡ formula-count rule) where
+    counts : answer r ≡ record { number = 0; formulas = columns (formulas-of rule) }
+    counts = rw (eq-eqb (refusal rule) 0 fine) at told
+
+    -- `formulas` gives their number
+    pub formulas-counted : (m : ℕ) → r ≡ Formulas m → m ≡ columns (formulas-of rule)
+    formulas-counted m is = ap (λ (a : Answer). a .formulas) (sym (ap answer is) ∙ counts)
+
+    -- and does not refuse
+    pub formulas-known : (n : ℕ) → r ≡ NotCounted n → ⊥
+    formulas-known n is =
+        let none : 0 ≡ columns (formulas-of rule) = ap (λ (a : Answer). a .formulas) (sym (ap answer is) ∙ counts) in
+        omega arith
 
 -- a log with no record
 abbrev none-yet : Log
@@ -45,7 +71,9 @@ pub record Ran (rule log : List ℕ) (c : ℕ) (sheet′ : List ℕ) : Type 0 wh
   pub few-records : record-count (records-of log) ≤ 8191
   pub few : c ≤ 8191
   pub fits : c ≤ length sheet′
-  pub text : report rule log ≡ first-line c (record-count (records-of log)) ++ lines (take c sheet′) (length (take c sheet′))
+  pub accepts : refusal rule ≡ 0
+  pub text : report rule log ≡
+      first-line c (record-count (records-of log)) ++ lines (columns (formulas-of rule)) (take c sheet′) (length (take c sheet′))
 
 module _ (rule log : List ℕ) (short : too-long rule log ≡ false) where
   -- a text of a refusal
@@ -59,7 +87,7 @@ module _ (rule log : List ℕ) (short : too-long rule log ≡ false) where
       go : (b : Bool) → eqb (refusal rule) 0 ≡ b → cond b (first 9 (ltb 8192 (need rule)) 0) (refusal rule) ≡ refusal rule
       go true p =
           let fine = eqb-true (refusal rule) 0 p in
-          rw (le-ltb 8192 (need rule) (accepted rule fine .well-formed .within)) (sym fine)
+          rw (le-ltb 8192 (need rule) (accepted rule fine .need)) (sym fine)
       go false p = refl
 
   -- `open` refuses
@@ -179,12 +207,12 @@ module _ (rule log : List ℕ) (short : too-long rule log ≡ false) where
             ap (λ K. verdicts (formulas-of rule) K (joint-progress (formulas-of rule) K)) whole ∙
             ap (verdicts (formulas-of rule) L) (sym all-given) ∙ sym bytes
 
-        text : report rule log ≡ first-line c (L .size) ++ lines (take c sheet′) (length (take c sheet′))
+        text : report rule log ≡ first-line c (L .size) ++ lines (columns (formulas-of rule)) (take c sheet′) (length (take c sheet′))
         text =
             let count : length (take c sheet′) ≡ c = length-take-le c sheet′ given-fits in
             rw (short, eq-eqb (run-refusal rule log) 0 unrefused)
-            (ap (verdicts-text (L .size)) all ∙
-            ap (λ k. first-line k (L .size) ++ lines (take c sheet′) (length (take c sheet′))) count)
+            (ap (verdicts-text (L .size) (columns (formulas-of rule))) all ∙
+            ap (λ k. first-line k (L .size) ++ lines (columns (formulas-of rule)) (take c sheet′) (length (take c sheet′))) count)
 
         pub resumed : Ran rule log c sheet′
-        resumed = record { few-records = few-records; few = omega (arith, gave .words .room); fits = given-fits; text = text }
+        resumed = record { few-records = few-records; few = omega (arith, gave .words .room); fits = given-fits; accepts = fine; text = text }

@@ -1,15 +1,18 @@
--- Document 01's run, from its bytes to its text, the same log with an empty rule, and two small cases, by computation.
+-- Document 01's run, from its bytes to its text, the same log with an empty rule and with two formulas, and two small cases, by
+-- computation.
 use Prim.Native.Nat.{ℕ}
 use mathlib.Core.List.{List, [], _∷_, _++_}
 use mathlib.Core.Path.{_≡_, refl}
+use lib.ListN.{drop}
 use Rattle.mtl.specs.Satisfaction.{any, all, sat}
 use Rattle.mtl.specs.Progress.{run, progress, settled-to, joint-progress}
 use Rattle.rule.specs.Entries.{first-entries}
 use Rattle.rule.specs.Words.{offset}
 use Rattle.rule.specs.Postfix.{push-kind, read}
 use Rattle.rule.specs.Refusal.{header-refusal, entries-refusal}
-use Rattle.monitor.specs.Verdicts.{byte-of, verdicts}
-use Rattle.report.specs.Report.{ascii, decimal-in, decimal, lines, report}
+use Rattle.verdicts.specs.Bytes.{byte-of}
+use Rattle.emit.specs.Verdicts.{verdicts}
+use Rattle.report.specs.Report.{ascii, decimal-in, decimal, words, lines, report}
 
 -- "Rule: letter 0, letter 1, until 0 to 2; 38 bytes"
 abbrev pub rule : List ℕ
@@ -34,13 +37,19 @@ log =
 
 -- "Output, all of it"
 pub full-run : report rule log ≡ ascii "verdicts 5 of 6\n0 no\n1 no\n2 no\n3 yes\n4 yes\n"
-unfolding ascii decimal-in lines first-entries offset push-kind read header-refusal entries-refusal any all sat run progress settled-to joint-progress byte-of verdicts
+unfolding ascii decimal-in words lines first-entries offset push-kind read header-refusal entries-refusal any all sat run progress settled-to joint-progress byte-of verdicts
 full-run = refl
 
 -- request 3: an empty rule over the same log
 pub empty-rule : report (0x4B ∷ 0x52 ∷ 0x4C ∷ 0 ∷ 1 ∷ 0 ∷ 0 ∷ 0 ∷ []) log ≡ ascii "verdicts 6 of 6\n0 yes\n1 yes\n2 yes\n3 yes\n4 yes\n5 yes\n"
-unfolding ascii decimal-in lines first-entries offset read header-refusal entries-refusal any settled-to joint-progress byte-of verdicts
+unfolding ascii decimal-in words lines first-entries offset read header-refusal entries-refusal any settled-to joint-progress byte-of verdicts
 empty-rule = refl
+
+-- request 8: the same until, and its not behind it
+pub two-formulas : report (0x4B ∷ 0x52 ∷ 0x4C ∷ 0 ∷ 2 ∷ 7 ∷ 0 ∷ 0 ∷ drop 8 rule ++ drop 8 rule ++ (1 ∷ 0 ∷ 0 ∷ 0 ∷ 0 ∷ 0 ∷ 0 ∷ 0 ∷ 0 ∷ 0 ∷ [])) log
+    ≡ ascii "verdicts 5 of 6\n0 no yes\n1 no yes\n2 no yes\n3 yes no\n4 yes no\n"
+unfolding ascii decimal-in words lines first-entries offset push-kind read header-refusal entries-refusal any all sat run progress settled-to joint-progress byte-of verdicts
+two-formulas = refl
 
 -- the same log with no rule
 pub no-rule : report [] log ≡ ascii "refused 1\n"

@@ -8,10 +8,11 @@ use mathlib.Core.Path.{_≡_}
 use mathlib.Core.List.{List, [], _∷_, _++_}
 use lib.ListN.{length, getD, take, drop}
 use lib.Dec.{ltb, eqb}
+use Rattle.bits.specs.Packed.{bit}
 use Rattle.rule.specs.Refusal.{before, refusal}
 use Rattle.trace.specs.Format.{record-count, records-of}
 use Rattle.checkpoint.specs.Refusal.{log-refusal}
-use Rattle.monitor.specs.Verdicts.{all-verdicts}
+use Rattle.emit.specs.Verdicts.{formulas-of, columns, all-verdicts}
 
 -- the bytes of a text; every character here is ASCII, one byte
 unfoldable pub ascii : String → List ℕ
@@ -35,17 +36,26 @@ refused-text number = ascii "refused " ++ decimal number ++ ascii "\n"
 abbrev pub first-line : (given records : ℕ) → List ℕ
 first-line given records = ascii "verdicts " ++ decimal given ++ ascii " of " ++ decimal records ++ ascii "\n"
 
--- "each other line a position and its verdict": "each byte 1 for yes or 0 for no"
-abbrev pub line : (position verdict : ℕ) → List ℕ
-line position verdict = decimal position ++ cond (eqb verdict 1) (ascii " yes\n") (ascii " no\n")
+-- one space, and yes or no
+abbrev pub word : (holds : Bool) → List ℕ
+word holds = cond holds (ascii " yes") (ascii " no")
+
+-- "the words on a printed line become one per formula": those of the first n bits of a verdict, "in rule order from 0"
+unfoldable pub words : (verdict n : ℕ) → List ℕ
+words verdict zero = []
+words verdict (suc n) = words verdict n ++ word (bit verdict n)
+
+-- "each other line a position and its verdict"
+abbrev pub line : (position columns verdict : ℕ) → List ℕ
+line position columns verdict = decimal position ++ words verdict columns ++ ascii "\n"
 
 -- the lines of the first n verdicts; "counted from 0"
-unfoldable pub lines : (verdicts : List ℕ) → ℕ → List ℕ
-lines verdicts zero = []
-lines verdicts (suc n) = lines verdicts n ++ line n (getD verdicts n 0)
+unfoldable pub lines : (columns : ℕ) (verdicts : List ℕ) → ℕ → List ℕ
+lines columns verdicts zero = []
+lines columns verdicts (suc n) = lines columns verdicts n ++ line n columns (getD verdicts n 0)
 
-abbrev pub verdicts-text : (records : ℕ) (verdicts : List ℕ) → List ℕ
-verdicts-text records verdicts = first-line (length verdicts) records ++ lines verdicts (length verdicts)
+abbrev pub verdicts-text : (records columns : ℕ) (verdicts : List ℕ) → List ℕ
+verdicts-text records columns verdicts = first-line (length verdicts) records ++ lines columns verdicts (length verdicts)
 
 -- "opens, carries on": the first refusal that applies. The checkpoint is fresh, with nothing given or seen, and has room for
 -- every rule that passes 8. So 9, 10, 11, 13 and 20 are never met
@@ -60,7 +70,7 @@ too-long rule log = ltb 65536 (length rule) || ltb 65536 (length log)
 abbrev pub run-text : (rule log : List ℕ) → List ℕ
 run-text rule log =
     cond (eqb (run-refusal rule log) 0)
-    (verdicts-text (record-count (records-of log)) (all-verdicts false rule log (record-count (records-of log))))
+    (verdicts-text (record-count (records-of log)) (columns (formulas-of rule)) (all-verdicts false rule log (record-count (records-of log))))
     (refused-text (run-refusal rule log))
 
 abbrev pub report : (rule log : List ℕ) → List ℕ

@@ -2,7 +2,10 @@
 ghost use mathlib.Core.Path.{_≡_};
 ghost use Prim.Native.Nat.{_+_, _*_, _≤_, _<_};
 ghost use lib.ListN.{length};
-ghost use Rattle.report.specs.Report.{decimal, refused-text, first-line, line, lines, too-long, report as Report·report, Writes};
+ghost use Rattle.rule.specs.Refusal.{refusal};
+ghost use Rattle.emit.specs.Verdicts.{formulas-of, columns};
+ghost use Rattle.report.specs.Report.{decimal, refused-text, first-line, word, words, line, lines, too-long, report as Report·report, Writes};
+use monitor::FormulaCount;
 use monitor::Opened;
 use monitor::Resumed;
 
@@ -58,37 +61,71 @@ fn put_counts(given: usize, records: usize, text: &mut [u8]) -> usize
     put(b"\n", text, second)
 }
 
-// A position and its verdict.
-fn put_line(position: usize, verdict: u8, text: &mut [u8], at: usize) -> usize
-    requires { ⌜ (position < 10000) × (at + 9 ≤ length (now text)) ⌝ }
-    ensures { λ r. ⌜ Writes (now (text .entry)) at (line position verdict) r (now (text .exit)) ⌝ }
+// One space, and yes or no.
+fn put_word(holds: bool, text: &mut [u8], at: usize) -> usize
+    requires { ⌜ at + 4 ≤ length (now text) ⌝ }
+    ensures { λ r. ⌜ Writes (now (text .entry)) at (word holds) r (now (text .exit)) ⌝ }
 {
-    let behind = put_number(position, text, at);
-    if verdict == 1 {
-        put(b" yes\n", text, behind)
+    if holds {
+        put(b" yes", text, at)
     } else {
-        put(b" no\n", text, behind)
+        put(b" no", text, at)
     }
 }
 
+// The word of each formula, in rule order.
+fn put_words(verdict: u8, columns: usize, text: &mut [u8], from: usize) -> usize
+    requires { ⌜ (columns ≤ 8) × (from + columns * 4 ≤ length (now text)) ⌝ }
+    ensures { λ r. ⌜ Writes (now (text .entry)) from (words verdict columns) r (now (text .exit)) ⌝ }
+{
+    let mut at = from;
+    let mut left = columns;
+    while 0 < left {
+        let k = columns - left;
+        at = put_word(bits::test(verdict as u64, k as u64), text, at);
+        left -= 1;
+    }
+    at
+}
+
+// A position and its verdict.
+fn put_line(position: usize, columns: usize, verdict: u8, text: &mut [u8], at: usize) -> usize
+    requires { ⌜ (position < 10000) × (columns ≤ 8) × (at + 37 ≤ length (now text)) ⌝ }
+    ensures { λ r. ⌜ Writes (now (text .entry)) at (line position columns verdict) r (now (text .exit)) ⌝ }
+{
+    let first = put_number(position, text, at);
+    let behind = put_words(verdict, columns, text, first);
+    put(b"\n", text, behind)
+}
+
 // A line for each verdict.
-fn put_lines(verdicts: &[u8], text: &mut [u8], from: usize) -> usize
-    requires { ⌜ (length (now verdicts) < 10000) × (from + length (now verdicts) * 9 ≤ length (now text)) ⌝ }
-    ensures { λ r. ⌜ Writes (now (text .entry)) from (lines (now (verdicts .entry)) (length (now (verdicts .entry)))) r (now (text .exit)) ⌝ }
+fn put_lines(verdicts: &[u8], columns: usize, text: &mut [u8], from: usize) -> usize
+    requires { ⌜ (length (now verdicts) < 10000) × (columns ≤ 8) × (from + length (now verdicts) * 37 ≤ length (now text)) ⌝ }
+    ensures { λ r. ⌜ Writes (now (text .entry)) from (lines columns (now (verdicts .entry)) (length (now (verdicts .entry)))) r (now (text .exit)) ⌝ }
 {
     let mut at = from;
     let mut i: usize = 0;
     while i < verdicts.len() {
         let next = i + 1;
-        at = put_line(i, verdicts[i], text, at);
+        at = put_line(i, columns, verdicts[i], text, at);
         i = next;
     }
     at
 }
 
+// How many words a line of an accepted rule has; of a refused rule no line is printed.
+fn columns_of(rule: &[u8]) -> usize
+    ensures { λ r. ⌜ (refusal (now (rule .entry)) ≡ 0 → r ≡ columns (formulas-of (now (rule .entry)))) ⌝ }
+{
+    let FormulaCount::Formulas(columns) = monitor::formulas(rule) else {
+        return 1;
+    };
+    columns as usize
+}
+
 // Opens a checkpoint, carries on once, and writes what comes of it; gives the text's length. There is room for every text: the
-// first line has at most 22 bytes, and each of 8,191 others at most 9.
-pub fn report(rule: &[u8], log: &[u8], text: &mut [u8; 73741]) -> usize
+// first line has at most 22 bytes, and each of 8,191 others at most 37.
+pub fn report(rule: &[u8], log: &[u8], text: &mut [u8; 303089]) -> usize
     ensures { λ r. ⌜ Writes (now (text .entry)) 0 (Report·report (now (rule .entry)) (now (log .entry))) r (now (text .exit)) ⌝ }
 {
     if is_too_long(rule, log) {
@@ -104,6 +141,7 @@ pub fn report(rule: &[u8], log: &[u8], text: &mut [u8; 73741]) -> usize
     let Resumed::Given { count, more: _ } = resumed else {
         return put_refused(resumed.number(), text);
     };
+    let columns = columns_of(rule);
     let at = put_counts(count, trace::count(trace::records(log)), text);
-    put_lines(&sheet[..count], text, at)
+    put_lines(&sheet[..count], columns, text, at)
 }

@@ -1,69 +1,81 @@
--- A rule that weighing accepts has one formula, or none where it has no entry, and all that the layers above rely on.
-use Prim.Native.Nat.{ℕ, suc, _+_, _-_, _≤_, _<_}
+-- A rule that weighing accepts has as many formulas as its version wants, and all that the layers above rely on.
+use Prim.Native.Nat.{ℕ, suc, _≤_, _<_}
 use native.Mathlib.Nat.{suc-inj}
 use native.Mathlib.Omega.{arith}
 use borrow.Author.Tests.{ltb-false}
 use mathlib.Core.Path.{_≡_, refl, sym, ap, subst, _∙_}
 use mathlib.Core.Bool.{false}
-use mathlib.Core.List.{List, [], _∷_, _++_}
+use mathlib.Core.List.{List, [], _∷_, reverse, reverse-reverse}
 use mathlib.Core.Option.{Option, none, some}
-use lib.ListN.{length, take}
+use lib.ListN.{length, take, length-reverse}
 use Rattle.mtl.specs.Formula.{Formula}
 use Rattle.mtl.specs.Satisfaction.{any}
 use Rattle.rule.specs.declared.Entry.{Entry}
-use Rattle.rule.specs.Entries.{count, decoded, entry}
-use Rattle.rule.specs.Words.{offset, words, limit}
-use Rattle.rule.specs.Postfix.{read, stack-after, at-most-one, formulas, postfixes}
+use Rattle.rule.specs.Entries.{version, count, decoded, entry}
+use Rattle.rule.specs.Words.{words, limit}
+use Rattle.rule.specs.Postfix.{read, stack-after, formulas, postfixes}
 use Rattle.rule.specs.Refusal.{misshapen-at, misplaced-at, lacking, over-limit, header-refusal, entries-refusal, refusal}
-use Rattle.rule.specs.Operands.{span, FormulaAt}
-use Rattle.rule.specs.Accepted.{InRange, WellFormed, One, Whole, Accepted}
-use Rattle.rule.proofs.Stacks.{stays-none, left-over}
+use Rattle.rule.specs.Operands.{FormulaAt}
+use Rattle.rule.specs.Accepted.{InRange, WellFormed, Whole, Accepted}
+use Rattle.rule.proofs.Stacks.{stays-none, Left, left-over}
+use Rattle.rule.proofs.Order.{whole-of}
 use Rattle.rule.proofs.Headers.{first-zero, before-none, headed}
 use Rattle.rule.proofs.Spans.{leaf-of}
-use Rattle.rule.proofs.Subformulas.{span-fits, unary-at, binary-at, Stacked, stacked}
+use Rattle.rule.proofs.Subformulas.{unary-at, binary-at, Stacked, stacked}
 use Rattle.rule.proofs.Ranges.{none-below, in-range}
 use Rattle.rule.proofs.Flat.{read-postfixes, flat}
 use Rattle.rule.proofs.Decoded.{length-decoded}
 
 -- what remains where refusals 5 to 8 do not apply
-pub record Passed (t : List Entry) (n : ℕ) : Type 0 where
+pub record Passed (version : ℕ) (t : List Entry) (n : ℕ) : Type 0 where
   pub shapes : any n (misshapen-at t) ≡ false
   pub places : any n (misplaced-at t) ≡ false
-  pub reads : lacking (formulas t n) ≡ false
-  pub fits : words t n ≤ limit
+  pub reads : lacking (formulas version t n) ≡ false
+  pub fits : words version t n ≤ limit
 
-passed : (t : List Entry) (n : ℕ) → entries-refusal t n ≡ 0 → Passed t n
+pub passed : (version : ℕ) (t : List Entry) (n : ℕ) → entries-refusal version t n ≡ 0 → Passed version t n
 unfolding entries-refusal
-passed t n e =
+passed version t n e =
     let a = first-zero 4 (any n (misshapen-at t)) _ e in
     let b = first-zero 5 (any n (misplaced-at t)) _ (a .1) in
-    let c = first-zero 6 (lacking (formulas t n)) _ (b .1) in
-    let d = first-zero 7 (over-limit t n) 0 (c .1) in
-    record { shapes = a .0; places = b .0; reads = c .0; fits = ltb-false limit (words t n) (d .0) }
+    let c = first-zero 6 (lacking (formulas version t n)) _ (b .1) in
+    let d = first-zero 7 (over-limit version t n) 0 (c .1) in
+    record { shapes = a .0; places = b .0; reads = c .0; fits = ltb-false limit (words version t n) (d .0) }
 
 the-left : (o : Option (List Formula)) → lacking o ≡ false → (fs : List Formula) × (o ≡ some fs)
 the-left none e = absurd (let z : _≡_ {A = ℕ} 0 1 = cc in omega arith)
 the-left (some fs) e = (fs, refl)
 
-module _ (t : List Entry) (n : ℕ) (long : n ≤ length t) (p : Passed t n) where
+module _ (version : ℕ) (t : List Entry) (n : ℕ) (long : n ≤ length t) (p : Passed version t n) where
   ranges : (k : ℕ) → k < n → InRange (entry t k)
   ranges k h = in-range (entry t k) (none-below n (misshapen-at t) (p .shapes) k h) (none-below n (misplaced-at t) (p .places) k h)
 
-  those : (fs : List Formula) × (formulas t n ≡ some fs)
-  those = the-left (formulas t n) (p .reads)
+  those : (fs : List Formula) × (formulas version t n ≡ some fs)
+  those = the-left (formulas version t n) (p .reads)
 
   fs₀ : List Formula
   fs₀ = those .0
 
-  reads-those : formulas t n ≡ some fs₀
+  reads-those : formulas version t n ≡ some fs₀
   unfolding fs₀
   reads-those = those .1
 
-  at-end : stack-after t n ≡ some fs₀
-  at-end = left-over (stack-after t n) fs₀ reads-those
+  left : Left version (stack-after t n) fs₀
+  left = left-over version (stack-after t n) fs₀ reads-those
 
-  stacked-end : Stacked t n fs₀
-  stacked-end = stacked t n long ranges n (omega arith) fs₀ at-end
+  stack : List Formula
+  stack = left .stack
+
+  at-end : stack-after t n ≡ some stack
+  unfolding stack
+  at-end = left .stack-is
+
+  in-order : fs₀ ≡ reverse stack
+  unfolding stack
+  in-order = left .order
+
+  stacked-end : Stacked t n stack
+  stacked-end = stacked t n long ranges n (omega arith) stack at-end
 
   sub : (k : ℕ) → k < n → (φ : Formula) × FormulaAt t k φ
   sub k h = go (stack-after t (suc k)) refl
@@ -83,54 +95,45 @@ module _ (t : List Entry) (n : ℕ) (long : n ≤ length t) (p : Passed t n) whe
         leaf = λ k h e. leaf-of t k e;
         unary = λ k h e. let (φ, a) = sub k h in unary-at t k φ a e;
         binary = λ k h e. let (φ, a) = sub k h in binary-at t k φ a e;
-        within = p .fits;
+        within = omega (arith, p .fits);
       }
-
-  -- one formula that begins at entry 0 and ends at the last
-  one-of : (φ : Formula) (j : ℕ) → n ≡ suc j → FormulaAt t j φ → suc j - span t j ≡ 0 → One t n φ
-  unfolding offset
-  one-of φ j q a r =
-      let i : j ≡ n - 1 = omega arith in
-      let s = ap (span t) i in
-      let f = span-fits t φ j a in
-      let to-end : suc (n - 1) ≡ n = omega arith in
-      let from-zero : suc (n - 1) - span t (n - 1) ≡ 0 = omega arith in
-      record {
-        some-entries = omega arith;
-        at-last = subst (λ (m : ℕ). FormulaAt t m φ) i a;
-        spans-all = omega arith;
-        words-are = omega (arith, ap (offset t) to-end, ap (offset t) from-zero);
-      }
-
-  whole-of : (fs : List Formula) → Stacked t n fs → stack-after t n ≡ some fs → formulas t n ≡ some fs → Whole t n fs
-  whole-of [] s e r = s
-  whole-of (φ ∷ []) (j, q, a, z) e r = one-of φ j q a z
-  whole-of (φ ∷ (ψ ∷ fs)) s e r = let o : _≡_ {A = Option (List Formula)} none (some (φ ∷ (ψ ∷ fs))) = ap at-most-one (sym e) ∙ r in
-      let z : _≡_ {A = ℕ} 0 1 = cc in absurd (omega arith)
 
   whole : Whole t n fs₀
-  whole = whole-of fs₀ stacked-end at-end reads-those
+  whole = subst (Whole t n) (sym in-order) (whole-of t n stack stacked-end)
+
+  how-many : length fs₀ ≡ length (left .stack)
+  how-many = ap length (left .order) ∙ length-reverse (left .stack)
+
+  read-back : postfixes fs₀ ≡ take n t
+  read-back = ap postfixes in-order ∙ flat t stack n long stacked-end
 
   only-those : (fs : List Formula) → postfixes fs ≡ take n t → fs ≡ fs₀
   only-those fs e =
-      let r : stack-after t n ≡ some fs = ap (λ (l : List Entry). read l (some [])) (sym e) ∙ read-postfixes fs in
-      cc (at-end)
+      let r : stack-after t n ≡ some (reverse fs) = ap (λ (l : List Entry). read l (some [])) (sym e) ∙ read-postfixes fs in
+      let same : reverse fs ≡ stack = cc (at-end) in
+      sym (reverse-reverse fs) ∙ ap reverse same ∙ sym in-order
 
 pub accepted : (s : List ℕ) → refusal s ≡ 0 → Accepted s
 accepted s e =
+    let v = version s in
     let t = decoded s in
     let n = count s in
-    let b = before-none (header-refusal s) (entries-refusal t n) e in
+    let b = before-none (header-refusal s) (entries-refusal v t n) e in
     let h = headed s (b .0) in
-    let p : Passed t n = passed t n (b .1) in
+    let p : Passed v t n = passed v t n (b .1) in
     let l : n ≤ length t = omega (arith, h .few, length-decoded s) in
+    let m = how-many v t n l p in
     record {
+      one-or-two = h .one-or-two;
       few-entries = h .few;
       size = h .size;
-      well-formed = well-formed t n l p;
-      the-formulas = fs₀ t n l p;
-      reads = reads-those t n l p;
-      whole = whole t n l p;
-      read-back = flat t (fs₀ t n l p) n l (stacked-end t n l p);
-      only = only-those t n l p;
+      well-formed = well-formed v t n l p;
+      need = p .fits;
+      the-formulas = fs₀ v t n l p;
+      reads = reads-those v t n l p;
+      enough = omega (arith, left v t n l p .enough);
+      not-more = omega (arith, left v t n l p .not-more);
+      whole = whole v t n l p;
+      read-back = read-back v t n l p;
+      only = only-those v t n l p;
     }

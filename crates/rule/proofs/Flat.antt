@@ -1,16 +1,16 @@
 -- A rule's entries, read back, are its formulas in postfix order, and no other formulas'.
-use Prim.Native.Nat.{ℕ, suc, _-_, _≤_, _<_}
+use Prim.Native.Nat.{ℕ, suc, _+_, _-_, _≤_, _<_}
 use native.Mathlib.Omega.{arith}
 use mathlib.Core.Path.{_≡_, refl, sym, ap, _∙_}
-use mathlib.Core.List.{List, [], _∷_, _++_, append-assoc}
+use mathlib.Core.List.{List, [], _∷_, _++_, append-assoc, append-nil, reverse, reverse-cons}
 use mathlib.Core.Option.{some}
-use lib.ListN.{length, take}
+use lib.ListN.{length, take, length-append}
 use lib.Seq.{take-suc}
 use Rattle.mtl.specs.Formula.{Formula}
 use Rattle.mtl.specs.Formula.Formula.{letter, not, or, previous, next, since, until}
 use Rattle.rule.specs.declared.Entry.{Entry}
 use Rattle.rule.specs.Entries.{entry, blank}
-use Rattle.rule.specs.Postfix.{push-kind, push, read, root, postfix, postfixes}
+use Rattle.rule.specs.Postfix.{push-kind, push, read, root, postfix, postfixes, size}
 use Rattle.rule.specs.Operands.{operands, span, left, FormulaAt}
 use Rattle.rule.proofs.Stacks.{read-append}
 use Rattle.rule.proofs.Spans.{span-leaf, span-unary, span-binary}
@@ -100,16 +100,48 @@ module _ (t : List Entry) where
       two φ ψ (until low high φ ψ) k l (h .0) (takes t k _ (h .0)) (h .1) (span-fits t φ (left t k) (h .2))
       (ends φ (left t k) (omega arith) (h .2)) (ends ψ (k - 1) (omega arith) (h .3))
 
--- the entries of a stack's formulas put them on the stack
-pub read-postfixes : (fs : List Formula) → read (postfixes fs) (some []) ≡ some fs
-unfolding read postfixes
-read-postfixes [] = refl
-read-postfixes (φ ∷ fs) = read-append (postfixes fs) (postfix φ) (some []) ∙ ap (read (postfix φ)) (read-postfixes fs) ∙ read-postfix φ fs
+two-long : (φ ψ : Formula) (e : Entry) → length (postfix φ) ≡ size φ → length (postfix ψ) ≡ size ψ
+    → length (postfix φ ++ postfix ψ ++ (e ∷ [])) ≡ size φ + size ψ + 1
+two-long φ ψ e p q = omega (arith, length-append (postfix φ ++ postfix ψ) (e ∷ []), length-append (postfix φ) (postfix ψ))
 
--- the first k entries are those of the formulas on the stack
-pub flat : (t : List Entry) (fs : List Formula) (k : ℕ) → k ≤ length t → Stacked t k fs → postfixes fs ≡ take k t
+-- a formula has as many entries as its size says
+pub length-postfix : (φ : Formula) → length (postfix φ) ≡ size φ
+unfolding postfix size
+length-postfix (letter k) = refl
+length-postfix (not φ) = omega (arith, length-append (postfix φ) (root (not φ) ∷ []), length-postfix φ)
+length-postfix (or φ ψ) = two-long φ ψ (root (or φ ψ)) (length-postfix φ) (length-postfix ψ)
+length-postfix (previous low high φ) = omega (arith, length-append (postfix φ) (root (previous low high φ) ∷ []), length-postfix φ)
+length-postfix (next low high φ) = omega (arith, length-append (postfix φ) (root (next low high φ) ∷ []), length-postfix φ)
+length-postfix (since low high φ ψ) = two-long φ ψ (root (since low high φ ψ)) (length-postfix φ) (length-postfix ψ)
+length-postfix (until low high φ ψ) = two-long φ ψ (root (until low high φ ψ)) (length-postfix φ) (length-postfix ψ)
+
+-- the entries of formulas put them on the stack, the last on top
+read-all : (fs gs : List Formula) → read (postfixes fs) (some gs) ≡ some (reverse fs ++ gs)
+unfolding read postfixes
+read-all [] gs = refl
+read-all (φ ∷ fs) gs =
+    read-append (postfix φ) (postfixes fs) (some gs)
+    ∙ ap (read (postfixes fs)) (read-postfix φ gs)
+    ∙ read-all fs (φ ∷ gs)
+    ∙ ap some (sym (append-assoc (reverse fs) (φ ∷ []) gs) ∙ ap (λ (l : List Formula). l ++ gs) (sym (reverse-cons φ fs)))
+
+pub read-postfixes : (fs : List Formula) → read (postfixes fs) (some []) ≡ some (reverse fs)
+read-postfixes fs = read-all fs [] ∙ ap some (append-nil (reverse fs))
+
+postfixes-append : (gs hs : List Formula) → postfixes (gs ++ hs) ≡ postfixes gs ++ postfixes hs
+unfolding postfixes
+postfixes-append [] hs = refl
+postfixes-append (φ ∷ gs) hs =
+    ap (λ (l : List Entry). postfix φ ++ l) (postfixes-append gs hs) ∙ sym (append-assoc (postfix φ) (postfixes gs) (postfixes hs))
+
+-- the first k entries are those of the formulas on the stack, from its bottom
+pub flat : (t : List Entry) (fs : List Formula) (k : ℕ) → k ≤ length t → Stacked t k fs → postfixes (reverse fs) ≡ take k t
 unfolding postfixes
 flat t [] k h e = ap (λ (m : ℕ). take m t) (sym e)
 flat t (φ ∷ fs) k h (j, p, a, r) =
-    ap (λ (l : List Entry). l ++ postfix φ) (flat t fs (suc j - span t j) (omega arith) r) ∙ sym (ends t φ j (omega arith) a) ∙
-    ap (λ (m : ℕ). take m t) (sym p)
+    ap postfixes (reverse-cons φ fs)
+    ∙ postfixes-append (reverse fs) (φ ∷ [])
+    ∙ ap (λ (l : List Entry). postfixes (reverse fs) ++ l) (append-nil (postfix φ))
+    ∙ ap (λ (l : List Entry). l ++ postfix φ) (flat t fs (suc j - span t j) (omega arith) r)
+    ∙ sym (ends t φ j (omega arith) a)
+    ∙ ap (λ (m : ℕ). take m t) (sym p)

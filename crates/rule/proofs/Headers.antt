@@ -1,11 +1,12 @@
 -- What an accepted header says of the bytes, and that the entries decoded once are the rule's.
 -- (Cases is named first so that the worked rows are checked before any theorem.)
 use Rattle.rule.proofs.Cases
-use Prim.Native.Nat.{ℕ, suc, _+_, _*_, _≤_, _<_, zero-le}
+use Prim.Native.Nat.{ℕ, suc, _+_, _*_, _≤_, zero-le}
 use native.Mathlib.Omega.{arith}
 use borrow.Author.Tests.{eqb-true, eqb-false, ltb-false, not-false}
 use mathlib.Core.Path.{_≡_, refl, ap, _∙_}
 use mathlib.Core.Bool.{Bool, true, false, cond, _||_, not}
+use mathlib.Core.Logic.{_⊎_, inl, inr}
 use mathlib.Core.List.{List}
 use lib.Dec.{eqb, ltb}
 use lib.ListN.{length}
@@ -13,10 +14,10 @@ use Rattle.rule.specs.declared.refusals.Header.{Header}
 use Rattle.rule.specs.declared.refusals.Header.the-variants.{Count, Stopped}
 use Rattle.rule.specs.declared.Entry.{Entry}
 use Rattle.rule.specs.Bytes.{byte}
-use Rattle.rule.specs.Entries.{count, decoded}
+use Rattle.rule.specs.Entries.{version, count, decoded}
 use Rattle.rule.specs.Refusal.{first, before, unmarked, other-version, malformed, header-refusal}
-use Rattle.rule.specs.Measure.{refused, measured}
-use Rattle.rule.specs.Code.{measured-entries, header, header-count, filled, measured-by}
+use Rattle.rule.specs.Measure.{measured}
+use Rattle.rule.specs.Code.{measured-entries, header, header-count, header-version, filled, measured-by}
 use Rattle.rule.proofs.Decoded.{decoded-filled}
 
 -- no refusal: neither this one nor a later one
@@ -41,6 +42,7 @@ before-none m n = go (eqb m 0) refl
 
 -- an accepted header
 pub record Headed (s : List ℕ) : Type 0 where
+  pub one-or-two : (version s ≡ 1) ⊎ (version s ≡ 2)
   pub few : count s ≤ 128
   pub size : length s ≡ 8 + count s * 10
 
@@ -52,12 +54,18 @@ headed s e =
     let d = first-zero 3 (malformed s) 0 (b .1) in
     let f = or-left (ltb 128 (count s) || not (eqb (byte s 6) 0) || not (eqb (byte s 7) 0)) (not (eqb (length s) (8 + count s * 10))) (d .0) in
     record {
+      one-or-two = either (eqb (version s) 1) (eqb (version s) 2) refl refl (b .0);
       few = ltb-false 128 (count s) (or-left (ltb 128 (count s)) (not (eqb (byte s 6) 0)) (or-left _ (not (eqb (byte s 7) 0)) f));
       size =
           eqb-true (length s) (8 + count s * 10)
           (not-false _
           (or-right (ltb 128 (count s) || not (eqb (byte s 6) 0) || not (eqb (byte s 7) 0)) (not (eqb (length s) (8 + count s * 10))) (d .0)));
     }
+  where
+    either : (a b : Bool) → eqb (version s) 1 ≡ a → eqb (version s) 2 ≡ b → not (a || b) ≡ false → (version s ≡ 1) ⊎ (version s ≡ 2)
+    either true b p q e = inl (eqb-true (version s) 1 p)
+    either false true p q e = inr (eqb-true (version s) 2 q)
+    either false false p q e = absurd (let z : _≡_ {A = ℕ} 0 1 = cc in omega arith)
 
 headed-decoded : (s : List ℕ) → header-refusal s ≡ 0 → filled s (count s) ≡ decoded s
 headed-decoded s e = let h = headed s e in decoded-filled s (count s) (h .few) (omega (arith, h .size))
@@ -72,7 +80,7 @@ module _ (s : List ℕ) (h : Header) (is : h ≡ header s) where
   pub few-to-decode : header-count h ≤ 128
   few-to-decode = rw is (go (eqb (header-refusal s) 0) refl)
     where
-      go : (b : Bool) → eqb (header-refusal s) 0 ≡ b → header-count (cond b (Count (count s)) (Stopped (header-refusal s))) ≤ 128
+      go : (b : Bool) → eqb (header-refusal s) 0 ≡ b → header-count (cond b (Count (version s) (count s)) (Stopped (header-refusal s))) ≤ 128
       go true p = headed s (eqb-true (header-refusal s) 0 p) .few
       go false p = zero-le
 
@@ -81,6 +89,9 @@ module _ (s : List ℕ) (h : Header) (is : h ≡ header s) where
       let c : n ≡ count s = e ∙ ap header-count is ∙ simp z in
       record { entries-are = e′ ∙ ap (filled s) c ∙ headed-decoded s z; count-is = c }
 
+  pub version-once : header-refusal s ≡ 0 → header-version h ≡ version s
+  version-once z = ap header-version is ∙ simp z
+
   -- the answer by them is the rule's
   pub measured-once : (t : List Entry) (n : ℕ) → n ≡ header-count h → t ≡ filled s n → measured-by h t ≡ measured s
   measured-once t n e e′ = ap (λ (x : Header). measured-by x t) is ∙ go (eqb (header-refusal s) 0) refl
@@ -88,5 +99,5 @@ module _ (s : List ℕ) (h : Header) (is : h ≡ header s) where
       go : (b : Bool) → eqb (header-refusal s) 0 ≡ b → measured-by (header s) t ≡ measured s
       go true p =
           let z : header-refusal s ≡ 0 = eqb-true (header-refusal s) 0 p in
-          simp z (ap (λ (l : List Entry). measured-entries l (count s)) (decoded-once t n e e′ z .entries-are))
+          simp z (ap (λ (l : List Entry). measured-entries (version s) l (count s)) (decoded-once t n e e′ z .entries-are))
       go false p = simp p

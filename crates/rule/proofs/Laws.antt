@@ -1,8 +1,8 @@
 -- Small laws on lists and sums that several proofs use.
-use Prim.Native.Nat.{ℕ, zero, suc, _+_, _<_}
+use Prim.Native.Nat.{ℕ, zero, suc, _+_, _<_, max}
 use native.Mathlib.Nat.{not-suc-le-zero, le-of-suc-le-suc, eq-or-lt-of-le}
 use native.Mathlib.Numerals.{add-one}
-use mathlib.Core.Path.{_≡_, refl, ap, _∙_}
+use mathlib.Core.Path.{_≡_, refl, sym, ap, _∙_}
 use mathlib.Core.Logic.{⊎-elim}
 use mathlib.Core.List.{List, [], _∷_, _++_}
 use lib.ListN.{length, getD, length-append, List·getD-append}
@@ -11,7 +11,7 @@ use Rattle.mtl.specs.Satisfaction.{any}
 use Rattle.rule.specs.declared.Entry.{Entry}
 use Rattle.rule.specs.Entries.{entry}
 use Rattle.rule.specs.Words.{offset}
-use Rattle.rule.specs.Code.{totals, with-entry}
+use Rattle.rule.specs.Code.{totals, with-entry, greatest}
 
 -- within a list the default does not count
 pub getD-default : (l : List ℕ) (i d d′ : ℕ) → i < length l → getD l i d ≡ getD l i d′
@@ -22,6 +22,11 @@ getD-default (x ∷ xs) (suc i) d d′ h = getD-default xs i d d′ (le-of-suc-l
 pub totals-more : (t : List Entry) (k : ℕ) → totals t (k + 1) ≡ with-entry (totals t k) (entry t k)
 unfolding any offset
 totals-more t k = rw add-one refl
+
+-- one position more
+pub greatest-more : (a : List ℕ) (k : ℕ) → greatest a (k + 1) ≡ max (greatest a k) (getD a (k + 1) 0)
+unfolding greatest
+greatest-more a k = ap (greatest a) (add-one k) ∙ ap (λ (n : ℕ). max (greatest a k) (getD a n 0)) (sym (add-one k))
 
 -- a list that grows at its end: f n has the elements x 0 to x (n - 1)
 module _

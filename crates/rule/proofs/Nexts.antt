@@ -12,10 +12,11 @@ use Rattle.mtl.specs.Formula.Formula.{not, or, previous, next, since, until}
 use Rattle.mtl.specs.Satisfaction.{any}
 use Rattle.rule.specs.declared.Entry.{Entry}
 use Rattle.rule.specs.Entries.{entry}
-use Rattle.rule.specs.Postfix.{unary, binary, push-kind, stack-after, at-most-one, formulas}
+use Rattle.rule.specs.Postfix.{unary, binary, push-kind, stack-after, formulas}
 use Rattle.rule.specs.Measure.{some-next}
 use Rattle.rule.specs.Code.{next-at}
-use Rattle.rule.proofs.Stacks.{Each, along, left-over}
+use Rattle.rule.proofs.Stacks.{Each, along, Left, left-over}
+use Rattle.rule.proofs.Order.{next-reverse}
 
 -- the stack fs with one entry more, which is a next or is none
 abbrev Grown : Bool → List Formula → List Formula → Type 0
@@ -70,5 +71,8 @@ nexts-are t n fs h e =
     (λ k gs l q. weaken t k gs (push-kind (entry t k .kind) (entry t k) gs) q (pushed (entry t k .kind) (entry t k) gs)) n (omega arith) fs e
 
 -- of the formulas that are left
-pub next-is : (t : List Entry) (n : ℕ) (fs : List Formula) → n ≤ length t → formulas t n ≡ some fs → some-next fs ≡ any n (next-at t)
-next-is t n fs h e = nexts-are t n fs h (left-over (stack-after t n) fs e)
+pub next-is : (version : ℕ) (t : List Entry) (n : ℕ) (fs : List Formula) → n ≤ length t → formulas version t n ≡ some fs
+    → some-next fs ≡ any n (next-at t)
+next-is version t n fs h e =
+    let l : Left version (stack-after t n) fs = left-over version (stack-after t n) fs e in
+    ap some-next (l .order) ∙ next-reverse (l .stack) ∙ nexts-are t n (l .stack) h (l .stack-is)

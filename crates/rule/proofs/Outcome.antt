@@ -7,17 +7,18 @@ use mathlib.Core.Bool.{Bool, true, false}
 use mathlib.Core.List.{List}
 use lib.Dec.{eqb}
 use Rattle.rule.specs.declared.Measured.the-variants.{Words, Refused}
-use Rattle.rule.specs.Entries.{count, decoded}
+use Rattle.rule.specs.Entries.{version, count, decoded}
 use Rattle.rule.specs.Words.{words}
 use Rattle.rule.specs.Postfix.{formulas}
 use Rattle.rule.specs.Refusal.{refusal}
 use Rattle.rule.specs.Measure.{Answer, answer, refused, reach-of, measured}
+use Rattle.rule.proofs.Spans.{header-least}
 
 -- the rule is accepted, with these words and this reach
 pub record Passes (s : List ℕ) (w far : ℕ) : Type 0 where
   pub accepted : refusal s ≡ 0
-  pub words-are : w ≡ words (decoded s) (count s)
-  pub reach-is : far ≡ reach-of (formulas (decoded s) (count s))
+  pub words-are : w ≡ words (version s) (decoded s) (count s)
+  pub reach-is : far ≡ reach-of (formulas (version s) (decoded s) (count s))
 
 -- the rule is refused with this number
 pub record Stops (s : List ℕ) (n : ℕ) : Type 0 where
@@ -26,7 +27,7 @@ pub record Stops (s : List ℕ) (n : ℕ) : Type 0 where
 
 module _ (s : List ℕ) where
   good : Answer
-  good = record { number = 0; words = words (decoded s) (count s); reach = reach-of (formulas (decoded s) (count s)) }
+  good = record { number = 0; words = words (version s) (decoded s) (count s); reach = reach-of (formulas (version s) (decoded s) (count s)) }
 
   of-words : (w far : ℕ) → answer (Words w far) ≡ good → refusal s ≡ 0 → Passes s w far
   unfolding good
@@ -49,7 +50,9 @@ module _ (s : List ℕ) where
       go : (b : Bool) → eqb (refusal s) 0 ≡ b → Stops s n
       go true p =
           let q : answer (Refused n) ≡ good = e ∙ simp p in
-          absurd (let w : 0 ≡ words (decoded s) (count s) = ap (λ (a : Answer). a .words) q in omega arith)
+          absurd
+          (let w : 0 ≡ words (version s) (decoded s) (count s) = ap (λ (a : Answer). a .words) q in
+          omega (arith, header-least (version s)))
       go false p =
           let q : answer (Refused n) ≡ refused (refusal s) = e ∙ simp p in
           let r = ap (λ (a : Answer). a .number) q in

@@ -4,8 +4,10 @@ use native.Mathlib.Nat.{not-suc-le-zero, le-of-suc-le-suc}
 use native.Mathlib.Numerals.{add-one}
 use native.Mathlib.Omega.{arith}
 use mathlib.Core.Path.{_≡_, refl, sym, ap, ap₂, subst, _∙_}
+use mathlib.Core.Bool.{true, false, _&&_}
 use mathlib.Core.List.{List, [], _∷_, map, head-eq-of-cons-eq, tail-eq-of-cons-eq, nil≢cons, cons≢nil}
 use mathlib.Core.Option.{Option, none, some}
+use lib.Dec.{leb}
 use lib.ListN.{length, getD, drop, set, replicate, length-set, length-map}
 use lib.Seq.{getD-set-same, getD-set-other}
 use Rattle.mtl.specs.Formula.{Formula, reach}
@@ -16,10 +18,11 @@ use Rattle.rule.specs.declared.measuring.Reading.the-variants.{Found, Fa
 use Rattle.rule.specs.declared.measuring.Quantity.{Quantity}
 use Rattle.rule.specs.declared.measuring.Quantity.the-variants.{Reach, Depth}
 use Rattle.rule.specs.Entries.{entry}
-use Rattle.rule.specs.Postfix.{unary, binary, push-kind, push, read, stack-after, at-most-one, formulas, formulas-or}
+use Rattle.rule.specs.Postfix.{unary, binary, push-kind, push, read, stack-after, fewest, most, left-by, formulas, formulas-or}
 use Rattle.rule.specs.Operands.{operands}
-use Rattle.rule.specs.Code.{quantity, joined-by, largest, reading}
+use Rattle.rule.specs.Code.{quantity, joined-by, greatest, largest, reading}
 use Rattle.rule.proofs.Stacks.{stack-more, stays-none}
+use Rattle.rule.proofs.Order.{largest-reverse}
 
 -- what an array holds from position d down to position 1
 abbrev pub held : List ℕ → ℕ → List ℕ
@@ -119,7 +122,7 @@ binary-short g (φ ∷ []) h = refl
 binary-short g (φ ∷ (ψ ∷ fs)) h = absurd (omega arith)
 
 -- an entry that lacks an operand
-short : (kind : ℕ) (e : Entry) (fs : List Formula) → length fs < operands kind → push-kind kind e fs ≡ none
+pub short : (kind : ℕ) (e : Entry) (fs : List Formula) → length fs < operands kind → push-kind kind e fs ≡ none
 unfolding push-kind
 short zero e fs h = absurd (not-suc-le-zero h)
 short (suc zero) e fs h = unary-short not fs h
@@ -189,39 +192,38 @@ unfolding read
 none-read of t = record { deep = zero-le; long = refl; bottom = refl; bound = λ i. omega (arith, zeros 129 i); formulas = []; stack-is = refl; measures = refl }
 
 -- an operand is lacking at entry k: there is no formula of the n entries
-pub lacks-operand : (of : Quantity) (t : List Entry) (a : List ℕ) (d k n : ℕ) → Running of t a d k → k < length t → k < n → d < operands (entry t k .kind)
-    → reading of (formulas t n) ≡ Faulty
-lacks-operand of t a d k n r h m l =
+pub lacks-operand : (of : Quantity) (version : ℕ) (t : List Entry) (a : List ℕ) (d k n : ℕ) → Running of t a d k → k < length t → k < n
+    → d < operands (entry t k .kind) → reading of (formulas version t n) ≡ Faulty
+lacks-operand of version t a d k n r h m l =
     let e₀ = entry t k in
     let s : push-kind (e₀ .kind) e₀ (r .formulas) ≡ none =
     short (e₀ .kind) e₀ (r .formulas) (omega (arith, height-is of t a d k r)) in
     let o : stack-after t (suc k) ≡ none = stack-more t k h ∙ ap (push e₀) (r .stack-is) ∙ s in
-    ap (λ (o : Option (List Formula)). reading of (at-most-one o)) (stays-none t (suc k) n m o)
+    ap (λ (o : Option (List Formula)). reading of (left-by version o)) (stays-none t (suc k) n m o)
 
-few-of : (of : Quantity) (fs : List Formula) (a : List ℕ) (d : ℕ) → getD a 0 0 ≡ 0 → map (quantity of) fs ≡ held a d → d < 2 →
-    reading of (at-most-one (some fs)) ≡ Found (getD a d 0)
-unfolding largest
-few-of of [] a zero b e h = ap Found (sym b)
-few-of of [] a (suc d) b e h = absurd (nil≢cons e)
-few-of of (φ ∷ fs) a zero b e h = absurd (cons≢nil e)
-few-of of (φ ∷ []) a (suc zero) b e h = let r = head-eq-of-cons-eq e in ap Found (omega arith)
-few-of of (φ ∷ (ψ ∷ fs)) a (suc zero) b e h = absurd (cons≢nil (tail-eq-of-cons-eq e))
-few-of of (φ ∷ fs) a (suc (suc d)) b e h = absurd (omega arith)
+-- the largest of the stack's quantities
+greatest-held : (of : Quantity) (fs : List Formula) (a : List ℕ) (d : ℕ) → map (quantity of) fs ≡ held a d → largest of fs ≡ greatest a d
+unfolding largest greatest
+greatest-held of [] a zero e = refl
+greatest-held of [] a (suc d) e = absurd (nil≢cons e)
+greatest-held of (φ ∷ fs) a zero e = absurd (cons≢nil e)
+greatest-held of (φ ∷ fs) a (suc d) e =
+    let top = head-eq-of-cons-eq e in
+    omega (arith, greatest-held of fs a d (tail-eq-of-cons-eq e))
 
-not-few : (of : Quantity) (fs : List Formula) → (length fs < 2 → ⊥) → reading of (at-most-one (some fs)) ≡ Faulty
-not-few of [] h = absurd (h (omega arith))
-not-few of (φ ∷ []) h = absurd (h (omega arith))
-not-few of (φ ∷ (ψ ∷ fs)) h = refl
+-- the end of the loop: as many formulas as the version wants
+pub enough-formulas : (of : Quantity) (version : ℕ) (t : List Entry) (a : List ℕ) (d n : ℕ) → Running of t a d n
+    → (leb (fewest version) d && leb d (most version)) ≡ true → reading of (formulas version t n) ≡ Found (greatest a d)
+enough-formulas of version t a d n r e =
+    ap (λ (o : Option (List Formula)). reading of (left-by version o)) (r .stack-is)
+    ∙ simp (height-is of t a d n r, e) (ap Found (largest-reverse of (r .formulas) ∙ greatest-held of (r .formulas) a d (r .measures)))
 
--- the end of the loop
-pub one-formula : (of : Quantity) (t : List Entry) (a : List ℕ) (d n : ℕ) → Running of t a d n → d < 2 → reading of (formulas t n) ≡ Found (getD a d 0)
-one-formula of t a d n r h =
-    ap (λ (o : Option (List Formula)). reading of (at-most-one o)) (r .stack-is) ∙ few-of of (r .formulas) a d (r .bottom) (r .measures) h
-
-pub more-than-one : (of : Quantity) (t : List Entry) (a : List ℕ) (d n : ℕ) → Running of t a d n → (d < 2 → ⊥) → reading of (formulas t n) ≡ Faulty
-more-than-one of t a d n r h =
-    ap (λ (o : Option (List Formula)). reading of (at-most-one o)) (r .stack-is)
-    ∙ not-few of (r .formulas) (λ e. h (omega (arith, height-is of t a d n r)))
+-- too few or too many
+pub other-number : (of : Quantity) (version : ℕ) (t : List Entry) (a : List ℕ) (d n : ℕ) → Running of t a d n
+    → (leb (fewest version) d && leb d (most version)) ≡ false → reading of (formulas version t n) ≡ Faulty
+other-number of version t a d n r e =
+    ap (λ (o : Option (List Formula)). reading of (left-by version o)) (r .stack-is)
+    ∙ simp (height-is of t a d n r, e)
 
 -- the largest depth, where the entries are formulas, and 0 where not
 largest-depth : (fs : List Formula) → largest Depth fs ≡ deepest fs

@@ -8,7 +8,7 @@ use lib.Dec.{eqb}
 use lib.ListN.{getD}
 use Rattle.rule.specs.declared.Entry.{Entry}
 use Rattle.rule.specs.Entries.{entry}
-use Rattle.rule.specs.Words.{ring-words, own-words, own, offset}
+use Rattle.rule.specs.Words.{ring-words, own-words, own, offset, header-words}
 use Rattle.rule.specs.Operands.{operands, next-span, spans, span, left, Leaf, Unary, Binary}
 use Rattle.rule.proofs.Laws.{grown-at}
 
@@ -50,6 +50,21 @@ own-least kind high = least (eqb kind 5) (eqb kind 6)
     least true b′ = omega arith
     least false true = omega arith
     least false false = omega arith
+
+-- "16", and 24 of version 2
+pub header-least : (version : ℕ) → 16 ≤ header-words version
+header-least version = least (eqb version 1)
+  where
+    least : (b : Bool) → 16 ≤ cond b 16 24
+    least true = omega arith
+    least false = omega arith
+
+pub header-most : (version : ℕ) → header-words version ≤ 24
+header-most version = most (eqb version 1)
+  where
+    most : (b : Bool) → cond b 16 24 ≤ 24
+    most true = omega arith
+    most false = omega arith
 
 -- the words of more entries are no fewer
 offset-grows : (t : List Entry) (i j : ℕ) → offset t i ≤ offset t (i + j)

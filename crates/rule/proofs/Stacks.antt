@@ -2,15 +2,18 @@
 use Prim.Native.Nat.{ℕ, zero, suc, _-_, _≤_, _<_}
 use native.Mathlib.Nat.{add-sub-of-le}
 use native.Mathlib.Omega.{arith}
+use borrow.Author.Tests.{leb-true}
 use mathlib.Core.Path.{_≡_, refl, sym, ap, subst, _∙_}
-use mathlib.Core.List.{List, [], _∷_, _++_}
+use mathlib.Core.Bool.{Bool, true, false, cond, _&&_}
+use mathlib.Core.List.{List, [], _∷_, _++_, reverse}
 use mathlib.Core.Option.{Option, none, some}
+use lib.Dec.{leb}
 use lib.ListN.{length, take, drop}
 use lib.Seq.{take-suc, take-add}
 use Rattle.mtl.specs.Formula.{Formula}
 use Rattle.rule.specs.declared.Entry.{Entry}
 use Rattle.rule.specs.Entries.{entry, blank}
-use Rattle.rule.specs.Postfix.{push-kind, push, read, stack-after, at-most-one}
+use Rattle.rule.specs.Postfix.{push-kind, push, read, stack-after, fewest, most, left-by}
 
 pub read-append : (xs ys : List Entry) (stack : Option (List Formula)) → read (xs ++ ys) stack ≡ read ys (read xs stack)
 unfolding read
@@ -43,18 +46,36 @@ abbrev pub Each : (List Formula → Type 0) → Option (List Formula) → Type 0
 Each P none = Unit {0}
 Each P (some stack) = P stack
 
-no-stack : {stack : List Formula} {A : Type 0} → none ≡ some stack → A
+pub no-stack : {stack : List Formula} {A : Type 0} → none ≡ some stack → A
 no-stack e = let z : _≡_ {A = ℕ} 0 1 = cc in absurd (omega arith)
-
--- the formulas that are left are the stack
-pub left-over : (o : Option (List Formula)) (fs : List Formula) → at-most-one o ≡ some fs → o ≡ some fs
-left-over none fs e = e
-left-over (some []) fs e = e
-left-over (some (φ ∷ [])) fs e = e
-left-over (some (φ ∷ (ψ ∷ rest))) fs e = no-stack e
 
 same-stack : {xs ys : List Formula} → some xs ≡ some ys → xs ≡ ys
 same-stack e = cc
+
+-- the formulas that are left are the stack, from its bottom, and are as many as the version wants
+pub record Left (version : ℕ) (o : Option (List Formula)) (fs : List Formula) : Type 0 where
+  pub stack : List Formula
+  pub stack-is : o ≡ some stack
+  pub order : fs ≡ reverse stack
+  pub enough : fewest version ≤ length stack
+  pub not-more : length stack ≤ most version
+
+pub left-over : (version : ℕ) (o : Option (List Formula)) (fs : List Formula) → left-by version o ≡ some fs → Left version o fs
+left-over version none fs e = no-stack e
+left-over version (some st) fs e = go (leb (fewest version) (length st)) (leb (length st) (most version)) refl refl e
+  where
+    go : (a b : Bool) → leb (fewest version) (length st) ≡ a → leb (length st) (most version) ≡ b
+        → cond (a && b) (some (reverse st)) none ≡ some fs → Left version (some st) fs
+    go true true p q e =
+        record {
+          stack = st;
+          stack-is = refl;
+          order = sym (same-stack e);
+          enough = leb-true (fewest version) (length st) p;
+          not-more = leb-true (length st) (most version) q;
+        }
+    go true false p q e = no-stack e
+    go false b p q e = no-stack e
 
 -- What holds of the empty stack, and stays true as each of the first n entries is pushed, holds of each stack on the way.
 module _

@@ -9,7 +9,7 @@ use Rattle.mtl.specs.Formula.{Formula}
 use Rattle.mtl.specs.Formula.Formula.{letter, not, or, previous, next, since, until}
 use Rattle.rule.specs.declared.Entry.{Entry}
 use Rattle.rule.specs.Entries.{entry}
-use Rattle.rule.specs.Postfix.{unary, binary, push-kind, stack-after}
+use Rattle.rule.specs.Postfix.{unary, binary, push-kind, stack-after, size}
 use Rattle.rule.specs.Operands.{operands, span, left, FormulaAt, Unary, Binary}
 use Rattle.rule.specs.Accepted.{InRange}
 use Rattle.rule.proofs.Stacks.{Each, along}
@@ -41,6 +41,21 @@ module _ (t : List Entry) where
   span-fits (next low high φ) k a = unary-fits k (takes t k _ (a .0)) (a .1) (span-fits φ (k - 1) (a .2))
   span-fits (since low high φ ψ) k a = binary-fits k (takes t k _ (a .0)) (a .1) (span-fits φ (left t k) (a .2))
   span-fits (until low high φ ψ) k a = binary-fits k (takes t k _ (a .0)) (a .1) (span-fits φ (left t k) (a .2))
+
+  -- the number of its entries is the formula's size
+  pub span-size : (φ : Formula) (k : ℕ) → FormulaAt t k φ → span t k ≡ size φ
+  unfolding FormulaAt size
+  span-size (letter l) k a = span-leaf t k (takes t k _ a)
+  span-size (not φ) k a = omega (arith, span-unary t k (takes t k _ (a .0)) (a .1), span-size φ (k - 1) (a .2))
+  span-size (or φ ψ) k a =
+      omega (arith, span-binary t k (takes t k _ (a .0)) (a .1), span-size φ (left t k) (a .2), span-size ψ (k - 1) (a .3))
+  span-size (previous low high φ) k a =
+      omega (arith, span-unary t k (takes t k _ (a .0)) (a .1), span-size φ (k - 1) (a .2))
+  span-size (next low high φ) k a = omega (arith, span-unary t k (takes t k _ (a .0)) (a .1), span-size φ (k - 1) (a .2))
+  span-size (since low high φ ψ) k a =
+      omega (arith, span-binary t k (takes t k _ (a .0)) (a .1), span-size φ (left t k) (a .2), span-size ψ (k - 1) (a .3))
+  span-size (until low high φ ψ) k a =
+      omega (arith, span-binary t k (takes t k _ (a .0)) (a .1), span-size φ (left t k) (a .2), span-size ψ (k - 1) (a .3))
 
   module _ (k : ℕ) where
     one-below : (φ : Formula) → operands (entry t k .kind) ≡ 1 → 0 < k → FormulaAt t (k - 1) φ → Unary t k

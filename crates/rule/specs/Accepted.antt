@@ -2,15 +2,15 @@
 use Prim.Native.Nat.{ℕ, _+_, _-_, _*_, _≤_, _<_}
 use mathlib.Core.Path.{_≡_}
 use mathlib.Core.Logic.{_⊎_}
-use mathlib.Core.List.{List, [], _∷_}
+use mathlib.Core.List.{List}
 use mathlib.Core.Option.{some}
 use lib.ListN.{length}
 use Rattle.mtl.specs.Formula.{Formula, unbounded}
 use Rattle.rule.specs.declared.Entry.{Entry}
-use Rattle.rule.specs.Entries.{count, decoded, entries, entry}
-use Rattle.rule.specs.Words.{words, limit}
-use Rattle.rule.specs.Postfix.{formulas, postfixes}
-use Rattle.rule.specs.Operands.{operands, span, part, FormulaAt, Leaf, Unary, Binary}
+use Rattle.rule.specs.Entries.{version, count, decoded, entries, entry}
+use Rattle.rule.specs.Words.{offset, words, limit}
+use Rattle.rule.specs.Postfix.{fewest, most, formulas, postfixes, size, formula, start}
+use Rattle.rule.specs.Operands.{operands, span, FormulaAt, Leaf, Unary, Binary}
 
 -- "Low and a finite high are 0 to 3,600 seconds, low not above high. High 4,294,967,295 means no upper end and is allowed for
 -- previous and since only", and by request 6 for next. "An unused field is zero."
@@ -30,28 +30,29 @@ pub record WellFormed (t : List Entry) (n : ℕ) : Type 0 where
   pub leaf : (k : ℕ) → k < n → operands (entry t k .kind) ≡ 0 → Leaf t k
   pub unary : (k : ℕ) → k < n → operands (entry t k .kind) ≡ 1 → Unary t k
   pub binary : (k : ℕ) → k < n → operands (entry t k .kind) ≡ 2 → Binary t k
-  pub within : words t n ≤ limit
+  pub within : offset t n ≤ limit
 
--- the n entries are one formula, which ends at the last of them
-pub record One (t : List Entry) (n : ℕ) (φ : Formula) : Type 0 where
-  pub some-entries : 0 < n
-  pub at-last : FormulaAt t (n - 1) φ
-  pub spans-all : span t (n - 1) ≡ n
-  pub words-are : words t n ≡ 16 + part t (n - 1)
+-- the formula's entries are those from `at` on
+pub record Stretch (t : List Entry) (at : ℕ) (φ : Formula) : Type 0 where
+  pub at-last : FormulaAt t (at + size φ - 1) φ
+  pub spans : span t (at + size φ - 1) ≡ size φ
 
--- the n entries are these formulas: no entry is none of them, and some entries are one
-abbrev pub Whole : List Entry → ℕ → List Formula → Type 0
-Whole t n [] = n ≡ 0
-Whole t n (φ ∷ []) = One t n φ
-Whole t n (φ ∷ (ψ ∷ rest)) = ⊥
+-- the n entries are these formulas, one after the other
+pub record Whole (t : List Entry) (n : ℕ) (fs : List Formula) : Type 0 where
+  pub each : (k : ℕ) → k < length fs → Stretch t (start fs k) (formula fs k)
+  pub all : start fs (length fs) ≡ n
 
 -- of the rule's bytes
 pub record Accepted (s : List ℕ) : Type 0 where
+  pub one-or-two : (version s ≡ 1) ⊎ (version s ≡ 2)
   pub few-entries : count s ≤ 128
   pub size : length s ≡ 8 + count s * 10
   pub well-formed : WellFormed (decoded s) (count s)
+  pub need : words (version s) (decoded s) (count s) ≤ limit
   pub the-formulas : List Formula
-  pub reads : formulas (decoded s) (count s) ≡ some the-formulas
+  pub reads : formulas (version s) (decoded s) (count s) ≡ some the-formulas
+  pub enough : fewest (version s) ≤ length the-formulas
+  pub not-more : length the-formulas ≤ most (version s)
   pub whole : Whole (decoded s) (count s) the-formulas
   pub read-back : postfixes the-formulas ≡ entries s
   pub only : (fs : List Formula) → postfixes fs ≡ entries s → fs ≡ the-formulas

@@ -3,7 +3,11 @@ use Prim.Native.Nat.{ℕ, zero, suc, _+_, _*_}
 use mathlib.Core.List.{List, [], _∷_, _++_}
 use lib.ListN.{getD, take}
 use Rattle.rule.specs.declared.Entry.{Entry}
-use Rattle.rule.specs.Bytes.{byte, word32}
+use Rattle.rule.specs.Bytes.{byte, word16, word32}
+
+-- "then a 16-bit version", after the mark: 1, or since document 02, paper 8, 2
+abbrev pub version : List ℕ → ℕ
+version s = word16 s 3
 
 -- "an 8-bit entry count", after the mark and the version
 abbrev pub count : List ℕ → ℕ

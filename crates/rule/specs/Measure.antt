@@ -9,7 +9,7 @@ use Rattle.mtl.specs.Formula.{reach as formula-reach}
 use Rattle.rule.specs.declared.Entry.{Entry}
 use Rattle.rule.specs.declared.Measured.{Measured}
 use Rattle.rule.specs.declared.Measured.the-variants.{Words, Refused}
-use Rattle.rule.specs.Entries.{count, decoded}
+use Rattle.rule.specs.Entries.{version, count, decoded}
 use Rattle.rule.specs.Words.{words}
 use Rattle.rule.specs.Postfix.{formulas}
 use Rattle.rule.specs.Refusal.{refusal}
@@ -25,31 +25,29 @@ abbrev pub answer : Measured → Answer
 answer (Words w r) = record { number = 0; words = w; reach = r }
 answer (Refused n) = record { number = n; words = 0; reach = 0 }
 
--- "A rule with next has reach 4,294,967,295, meaning none."
-abbrev pub far : Formula → ℕ
-far φ = cond (has-next φ) unbounded (formula-reach φ)
-
 -- some formula has next
 abbrev pub some-next : List Formula → Bool
 some-next [] = false
 some-next (φ ∷ fs) = has-next φ || some-next fs
 
--- the largest over the formulas, and 0 where there is none
+-- "The reach .. the largest over the formulas", and 0 where there is none
 unfoldable pub farthest : List Formula → ℕ
 farthest [] = 0
-farthest (φ ∷ fs) = max (far φ) (farthest fs)
+farthest (φ ∷ fs) = max (formula-reach φ) (farthest fs)
 
+-- "A rule with next has reach 4,294,967,295, meaning none."
 abbrev pub reach-of : Option (List Formula) → ℕ
 reach-of none = 0
-reach-of (some fs) = farthest fs
+reach-of (some fs) = cond (some-next fs) unbounded (farthest fs)
 
 -- "Every refusal returns its number only"
 abbrev pub refused : ℕ → Answer
 refused n = record { number = n; words = 0; reach = 0 }
 
--- the answer by the refusal of a rule with n entries, which are decoded in t
-abbrev pub answer-by : ℕ → List Entry → ℕ → Answer
-answer-by number t n = cond (eqb number 0) (record { number = 0; words = words t n; reach = reach-of (formulas t n) }) (refused number)
+-- the answer by the refusal of a rule of a version with n entries, which are decoded in t
+abbrev pub answer-by : (number version : ℕ) → List Entry → ℕ → Answer
+answer-by number version t n =
+    cond (eqb number 0) (record { number = 0; words = words version t n; reach = reach-of (formulas version t n) }) (refused number)
 
 abbrev pub measured : List ℕ → Answer
-measured s = answer-by (refusal s) (decoded s) (count s)
+measured s = answer-by (refusal s) (version s) (decoded s) (count s)

@@ -1,8 +1,10 @@
 -- The formulas of a rule: its entries, "in postfix order", read with a stack of formulas, the top first.
-use Prim.Native.Nat.{ℕ, zero, suc}
-use mathlib.Core.List.{List, [], _∷_, _++_}
+use Prim.Native.Nat.{ℕ, zero, suc, _+_}
+use mathlib.Core.Bool.{cond, _&&_}
+use mathlib.Core.List.{List, [], _∷_, _++_, reverse}
 use mathlib.Core.Option.{Option, none, some}
-use lib.ListN.{take}
+use lib.Dec.{leb, eqb}
+use lib.ListN.{length, getD, take}
 use Rattle.mtl.specs.Formula.{Formula}
 use Rattle.mtl.specs.Formula.Formula.{letter, not, or, previous, next, since, until}
 use Rattle.rule.specs.declared.Entry.{Entry}
@@ -42,19 +44,26 @@ read (e ∷ rest) stack = read rest (push e stack)
 abbrev pub stack-after : List Entry → ℕ → Option (List Formula)
 stack-after t n = read (take n t) (some [])
 
--- The formulas that are left: none where "some entry lacks an operand, or the whole leaves other than one formula". A rule with
--- no entry leaves no formula, and "a count of 0 now means that every position is yes": its list is empty.
-abbrev pub at-most-one : Option (List Formula) → Option (List Formula)
-at-most-one none = none
-at-most-one (some []) = some []
-at-most-one (some (φ ∷ [])) = some (φ ∷ [])
-at-most-one (some (φ ∷ (ψ ∷ rest))) = none
+-- How many formulas a rule leaves, at least and at most: of version 1 one, or none where it has no entry, "a count of 0 now means that
+-- every position is yes"; "Rule version 2 leaves one to eight formulas".
+abbrev pub fewest : (version : ℕ) → ℕ
+fewest version = cond (eqb version 1) 0 1
+
+abbrev pub most : (version : ℕ) → ℕ
+most version = cond (eqb version 1) 1 8
+
+-- The formulas that are left, in the order of the rule, the bottom of the stack first: none where "some entry lacks an operand", or
+-- where there are too few or too many.
+abbrev pub left-by : (version : ℕ) → Option (List Formula) → Option (List Formula)
+left-by version none = none
+left-by version (some stack) =
+    cond (leb (fewest version) (length stack) && leb (length stack) (most version)) (some (reverse stack)) none
 
 -- the formulas of the first n entries
-abbrev pub formulas : List Entry → ℕ → Option (List Formula)
-formulas t n = at-most-one (stack-after t n)
+abbrev pub formulas : (version : ℕ) → List Entry → ℕ → Option (List Formula)
+formulas version t n = left-by version (stack-after t n)
 
--- the formulas of an accepted rule: one, or none where it has no entry; what stands here for a refused rule is used by nothing
+-- the formulas of an accepted rule; what stands here for a refused rule is used by nothing
 abbrev pub formulas-or : Option (List Formula) → List Formula
 formulas-or none = []
 formulas-or (some fs) = fs
@@ -79,7 +88,26 @@ postfix (next low high φ) = postfix φ ++ (root (next low high φ) ∷ [])
 postfix (since low high φ ψ) = postfix φ ++ postfix ψ ++ (root (since low high φ ψ) ∷ [])
 postfix (until low high φ ψ) = postfix φ ++ postfix ψ ++ (root (until low high φ ψ) ∷ [])
 
--- the entries of a list of formulas, the last first
+-- the entries of a list of formulas, one after the other
 unfoldable pub postfixes : List Formula → List Entry
 postfixes [] = []
-postfixes (φ ∷ fs) = postfixes fs ++ postfix φ
+postfixes (φ ∷ fs) = postfix φ ++ postfixes fs
+
+-- the number of a formula's entries
+unfoldable pub size : Formula → ℕ
+size (letter k) = 1
+size (not φ) = size φ + 1
+size (or φ ψ) = size φ + size ψ + 1
+size (previous low high φ) = size φ + 1
+size (next low high φ) = size φ + 1
+size (since low high φ ψ) = size φ + size ψ + 1
+size (until low high φ ψ) = size φ + size ψ + 1
+
+-- formula k of a list; what stands here behind the last is used by nothing
+abbrev pub formula : List Formula → ℕ → Formula
+formula fs k = getD fs k (letter 0)
+
+-- the number of entries before those of formula k
+unfoldable pub start : List Formula → ℕ → ℕ
+start fs zero = 0
+start fs (suc k) = start fs k + size (formula fs k)

@@ -9,8 +9,8 @@ use lib.ListN.{length}
 use Rattle.mtl.specs.Formula.{Formula, unbounded}
 use Rattle.mtl.specs.Satisfaction.{any}
 use Rattle.rule.specs.declared.Entry.{Entry}
-use Rattle.rule.specs.Bytes.{byte, word16}
-use Rattle.rule.specs.Entries.{count, decoded, entry}
+use Rattle.rule.specs.Bytes.{byte}
+use Rattle.rule.specs.Entries.{version, count, decoded, entry}
 use Rattle.rule.specs.Words.{words, limit}
 use Rattle.rule.specs.Postfix.{formulas}
 
@@ -22,9 +22,9 @@ marked s = eqb (byte s 0) 0x4B && eqb (byte s 1) 0x52 && eqb (byte s 2) 0x4C
 abbrev pub unmarked : List ℕ → Bool
 unmarked s = ltb (length s) 8 || not (marked s)
 
--- 2. "The rule's version is not 1."
+-- 2. "The rule's version is not 1.", and "2 accepts both versions"
 abbrev pub other-version : List ℕ → Bool
-other-version s = not (eqb (word16 s 3) 1)
+other-version s = not (eqb (version s) 1 || eqb (version s) 2)
 
 -- 4. "The count is above 128, a spare byte is not zero, or the length is not 8 + 10 × count."
 abbrev pub malformed : List ℕ → Bool
@@ -52,14 +52,15 @@ misshapen-at t k = misshapen (entry t k)
 abbrev pub misplaced-at : List Entry → ℕ → Bool
 misplaced-at t k = misplaced (entry t k)
 
--- 7. "Some entry lacks an operand, or the whole leaves other than one formula.", and "7 lets count 0 pass"
+-- 7. "Some entry lacks an operand, or the whole leaves other than one formula.", and "7 lets count 0 pass"; "Rule version 2 leaves one to
+-- eight formulas; refusal 7 is amended so (a version 2 count of 0 meets it)"
 abbrev pub lacking : Option (List Formula) → Bool
 lacking none = true
 lacking (some fs) = false
 
 -- 8. "The need is above 8,192 words."
-abbrev pub over-limit : List Entry → ℕ → Bool
-over-limit t n = ltb limit (words t n)
+abbrev pub over-limit : (version : ℕ) → List Entry → ℕ → Bool
+over-limit version t n = ltb limit (words version t n)
 
 -- number n where its condition holds, else what comes after it
 abbrev pub first : ℕ → Bool → ℕ → ℕ
@@ -70,10 +71,10 @@ unfoldable pub header-refusal : List ℕ → ℕ
 header-refusal s = first 1 (unmarked s) (first 2 (other-version s) (first 4 (malformed s) 0))
 
 -- the refusals of n decoded entries
-unfoldable pub entries-refusal : List Entry → ℕ → ℕ
-entries-refusal t n =
+unfoldable pub entries-refusal : (version : ℕ) → List Entry → ℕ → ℕ
+entries-refusal version t n =
     first 5 (any n (misshapen-at t))
-    (first 6 (any n (misplaced-at t)) (first 7 (lacking (formulas t n)) (first 8 (over-limit t n) 0)))
+    (first 6 (any n (misplaced-at t)) (first 7 (lacking (formulas version t n)) (first 8 (over-limit version t n) 0)))
 
 -- of two numbers, the first that is not 0
 abbrev pub before : ℕ → ℕ → ℕ
@@ -81,4 +82,4 @@ before m n = cond (eqb m 0) n m
 
 -- the number with which weighing the rule stops, and 0 where it is accepted
 abbrev pub refusal : List ℕ → ℕ
-refusal s = before (header-refusal s) (entries-refusal (decoded s) (count s))
+refusal s = before (header-refusal s) (entries-refusal (version s) (decoded s) (count s))

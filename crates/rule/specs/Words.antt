@@ -23,9 +23,14 @@ unfoldable pub offset : List Entry → ℕ → ℕ
 offset t zero = 0
 offset t (suc n) = offset t n + own (entry t n)
 
+-- the words of the checkpoint itself, before those of the entries: "Words needed: 16"; "A version 2 point has 24 words where it had 16 at
+-- the start"
+abbrev pub header-words : (version : ℕ) → ℕ
+header-words version = cond (eqb version 1) 16 24
+
 -- "Words needed: 16, and" those of the entries
-abbrev pub words : List Entry → ℕ → ℕ
-words t n = 16 + offset t n
+abbrev pub words : (version : ℕ) → List Entry → ℕ → ℕ
+words version t n = header-words version + offset t n
 
 -- "The limit is 8,192."
 abbrev pub limit : ℕ

@@ -1,7 +1,7 @@
 // The entries of a rule, decoded from its bytes (document 01, "Rule and log as bytes").
 ghost use mathlib.Core.Path.{_≡_};
 ghost use Prim.Native.Nat.{_≤_, _<_};
-ghost use Rattle.rule.specs.Entries.{count, entry-of};
+ghost use Rattle.rule.specs.Entries.{version, count, entry-of};
 ghost use Rattle.rule.specs.Code.{filled};
 use super::Entry;
 use super::bytes;
@@ -39,6 +39,12 @@ pub fn decode(rule: &[u8], count: usize) -> [Entry; 128]
         k += 1;
     }
     table
+}
+
+pub fn version_of(rule: &[u8]) -> usize
+    ensures { λ r. ⌜ (r ≡ version (now (rule .entry))) × (r < 65536) ⌝ }
+{
+    (bytes::wide(bytes::byte_at(rule, 3)) * 256 + bytes::wide(bytes::byte_at(rule, 4))) as usize
 }
 
 pub fn entry_count(rule: &[u8]) -> usize

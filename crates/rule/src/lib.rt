@@ -9,8 +9,12 @@ mod refusals;
 
 pub use bytes::byte_at;
 pub use entries::decode;
+pub use measuring::Ends;
 pub use measuring::depth;
+pub use measuring::ends_of;
+pub use measuring::header_words;
 pub use measuring::measure_decoded;
+pub use measuring::most_of;
 pub use measuring::own_words;
 pub use refusals::Header;
 pub use refusals::check_header;

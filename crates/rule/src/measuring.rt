@@ -1,12 +1,12 @@
 // The words, the reach and the depth of a rule's entries ("Points and sheets", "Which positions are settled", document 02's paper 2), and
 // refusals 5 to 8.
 ghost use mathlib.Core.Path.{_≡_};
-ghost use Prim.Native.Nat.{_+_, _≤_, _<_, max};
+ghost use Prim.Native.Nat.{_+_, _≤_, _<_, min, max};
 ghost use Rattle.mtl.specs.Wanted.{deepest};
-ghost use Rattle.rule.specs.Words.{own};
-ghost use Rattle.rule.specs.Postfix.{formulas, formulas-or};
+ghost use Rattle.rule.specs.Words.{own, header-words};
+ghost use Rattle.rule.specs.Postfix.{fewest, most, formulas, formulas-or};
 ghost use Rattle.rule.specs.Measure.{answer};
-ghost use Rattle.rule.specs.Code.{added-by, joined-by, totals, with-entry, reading, measured-entries, header-count, measured-by};
+ghost use Rattle.rule.specs.Code.{added-by, joined-by, totals, with-entry, greatest, reading, measured-entries, header-count, measured-by, EndsOf};
 ghost use Rattle.rule.specs.Operands.{operands};
 use super::Entry;
 use super::Measured;
@@ -20,10 +20,17 @@ enum Quantity {
     Depth,
 }
 
-// What reading the entries in postfix order answers: the quantity of the formula, 0 where there is no entry.
+// What reading the entries in postfix order answers: the largest quantity of the formulas, 0 where there is no entry.
 enum Reading {
     Found(u64),
     Faulty,
+}
+
+// Where each formula ends: how many there are, and for each the number of entries up to and with its last. There are at most 8 of them,
+// and position 8 stands for all places of the stack behind those.
+pub struct Ends {
+    pub number: usize,
+    pub at: [usize; 9],
 }
 
 // What one pass over the entries adds up.
@@ -127,10 +134,44 @@ fn joined(of: Quantity, e: Entry, left: u64, right: u64) -> u64
     }
 }
 
+// The fewest and the most formulas of a rule.
+fn fewest_of(version: usize) -> usize
+    ensures { λ r. ⌜ r ≡ fewest version ⌝ }
+{
+    if version == 1 { 0 } else { 1 }
+}
+
+pub fn most_of(version: usize) -> usize
+    ensures { λ r. ⌜ r ≡ most version ⌝ }
+{
+    if version == 1 { 1 } else { 8 }
+}
+
+// The words of a checkpoint before those of its entries.
+pub fn header_words(version: usize) -> usize
+    ensures { λ r. ⌜ r ≡ header-words version ⌝ }
+{
+    if version == 1 { 16 } else { 24 }
+}
+
+// The largest of the quantities from position 1 to the top, and 0 where there is none.
+fn highest(stack: &[u64; 129], top: usize) -> u64
+    requires { ⌜ top < 129 ⌝ }
+    ensures { λ r. ⌜ r ≡ greatest (now (stack .entry)) top ⌝ }
+{
+    let mut most: u64 = 0;
+    let mut at: usize = 0;
+    while at < top {
+        at += 1;
+        most = larger(most, stack[at]);
+    }
+    most
+}
+
 // The entries are read with a stack, which holds the quantity of each formula: position 1 is its bottom, and 0 stands below it.
-fn read(of: Quantity, table: [Entry; 128], count: usize) -> Reading
+fn read(of: Quantity, version: usize, table: [Entry; 128], count: usize) -> Reading
     requires { ⌜ count ≤ 128 ⌝ }
-    ensures { λ r. ⌜ r ≡ reading of (formulas table count) ⌝ }
+    ensures { λ r. ⌜ r ≡ reading of (formulas version table count) ⌝ }
 {
     let mut stack = [0u64; 129];
     let mut depth: usize = 0;
@@ -146,28 +187,56 @@ fn read(of: Quantity, table: [Entry; 128], count: usize) -> Reading
         depth = at;
         k += 1;
     }
-    if depth < 2 {
-        Reading::Found(stack[depth])
+    if (fewest_of(version) <= depth) & (depth <= most_of(version)) {
+        Reading::Found(highest(&stack, depth))
     } else {
         Reading::Faulty
     }
 }
 
-// The depth of the entries' formula; 0 where they are none.
-pub fn depth(table: [Entry; 128], count: usize) -> u64
-    requires { ⌜ count ≤ 128 ⌝ }
-    ensures { λ r. ⌜ r ≡ deepest (formulas-or (formulas table count)) ⌝ }
+// The place in `Ends` of a place of the stack.
+fn mark_place(top: usize) -> usize
+    ensures { λ r. ⌜ r ≡ min top 8 ⌝ }
 {
-    let Reading::Found(most) = read(Quantity::Depth, table, count) else {
+    if top < 8 { top } else { 8 }
+}
+
+// Where each formula ends: the same stack, which holds for each formula the number of entries up to and with its last.
+pub fn ends_of(table: [Entry; 128], count: usize) -> Ends
+    requires { ⌜ count ≤ 128 ⌝ }
+    ensures { λ r. ⌜ EndsOf table count r ⌝ }
+{
+    let mut at = [0usize; 9];
+    let mut depth: usize = 0;
+    let mut k: usize = 0;
+    while k < count {
+        let taken = operands_of(table[k].kind);
+        if depth < taken {
+            return Ends { number: 0, at };
+        }
+        let top = depth - taken;
+        at[mark_place(top)] = k + 1;
+        depth = top + 1;
+        k += 1;
+    }
+    Ends { number: depth, at }
+}
+
+// The depth of the entries' formulas; 0 where they are none.
+pub fn depth(version: usize, table: [Entry; 128], count: usize) -> u64
+    requires { ⌜ count ≤ 128 ⌝ }
+    ensures { λ r. ⌜ r ≡ deepest (formulas-or (formulas version table count)) ⌝ }
+{
+    let Reading::Found(most) = read(Quantity::Depth, version, table, count) else {
         return 0;
     };
     most
 }
 
 // Refusals 5 to 8, or the words and the reach.
-fn measure_entries(table: [Entry; 128], count: usize) -> Measured
+fn measure_entries(version: usize, table: [Entry; 128], count: usize) -> Measured
     requires { ⌜ count ≤ 128 ⌝ }
-    ensures { λ r. ⌜ answer r ≡ measured-entries table count ⌝ }
+    ensures { λ r. ⌜ answer r ≡ measured-entries version table count ⌝ }
 {
     let sums = add_up(table, count);
     if sums.misshapen {
@@ -176,10 +245,10 @@ fn measure_entries(table: [Entry; 128], count: usize) -> Measured
     if sums.misplaced {
         return Measured::Refused(6);
     }
-    let Reading::Found(reach) = read(Quantity::Reach, table, count) else {
+    let Reading::Found(reach) = read(Quantity::Reach, version, table, count) else {
         return Measured::Refused(7);
     };
-    let words = 16 + sums.words;
+    let words = header_words(version) as u64 + sums.words;
     if words > LIMIT {
         return Measured::Refused(8);
     }
@@ -200,8 +269,8 @@ pub fn measure_decoded(header: Header, table: [Entry; 128]) -> Measured
     requires { ⌜ header-count header ≤ 128 ⌝ }
     ensures { λ r. ⌜ answer r ≡ measured-by header table ⌝ }
 {
-    let Header::Count(count) = header else {
+    let Header::Count { version, count } = header else {
         return Measured::Refused(header.number());
     };
-    measure_entries(table, count)
+    measure_entries(version, table, count)
 }

@@ -1,14 +1,14 @@
 // Refusals 1 to 6, of a rule's header and of one entry (document 01, "Where a call stops").
 ghost use mathlib.Core.Path.{_≡_};
 ghost use Rattle.rule.specs.Refusal.{first, misshapen, misplaced, header-refusal};
-ghost use Rattle.rule.specs.Code.{header, header-number, header-count};
+ghost use Rattle.rule.specs.Code.{header, header-number, header-count, header-version};
 use super::Entry;
 use super::bytes;
 use super::entries;
 
 // What the check of the header answers.
 pub enum Header {
-    Count(usize),
+    Count { version: usize, count: usize },
     Stopped(u32),
 }
 
@@ -27,7 +27,10 @@ impl Header {
         ensures { λ r. ⌜ r ≡ header-number self ⌝ }
     {
         match self {
-            Header::Count(_) => 0,
+            Header::Count {
+                version: _,
+                count: _,
+            } => 0,
             Header::Stopped(n) => n,
         }
     }
@@ -37,8 +40,18 @@ impl Header {
         ensures { λ r. ⌜ r ≡ header-count self ⌝ }
     {
         match self {
-            Header::Count(n) => n,
+            Header::Count { version: _, count } => count,
             Header::Stopped(_) => 0,
+        }
+    }
+
+    // 1 where the header is refused.
+    pub fn version(self) -> usize
+        ensures { λ r. ⌜ r ≡ header-version self ⌝ }
+    {
+        match self {
+            Header::Count { version, count: _ } => version,
+            Header::Stopped(_) => 1,
         }
     }
 }
@@ -49,13 +62,13 @@ fn header_reason(rule: &[u8]) -> u32
 {
     let n = entries::entry_count(rule);
     let unmarked = (rule.len() < 8) | bytes::lacks_mark(rule, b"KRL");
-    let version = bytes::wide(bytes::byte_at(rule, 3)) * 256 + bytes::wide(bytes::byte_at(rule, 4))
-        != 1;
+    let version = entries::version_of(rule);
+    let other = !((version == 1) | (version == 2));
     let malformed = (n > 128)
         | (bytes::byte_at(rule, 6) != 0)
         | (bytes::byte_at(rule, 7) != 0)
         | (rule.len() != 8 + n * 10);
-    refuse(1, unmarked, refuse(2, version, refuse(4, malformed, 0)))
+    refuse(1, unmarked, refuse(2, other, refuse(4, malformed, 0)))
 }
 
 pub fn check_header(rule: &[u8]) -> Header
@@ -63,7 +76,10 @@ pub fn check_header(rule: &[u8]) -> Header
 {
     let reason = header_reason(rule);
     if reason == 0 {
-        Header::Count(entries::entry_count(rule))
+        Header::Count {
+            version: entries::version_of(rule),
+            count: entries::entry_count(rule),
+        }
     } else {
         Header::Stopped(reason)
     }

@@ -4,7 +4,7 @@ use native.Mathlib.Omega.{arith}
 use borrow.Author.Tests.{ltb-false, eqb-true, eqb-false, eq-eqb}
 use mathlib.Core.Path.{_≡_, refl, sym, ap, _∙_}
 use mathlib.Core.Bool.{true, false}
-use mathlib.Core.List.{List, [], _++_}
+use mathlib.Core.List.{List, [], _∷_, _++_}
 use mathlib.Core.Option.{Option, none, some}
 use lib.Dec.{ltb, eqb}
 use lib.ListN.{length, take, drop}
@@ -15,14 +15,14 @@ use Rattle.rule.specs.Words.{words}
 use Rattle.rule.specs.Postfix.{postfix}
 use Rattle.rule.specs.Encoding.{encoded, rule-of}
 use Rattle.rule.specs.Refusal.{misplaced-at, over-limit, first}
-use Rattle.rule.specs.Measure.{far, measured}
+use Rattle.rule.specs.Measure.{reach-of, measured}
 use Rattle.rule.proofs.Headers.{first-zero}
+use Rattle.rule.proofs.Encoded.{weighed}
 use Rattle.text.specs.Tokens.{tokens, unreadable}
 use Rattle.text.specs.Grammar.{Level, Derives, Derived}
 use Rattle.text.specs.Parse.{Answer, entries-refusal, refusal, bytes, parsed, left, Parses}
 use Rattle.text.specs.declared.Parsed.the-variants.{Written, Refused}
 use Rattle.text.proofs.Cases.{by}
-use Rattle.text.proofs.Encoded.{weighed}
 use Rattle.text.proofs.Small.{none-misshapen}
 
 -- a rule written: its formula, its bytes, and what `measure` answers for it
@@ -30,7 +30,7 @@ pub record Weighed (text rule′ : List ℕ) (n : ℕ) : Type 0 where
   pub formula : Formula
   pub derived : Derives Level.ors (tokens text) formula
   pub written : take n rule′ ≡ rule-of formula
-  pub weighs : measured (take n rule′) ≡ record { number = 0; words = words (postfix formula) (length (postfix formula)); reach = far formula }
+  pub weighs : measured (take n rule′) ≡ record { number = 0; words = words 1 (postfix formula) (length (postfix formula)); reach = reach-of (some (formula ∷ [])) }
 
 -- a rule is written where no refusal applies
 accepted : (text : List ℕ) (o : Option Formula) (room n : ℕ) → record { number = 0; written = n } ≡ parsed text o room
@@ -51,10 +51,10 @@ weigh text rule rule′ n φ d z l is =
     let es = postfix φ in
     let a = first-zero 3 (ltb 128 (length es)) _ z in
     let b = first-zero 5 (any (length es) (misplaced-at es)) _ (a .1) in
-    let c = first-zero 7 (over-limit es (length es)) _ (b .1) in
+    let c = first-zero 7 (over-limit 1 es (length es)) _ (b .1) in
     let w : take n rule′ ≡ rule-of φ =
     ap (λ (k : ℕ). take k rule′) l ∙ ap (take (length (rule-of φ))) is ∙ take-append-seam (rule-of φ) (drop (length (rule-of φ)) rule) in
-    let m : measured (rule-of φ) ≡ record { number = 0; words = words es (length es); reach = far φ } =
+    let m : measured (rule-of φ) ≡ record { number = 0; words = words 1 es (length es); reach = reach-of (some (φ ∷ [])) } =
     weighed es (ltb-false 128 (length es) (a .0)) φ refl (none-misshapen text φ d) ∙ simp (b .0, c .0) in
     record { formula = φ; derived = d; written = w; weighs = ap measured w ∙ m }
 

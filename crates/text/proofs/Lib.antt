@@ -6,7 +6,6 @@ pub mod Buffer
 pub mod Grammar
 pub mod Complete
 pub mod Levels
-pub mod Encoded
 pub mod Small
 pub mod Outcome
 pub mod Accepted

@@ -17,8 +17,9 @@ use Rattle.rule.specs.Words.{words}
 use Rattle.rule.specs.Postfix.{postfix}
 use Rattle.rule.specs.Encoding.{body, encoded, rule-of}
 use Rattle.rule.specs.Refusal.{misplaced-at, over-limit, first}
-use Rattle.rule.specs.Measure.{Answer, far, refused, measured}
+use Rattle.rule.specs.Measure.{Answer, reach-of, refused, measured}
 use Rattle.rule.specs.Measure.{answer as measure-answer}
+use Rattle.rule.proofs.Encoded.{length-body, weighed}
 use Rattle.text.specs.Tokens.{Token, tokens, some-unknown, unreadable}
 use Rattle.text.specs.Grammar.{meaning, Derived}
 use Rattle.text.specs.Grammar.Level.{ors}
@@ -31,7 +32,6 @@ use Rattle.text.specs.declared.level.Read.the-variants.{Fault}
 use Rattle.text.proofs.Cases.{by}
 use Rattle.text.proofs.Lexing.{not-the-end}
 use Rattle.text.proofs.Complete.{at-end, found, decides}
-use Rattle.text.proofs.Encoded.{length-body, weighed}
 use Rattle.text.proofs.Small.{none-misshapen}
 
 chosen : {A : Type 0} (m n : ℕ) (x y : A) → m ≡ suc n → cond (eqb m 0) x y ≡ y
@@ -131,11 +131,11 @@ module _ (text rule : List ℕ) (short : length text ≤ 1024) (known : some-unk
         abbrev number : ℕ
         number =
             first 6 (any (length es) (misplaced-at es))
-            (first 8 (over-limit es (length es)) 0)
+            (first 8 (over-limit 1 es (length es)) 0)
 
         weighs : measured (rule-of φ)
             ≡ cond (eqb number 0)
-            (record { number = 0; words = words es (length es); reach = far φ })
+            (record { number = 0; words = words 1 es (length es); reach = reach-of (some (φ ∷ [])) })
             (refused number)
         weighs =
             weighed es (omega (arith, count-is)) φ refl
@@ -145,7 +145,7 @@ module _ (text rule : List ℕ) (short : length text ≤ 1024) (known : some-unk
         misplaces = any (length es) (misplaced-at es)
 
         abbrev exceeds : Bool
-        exceeds = over-limit es (length es)
+        exceeds = over-limit 1 es (length es)
 
         -- what remains of the refusals
         pending : refusal text (some φ) (length rule) ≡ first 6 misplaces (first 8 exceeds (first 18 (ltb (length rule) (8 + length es * 10)) 0))
@@ -167,10 +167,10 @@ module _ (text rule : List ℕ) (short : length text ≤ 1024) (known : some-unk
             subst (λ (j : ℕ). Parses text rule (Refused j) rule) (sym (q ∙ g)) (refuses text rule (some φ) 7 derives-it (pending ∙ simp (a, b))))
             (λ b.
             let f : number ≡ 0 = simp (a, b) in
-            let c : cond (eqb number 0) (record { number = 0; words = words es (length es); reach = far φ }) (refused number)
-            ≡ record { number = 0; words = words es (length es); reach = far φ } =
+            let c : cond (eqb number 0) (record { number = 0; words = words 1 es (length es); reach = reach-of (some (φ ∷ [])) }) (refused number)
+            ≡ record { number = 0; words = words 1 es (length es); reach = reach-of (some (φ ∷ [])) } =
             simp (eq-eqb number 0 f) in
-            let g : 0 ≡ words es (length es) = ap (λ (x : Answer). x .words) (e ∙ weighs ∙ c) in
+            let g : 0 ≡ words 1 es (length es) = ap (λ (x : Answer). x .words) (e ∙ weighs ∙ c) in
             absurd (omega arith)))
 
         -- `measure` gave the words and the reach

@@ -38,7 +38,7 @@ unfoldable pub entries-refusal : List Entry → ℕ → ℕ
 entries-refusal es room =
     first 4 (ltb 128 (length es))
     (first 6 (any (length es) (misplaced-at es))
-    (first 8 (over-limit es (length es)) (first 18 (ltb room (8 + length es * 10)) 0)))
+    (first 8 (over-limit 1 es (length es)) (first 18 (ltb room (8 + length es * 10)) 0)))
 
 -- the entries, in postfix order, of what the grammar derives
 abbrev pub entries-of : Option Formula → List Entry

@@ -1,7 +1,9 @@
 //! Records per second of the checker against document 002's algorithm in plain Rust and against a pass that only reads
-//! the records, as ratios of one run; growth with records, entries and calls; bytes of state.
+//! the records, as ratios of one run; several formulas in one run against runs of one; growth with records, entries and
+//! calls; bytes of state.
 //!
-//! `cargo run --release --offline -p bench`, or with `-- quick` for a shorter run. It prints tables in Markdown.
+//! `cargo run --release --offline -p bench`, or with `-- quick` for a shorter run, `-- formulas` for the comparison of several
+//! formulas alone. It prints tables in Markdown.
 
 mod multihead;
 
@@ -21,7 +23,10 @@ struct Job {
 
 impl Job {
     fn new(entries: &[Entry], records: &[Record]) -> Job {
-        let bytes = rule::encode(entries);
+        Job::of(rule::encode(entries), records)
+    }
+
+    fn of(bytes: Vec<u8>, records: &[Record]) -> Job {
         let rule = rule::parse(&bytes).expect("a rule without fault");
         Job { rule, bytes, file: log::encode(records), records: records.len() }
     }
@@ -75,16 +80,21 @@ impl Job {
         })
     }
 
-    /// The checker in so many calls of equal growth, with a sheet that takes all.
-    fn in_calls(&self, calls: usize) -> f64 {
+    /// The checker in so many calls of equal growth, with a sheet that takes all: its seconds, and its verdicts in the
+    /// sheet.
+    fn in_calls(&self, calls: usize, sheet: &mut Vec<u8>) -> f64 {
         let mut point = self.fresh();
-        let mut sheet = vec![0; self.records];
-        seconds(|| {
+        sheet.resize(self.records, 0);
+        let mut given = 0;
+        let time = seconds(|| {
             for call in 1..=calls {
                 let end = 8 + 8 * (self.records * call / calls);
-                havdrims::resume(&self.bytes, &self.file[..end], &mut point, &mut sheet).expect("resume");
+                let rest = &mut sheet[given..];
+                given += havdrims::resume(&self.bytes, &self.file[..end], &mut point, rest).expect("resume").verdicts;
             }
-        })
+        });
+        sheet.truncate(given);
+        time
     }
 
     /// The checker on the whole log with a sheet of a part of it, as often as it says "more".
@@ -135,6 +145,94 @@ fn rates(records: usize, rounds: usize) {
     println!();
 }
 
+/// So many formulas in runs of their own, of version 1, and together in one run of version 2.
+struct Together {
+    alone: Vec<Job>,
+    together: Job,
+    sheets: Vec<Vec<u8>>,
+    sheet: Vec<u8>,
+}
+
+impl Together {
+    fn new(formulas: &[Vec<Entry>], log: &[Record]) -> Together {
+        Together {
+            alone: formulas.iter().map(|entries| Job::new(entries, log)).collect(),
+            together: Job::of(rule::encode_several(formulas), log),
+            sheets: vec![Vec::new(); formulas.len()],
+            sheet: Vec::new(),
+        }
+    }
+
+    fn alone(&mut self, calls: usize) -> f64 {
+        self.alone.iter().zip(&mut self.sheets).map(|(job, sheet)| job.in_calls(calls, sheet)).sum()
+    }
+
+    fn together(&mut self, calls: usize) -> f64 {
+        self.together.in_calls(calls, &mut self.sheet)
+    }
+
+    /// Bit k of every verdict is that of the run of formula k alone, and none is missing.
+    fn equal(&self) -> bool {
+        let bits =
+            |k: usize, alone: &[u8]| self.sheet.iter().zip(alone).all(|(byte, verdict)| byte >> k & 1 == *verdict);
+        let all_bits = self.sheets.iter().enumerate().all(|(k, alone)| bits(k, alone));
+        all_bits && self.sheets.iter().map(Vec::len).min() == Some(self.sheet.len())
+    }
+
+    /// A row of the table.
+    fn row(&mut self, name: &str, log: &str, calls: usize, rounds: usize) {
+        let mut times: [Vec<f64>; 2] = Default::default();
+        // The first run of a side has memory to be found, and is not counted.
+        self.alone(calls);
+        self.together(calls);
+        for round in 0..rounds {
+            // Each side is the first in every other round.
+            let (alone, together) = if round % 2 == 0 {
+                let first = self.alone(calls);
+                (first, self.together(calls))
+            } else {
+                let first = self.together(calls);
+                (self.alone(calls), first)
+            };
+            assert!(self.equal(), "{name} over {log}: verdicts differ");
+            times[0].push(alone);
+            times[1].push(together);
+        }
+        let ratios = times[0].iter().zip(&times[1]).map(|(alone, together)| alone / together).collect();
+        let [alone, together] = times.map(|all| Spread::of(all.into_iter().map(|time| time * 1e3).collect()).text(2));
+        let ratio = Spread::of(ratios).text(2);
+        println!("| {name} | {log} | {calls} | {alone} | {together} | {ratio} | {} equal |", self.sheet.len());
+    }
+}
+
+/// Eight formulas in one run against eight runs of one, and one formula as version 2 against version 1.
+fn several_formulas(records: usize, rounds: usize) {
+    let intro = "Milliseconds of processor time, middle of the rounds (least to most). A ratio is of one round's two times: above";
+    println!("## Eight formulas in one run, {records} records, {rounds} rounds\n\n{intro} 1, one run is faster than eight.\n");
+    println!(
+        "| formulas | log | calls | eight runs | one run | eight / one | verdicts |\n|---|---|---|---|---|---|---|"
+    );
+    for (name, formulas) in rules::eights() {
+        for (log_name, log) in rules::logs(records) {
+            let mut both = Together::new(&formulas, &log);
+            for calls in [1, records / 100] {
+                both.row(name, log_name, calls, rounds);
+            }
+        }
+    }
+    println!("\n## One formula as version 2, {records} records, {rounds} rounds\n\n{intro} 1, version 2 is faster.\n");
+    println!("| rule | log | calls | version 1 | version 2 | 1 / 2 | verdicts |\n|---|---|---|---|---|---|---|");
+    for (name, entries) in rules::all() {
+        for (log_name, log) in rules::logs(records) {
+            let mut both = Together::new(std::slice::from_ref(&entries), &log);
+            for calls in [1, records / 100] {
+                both.row(name, log_name, calls, rounds);
+            }
+        }
+    }
+    println!();
+}
+
 fn middle(rounds: usize, work: impl FnMut(usize) -> f64) -> Spread {
     Spread::of((0..rounds).map(work).collect())
 }
@@ -177,7 +275,7 @@ fn growth_with_calls(records: usize, rounds: usize) {
     println!("|---|---|---|");
     let job = Job::new(&rules::all()[1].1, &rules::logs(records)[0].1);
     for calls in [1, 10, 100, 1_000, 10_000] {
-        let grows = middle(rounds, |_| job.in_calls(calls) * 1e3);
+        let grows = middle(rounds, |_| job.in_calls(calls, &mut Vec::new()) * 1e3);
         let sheets = match calls {
             10_000 => "-".to_string(),
             _ => middle(rounds, |_| job.in_sheets(calls) * 1e3).text(1),
@@ -203,7 +301,11 @@ fn memory(records: usize) {
 fn main() {
     let quick = std::env::args().any(|word| word == "quick");
     let (records, rounds) = if quick { (100_000, 3) } else { (1_000_000, 11) };
+    if std::env::args().any(|word| word == "formulas") {
+        return several_formulas(records, rounds);
+    }
     rates(records, rounds);
+    several_formulas(records, rounds);
     growth_with_records(records, rounds);
     growth_with_entries(records / 10, rounds);
     growth_with_calls(records, rounds.min(5));

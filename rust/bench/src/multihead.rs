@@ -22,7 +22,7 @@ pub trait Monitor {
 
 type Boxed = Box<dyn Monitor>;
 
-/// The monitor of a rule that has entries: document 002 knows no empty rule.
+/// The monitor of a rule that has entries, one formula: document 002 knows no empty rule and not several on one sheet.
 pub fn monitor(rule: &Rule) -> Boxed {
     let mut stack: Vec<Boxed> = Vec::new();
     for e in &rule.entries {
@@ -362,7 +362,7 @@ mod tests {
             let expected = reading::verdicts(&rule, &records);
             assert!(got.len() <= expected.len(), "seed {seed}");
             for (at, (time, holds)) in got.iter().enumerate() {
-                assert_eq!((*time, *holds), (records[at].time, expected[at]), "seed {seed}, position {at}");
+                assert_eq!((*time, u8::from(*holds)), (records[at].time, expected[at]), "seed {seed}, position {at}");
             }
             if may_answer_later(&rule) {
                 later += (got.len() < expected.len()) as usize;

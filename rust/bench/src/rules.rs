@@ -47,6 +47,22 @@ pub fn all() -> Vec<(&'static str, Vec<Entry>)> {
     ]
 }
 
+/// Three times eight formulas, each with a name.
+pub fn eights() -> Vec<(&'static str, Vec<Vec<Entry>>)> {
+    let negated = |mut entries: Vec<Entry>| {
+        entries.push(Entry::not());
+        entries
+    };
+    let and_nots = |formulas: Vec<Vec<Entry>>| [formulas.clone(), formulas.into_iter().map(negated).collect()].concat();
+    let pairs = [[0, 1], [1, 0], [2, 3], [3, 2], [0, 2], [2, 0], [1, 3], [3, 1]];
+    let until = |letters| binary(letters, Entry::timed(UNTIL, 0, 90));
+    vec![
+        ("four letters and their nots", and_nots((0..4).map(|letter| vec![Entry::letter(letter)]).collect())),
+        ("eight of ninety seconds", pairs.into_iter().map(until).collect()),
+        ("the first four rules and their nots", and_nots(all().into_iter().take(4).map(|(_, rule)| rule).collect())),
+    ]
+}
+
 /// A kiosk's log, in which a letter changes once in forty records, and one in which every letter is drawn anew.
 pub fn logs(records: usize) -> Vec<(&'static str, Vec<Record>)> {
     let shape = |hold, step| LogShape { records, letters: 4, hold, step, start: 1_000 };

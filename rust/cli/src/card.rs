@@ -8,7 +8,7 @@
 
 use crate::disk::{Disk, Lock};
 use crate::saved::{checksum, Saved, Unreadable};
-use havdrims::{close, measure, open, resume, status, summary, tally, Refusal, Status, Summary};
+use havdrims::{close, measure, open, resume, status, summary, tally, Refusal, Status, Summary, Tally};
 use std::fmt;
 use std::io::{self, ErrorKind};
 
@@ -16,7 +16,7 @@ use std::io::{self, ErrorKind};
 pub const CARD: &str = "card.txt";
 /// The rule, a .krl file.
 pub const RULE: &str = "rule.krl";
-/// The verdicts, a byte each.
+/// The verdicts, a byte each, with a bit for each formula of the rule.
 pub const SHEET: &str = "sheet";
 /// The checkpoint, with the sheet's length and a checksum.
 pub const POINT: &str = "point";
@@ -229,8 +229,10 @@ pub struct Card<'a, D: Disk> {
 pub struct Evening {
     /// The first position that got a verdict, if any did.
     pub first: u64,
-    pub yes: u64,
-    pub no: u64,
+    /// How many positions got one.
+    pub new: u64,
+    /// Their yes and no, formula by formula.
+    pub counts: Tally,
     /// All evenings together.
     pub summary: Summary,
     pub status: Status,
@@ -282,6 +284,11 @@ impl<'a, D: Disk> Card<'a, D> {
         &self.verdicts
     }
 
+    /// The number of formulas of the card's rule: so many answers has a verdict.
+    pub fn formulas(&self) -> usize {
+        self.summary.no().len()
+    }
+
     /// Carries on with the log as far as it goes, or closes it, until caught up. When this returns, the verdicts and the
     /// checkpoint survive a cut.
     pub fn carry_on(&mut self, closing: bool, log: &[u8]) -> Result<Evening, Fault> {
@@ -297,13 +304,13 @@ impl<'a, D: Disk> Card<'a, D> {
                 break;
             }
         }
-        let counts = tally(&new).map_err(Fault::Refused)?;
-        let (first, yes, no) = (self.verdicts.len() as u64, counts.yes, counts.no);
+        let counts = tally(&new, self.formulas()).map_err(Fault::Refused)?;
+        let first = self.verdicts.len() as u64;
         let summary = summary(&self.rule, &words).map_err(Fault::Refused)?;
         let status = status(&self.rule, &words).map_err(Fault::Refused)?;
         self.save(&new, words)?;
         (self.summary, self.status) = (summary, status);
-        Ok(Evening { first, yes, no, summary, status })
+        Ok(Evening { first, new: new.len() as u64, counts, summary, status })
     }
 
     /// Saves further verdicts, and the checkpoint that counts them. It does so too where nothing is new: what is there may

@@ -40,13 +40,14 @@ struct Command {
 const COMMANDS: [Command; 11] = [
     Command {
         name: "new",
-        words: "CARD RULE",
+        words: "CARD RULE..",
         does: "make the folder CARD for one kiosk",
         more: "\
-RULE is a .krl file, or a text such as 'not e2 or e0 until[0,90] e1'. The folder must not be there yet, or be empty;
-if making it was cut short, it can be made again.",
+RULE is a .krl file, or a text such as 'not e2 or e0 until[0,90] e1'. Several of them, with up to eight formulas, are
+judged together: a record has its verdicts when every formula has answered it. The folder must not be there yet, or be
+empty; if making it was cut short, it can be made again.",
         run: |words| match words {
-            [folder, rule] => Some(new(folder, rule)),
+            [folder, rules @ ..] if !rules.is_empty() => Some(new(folder, rules)),
             _ => None,
         },
     },
@@ -79,7 +80,9 @@ it can be closed again with the same log, but takes no further records.",
         name: "summary",
         words: "CARD",
         does: "print how many verdicts were given, how many no, and the latest",
-        more: "The card is not changed. Commands that only read it may run beside each other.",
+        more: "\
+A card with several formulas has a line for each of them. The card is not changed. Commands that only read it may run
+beside each other.",
         run: |words| match words {
             [folder] => Some(summarized(folder)),
             _ => None,
@@ -90,17 +93,20 @@ it can be closed again with the same log, but takes no further records.",
         words: "CARD [--csv] [--from N]",
         does: "print the verdicts, a line for each record",
         more: "\
---csv prints them for a spreadsheet, under the line `position,verdict`. --from N begins with record N. The card is not
-changed.",
+A line has the record's number and then a word, yes or no, for each formula of the rule. --csv prints them for a
+spreadsheet, under the line `position,verdict`; where there are several formulas each has its column, as in
+`position,formula 0,formula 1`. --from N begins with record N. The card is not changed.",
         run: sheet,
     },
     Command {
         name: "rule",
-        words: "FORMULA RULE",
-        does: "write the rule file that the formula says",
-        more: "FORMULA is one argument, as in 'not e2 or e0 until[0,90] e1'.",
+        words: "FORMULA.. RULE",
+        does: "write the rule file that the formula says, or several",
+        more: "\
+FORMULA is one argument, as in 'not e2 or e0 until[0,90] e1'. Several of them, up to eight, make a rule of version 2:
+they are judged together. RULE is the .krl file to be written.",
         run: |words| match words {
-            [formula, rule] => Some(convert::rule(formula, rule)),
+            [formulas @ .., rule] if !formulas.is_empty() => Some(convert::rule(formulas, rule)),
             _ => None,
         },
     },
@@ -108,7 +114,7 @@ changed.",
         name: "formula",
         words: "RULE",
         does: "print a rule file as a formula, its words and its reach",
-        more: "RULE is a .krl file.",
+        more: "RULE is a .krl file. Each of several formulas has its line.",
         run: |words| match words {
             [rule] => Some(convert::formula(rule)),
             _ => None,
@@ -211,12 +217,16 @@ fn card_number() -> u64 {
     RandomState::new().hash_one(std::process::id())
 }
 
-fn new(folder: &str, rule: &str) -> Answer {
-    let bytes = convert::rule_said(rule)?;
-    let described = convert::described(rule, &bytes)?;
+fn new(folder: &str, rules: &[&str]) -> Answer {
+    let bytes = convert::rule_said(rules)?;
+    let (formulas, needs) = convert::described(rules[0], &bytes)?;
     card::new(&mut Folder::new(Path::new(folder)), card_number(), &bytes)
         .map_err(|fault| Failure::fault(folder, fault))?;
-    Ok(format!("{folder}: {described}"))
+    let made = match formulas.len() {
+        1 => folder.to_string(),
+        number => format!("{folder}: {number} formulas"),
+    };
+    Ok(format!("{}{needs}", by_formula(&made, ": ", formulas)))
 }
 
 fn carry_on(closing: bool, folder: &str, path: &str) -> Answer {
@@ -247,27 +257,40 @@ fn unchanged(folder: &str, log: &str, fault: &Fault) -> Failure {
 
 /// An evening in plain words.
 fn told(evening: &Evening) -> String {
-    let Evening { first, yes, no, summary, status } = evening;
-    let new = yes + no;
-    let given = match new {
+    let Evening { first, new, counts, summary, status } = evening;
+    let which = match new {
         0 => "no new verdict".to_string(),
-        1 => format!("record {first}: {yes} yes, {no} no"),
-        _ => format!("records {first} to {}: {yes} yes, {no} no", first + new - 1),
+        1 => format!("record {first}"),
+        _ => format!("records {first} to {}", first + new - 1),
     };
+    let counts = counts.yes().iter().zip(counts.no()).map(|(yes, no)| format!("{yes} yes, {no} no"));
+    let given = if *new == 0 { format!("{which}\n") } else { by_formula(&which, ": ", counts.collect()) };
     let released = match status.wanted {
         0 => "no record may be overwritten yet".to_string(),
         1 => "record 0 may be overwritten".to_string(),
         wanted => format!("records 0 to {} may be overwritten", wanted - 1),
     };
-    format!("{given}\n{}{released}\n", so_far(summary, status))
+    format!("{given}{}{released}\n", so_far(summary, status))
+}
+
+/// What there is to say of each formula: of one alone, behind what stands first; of several, a line each below it.
+fn by_formula(first: &str, between: &str, said: Vec<String>) -> String {
+    if let [only] = said.as_slice() {
+        return format!("{first}{between}{only}\n");
+    }
+    let line = |(formula, said): (usize, &String)| format!("  formula {formula}: {said}\n");
+    format!("{first}\n{}", said.iter().enumerate().map(line).collect::<String>())
 }
 
 /// All evenings together.
 fn so_far(summary: &Summary, status: &Status) -> String {
     let Status { given, seen, closed, .. } = status;
-    let latest = summary.latest.map_or(String::new(), |record| format!(", the latest at record {record}"));
+    let latest =
+        |record: &Option<u64>| record.map_or(String::new(), |record| format!(", the latest at record {record}"));
+    let counts = summary.no().iter().zip(summary.latest()).map(|(no, at)| format!("{no} no{}", latest(at)));
+    let counts = by_formula(&format!("so far: {given} verdicts"), ", ", counts.collect());
     let ended = if *closed { ", and the card is closed" } else { "" };
-    format!("so far: {given} verdicts, {} no{latest}\nopen: {} of {seen} records{ended}\n", summary.no, seen - given)
+    format!("{counts}open: {} of {seen} records{ended}\n", seen - given)
 }
 
 fn summarized(folder: &str) -> Answer {
@@ -296,9 +319,22 @@ fn sheet(words: &[&str]) -> Option<Answer> {
 fn lines(folder: &str, csv: bool, from: usize) -> Answer {
     let mut disk = Folder::new(Path::new(folder));
     let card = Card::open(&mut disk, false).map_err(|fault| Failure::fault(folder, fault))?;
-    let (mut text, between) = if csv { ("position,verdict\n".to_string(), ',') } else { (String::new(), ' ') };
+    let between = if csv { "," } else { " " };
+    let mut text = if csv { heading(card.formulas()) } else { String::new() };
     for (position, &verdict) in card.verdicts().iter().enumerate().skip(from) {
-        let _ = writeln!(text, "{position}{between}{}", if verdict == 1 { "yes" } else { "no" });
+        let _ = write!(text, "{position}");
+        for formula in 0..card.formulas() {
+            let _ = write!(text, "{between}{}", if verdict >> formula & 1 == 1 { "yes" } else { "no" });
+        }
+        text.push('\n');
     }
     Ok(text)
+}
+
+/// The first line for a spreadsheet.
+fn heading(formulas: usize) -> String {
+    match formulas {
+        1 => "position,verdict\n".to_string(),
+        _ => format!("position{}\n", (0..formulas).map(|k| format!(",formula {k}")).collect::<String>()),
+    }
 }

@@ -2,7 +2,7 @@
 
 use crate::command::Failure;
 use crate::disk::read_file;
-use havdrims::{measure, parse, simulate, text, worst_log, Settings, MOST_RULE};
+use havdrims::{formulas, measure, parse, simulate, text, worst_log, Refusal, Settings, MOST_FORMULAS, MOST_RULE};
 use std::str::FromStr;
 use std::{fs, io};
 
@@ -22,12 +22,39 @@ pub fn log(path: &str) -> io::Result<Vec<u8>> {
     read_file(path, MOST_LOG)
 }
 
-/// The bytes of the rule that a word of the command line says: it is the name of a .krl file, or else a formula.
-pub fn rule_said(word: &str) -> Result<Vec<u8>, Failure> {
-    if word.ends_with(".krl") {
-        return read_file(word, MOST_RULE).map_err(|fault| Failure::fault(word, fault));
+/// The bytes of the rule that some words of the command line say: each is the name of a .krl file, or else a formula.
+/// One alone is taken as it is; of several, all formulas make a rule of version 2.
+pub fn rule_said(words: &[&str]) -> Result<Vec<u8>, Failure> {
+    let said = |word: &&str| match word.ends_with(".krl") {
+        true => read_file(word, MOST_RULE).map_err(|fault| Failure::fault(word, fault)),
+        false => parsed(word),
+    };
+    joined(words, words.iter().map(said).collect::<Result<_, _>>()?)
+}
+
+/// One rule of those that these words say.
+fn joined(words: &[&str], mut rules: Vec<Vec<u8>>) -> Result<Vec<u8>, Failure> {
+    if rules.len() == 1 {
+        return Ok(rules.remove(0));
     }
-    parsed(word)
+    for (word, rule) in words.iter().zip(&rules) {
+        measure(rule).map_err(|refusal| Failure::fault(word, refusal))?;
+        if rule.len() == 8 {
+            return Err(Failure::fault(word, "a rule without entries cannot stand beside others"));
+        }
+    }
+    let slices: Vec<&[u8]> = rules.iter().map(Vec::as_slice).collect();
+    text::joined(&slices)
+        .map_err(|refusal| Failure::fault("all together", format!("{refusal}{}", hint(refusal, &slices))))
+}
+
+/// What else there is to say where rules that are right alone are refused together.
+fn hint(refusal: Refusal, rules: &[&[u8]]) -> String {
+    if refusal != Refusal::Shape {
+        return String::new();
+    }
+    let number: usize = rules.iter().filter_map(|rule| formulas(rule).ok()).sum();
+    format!("\nThese are {number} formulas; at most {MOST_FORMULAS} can be judged together.")
 }
 
 /// The bytes of the rule that a formula says.
@@ -39,13 +66,13 @@ fn parsed(formula: &str) -> Result<Vec<u8>, Failure> {
     Ok(bytes)
 }
 
-/// A rule as a formula, its words and its reach.
-pub fn described(name: &str, rule: &[u8]) -> Answer {
+/// A rule's formulas, and a line with its words and its reach.
+pub fn described(name: &str, rule: &[u8]) -> Result<(Vec<String>, String), Failure> {
     let refused = |refusal| Failure::fault(name, refusal);
     let needs = measure(rule).map_err(refused)?;
-    let formula = text::formula(rule).map_err(refused)?;
+    let formulas = text::formula(rule).map_err(refused)?;
     let reach = needs.reach.map_or("none".to_string(), |seconds| format!("{seconds} seconds"));
-    Ok(format!("{formula}\nwords {}, reach {reach}\n", needs.words))
+    Ok((formulas.lines().map(str::to_string).collect(), format!("words {}, reach {reach}\n", needs.words)))
 }
 
 pub fn to_log(path: &str, log: &str) -> Answer {
@@ -61,15 +88,22 @@ pub fn to_text(path: &str) -> Answer {
     text::log_to_text(&log).map_err(|refusal| Failure::fault(path, refusal))
 }
 
-pub fn rule(formula: &str, path: &str) -> Answer {
-    let bytes = parsed(formula)?;
+pub fn rule(formulas: &[&str], path: &str) -> Answer {
+    if !path.ends_with(".krl") {
+        // It may be a formula, with the file's name forgotten.
+        return Err(Failure::Use(format!("`{path}` is no name of a rule file: that ends in .krl")));
+    }
+    let rules = formulas.iter().map(|formula| parsed(formula)).collect::<Result<_, _>>()?;
+    let bytes = joined(formulas, rules)?;
     write(path, &bytes)?;
-    Ok(format!("{path}: {} entries\n", (bytes.len() - 8) / 10))
+    let number = if formulas.len() == 1 { String::new() } else { format!("{} formulas, ", formulas.len()) };
+    Ok(format!("{path}: {number}{} entries\n", (bytes.len() - 8) / 10))
 }
 
 pub fn formula(path: &str) -> Answer {
     let bytes = read_file(path, MOST_RULE).map_err(|fault| Failure::fault(path, fault))?;
-    described(path, &bytes)
+    let (formulas, needs) = described(path, &bytes)?;
+    Ok(format!("{}\n{needs}", formulas.join("\n")))
 }
 
 /// A number of the command line.

@@ -1,12 +1,13 @@
 //! Worked cases, document 01's and those of the requests: one rule, one log and its verdicts; and lists of calls.
 
 use crate::log::Record;
-use crate::rule::{Entry, NEXT, NO_END, PREVIOUS, SINCE, UNTIL};
+use crate::rule::{self, Entry, NEXT, NO_END, PREVIOUS, SINCE, UNTIL};
 
 /// One rule over one log.
 pub struct Case {
     pub name: &'static str,
-    pub entries: Vec<Entry>,
+    /// The rule's bytes.
+    pub rule: Vec<u8>,
     pub records: Vec<Record>,
     pub verdicts: Vec<u8>,
 }
@@ -23,7 +24,7 @@ pub fn p1_entries() -> Vec<Entry> {
 
 /// P1's records.
 pub fn p1_records() -> Vec<Record> {
-    records(&[(10, &[0]), (11, &[0]), (11, &[]), (12, &[0]), (13, &[1]), (20, &[0])])
+    records(&P1)
 }
 
 /// P10's rule: two untils over three letters, with these highs.
@@ -33,13 +34,99 @@ pub fn p10_entries(outer: u32, inner: u32) -> Vec<Entry> {
     [letters.as_slice(), untils.as_slice()].concat()
 }
 
+/// A version 2 rule at the limit of words: an until with the highest high, and a since with this one.
+pub fn several_words(since: u32) -> Vec<u8> {
+    let [e0, e1] = [0, 1].map(Entry::letter);
+    rule::encode_several(&[vec![e0, e1, Entry::timed(UNTIL, 0, 3600)], vec![e0, e1, Entry::timed(SINCE, 0, since)]])
+}
+
 fn case(name: &'static str, entries: &[Entry], log: &[(u32, &[u32])], verdicts: &[u8]) -> Case {
-    Case { name, entries: entries.to_vec(), records: records(log), verdicts: verdicts.to_vec() }
+    Case { name, rule: rule::encode(entries), records: records(log), verdicts: verdicts.to_vec() }
+}
+
+/// The same with a version 2 rule of these formulas.
+fn several(name: &'static str, formulas: &[Vec<Entry>], log: &[(u32, &[u32])], verdicts: &[u8]) -> Case {
+    Case { rule: rule::encode_several(formulas), ..case(name, &[], log, verdicts) }
 }
 
 /// All of them.
 pub fn all() -> Vec<Case> {
-    [document_01(), endless_next(), empty_rule(), sooner_previous()].into_iter().flatten().collect()
+    [document_01(), endless_next(), empty_rule(), sooner_previous(), several_formulas()].into_iter().flatten().collect()
+}
+
+const P1: [(u32, &[u32]); 6] = [(10, &[0]), (11, &[0]), (11, &[]), (12, &[0]), (13, &[1]), (20, &[0])];
+
+/// P1's until and its not.
+fn p1_and_its_not() -> Vec<Vec<Entry>> {
+    vec![p1_entries(), [p1_entries(), vec![Entry::not()]].concat()]
+}
+
+/// Letters 0 to so many less 1, each a formula.
+pub fn letters(formulas: u8) -> Vec<Vec<Entry>> {
+    (0..formulas).map(|letter| vec![Entry::letter(letter)]).collect()
+}
+
+/// A sheet, a number of formulas, and what tally gives: the counts of no and of yes, one a formula, or refusal 15.
+pub type Tallied = (Vec<u8>, u64, Result<(Vec<u64>, Vec<u64>), u32>);
+
+/// Request 8: sheets that are tallied.
+pub fn tallies() -> Vec<Tallied> {
+    let given = |no: &[u64], yes: &[u64]| Ok((no.to_vec(), yes.to_vec()));
+    vec![
+        (vec![0, 0, 0, 1, 1], 1, given(&[3], &[2])),
+        (vec![2, 2, 2, 1, 1], 2, given(&[3, 2], &[2, 3])),
+        (vec![2, 2, 2, 1, 1], 3, given(&[3, 2, 5], &[2, 3, 0])),
+        (vec![129, 0, 255], 8, given(&[1, 2, 2, 2, 2, 2, 2, 1], &[2, 1, 1, 1, 1, 1, 1, 2])),
+        (vec![], 1, given(&[0], &[0])),
+        (vec![], 8, given(&[0; 8], &[0; 8])),
+        // a bit beyond the number, at the end, at the beginning and alone
+        (vec![0, 1, 2], 1, Err(15)),
+        (vec![4, 3, 2], 2, Err(15)),
+        (vec![128], 7, Err(15)),
+        (vec![127], 7, given(&[0; 7], &[1; 7])),
+        // a number outside 1 to 8, whatever the sheet
+        (vec![], 0, Err(15)),
+        (vec![0, 0], 0, Err(15)),
+        (vec![], 9, Err(15)),
+        (vec![0, 1], 9, Err(15)),
+        (vec![0], 1 << 32 | 1, Err(15)),
+        (vec![0], u64::MAX, Err(15)),
+    ]
+}
+
+/// Request 8: several formulas. Bit 0, the lowest, is the first formula's answer.
+fn several_formulas() -> Vec<Case> {
+    let p1 = p1_entries();
+    let [e0, e1] = [0, 1].map(Entry::letter);
+    let next = vec![e0, Entry::timed(NEXT, 1, 1)];
+    let previous = vec![e0, Entry::timed(PREVIOUS, 0, 9)];
+    vec![
+        several("P1's until and its not", &p1_and_its_not(), &P1, &[2, 2, 2, 1, 1]),
+        several("P1 as the one formula of version 2", std::slice::from_ref(&p1), &P1, &[0, 0, 0, 1, 1]),
+        several("an open until holds a letter back", &[vec![e0], p1.clone()], &[(10, &[0]), (12, &[0])], &[]),
+        several("the same, the until first", &[p1.clone(), vec![e0]], &[(10, &[0]), (12, &[0])], &[]),
+        several("no longer", &[vec![e0], p1.clone()], &[(10, &[0]), (12, &[0]), (13, &[0])], &[1]),
+        several("no longer, the until first", &[p1, vec![e0]], &[(10, &[0]), (12, &[0]), (13, &[0])], &[2]),
+        several(
+            "the last of three holds back",
+            &[vec![e0], vec![e1], next],
+            &[(5, &[1]), (6, &[0]), (8, &[0])],
+            &[6, 1],
+        ),
+        several(
+            "the first of two is previous",
+            &[previous, vec![e1]],
+            &[(5, &[0, 1]), (5, &[1]), (6, &[])],
+            &[2, 3, 0],
+        ),
+        several(
+            "eight letters",
+            &letters(8),
+            &[(5, &[0, 7]), (5, &[]), (6, &[0, 1, 2, 3, 4, 5, 6, 7, 8]), (6, &[3]), (9, &[8])],
+            &[129, 0, 255, 8, 0],
+        ),
+        several("no record", &letters(8), &[], &[]),
+    ]
 }
 
 /// Request 2: previous answers one position more than its operand.
@@ -70,7 +157,7 @@ pub fn closed() -> Vec<Case> {
     let nested = [&[Entry::letter(0)], inner.as_slice(), &[Entry::timed(UNTIL, 0, 5)]].concat();
     let p5: [(u32, &[u32]); 3] = [(5, &[]), (6, &[0]), (8, &[0])];
     vec![
-        Case { name: "P1 closed", entries: p1.clone(), records: p1_records(), verdicts: vec![0, 0, 0, 1, 1, 0] },
+        case("P1 closed", &p1, &P1, &[0, 0, 0, 1, 1, 0]),
         case("P5 closed", &next, &p5, &[1, 0, 0]),
         case("not of P5 closed", &not_next, &p5, &[0, 1, 1]),
         case("previous of P5 closed", &previous_of_next, &p5, &[0, 1, 0]),
@@ -79,6 +166,8 @@ pub fn closed() -> Vec<Case> {
         case("P8 closed", &nested, &[(0, &[0, 2]), (11, &[2])], &[0, 0]),
         case("P9 closed", &p1, &[], &[]),
         case("an empty rule closed", &[], &[(5, &[]), (5, &[0])], &[1, 1]),
+        several("P1's until and its not closed", &p1_and_its_not(), &P1, &[2, 2, 2, 1, 1, 2]),
+        several("a letter and P5 closed", &[vec![Entry::letter(0)], next.to_vec()], &p5, &[2, 1, 1]),
     ]
 }
 
@@ -114,7 +203,7 @@ fn document_01() -> Vec<Case> {
     let inner = [Entry::letter(2), Entry::letter(3), Entry::timed(UNTIL, 0, 5)];
     let nested = [&[Entry::letter(0)], inner.as_slice(), &[Entry::timed(UNTIL, 0, 5)]].concat();
     vec![
-        Case { name: "P1", entries: p1.clone(), records: p1_records(), verdicts: vec![0, 0, 0, 1, 1] },
+        case("P1", &p1, &P1, &[0, 0, 0, 1, 1]),
         case("P3", &since, &[(5, &[1]), (5, &[0]), (6, &[0]), (7, &[])], &[0, 0, 1, 0]),
         case("P4", &previous, &[(5, &[0]), (5, &[]), (6, &[0])], &[0, 1, 0]),
         case("P5", &next, &[(5, &[]), (6, &[0]), (8, &[0])], &[1, 0]),
@@ -141,14 +230,15 @@ pub struct Call {
     pub gives: Result<(Vec<u8>, bool), u32>,
     /// The first record still wanted after it.
     pub wanted: usize,
-    /// The count of no after it, and the position of the latest.
-    pub no: (u64, Option<u64>),
+    /// For each formula, the count of no after it and the position of the latest.
+    pub no: Vec<(u64, Option<u64>)>,
 }
 
 /// Calls with one point, from a fresh one on.
 pub struct List {
     pub name: &'static str,
-    pub entries: Vec<Entry>,
+    /// The rule's bytes.
+    pub rule: Vec<u8>,
     /// The untouched log.
     pub records: Vec<Record>,
     pub calls: Vec<Call>,
@@ -162,7 +252,7 @@ struct Step {
     sheet: usize,
     gives: Result<(Vec<u8>, bool), u32>,
     wanted: Option<usize>,
-    no: Option<(u64, Option<u64>)>,
+    no: Vec<(usize, u64, u64)>,
 }
 
 /// A carry on with the first `n` records of the list's log, and a sheet for all verdicts. It gives none and has caught
@@ -175,7 +265,7 @@ fn resume(n: usize) -> Step {
         sheet: 100,
         gives: Ok((Vec::new(), false)),
         wanted: None,
-        no: None,
+        no: Vec::new(),
     }
 }
 
@@ -212,7 +302,13 @@ impl Step {
 
     /// The count of no after it and the position of the latest, if they are not those of before.
     fn no(self, count: u64, latest: u64) -> Step {
-        Step { no: Some((count, Some(latest))), ..self }
+        self.no_of(0, count, latest)
+    }
+
+    /// The same of this formula.
+    fn no_of(mut self, formula: usize, count: u64, latest: u64) -> Step {
+        self.no.push((formula, count, latest));
+        self
     }
 }
 
@@ -220,7 +316,27 @@ const ONES: Record = Record { time: u32::MAX, letters: u32::MAX };
 
 /// Before each call the records before the first wanted are overwritten with ones.
 fn list<const N: usize>(name: &'static str, entries: &[Entry], records: &[Record], steps: [Step; N]) -> List {
-    let (mut wanted, mut no) = (0, (0, None));
+    list_of(name, rule::encode(entries), 1, records, steps)
+}
+
+/// The same with a version 2 rule of these formulas.
+fn several_list<const N: usize>(
+    name: &'static str,
+    formulas: &[Vec<Entry>],
+    records: &[Record],
+    steps: [Step; N],
+) -> List {
+    list_of(name, rule::encode_several(formulas), formulas.len(), records, steps)
+}
+
+fn list_of<const N: usize>(
+    name: &'static str,
+    rule: Vec<u8>,
+    formulas: usize,
+    records: &[Record],
+    steps: [Step; N],
+) -> List {
+    let (mut wanted, mut no) = (0, vec![(0, None); formulas]);
     let calls = steps.map(|step| {
         let mut log = records[..step.records].to_vec();
         log.iter_mut().take(wanted).for_each(|record| *record = ONES);
@@ -228,10 +344,12 @@ fn list<const N: usize>(name: &'static str, entries: &[Entry], records: &[Record
             log[at] = record;
         }
         wanted = step.wanted.unwrap_or(wanted);
-        no = step.no.unwrap_or(no);
-        Call { closing: step.closing, log, sheet: step.sheet, gives: step.gives, wanted, no }
+        for (formula, count, latest) in step.no {
+            no[formula] = (count, Some(latest));
+        }
+        Call { closing: step.closing, log, sheet: step.sheet, gives: step.gives, wanted, no: no.clone() }
     });
-    List { name, entries: entries.to_vec(), records: records.to_vec(), calls: calls.into() }
+    List { name, rule, records: records.to_vec(), calls: calls.into() }
 }
 
 /// All lists.
@@ -305,7 +423,41 @@ pub fn lists() -> Vec<List> {
         close(6).sheet(1).gives_and_more(&[0]).wanted(2).no(4, 4),
         close(6).sheet(1).gives(&[1]).wanted(3),
     ];
+    let two_days = [
+        resume(6).sheet(4).gives_and_more(&[2, 2, 2, 1]).wanted(4).no_of(0, 3, 2).no_of(1, 1, 3),
+        resume(6).gives(&[1]).wanted(5).no_of(1, 2, 4),
+        resume(7).gives(&[1, 1]).wanted(7).no_of(1, 4, 6),
+        close(7),
+    ];
+    let held_back = [
+        resume(2),
+        resume(2).sheet(0),
+        resume(3).gives(&[1]).wanted(1).no_of(1, 1, 0),
+        resume(3),
+        close(3).sheet(1).gives_and_more(&[1]).wanted(2).no_of(1, 2, 1),
+        close(3).gives(&[1]).wanted(3).no_of(1, 3, 2),
+    ];
+    let e0 = vec![Entry::letter(0)];
+    let back = [e0.clone(), twice.to_vec(), [e0.as_slice(), &[previous]].concat()];
+    let kept_for_the_deepest = [
+        resume(3).gives(&[1, 4, 3]).wanted(1).no_of(0, 1, 1).no_of(1, 2, 1).no_of(2, 2, 2),
+        resume(4).with_record(1, 4, 0).refused(14),
+        resume(4).gives(&[5]).wanted(2).no_of(1, 3, 3),
+    ];
+    let eight = [
+        resume(6).sheet(5).gives_and_more(&[1, 1, 0, 1, 2]).wanted(5).no_of(0, 2, 4).no_of(1, 4, 3),
+        resume(7).sheet(1).gives_and_more(&[1]).wanted(6).no_of(1, 5, 5),
+        resume(7).gives(&[2]).wanted(7).no_of(0, 3, 6),
+    ];
+    let eight = eight.map(|step| {
+        let latest = step.wanted.unwrap_or(0) as u64 - 1;
+        (2..8).fold(step, |step, formula| step.no_of(formula, latest + 1, latest))
+    });
     vec![
+        several_list("P1's until and its not, P1 and P2", &p1_and_its_not(), &seven, two_days),
+        several_list("an open until holds a letter back", &[e0, p1.clone()], &p7, held_back),
+        several_list("the first wanted is by the deepest formula", &back, &six, kept_for_the_deepest),
+        several_list("eight letters, evening by evening", &letters(8), &seven, eight),
         list("no record, closed", &p1, &seven, no_record),
         list("closed for good", &p1, &seven, closed),
         list("closed with sheets of one byte", &p1, &p7, one_by_one),

@@ -5,34 +5,27 @@
 //! is a difference of running counts.
 
 use crate::log::Record;
+use crate::reading::{self, Reading};
 use crate::rule::{Entry, Rule, LETTER, NEXT, NOT, OR, PREVIOUS, SINCE, UNTIL};
 
-/// One entry over a whole log: the plain reading, and how many positions are answered.
-struct Reading {
-    holds: Vec<bool>,
-    answered: usize,
-}
-
-/// The verdicts of a log: A of them, each the plain reading at its position.
-pub fn verdicts(rule: &Rule, log: &[Record]) -> Vec<bool> {
-    let Reading { mut holds, answered } = of_rule(rule, log);
-    holds.truncate(answered);
-    holds
+/// The verdicts of a log: A bytes, each with the plain reading of every formula at its position.
+pub fn verdicts(rule: &Rule, log: &[Record]) -> Vec<u8> {
+    reading::settled(&of_formulas(rule, log), log.len())
 }
 
 /// The verdicts of a log that is closed: the plain reading at all N positions.
-pub fn closed_verdicts(rule: &Rule, log: &[Record]) -> Vec<bool> {
-    of_rule(rule, log).holds
+pub fn closed_verdicts(rule: &Rule, log: &[Record]) -> Vec<u8> {
+    reading::bytes(&of_formulas(rule, log), log.len())
 }
 
-/// The rule's last entry; for an empty rule, yes at all N.
-fn of_rule(rule: &Rule, log: &[Record]) -> Reading {
+/// What stands on the stack in the end: the last entry of each formula.
+fn of_formulas(rule: &Rule, log: &[Record]) -> Vec<Reading> {
     let mut stack: Vec<Reading> = Vec::new();
     for e in &rule.entries {
         let ops = stack.split_off(stack.len() - e.operands());
         stack.push(evaluate(e, ops, log));
     }
-    stack.pop().unwrap_or(Reading { holds: vec![true; log.len()], answered: log.len() })
+    stack
 }
 
 fn evaluate(e: &Entry, mut ops: Vec<Reading>, log: &[Record]) -> Reading {

@@ -1,7 +1,7 @@
 //! A point as document 01 describes it, and what each call must answer.
 
 use crate::log::{self, Record};
-use crate::rule::{self, Rule};
+use crate::rule::{self, Rule, MOST_FORMULAS};
 
 /// "A point holds a copy of its rule, the verdicts given d, the records seen, and the last time seen."
 #[derive(Clone, Debug)]
@@ -15,11 +15,11 @@ pub struct Point {
     pub closed: Option<usize>,
 }
 
-/// "The count of no among verdicts given and the position of the latest, or none."
-#[derive(Clone, Copy, Debug, PartialEq, Eq)]
+/// "The count of no among verdicts given and the position of the latest, or none", one of each per formula.
+#[derive(Clone, Debug, PartialEq, Eq)]
 pub struct Summary {
-    pub no: u64,
-    pub latest: Option<u64>,
+    pub no: Vec<u64>,
+    pub latest: Vec<Option<u64>>,
 }
 
 /// How far a point has come: the verdicts given d, the records seen, the first record still wanted, and whether a closing
@@ -44,6 +44,11 @@ pub fn measure(bytes: &[u8]) -> Result<(u64, u64), u32> {
     rule::parse(bytes).map(|r| (r.words, r.reach))
 }
 
+/// The number of formulas of a rule: 1 for version 1.
+pub fn formulas(bytes: &[u8]) -> Result<u64, u32> {
+    rule::parse(bytes).map(|r| r.formulas() as u64)
+}
+
 /// Open, for a lent point of so many words.
 pub fn open(bytes: &[u8], lent_words: usize) -> Result<Point, u32> {
     if rule::parse(bytes)?.words > lent_words as u64 {
@@ -52,20 +57,24 @@ pub fn open(bytes: &[u8], lent_words: usize) -> Result<Point, u32> {
     Ok(Point { rule: bytes.to_vec(), sheet: Vec::new(), seen: 0, last: 0, closed: None })
 }
 
-/// Tally: the count of no and of yes.
-pub fn tally(sheet: &[u8]) -> Result<(u64, u64), u32> {
-    let count = |b: u8| sheet.iter().filter(|&&s| s == b).count() as u64;
-    if sheet.iter().any(|&s| s > 1) {
+/// Tally: the count of no and of yes, one of each per formula. "Tally takes the number of formulas, and 15 is met by a bit
+/// beyond it or by a number outside 1 to 8."
+pub fn tally(sheet: &[u8], formulas: u64) -> Result<(Vec<u64>, Vec<u64>), u32> {
+    if !(1..=MOST_FORMULAS as u64).contains(&formulas) || sheet.iter().any(|&byte| u32::from(byte) >= 1 << formulas) {
         return Err(15);
     }
+    let count = |answer: u8| {
+        let of_formula = |k: u64| sheet.iter().filter(|&&byte| byte >> k & 1 == answer).count() as u64;
+        (0..formulas).map(of_formula).collect()
+    };
     Ok((count(0), count(1)))
 }
 
 /// Tally and a scan over a sheet without fault.
-pub fn summed(sheet: &[u8]) -> Summary {
-    let (no, _) = tally(sheet).expect("a sheet without fault");
-    let latest = sheet.iter().rposition(|&b| b == 0);
-    Summary { no, latest: latest.map(|at| at as u64) }
+pub fn summed(sheet: &[u8], formulas: usize) -> Summary {
+    let (no, _) = tally(sheet, formulas as u64).expect("a sheet without fault");
+    let latest = |k: usize| sheet.iter().rposition(|&byte| byte >> k & 1 == 0).map(|at| at as u64);
+    Summary { no, latest: (0..formulas).map(latest).collect() }
 }
 
 impl Point {
@@ -90,8 +99,8 @@ impl Point {
     /// "A call with checks 1 to 11 gives both. They equal what tally and a scan give over all verdict bytes written from
     /// that point, laid end to end."
     pub fn summary(&self, bytes: &[u8], lent_words: usize) -> Result<Summary, u32> {
-        self.check_rule(bytes, lent_words)?;
-        Ok(summed(&self.sheet))
+        let rule = self.check_rule(bytes, lent_words)?;
+        Ok(summed(&self.sheet, rule.formulas()))
     }
 
     /// The status, with the summary's checks.
@@ -150,13 +159,13 @@ impl Point {
         log: &[u8],
         lent_words: usize,
         sheet_length: usize,
-        verdicts: impl FnOnce(&Rule, usize) -> Vec<bool>,
+        verdicts: impl FnOnce(&Rule, usize) -> Vec<u8>,
     ) -> Result<Resumed, u32> {
         let (rule, records) = self.check(closing, bytes, log, lent_words)?;
         let all = verdicts(&rule, records.len());
         let d = self.given();
         let c = (all.len() - d).min(sheet_length);
-        let written: Vec<u8> = all[d..d + c].iter().map(|&b| b as u8).collect();
+        let written = all[d..d + c].to_vec();
         self.sheet.extend(&written);
         if records.len() > self.seen {
             self.last = records[records.len() - 1].time;

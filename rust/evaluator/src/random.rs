@@ -1,7 +1,7 @@
 //! Random rules, logs and damage from a fixed seed.
 
 use crate::log::Record;
-use crate::rule::{Entry, NEXT, NOT, NO_END, OR, PREVIOUS, SINCE, UNTIL};
+use crate::rule::{self, Entry, MOST_ENTRIES, MOST_FORMULAS, NEXT, NOT, NO_END, OR, PREVIOUS, SINCE, UNTIL};
 
 /// Vigna's splitmix64.
 #[derive(Clone, Debug)]
@@ -101,13 +101,47 @@ pub fn size(r: &mut Random, most: usize) -> usize {
     }
 }
 
-/// A rule of random size whose need is within the limit.
+/// The entries of a version 1 rule of random size whose need is within the limit.
 pub fn valid_entries(r: &mut Random, shape: RuleShape) -> Vec<Entry> {
     loop {
         let size = size(r, shape.entries);
         let drawn = entries(r, shape, size);
-        if crate::rule::parse(&crate::rule::encode(&drawn)).is_ok() {
+        if rule::parse(&rule::encode(&drawn)).is_ok() {
             return drawn;
+        }
+    }
+}
+
+/// One to eight formulas of random sizes, some of them the one before or its not; their need may be above the limit.
+pub fn formulas(r: &mut Random, shape: RuleShape, number: usize) -> Vec<Vec<Entry>> {
+    let most = (2 * shape.entries / number).clamp(1, shape.entries);
+    let mut all: Vec<Vec<Entry>> = Vec::new();
+    for _ in 0..number {
+        let drawn = match all.last() {
+            Some(before) if r.one_in(8) => before.clone(),
+            Some(before) if r.one_in(8) => [before.as_slice(), &[Entry::not()]].concat(),
+            _ => {
+                let size = r.from_to(1, most);
+                entries(r, shape, size)
+            }
+        };
+        all.push(drawn);
+    }
+    all
+}
+
+/// The bytes of a rule without fault: of version 1, or of version 2 with one to eight formulas.
+pub fn rule(r: &mut Random, shape: RuleShape) -> Vec<u8> {
+    if r.one_in(2) {
+        return rule::encode(&valid_entries(r, shape));
+    }
+    let number = r.pick(&[1, 2, 2, 3, 5, 8, 8, r.clone().from_to(1, MOST_FORMULAS)]);
+    loop {
+        let drawn = formulas(r, shape, number);
+        let fits = drawn.iter().map(Vec::len).sum::<usize>() <= MOST_ENTRIES;
+        let bytes = rule::encode_several(&drawn);
+        if fits && rule::parse(&bytes).is_ok() {
+            return bytes;
         }
     }
 }

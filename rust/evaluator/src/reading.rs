@@ -6,28 +6,39 @@ use crate::log::Record;
 use crate::rule::{Entry, Rule, LETTER, NEXT, NOT, OR, PREVIOUS, SINCE, UNTIL};
 
 /// One entry evaluated over a whole log.
-struct Reading {
+pub(crate) struct Reading {
     /// The plain reading at every position.
-    holds: Vec<bool>,
+    pub(crate) holds: Vec<bool>,
     /// The number of positions answered.
-    answered: usize,
+    pub(crate) answered: usize,
 }
 
-/// The verdicts of a log: A of them, each the plain reading at its position.
-pub fn verdicts(rule: &Rule, log: &[Record]) -> Vec<bool> {
-    let Reading { mut holds, answered } = of_rule(rule, log);
-    holds.truncate(answered);
-    holds
+/// The verdicts of a log: A bytes, each with the plain reading of every formula at its position.
+pub fn verdicts(rule: &Rule, log: &[Record]) -> Vec<u8> {
+    settled(&of_formulas(rule, log), log.len())
 }
 
 /// The verdicts of a log that is closed: "every remaining position gets the plain reading's value on the log as it ends.
 /// A is then N."
-pub fn closed_verdicts(rule: &Rule, log: &[Record]) -> Vec<bool> {
-    of_rule(rule, log).holds
+pub fn closed_verdicts(rule: &Rule, log: &[Record]) -> Vec<u8> {
+    bytes(&of_formulas(rule, log), log.len())
 }
 
-/// The rule's last entry. "A count of 0 now means that every position is yes: 16 words, reach 0, A equals N."
-fn of_rule(rule: &Rule, log: &[Record]) -> Reading {
+/// "Position i has a verdict when every formula has answered it." "A count of 0 now means that every position is yes: 16
+/// words, reach 0, A equals N."
+pub(crate) fn settled(formulas: &[Reading], n: usize) -> Vec<u8> {
+    bytes(formulas, formulas.iter().map(|formula| formula.answered).min().unwrap_or(n))
+}
+
+/// The first n verdicts: "bit k of the verdict byte is formula k's answer, in rule order from 0". An empty rule says yes.
+pub(crate) fn bytes(formulas: &[Reading], n: usize) -> Vec<u8> {
+    let bit = |(k, formula): (usize, &Reading), i: usize| u8::from(formula.holds[i]) << k;
+    let byte = |i: usize| formulas.iter().enumerate().map(|formula| bit(formula, i)).sum();
+    (0..n).map(|i| if formulas.is_empty() { 1 } else { byte(i) }).collect()
+}
+
+/// The last entry of each formula.
+fn of_formulas(rule: &Rule, log: &[Record]) -> Vec<Reading> {
     let mut all: Vec<Reading> = Vec::new();
     for (e, ops) in rule.entries.iter().zip(&rule.operands) {
         let ops: Vec<&Reading> = ops.iter().map(|&o| &all[o]).collect();
@@ -35,7 +46,7 @@ fn of_rule(rule: &Rule, log: &[Record]) -> Reading {
         let answered = answered(e, &ops, log);
         all.push(Reading { holds, answered });
     }
-    all.pop().unwrap_or(Reading { holds: vec![true; log.len()], answered: log.len() })
+    all.into_iter().enumerate().filter(|(k, _)| rule.tops.contains(k)).map(|(_, formula)| formula).collect()
 }
 
 /// The plain reading of an entry at position i, given its operands' readings.

@@ -7,14 +7,11 @@ use evaluator::random::{self, Random};
 use evaluator::rule::{self, Rule, NO_REACH};
 use evaluator::{linear, model, reading};
 
-fn as_bytes(verdicts: Vec<bool>) -> Vec<u8> {
-    verdicts.into_iter().map(u8::from).collect()
-}
-
+/// A random rule of either version, and a log.
 fn drawn(seed: u64, entries: usize, records: usize) -> (Rule, Vec<Record>) {
     let mut r = Random::new(seed);
     let (rule_shape, log_shape) = random::shapes(&mut r, entries, records);
-    let bytes = rule::encode(&random::valid_entries(&mut r, rule_shape));
+    let bytes = random::rule(&mut r, rule_shape);
     (rule::parse(&bytes).unwrap(), random::log(&mut r, log_shape))
 }
 
@@ -28,10 +25,40 @@ fn plain_and_linear_readings_agree() {
         let closed = reading::closed_verdicts(&rule, &log);
         assert_eq!(closed, linear::closed_verdicts(&rule, &log), "seed {seed}, closed: {rule:?} {log:?}");
         assert!(closed.starts_with(&plain) && closed.len() == log.len(), "seed {seed}: {rule:?} {log:?}");
-        verdicts += plain.len();
-        yes += plain.iter().filter(|&&b| b).count();
+        verdicts += plain.len() * rule.formulas();
+        yes += plain.iter().map(|byte| byte.count_ones()).sum::<u32>();
     }
     println!("20,000 rules and logs, {verdicts} verdicts, {yes} of them yes");
+}
+
+/// "Each bit is the verdict that its formula would get in a run of its own": a run of version 1. A position has a verdict
+/// when it has one in each of these runs.
+#[test]
+fn each_bit_is_the_verdict_of_its_formula_alone() {
+    let (mut bits, mut held_back) = (0, 0);
+    for seed in 0..20_000 {
+        let (rule, log) = drawn(seed, 12, 40);
+        if rule.entries.is_empty() {
+            continue;
+        }
+        let alone: Vec<Rule> = rule.split().into_iter().map(|part| rule::parse(&rule::encode(part)).unwrap()).collect();
+        assert_eq!(alone.len(), rule.formulas());
+        assert_eq!(alone.iter().map(|one| one.reach).max(), Some(rule.reach), "seed {seed}: {rule:?}");
+        assert_eq!(alone.iter().map(|one| one.depth).max(), Some(rule.depth), "seed {seed}: {rule:?}");
+        for verdicts in [reading::verdicts, reading::closed_verdicts] {
+            let together = verdicts(&rule, &log);
+            let runs: Vec<Vec<u8>> = alone.iter().map(|one| verdicts(one, &log)).collect();
+            assert_eq!(runs.iter().map(Vec::len).min(), Some(together.len()), "seed {seed}: {rule:?} {log:?}");
+            for (i, &byte) in together.iter().enumerate() {
+                let sum = runs.iter().enumerate().map(|(k, run)| run[i] << k).sum();
+                assert_eq!(byte, sum, "seed {seed}, position {i}: {rule:?} {log:?}");
+            }
+            bits += together.len() * rule.formulas();
+            held_back += runs.iter().map(|run| run.len() - together.len()).sum::<usize>();
+        }
+    }
+    println!("{bits} bits; {held_back} answers were held back by another formula");
+    assert!(held_back > 0);
 }
 
 /// "An answer never changes when the log is lengthened."
@@ -75,7 +102,7 @@ fn calls_laid_end_to_end_are_one_run() {
     for seed in 0..2_000 {
         let (rule, log) = drawn(seed, 8, 40);
         let mut r = Random::new(!seed);
-        let bytes = rule::encode(&rule.entries);
+        let bytes = rule::encode_as(rule.version, &rule.entries);
         let words = rule.words as usize;
         let mut point = model::open(&bytes, words).unwrap();
         let call = |point: &mut Point, closing: bool, n: usize, sheet: usize| {
@@ -89,10 +116,10 @@ fn calls_laid_end_to_end_are_one_run() {
             n = r.from_to(n, log.len());
             more = call(&mut point, false, n, r.below(6));
         }
-        let one_run = as_bytes(reading::verdicts(&rule, &log));
+        let one_run = reading::verdicts(&rule, &log);
         assert!(one_run.starts_with(&point.sheet), "seed {seed}: {rule:?} {log:?}");
         assert!(!catches_up || one_run == point.sheet, "seed {seed}: {rule:?} {log:?}");
         while call(&mut point, true, n, r.below(6)) {}
-        assert_eq!(point.sheet, as_bytes(reading::closed_verdicts(&rule, &log)), "seed {seed}: {rule:?} {log:?}");
+        assert_eq!(point.sheet, reading::closed_verdicts(&rule, &log), "seed {seed}: {rule:?} {log:?}");
     }
 }

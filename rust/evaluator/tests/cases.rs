@@ -5,25 +5,21 @@ use evaluator::model::Summary;
 use evaluator::rule::{self, Entry, Rule, NEXT, NO_END, NO_REACH};
 use evaluator::{cases, linear, model, reading};
 
-fn as_bytes(verdicts: Vec<bool>) -> Vec<u8> {
-    verdicts.into_iter().map(u8::from).collect()
-}
-
 #[test]
 fn worked_cases() {
     for case in cases::all() {
-        let rule = rule::parse(&rule::encode(&case.entries)).unwrap();
-        assert_eq!(as_bytes(reading::verdicts(&rule, &case.records)), case.verdicts, "{}", case.name);
-        assert_eq!(as_bytes(linear::verdicts(&rule, &case.records)), case.verdicts, "{}", case.name);
+        let rule = rule::parse(&case.rule).unwrap();
+        assert_eq!(reading::verdicts(&rule, &case.records), case.verdicts, "{}", case.name);
+        assert_eq!(linear::verdicts(&rule, &case.records), case.verdicts, "{}", case.name);
     }
 }
 
 #[test]
 fn closed_cases() {
     for case in cases::closed() {
-        let rule = rule::parse(&rule::encode(&case.entries)).unwrap();
-        assert_eq!(as_bytes(reading::closed_verdicts(&rule, &case.records)), case.verdicts, "{}", case.name);
-        assert_eq!(as_bytes(linear::closed_verdicts(&rule, &case.records)), case.verdicts, "{}", case.name);
+        let rule = rule::parse(&case.rule).unwrap();
+        assert_eq!(reading::closed_verdicts(&rule, &case.records), case.verdicts, "{}", case.name);
+        assert_eq!(linear::closed_verdicts(&rule, &case.records), case.verdicts, "{}", case.name);
     }
 }
 
@@ -37,7 +33,7 @@ fn p1_bytes_words_and_reach() {
 #[test]
 fn worked_lists() {
     for list in cases::lists() {
-        let bytes = rule::encode(&list.entries);
+        let bytes = list.rule;
         let rule = rule::parse(&bytes).unwrap();
         let words = rule.words as usize;
         let mut point = model::open(&bytes, words).unwrap();
@@ -48,7 +44,8 @@ fn worked_lists() {
             assert_eq!(got.map(|given| (given.verdicts, given.more)), call.gives, "{}, call {at}", list.name);
             assert_eq!(point.wanted(&rule), call.wanted, "{}, call {at}", list.name);
             let summary = point.summary(&bytes, words).unwrap();
-            assert_eq!((summary.no, summary.latest), call.no, "{}, call {at}", list.name);
+            let counts: Vec<_> = summary.no.into_iter().zip(summary.latest).collect();
+            assert_eq!(counts, call.no, "{}, call {at}", list.name);
         }
     }
 }
@@ -57,7 +54,7 @@ fn worked_lists() {
 fn a_fresh_point_has_no_no() {
     let bytes = rule::encode(&cases::p1_entries());
     let fresh = model::open(&bytes, 70).unwrap();
-    assert_eq!(fresh.summary(&bytes, 70), Ok(Summary { no: 0, latest: None }));
+    assert_eq!(fresh.summary(&bytes, 70), Ok(Summary { no: vec![0], latest: vec![None] }));
     assert_eq!(fresh.summary(&bytes, 69), Err(9));
     assert_eq!(fresh.summary(&rule::encode(&[]), 70), Err(10));
 }
@@ -79,9 +76,11 @@ fn intervals_at_the_limit_and_two_errors() {
     assert_eq!(model::measure(&with_high(3601)), Err(6));
     assert_eq!(model::measure(&with_high(NO_END)), Err(6));
     let mut two_errors = with_high(2);
-    two_errors[4] = 2;
+    two_errors[4] = 3;
     two_errors.pop();
     assert_eq!(model::measure(&two_errors), Err(2));
+    two_errors[4] = 2;
+    assert_eq!(model::measure(&two_errors), Err(4));
 }
 
 #[test]
@@ -96,4 +95,52 @@ fn an_empty_rule_is_weighed() {
     assert_eq!(empty, *b"KRL\x00\x01\x00\x00\x00");
     assert_eq!(model::measure(&empty), Ok((16, 0)));
     assert_eq!(model::measure(&[empty.as_slice(), &[0; 10]].concat()), Err(4));
+}
+
+/// Request 8: words and reach of version 2, and refusal 7.
+#[test]
+fn several_formulas_are_weighed() {
+    let p1 = cases::p1_entries();
+    assert_eq!(model::measure(&rule::encode_as(2, &p1)), Ok((78, 2)));
+    let eight = rule::encode_several(&cases::letters(8));
+    assert_eq!((model::measure(&eight), model::formulas(&eight)), (Ok((24 + 8 * 16, 0)), Ok(8)));
+    assert_eq!(model::measure(&rule::encode_several(&cases::letters(9))), Err(7));
+    assert_eq!(model::measure(&rule::encode_as(2, &[])), Err(7));
+    assert_eq!(model::measure(&rule::encode_as(1, &cases::letters(2).concat())), Err(7));
+    assert_eq!(model::measure(&rule::encode_as(2, &[Entry::letter(0), Entry::not(), Entry::or()])), Err(7));
+    assert_eq!(model::measure(&rule::encode_as(3, &p1)), Err(2));
+    assert_eq!(model::measure(&rule::encode_as(0x0200, &p1)), Err(2));
+    // the larger of two reaches, and none with one next
+    let with = |entry: Entry| rule::encode_several(&[vec![Entry::letter(0), entry], p1.clone()]);
+    assert_eq!(model::measure(&with(Entry::not())).unwrap().1, 2);
+    assert_eq!(model::measure(&with(Entry::timed(NEXT, 0, 1))).unwrap().1, NO_REACH);
+    for (rule, number) in [(rule::encode(&p1), 1), (rule::encode(&[]), 1), (rule::encode_as(2, &p1), 1)] {
+        assert_eq!(model::formulas(&rule), Ok(number));
+    }
+}
+
+#[test]
+fn several_formulas_at_the_limit_of_words() {
+    assert_eq!(model::measure(&cases::several_words(869)).unwrap().0, 8192);
+    assert_eq!(model::measure(&cases::several_words(870)), Err(8));
+    let p10 = |inner| rule::encode_as(2, &cases::p10_entries(3600, inner));
+    assert_eq!(model::measure(&p10(442)).unwrap().0, 8192);
+    assert_eq!(model::measure(&p10(443)), Err(8));
+}
+
+/// A point of one version is refused with 10 under the other, also where the entries are the same.
+#[test]
+fn the_copy_of_the_rule_has_its_version() {
+    let [one, two] = [1, 2].map(|version| rule::encode_as(version, &cases::p1_entries()));
+    assert_eq!(model::open(&one, 78).unwrap().summary(&two, 78), Err(10));
+    assert_eq!(model::open(&one, 78).unwrap().summary(&two, 77), Err(9));
+    assert_eq!(model::open(&two, 78).unwrap().summary(&one, 78), Err(10));
+}
+
+/// "15 is met by a bit beyond it or by a number outside 1 to 8."
+#[test]
+fn tallies() {
+    for (sheet, formulas, counts) in cases::tallies() {
+        assert_eq!(model::tally(&sheet, formulas), counts, "{sheet:?}, {formulas} formulas");
+    }
 }

@@ -77,16 +77,17 @@ fn run(name: &str, files: &Files) -> String {
     printed
 }
 
-/// The run on the evaluator: open, then carry on with a sheet of 8,191 bytes; verdicts given and records.
-fn full_run(rule: &[u8], log: &[u8]) -> Result<(Vec<u8>, usize), u32> {
+/// The run on the evaluator: open, then carry on with a sheet of 8,191 bytes; verdicts given, the number of formulas, and
+/// records.
+fn full_run(rule: &[u8], log: &[u8]) -> Result<(Vec<u8>, usize, usize), u32> {
     let mut point = model::open(rule, POINT_WORDS)?;
-    let (_, records) = point.check(false, rule, log, POINT_WORDS)?;
+    let (decoded, records) = point.check(false, rule, log, POINT_WORDS)?;
     let verdicts = |rule: &rule::Rule, n: usize| linear::verdicts(rule, &records[..n]);
     let resumed = point.carry_on(false, rule, log, POINT_WORDS, MOST_RECORDS, verdicts)?;
-    Ok((resumed.verdicts, records.len()))
+    Ok((resumed.verdicts, decoded.formulas(), records.len()))
 }
 
-/// What document 01 has the program print.
+/// What document 01 has the program print, with one word per formula on a line.
 fn expected(files: &Files) -> String {
     let rule = files.rule.as_deref().unwrap_or(b"");
     let log = files.log.as_deref().unwrap_or(b"");
@@ -95,10 +96,11 @@ fn expected(files: &Files) -> String {
     }
     match full_run(rule, log) {
         Err(number) => format!("refused {number}\n"),
-        Ok((verdicts, records)) => {
+        Ok((verdicts, formulas, records)) => {
             let mut text = format!("verdicts {} of {records}\n", verdicts.len());
             for (position, &verdict) in verdicts.iter().enumerate() {
-                text += &format!("{position} {}\n", if verdict == 1 { "yes" } else { "no" });
+                let word = |k: usize| if verdict >> k & 1 == 1 { "yes" } else { "no" };
+                text += &format!("{position} {}\n", (0..formulas).map(word).collect::<Vec<_>>().join(" "));
             }
             text
         }
@@ -110,6 +112,8 @@ fn expected(files: &Files) -> String {
 struct Outcomes {
     runs: BTreeMap<String, usize>,
     verdicts: usize,
+    /// The lines with a word for each of several formulas.
+    of_several: usize,
 }
 
 impl Outcomes {
@@ -120,6 +124,7 @@ impl Outcomes {
         let outcome = if first.starts_with("verdicts") { "accepted" } else { first };
         *self.runs.entry(outcome.to_string()).or_default() += 1;
         self.verdicts += lines.lines().count();
+        self.of_several += lines.lines().filter(|line| line.split(' ').count() > 2).count();
         first.to_string()
     }
 
@@ -138,7 +143,8 @@ impl Outcomes {
     /// Writes the counts past the test harness, which would hold back what a passing test prints.
     fn print(&self, test: &str) {
         let list: Vec<String> = self.runs.iter().map(|(outcome, runs)| format!("{outcome}: {runs}")).collect();
-        let _ = writeln!(std::io::stderr(), "{test}: {}; {} verdicts", list.join(", "), self.verdicts);
+        let (list, verdicts, several) = (list.join(", "), self.verdicts, self.of_several);
+        let _ = writeln!(std::io::stderr(), "{test}: {list}; {verdicts} verdicts, {several} of several formulas");
     }
 }
 
@@ -147,7 +153,7 @@ fn worked_cases() {
     let mut outcomes = Outcomes::default();
     for (i, case) in cases::all().iter().enumerate() {
         let first = format!("verdicts {} of {}", case.verdicts.len(), case.records.len());
-        let files = files(&rule::encode(&case.entries), &log::encode(&case.records));
+        let files = files(&case.rule, &log::encode(&case.records));
         outcomes.says(&format!("worked-{i}"), &files, &first);
     }
     // letter 2 is nowhere, so the inner until is no at all six; letter 0 fails at 2 and at 4, and position 5 is open
@@ -156,6 +162,10 @@ fn worked_cases() {
     outcomes.says("empty-rule-p1", &files(&rule::encode(&[]), &p1_log()), "verdicts 6 of 6");
     let p1 = "verdicts 5 of 6\n0 no\n1 no\n2 no\n3 yes\n4 yes\n";
     assert_eq!(expected(&files(&p1_rule(), &p1_log())), p1);
+    let p1_and_its_not = [cases::p1_entries(), [cases::p1_entries(), vec![Entry::not()]].concat()];
+    let two = files(&rule::encode_several(&p1_and_its_not), &p1_log());
+    assert_eq!(expected(&two), "verdicts 5 of 6\n0 no yes\n1 no yes\n2 no yes\n3 yes no\n4 yes no\n");
+    outcomes.says("most-words-several", &files(&cases::several_words(869), &p1_log()), "verdicts 5 of 6");
     outcomes.print("kiosk: worked cases");
 }
 
@@ -177,14 +187,15 @@ fn rule_ending(last: Entry) -> Vec<u8> {
 fn refused_rules() -> Vec<(Vec<u8>, u32)> {
     let p1 = p1_rule();
     let letters = |count| rule::encode(&vec![Entry::letter(0); count]);
-    let mut version_and_length = rule_with(4, 2);
+    let mut version_and_length = rule_with(4, 3);
     version_and_length.pop();
     vec![
         (vec![], 1),
         (p1[..7].to_vec(), 1),
         (rule_with(2, b'l'), 1),
         (rule_with(3, 1), 2),
-        (rule_with(4, 2), 2),
+        (rule_with(4, 0), 2),
+        (rule_with(4, 3), 2),
         (version_and_length, 2),
         (rule_with(5, 0), 4),
         (rule_with(5, 0)[..18].to_vec(), 4),
@@ -204,7 +215,12 @@ fn refused_rules() -> Vec<(Vec<u8>, u32)> {
         (rule_ending(Entry::not()), 7),
         (rule::encode(&[Entry::not()]), 7),
         (letters(128), 7),
+        (letters(2), 7),
+        (rule::encode_several(&cases::letters(9)), 7),
+        (rule::encode_as(2, &[]), 7),
+        (rule::encode_as(2, &[Entry::letter(0), Entry::or()]), 7),
         (rule::encode(&cases::p10_entries(3600, 447)), 8),
+        (cases::several_words(870), 8),
     ]
 }
 
@@ -285,6 +301,10 @@ fn lengths_at_the_limit() {
     assert_eq!(most.len(), MOST_BYTES);
     outcomes.says("most-records", &files(&letter, &most), "verdicts 8191 of 8191");
     outcomes.says("most-records-until", &files(&p1_rule(), &most), "verdicts 8191 of 8191");
+    // the longest text: eight times yes at every record
+    let eight = rule::encode_several(&vec![vec![Entry::letter(0)]; 8]);
+    outcomes.says("most-records-eight", &files(&eight, &most), "verdicts 8191 of 8191");
+    assert_eq!(outcomes.of_several, MOST_RECORDS);
     outcomes.says("one-record-fewer", &files(&p1_rule(), &steady(8190)), "verdicts 8188 of 8190");
     outcomes.says("one-record-more", &files(&p1_rule(), &steady(8192)), "too long");
     outcomes.says("log-one-byte-fewer", &files(&p1_rule(), &to_length(most.clone(), MOST_BYTES - 1)), "refused 12");
@@ -310,7 +330,7 @@ fn random_days() {
     for seed in 0..400 {
         let mut r = Random::new(seed);
         let (rule_shape, log_shape) = random::shapes(&mut r, 20, 200);
-        let mut rule = rule::encode(&random::valid_entries(&mut r, rule_shape));
+        let mut rule = random::rule(&mut r, rule_shape);
         let mut log = log::encode(&random::log(&mut r, log_shape));
         match r.below(4) {
             0 => random::damage(&mut r, &mut rule),
@@ -319,7 +339,7 @@ fn random_days() {
         }
         outcomes.run(&format!("seed-{seed}"), &files(&rule, &log));
     }
-    assert!(outcomes.verdicts > 5_000, "the cases do not reach what they should");
+    assert!(outcomes.verdicts > 5_000 && outcomes.of_several > 1_000, "the cases do not reach what they should");
     outcomes.print("kiosk: random days");
 }
 

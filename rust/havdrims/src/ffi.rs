@@ -4,7 +4,7 @@ extern "C" {
     /// Words needed and reach of a rule.
     ///
     /// # Safety
-    /// As for every function here: each pointer is valid for its length, or for one number, and what is written
+    /// As for every function here: each pointer is valid for its length, or for what it points to, and what is written
     /// to overlaps nothing else.
     pub fn havdrims_measure(rule: *const u8, rule_len: usize, words: *mut u64, reach: *mut u64) -> u32;
 
@@ -48,13 +48,19 @@ extern "C" {
         more: *mut u64,
     ) -> u32;
 
-    /// Counts of no and of yes.
+    /// Counts of no and of yes, one of each per formula.
     ///
     /// # Safety
     /// See [`havdrims_measure`].
-    pub fn havdrims_tally(sheet: *const u8, sheet_len: usize, no: *mut u64, yes: *mut u64) -> u32;
+    pub fn havdrims_tally(
+        sheet: *const u8,
+        sheet_len: usize,
+        formulas: u64,
+        no: *mut [u64; 8],
+        yes: *mut [u64; 8],
+    ) -> u32;
 
-    /// The count of no among the verdicts given, and the position of the latest.
+    /// For each formula, the count of no among the verdicts given, and the position of the latest.
     ///
     /// # Safety
     /// See [`havdrims_measure`].
@@ -63,9 +69,15 @@ extern "C" {
         rule_len: usize,
         point: *const u64,
         point_len: usize,
-        no: *mut u64,
-        latest: *mut u64,
+        no: *mut [u64; 8],
+        latest: *mut [u64; 8],
     ) -> u32;
+
+    /// The number of formulas of a rule.
+    ///
+    /// # Safety
+    /// See [`havdrims_measure`].
+    pub fn havdrims_formulas(rule: *const u8, rule_len: usize, formulas: *mut u64) -> u32;
 
     /// How far a point has come.
     ///

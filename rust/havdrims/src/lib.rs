@@ -6,11 +6,15 @@
 //! words that the caller lends and keeps. A record that has its verdict is not read again, but for the last few where
 //! the rule looks back with previous, so the kiosk may overwrite it.
 //!
+//! A version 2 rule has up to eight formulas, which are judged in one run: a verdict is then a byte with an answer, a bit,
+//! for each of them.
+//!
 //! The calls: [`measure`] (weigh), [`open`], [`resume`] (carry on), [`close`] at the month's end, [`summary`],
-//! [`status`] and [`tally`]; [`parse`], which writes a rule that is typed as text; and [`worst_log`] and [`simulate`],
-//! which write logs to try a kiosk or its settings with. Each yields its result or one [`Refusal`], and a refused call
-//! changes nothing. The checker is proved; this crate only hands slices on to it. Nothing here allocates, and a thread
-//! with [`MOST_STACK`] bytes of stack can make every call but `parse`, which takes [`PARSE_STACK`].
+//! [`status`] and [`tally`]; [`formulas`], which counts those of a rule; [`parse`], which writes a rule that is typed as
+//! text; and [`worst_log`] and [`simulate`], which write logs to try a kiosk or its settings with. Each yields its result
+//! or one [`Refusal`], and a refused call changes nothing. The checker is proved; this crate only hands slices on to it.
+//! None of them allocates, and a thread with [`MOST_STACK`] bytes of stack can make every call but `parse`, which takes
+//! [`PARSE_STACK`].
 //!
 //! # Example
 //!
@@ -40,10 +44,11 @@
 //! let second = resume(rule, &log, &mut checkpoint, &mut sheet)?;
 //! assert_eq!(sheet[..second.verdicts], [0, 1, 1]); // no, yes, yes
 //!
-//! let counts = tally(&sheet[..second.verdicts])?;
-//! assert_eq!((counts.no, counts.yes), (1, 2));
+//! let counts = tally(&sheet[..second.verdicts], 1)?; // of a rule with one formula
+//! assert_eq!((counts.no(), counts.yes()), (&[1][..], &[2][..]));
 //! let so_far = summary(rule, &checkpoint)?;
-//! assert_eq!((so_far.no, so_far.latest), (1, Some(0))); // the same without any sheet: one no, at record 0
+//! assert_eq!(so_far.no(), [1]); // the same without any sheet: one no,
+//! assert_eq!(so_far.latest(), [Some(0)]); // at record 0
 //! # Ok(())
 //! # }
 //! ```
@@ -64,13 +69,16 @@ pub const PARSE_STACK: usize = 1_048_576;
 /// The most bytes of a rule: a header and 128 entries.
 pub const MOST_RULE: usize = 1_288;
 
+/// The most formulas of a rule.
+pub const MOST_FORMULAS: usize = 8;
+
 /// What a rule needs.
 #[derive(Clone, Copy, Debug, PartialEq, Eq)]
 pub struct Needs {
     /// The 64-bit words that a checkpoint of the rule takes: 16 to 8,192, and 16 for a rule without entries alone.
     pub words: usize,
     /// A position is answered once the last record lies more than so many seconds after it; none for a rule with
-    /// next.
+    /// next. Of several formulas it is the largest.
     pub reach: Option<u32>,
 }
 
@@ -83,12 +91,24 @@ pub struct Resumed {
     pub more: bool,
 }
 
-/// The no among all verdicts given with a checkpoint.
+/// The no among all verdicts given with a checkpoint, formula by formula.
 #[derive(Clone, Copy, Debug, PartialEq, Eq)]
 pub struct Summary {
-    pub no: u64,
-    /// The position of the latest of them.
-    pub latest: Option<u64>,
+    formulas: usize,
+    no: [u64; MOST_FORMULAS],
+    latest: [Option<u64>; MOST_FORMULAS],
+}
+
+impl Summary {
+    /// The count of no, one for each formula of the rule.
+    pub fn no(&self) -> &[u64] {
+        &self.no[..self.formulas]
+    }
+
+    /// The position of the latest no, one for each formula.
+    pub fn latest(&self) -> &[Option<u64>] {
+        &self.latest[..self.formulas]
+    }
 }
 
 /// How far a checkpoint has come.
@@ -104,11 +124,24 @@ pub struct Status {
     pub closed: bool,
 }
 
-/// The counts of a sheet.
+/// The counts of a sheet, formula by formula.
 #[derive(Clone, Copy, Debug, PartialEq, Eq)]
 pub struct Tally {
-    pub no: u64,
-    pub yes: u64,
+    formulas: usize,
+    no: [u64; MOST_FORMULAS],
+    yes: [u64; MOST_FORMULAS],
+}
+
+impl Tally {
+    /// The count of no, one for each formula.
+    pub fn no(&self) -> &[u64] {
+        &self.no[..self.formulas]
+    }
+
+    /// The count of yes, one for each formula.
+    pub fn yes(&self) -> &[u64] {
+        &self.yes[..self.formulas]
+    }
 }
 
 /// Reads a rule and gives the words that its checkpoint needs, and its reach. Refusals: 1 to 8.
@@ -121,6 +154,15 @@ pub fn measure(rule: &[u8]) -> Result<Needs, Refusal> {
     Ok(Needs { words: words as usize, reach })
 }
 
+/// The number of formulas of a rule: 1 to 8, and 1 for version 1, a rule without entries included. Refusals: 1 to 8.
+pub fn formulas(rule: &[u8]) -> Result<usize, Refusal> {
+    let mut number = 0;
+    // SAFETY: the pointers and the length are those of a slice and of a number, which do not overlap.
+    let refused = unsafe { ffi::havdrims_formulas(rule.as_ptr(), rule.len(), &mut number) };
+    refusal::checked(refused)?;
+    Ok(number as usize)
+}
+
 /// Writes a fresh checkpoint for a rule. Words beyond the need are kept. Refusals: 1 to 9.
 pub fn open(rule: &[u8], checkpoint: &mut [u64]) -> Result<(), Refusal> {
     // SAFETY: the pointers and lengths are those of two slices, the second of them borrowed for this call alone.
@@ -129,11 +171,12 @@ pub fn open(rule: &[u8], checkpoint: &mut [u64]) -> Result<(), Refusal> {
 }
 
 /// Carries on: writes the verdicts that the log settles beyond those already given, as many as the sheet takes,
-/// each byte 1 for yes or 0 for no. The rest of the sheet keeps its bytes.
+/// each byte 1 for yes or 0 for no. The rest of the sheet keeps its bytes. For a rule with several formulas bit k of a byte
+/// is the answer of formula k, counted from 0, and a position has its verdict once all of them have answered it.
 ///
 /// The log is the whole log from its header on; records before the first still wanted, which [`status`] gives, may have
 /// been overwritten with any bytes. That record is the number of verdicts given with this checkpoint so far, less k, or 0
-/// where it is below k, k being the largest number of previous entries on a path from the rule's last entry to a letter.
+/// where it is below k, k being the largest number of previous entries on a path from a formula's last entry to a letter.
 /// Refusals: 1 to 11, then 20 if the checkpoint is closed, then 12 to 14.
 pub fn resume(rule: &[u8], log: &[u8], checkpoint: &mut [u64], sheet: &mut [u8]) -> Result<Resumed, Refusal> {
     carry_on(ffi::havdrims_resume, rule, log, checkpoint, sheet)
@@ -211,16 +254,20 @@ fn carry_on(
     Ok(Resumed { verdicts: given as usize, more: more == 1 })
 }
 
-/// The count of no among all verdicts given with a checkpoint, and the position of the latest: what [`tally`] and a scan
-/// would give over all of them, laid end to end, without the sheets. Refusals: 1 to 11.
+/// For each formula, the count of no among all verdicts given with a checkpoint, and the position of the latest: what
+/// [`tally`] and a scan would give over all of them, laid end to end, without the sheets. Refusals: 1 to 11.
 pub fn summary(rule: &[u8], checkpoint: &[u64]) -> Result<Summary, Refusal> {
-    let (mut no, mut latest) = (0, 0);
-    // SAFETY: the pointers and lengths are those of two slices and of two numbers. The numbers overlap nothing.
+    // No count is so large: what is written, one number for each formula, is told from what is not.
+    let (mut no, mut latest) = ([u64::MAX; MOST_FORMULAS], [u64::MAX; MOST_FORMULAS]);
+    // SAFETY: the pointers and lengths are those of two slices and of two arrays. The arrays overlap nothing.
     let number = unsafe {
         ffi::havdrims_summary(rule.as_ptr(), rule.len(), checkpoint.as_ptr(), checkpoint.len(), &mut no, &mut latest)
     };
     refusal::checked(number)?;
-    Ok(Summary { no, latest: Some(latest).filter(|&position| position != u64::MAX) })
+    let formulas = no.iter().take_while(|&&count| count != u64::MAX).count();
+    no[formulas..].fill(0);
+    let latest = latest.map(|position| Some(position).filter(|&position| position != u64::MAX));
+    Ok(Summary { formulas, no, latest })
 }
 
 /// How far a checkpoint has come, and from which record on it still wants the log. Refusals: 1 to 11.
@@ -243,16 +290,29 @@ pub fn status(rule: &[u8], checkpoint: &[u64]) -> Result<Status, Refusal> {
     Ok(Status { given, seen, wanted, closed: closed == 1 })
 }
 
-/// Counts the no and the yes of a sheet. Refusal: 15.
-pub fn tally(sheet: &[u8]) -> Result<Tally, Refusal> {
-    let (mut no, mut yes) = (0, 0);
-    // SAFETY: the pointers and lengths are those of a slice and of two numbers, none of which overlap.
-    let number = unsafe { ffi::havdrims_tally(sheet.as_ptr(), sheet.len(), &mut no, &mut yes) };
+/// Counts the no and the yes of each of so many formulas in a sheet. Refusal: 15, for a byte with a bit beyond their
+/// number, and for a number of formulas outside 1 to 8.
+///
+/// ```
+/// use havdrims::{tally, Refusal};
+///
+/// let sheet = [2, 2, 2, 1, 1]; // of two formulas: no and yes three times, then yes and no twice
+/// let counts = tally(&sheet, 2)?;
+/// assert_eq!(counts.no(), [3, 2]);
+/// assert_eq!(counts.yes(), [2, 3]);
+/// assert_eq!(tally(&sheet, 1), Err(Refusal::SheetByte));
+/// # Ok::<(), Refusal>(())
+/// ```
+pub fn tally(sheet: &[u8], formulas: usize) -> Result<Tally, Refusal> {
+    let (mut no, mut yes) = ([0; MOST_FORMULAS], [0; MOST_FORMULAS]);
+    // SAFETY: the pointers and the length are those of a slice and of two arrays, none of which overlap.
+    let number = unsafe { ffi::havdrims_tally(sheet.as_ptr(), sheet.len(), formulas as u64, &mut no, &mut yes) };
     refusal::checked(number)?;
-    Ok(Tally { no, yes })
+    Ok(Tally { formulas, no, yes })
 }
 
-/// Writes the rule that a text says, and gives the number of its bytes. The rest of the buffer keeps its bytes.
+/// Writes the rule that a text says, of version 1, and gives the number of its bytes. The rest of the buffer keeps its
+/// bytes. [`text::joined`] makes one rule of several.
 ///
 /// Letters are e0 to e31. not, prev and next bind tightest, then since and until, grouping to the right, then or,
 /// grouping to the left; round brackets override. prev, next, since and until carry `[low,high]` in seconds, with inf

@@ -43,7 +43,7 @@ pub enum Refusal {
 /// rule without entries.
 const SENTENCES: [(Refusal, &str); 21] = [
     (Refusal::RuleMark, "The rule is shorter than 8 bytes or lacks its mark."),
-    (Refusal::RuleVersion, "The rule's version is not 1."),
+    (Refusal::RuleVersion, "The rule's version is not 1 or 2."),
     (Refusal::RuleLength, "The count is above 128, a spare byte is not zero, or the length is not 8 + 10 × count."),
     (Refusal::EntryField, "Some kind is above 6, some letter above 31, or some unused field not zero."),
     (
@@ -52,7 +52,8 @@ const SENTENCES: [(Refusal, &str); 21] = [
     ),
     (
         Refusal::Shape,
-        "Some entry lacks an operand, or the whole leaves other than one formula and the entry count is not 0.",
+        "Some entry lacks an operand, or the whole leaves other than one formula (version 1, unless the entry count is 0) \
+         or other than one to eight formulas (version 2).",
     ),
     (Refusal::TooManyWords, "The need is above 8,192 words."),
     (Refusal::ShortPoint, "The lent point is shorter than the need."),
@@ -69,7 +70,10 @@ const SENTENCES: [(Refusal, &str); 21] = [
         "Some record after the first still wanted has a time below that of the record before it, or the first new \
          record's time is below the last time seen.",
     ),
-    (Refusal::SheetByte, "A sheet given to tally has a byte above 1."),
+    (
+        Refusal::SheetByte,
+        "A sheet given to tally has a byte with a bit beyond the number of formulas, or that number is outside 1 to 8.",
+    ),
     (Refusal::UnknownWord, "A word, sign or form of number is unknown or the text is too long."),
     (Refusal::NotDerived, "The grammar does not derive the text."),
     (Refusal::ShortRule, "The lent rule buffer is short."),

@@ -16,6 +16,8 @@ use crate::{measure, Refusal};
 use std::fmt::Write;
 
 const LOG_HEADER: [u8; 8] = *b"KLG\x00\x01\x00\x00\x00";
+/// The header of a version 2 rule, but for its number of entries.
+const RULE_HEADER: [u8; 8] = *b"KRL\x00\x02\x00\x00\x00";
 const MOST_RECORDS: usize = 1_000_000;
 const NO_END: u32 = u32::MAX;
 
@@ -111,7 +113,8 @@ impl Part {
 }
 
 /// A rule as a formula, or the refusal that it meets: the text that [`crate::parse`] reads, with the fewest brackets. A
-/// rule without entries has no formula: [`EMPTY`] says what it means.
+/// rule without entries has no formula: [`EMPTY`] says what it means. A rule with several has a line for each, in the order
+/// of their numbers, from 0 on.
 ///
 /// ```
 /// let rule = *b"KRL\x00\x01\x03\x00\x00\
@@ -122,7 +125,7 @@ impl Part {
 /// ```
 pub fn formula(rule: &[u8]) -> Result<String, Refusal> {
     measure(rule)?;
-    // The rule has no fault, so every entry finds its operands and one part is left, or none of an empty rule.
+    // The rule has no fault, so every entry finds its operands and a part is left for each formula: none of an empty rule.
     let mut parts: Vec<Part> = Vec::new();
     for entry in rule[8..].chunks_exact(10) {
         let part = match entry[0] {
@@ -144,7 +147,35 @@ pub fn formula(rule: &[u8]) -> Result<String, Refusal> {
         };
         parts.push(part);
     }
-    Ok(parts.pop().map_or(EMPTY.to_string(), |part| part.text))
+    if parts.is_empty() {
+        return Ok(EMPTY.to_string());
+    }
+    Ok(parts.into_iter().map(|part| part.text).collect::<Vec<_>>().join("\n"))
+}
+
+/// The version 2 rule with all formulas of these rules, in their order, or the first refusal of 1 to 8 that one of them or
+/// the whole meets: 4 for more than 128 entries, 7 for more than eight formulas or none. A rule without entries has no
+/// formula.
+///
+/// ```
+/// use havdrims::{formulas, parse, text, Refusal, MOST_RULE};
+///
+/// let [mut one, mut two] = [[0; MOST_RULE]; 2];
+/// let sizes = [parse(b"e0 until[0,2] e1", &mut one)?, parse(b"not e1", &mut two)?];
+/// let rule = text::joined(&[&one[..sizes[0]], &two[..sizes[1]]])?;
+/// assert_eq!(formulas(&rule), Ok(2));
+/// assert_eq!(text::formula(&rule)?, "e0 until[0,2] e1\nnot e1");
+/// # Ok::<(), Refusal>(())
+/// ```
+pub fn joined(rules: &[&[u8]]) -> Result<Vec<u8>, Refusal> {
+    let mut all = RULE_HEADER.to_vec();
+    for rule in rules {
+        measure(rule)?;
+        all.extend(&rule[8..]);
+    }
+    all[5] = u8::try_from((all.len() - 8) / 10).map_err(|_| Refusal::RuleLength)?;
+    measure(&all)?;
+    Ok(all)
 }
 
 fn operand(parts: &mut Vec<Part>) -> Part {

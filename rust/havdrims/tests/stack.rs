@@ -5,8 +5,8 @@ use evaluator::log;
 use evaluator::random::{self, LogShape, Random};
 use evaluator::rule::{self, Entry, NEXT, NO_END, PREVIOUS, SINCE, UNTIL};
 use evaluator::{cases, model, reading, typed};
-use havdrims::{close, measure, open, parse, resume, simulate, status, summary, tally, worst_log};
-use havdrims::{Refusal, Resumed, Settings, Summary, Tally, MOST_RULE, MOST_STACK, PARSE_STACK};
+use havdrims::{close, formulas, measure, open, parse, resume, simulate, status, summary, tally, worst_log};
+use havdrims::{Refusal, Resumed, Settings, MOST_RULE, MOST_STACK, PARSE_STACK};
 use std::ffi::{c_int, c_long, c_void};
 use std::io::Write;
 use std::{ptr, slice};
@@ -105,6 +105,19 @@ fn to_the_right(words: &[Entry]) -> Vec<Entry> {
     all
 }
 
+/// Rules with eight formulas: eight deep ones of 16 entries, eight letters, and a deeper one behind seven letters; and two
+/// formulas with the most words.
+fn eight_formulas() -> Vec<Vec<u8>> {
+    let until = Entry::timed(UNTIL, 0, 40);
+    let in_a_chain = chain(&[Entry::not(), Entry::timed(PREVIOUS, 0, NO_END)])[..16].to_vec();
+    let left = [&to_the_left(&[until, Entry::or()])[..15], &[Entry::not()]].concat();
+    let right = [&[Entry::letter(0); 8][..], &[until; 7], &[Entry::not()]].concat();
+    let letters = cases::letters(8);
+    let deeper = [&letters[..7], &[chain(&[Entry::not()])[..121].to_vec()]].concat();
+    let eight = [vec![in_a_chain; 8], vec![left; 8], vec![right; 8], letters, deeper];
+    [eight.map(|formulas| rule::encode_several(&formulas)).to_vec(), vec![cases::several_words(869)]].concat()
+}
+
 /// The deepest rules, and those with the most entries and words.
 fn rules() -> Vec<Vec<Entry>> {
     let previous = Entry::timed(PREVIOUS, 0, NO_END);
@@ -128,9 +141,12 @@ fn every_call_on_a_small_stack() {
     let mut records = random::log(&mut Random::new(1), shape);
     records.last_mut().unwrap().time += 9_000;
     let file = log::encode(&records);
-    let mut most = [0; 7];
-    for entries in rules() {
-        let bytes = rule::encode(&entries);
+    let mut most = [0; 8];
+    let version_1: Vec<Vec<u8>> = rules().iter().map(|entries| rule::encode(entries)).collect();
+    // The same of version 2, where 8 words more are not too many.
+    let version_2 = rules().into_iter().map(|entries| rule::encode_as(2, &entries));
+    let version_2 = version_2.filter(|bytes| rule::parse(bytes).is_ok()).collect();
+    for bytes in [version_1, version_2, eight_formulas()].concat() {
         let (needs, measuring) = on_small_stack(|| measure(&bytes));
         let words = needs.unwrap().words;
         assert_eq!(words as u64, model::measure(&bytes).unwrap().0);
@@ -139,23 +155,26 @@ fn every_call_on_a_small_stack() {
         opened.unwrap();
         let rule = rule::parse(&bytes).unwrap();
         let settled = reading::verdicts(&rule, &records).len();
-        let verdicts: Vec<u8> = reading::closed_verdicts(&rule, &records).iter().map(|&b| b as u8).collect();
+        let verdicts = reading::closed_verdicts(&rule, &records);
         let mut sheet = vec![7; records.len()];
         let (resumed, resuming) = on_small_stack(|| resume(&bytes, &file, &mut point, &mut sheet));
         assert_eq!(resumed, Ok(Resumed { verdicts: settled, more: false }));
         let (closed, closing) = on_small_stack(|| close(&bytes, &file, &mut point, &mut sheet[settled..]));
         assert_eq!(closed, Ok(Resumed { verdicts: verdicts.len() - settled, more: false }));
         assert_eq!(sheet, verdicts);
-        let (counts, tallying) = on_small_stack(|| tally(&verdicts));
-        let yes = verdicts.iter().filter(|&&b| b == 1).count() as u64;
-        let no = verdicts.len() as u64 - yes;
-        assert_eq!(counts, Ok(Tally { no, yes }));
-        let latest = verdicts.iter().rposition(|&b| b == 0).map(|at| at as u64);
+        let (number, counting) = on_small_stack(|| formulas(&bytes));
+        assert_eq!(number, Ok(rule.formulas()));
+        let (counts, tallying) = on_small_stack(|| tally(&verdicts, rule.formulas()));
+        let counts = counts.unwrap();
+        let expected = model::tally(&verdicts, rule.formulas() as u64);
+        assert_eq!(Ok((counts.no().to_vec(), counts.yes().to_vec())), expected);
         let (summed, summing) = on_small_stack(|| summary(&bytes, &point));
-        assert_eq!(summed, Ok(Summary { no, latest }));
+        let (summed, expected) = (summed.unwrap(), model::summed(&verdicts, rule.formulas()));
+        assert_eq!((summed.no(), summed.latest()), (&expected.no[..], &expected.latest[..]));
         let (state, stating) = on_small_stack(|| status(&bytes, &point));
         assert_eq!(state.map(|state| state.given), Ok(verdicts.len() as u64));
-        for (most, now) in most.iter_mut().zip([measuring, opening, resuming, closing, summing, stating, tallying]) {
+        let now = [measuring, counting, opening, resuming, closing, summing, stating, tallying];
+        for (most, now) in most.iter_mut().zip(now) {
             *most = now.max(*most);
         }
     }
@@ -163,14 +182,14 @@ fn every_call_on_a_small_stack() {
     let mut made = vec![7; 8 + 8 * 3600];
     let (simulated, simulating) = on_small_stack(|| simulate(&settings, 3600, 1, &mut made));
     assert_eq!(simulated.map(|given| given.written), Ok(made.len()));
-    let [measuring, opening, resuming, closing, summing, stating, tallying] = most;
+    let [measuring, counting, opening, resuming, closing, summing, stating, tallying] = most;
     let mut made = vec![0; 8 + 8 * 5000];
     let (length, making) = on_small_stack(|| worst_log(0, 3600, 5000, &mut made));
     assert_eq!(length, Ok(made.len()));
     // Past the test harness, which would hold back what a passing test prints.
     let _ = writeln!(
         std::io::stderr(),
-        "most bytes of stack: measure {measuring}, open {opening}, resume {resuming}, close {closing}, \
+        "most bytes of stack: measure {measuring}, formulas {counting}, open {opening}, resume {resuming}, close {closing}, \
          summary {summing}, status {stating}, tally {tallying}, worst_log {making}, simulate {simulating}"
     );
     assert!(resuming > PAGE, "the stack was not measured");

@@ -1,10 +1,10 @@
 //! Logs as text and rules as formulas.
 
-use evaluator::random::{self, LogShape, Random};
+use evaluator::random::{self, LogShape, Random, RuleShape};
 use evaluator::rule::{self, Entry, NEXT, NO_END, PREVIOUS, SINCE, UNTIL};
 use evaluator::{cases, log};
-use havdrims::text::{formula, log_from_text, log_to_text, EMPTY};
-use havdrims::Refusal;
+use havdrims::text::{formula, joined, log_from_text, log_to_text, EMPTY};
+use havdrims::{parse, Refusal, MOST_RULE};
 
 const P1: &str = "10 e0\n11 e0\n11 none\n12 e0\n13 e1\n20 e0\n";
 
@@ -74,4 +74,58 @@ fn formulas() {
     assert_eq!(shown(&[a, Entry::timed(NEXT, 1, NO_END)]), "next[1,inf] e0");
     assert_eq!(shown(&[]), EMPTY);
     assert_eq!(formula(b"KRL"), Err(Refusal::RuleMark));
+}
+
+/// A rule of several formulas, shown, typed again line by line and joined, is the same rule.
+#[test]
+fn several_formulas_come_back() {
+    let mut r = Random::new(8);
+    let mut several = 0;
+    for _ in 0..5_000 {
+        let shape = RuleShape { entries: 12, letters: 32, high: r.pick(&[2, 90, 300]) };
+        let number = r.from_to(1, 8);
+        let file = rule::encode_several(&random::formulas(&mut r, shape, number));
+        let Ok(shown) = formula(&file) else { continue };
+        let typed: Vec<Vec<u8>> = shown.lines().map(|line| parsed(line).unwrap()).collect();
+        assert_eq!(typed.len(), number, "{shown}");
+        let typed: Vec<&[u8]> = typed.iter().map(Vec::as_slice).collect();
+        assert_eq!(joined(&typed), Ok(file), "{shown}");
+        several += usize::from(number > 1);
+    }
+    assert!(several > 1_000, "{several}");
+}
+
+fn parsed(line: &str) -> Result<Vec<u8>, Refusal> {
+    let mut bytes = vec![0; MOST_RULE];
+    let size = parse(line.as_bytes(), &mut bytes)?;
+    bytes.truncate(size);
+    Ok(bytes)
+}
+
+#[test]
+fn several_formulas() {
+    let [e0, e1, p1] = [vec![Entry::letter(0)], vec![Entry::letter(1), Entry::not()], cases::p1_entries()];
+    let rules = [&e0, &e1, &p1].map(|entries| rule::encode(entries));
+    let rules = rules.each_ref().map(Vec::as_slice);
+    let all = joined(&rules).unwrap();
+    assert_eq!(all, rule::encode_several(&[e0.clone(), e1.clone(), p1.clone()]));
+    assert_eq!(formula(&all).unwrap(), "e0\nnot e1\ne0 until[0,2] e1");
+    // one alone, of version 2, and one of version 2 among others
+    let one = joined(&rules[..1]).unwrap();
+    assert_eq!((one.as_slice(), formula(&one).unwrap().as_str()), (&rule::encode_as(2, &e0)[..], "e0"));
+    assert_eq!(joined(&[&all, &one]), Ok(rule::encode_several(&[e0.clone(), e1, p1, e0.clone()])));
+    // eight are the most, and there is at least one
+    assert_eq!(joined(&[rules[0]; 8]).unwrap(), rule::encode_several(&vec![e0; 8]));
+    assert_eq!(joined(&[rules[0]; 9]), Err(Refusal::Shape));
+    assert_eq!(joined(&[]), Err(Refusal::Shape));
+    assert_eq!(joined(&[&rule::encode(&[])]), Err(Refusal::Shape));
+    // 128 entries, one more, and so many that their number has no byte
+    let many = |entries: usize| {
+        let nots = [vec![Entry::letter(0)], vec![Entry::not(); entries - 1]].concat();
+        rule::encode(&nots)
+    };
+    assert_eq!(joined(&[&many(64), &many(64)]).map(|rule| rule.len()), Ok(8 + 10 * 128));
+    assert_eq!(joined(&[&many(64), &many(65)]), Err(Refusal::RuleLength));
+    assert_eq!(joined(&[&many(128), &many(128)]), Err(Refusal::RuleLength));
+    assert_eq!(joined(&[rules[0], b"KRL"]), Err(Refusal::RuleMark));
 }

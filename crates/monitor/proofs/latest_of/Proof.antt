@@ -1,7 +1,7 @@
 -- `latest_of` meets its contract: a number that is not 0 follows on one.
 use native.Mathlib.Omega.{arith}
 use borrow.Author.Needs.{needs}
-use Rattle.monitor.proofs.Noes.{latest-some}
+use Rattle.verdicts.proofs.Noes.{latest-some}
 use Rattle.monitor.proofs.latest_of.Statement.{statement}
 use Rattle.monitor.proofs.latest_of.Tie as tie
 

@@ -5,118 +5,118 @@ use mathlib.Core.Path.{_≡_, refl, sym, ap, _∙_}
 use lib.Seq.{length-take-le}
 use lib.ListN.{length}
 use borrow.Author.Needs.{needs}
+use Rattle.rule.specs.Entries.{version}
 use Rattle.rule.specs.Refusal.{refusal}
 use Rattle.rule.proofs.Acceptance.{accepted}
 use Rattle.rule.proofs.Headers.{Decoded, few-to-decode, measured-once}
 use Rattle.checkpoint.specs.Code.{sized-of, sized-number}
-use Rattle.checkpoint.proofs.Sizes.{enough, stops, sized-refusal, sized-is, is-decoded}
+use Rattle.checkpoint.specs.declared.check.Sized.the-variants.{Words}
+use Rattle.checkpoint.proofs.Sizes.{Enough, enough, stops, sized-refusal, sized-is, is-decoded, is-version, version-most}
 use Rattle.monitor.proofs.Starts.{opens-done}
 use Rattle.monitor.proofs.open.Statement.{statement}
 use Rattle.monitor.proofs.open.Tie as tie
 
--- the answer of `size_of` is by the rule's own answer, and what was decoded by its header is its entries where it is accepted
+-- the answer of `size_of` is by the rule's own answer
 sized-for : (d : tie.After-size-of) →
-    let a = d .before .before .before .before .before .before .before .args in
+    let a = d .before .before .before .before .before .before .before .before .args in
     d .size-of .result ≡ sized-of (a .rule .now) (length (a .point .now))
 sized-for d =
-    let a = d .before .before .before .before .before .before .before .args in
-    let measured = measured-once _ _ (d .before .before .before .before .check-header .ensures) _ _ (d .before .before .before .count .ensures) (d .before .before .decode .ensures) in
-    d .size-of .ensures
-    ∙ sized-is (a .rule .now) (d .before .measure-decoded .result) (length (a .point .now)) (d .before .measure-decoded .ensures ∙ measured)
+    let a = d .before .before .before .before .before .before .before .before .args in
+    let m = d .before .measure-decoded in
+    let measured =
+    measured-once _ _ (d .before .before .before .before .before .check-header .ensures) _ _ (d .before .before .before .count .ensures)
+    (d .before .before .decode .ensures) in
+    d .size-of .ensures ∙ sized-is (a .rule .now) (m .result) (length (a .point .now)) (m .ensures ∙ measured)
 
-decoded-for : (d : tie.After-size-of) →
-    let s = d .before .before .before .before .before .before .before .args .rule .now in
-    refusal s ≡ 0 → Decoded s (d .before .before .decode .result) (d .before .before .before .count .result)
-decoded-for d = is-decoded _ _ _ _ (d .before .before .before .before .check-header .ensures) (d .before .before .before .count .ensures) (d .before .before .decode .ensures)
+-- the words that it gives
+words-of : (d : tie.After-sized) →
+    let a = d .before .before .before .before .before .before .before .before .before .before .args in
+    Words (d .sized .given .0 .0) ≡ sized-of (a .rule .now) (length (a .point .now))
+words-of d = sym (d .sized .given .1) ∙ sized-for (d .before .before)
 
-check-header-requires : tie.Need-check-header-requires
-check-header-requires c κs = search needs
+fit : (d : tie.After-sized) →
+    let a = d .before .before .before .before .before .before .before .before .before .before .args in
+    Enough (a .rule .now) (length (a .point .now)) (d .sized .given .0 .0)
+fit d =
+    let a = d .before .before .before .before .before .before .before .before .before .before .args in
+    enough (a .rule .now) (length (a .point .now)) (d .sized .given .0 .0) (words-of d)
 
-count-requires : tie.Need-count-requires
-count-requires c κs = search needs
+-- what was decoded by the header is the rule's
+decoded-for : (d : tie.After-sized) →
+    Decoded (d .before .before .before .before .before .before .before .before .before .before .args .rule .now) (d .before .before .before .before .decode .result) (d .before .before .before .before .before .count .result)
+decoded-for d =
+    is-decoded _ _ _ _ (d .before .before .before .before .before .before .before .check-header .ensures) (d .before .before .before .before .before .count .ensures)
+    (d .before .before .before .before .decode .ensures) (fit d .accepted)
+
+version-for : (d : tie.After-sized) → d .before .before .before .before .before .before .version .result ≡ version (d .before .before .before .before .before .before .before .before .before .before .args .rule .now)
+version-for d =
+    is-version _ _ _ (d .before .before .before .before .before .before .before .check-header .ensures) (d .before .before .before .before .before .before .version .ensures) (fit d .accepted)
 
 decode-requires : tie.Need-decode-requires
-decode-requires c κs = omega (arith, c .count .ensures, few-to-decode _ _ (c .before .check-header .ensures))
+decode-requires c κs = omega (arith, c .count .ensures, few-to-decode _ _ (c .before .before .check-header .ensures))
 
 measure-decoded-requires : tie.Need-measure-decoded-requires
-measure-decoded-requires c κs = few-to-decode _ _ (c .before .before .check-header .ensures)
-
-size-of-requires : tie.Need-size-of-requires
-size-of-requires c κs = search needs
-
-enum-known-sized : tie.Need-enum-known-sized
-enum-known-sized c = search needs
-
-enum-told : tie.Need-enum-told
-enum-told c = search needs
-
-number-requires : tie.Need-number-requires
-number-requires c κs = search needs
+measure-decoded-requires c κs = few-to-decode _ _ (c .before .before .before .check-header .ensures)
 
 returns : tie.Need-returns
 returns c =
-    let a = c .before .before .before .before .before .before .before .before .before .before .args in
+    let a = c .before .before .before .before .before .before .before .before .before .before .before .args in
+    let told = c .before .enum-told .given in
+    let sized = sized-for (c .before .before .before) in
     record {
-      number = c .number .ensures ∙ ap sized-number (sized-for (c .before .before .before)) ∙ sized-refusal (a .rule .now) (length (a .point .now));
+      number = c .number .ensures ∙ ap sized-number sized ∙ sized-refusal (a .rule .now) (length (a .point .now));
       length = refl;
-      words = (rw (c .number .ensures, c .before .enum-told .given .1) (stops (a .rule .now) (length (a .point .now)) _ (sym (c .before .enum-told .given .1) ∙ sized-for (c .before .before .before))), refl);
+      words = (rw (c .number .ensures, told .1) (stops (a .rule .now) (length (a .point .now)) _ (sym (told .1) ∙ sized)), refl);
     }
 
-sub-write : tie.Need-sub-write
-sub-write c = search needs
-
-part-write-start : tie.Need-part-write-start
-part-write-start c = search needs
-
 part-write-end : tie.Need-part-write-end
-part-write-end c =
-    let a = c .before .before .before .before .before .before .before .before .before .before .args in
-    let e = enough (a .rule .now) (length (a .point .now)) _ (sym (c .before .sized .given .1) ∙ sized-for (c .before .before .before)) in
-    omega arith
+part-write-end c = let e = fit (c .before) in omega arith
 
 write-requires : tie.Need-write-requires
 write-requires c κs =
-    let a = c .before .before .before .before .before .before .before .before .before .before .before .args in
-    let e = enough (a .rule .now) (length (a .point .now)) _ (sym (c .before .before .sized .given .1) ∙ sized-for (c .before .before .before .before)) in
-    let l = length-take-le (c .before .before .sized .given .0 .0 - 0) (a .point .now) (omega arith) in
-    let d = decoded-for (c .before .before .before .before) (e .accepted) in
-    rw (d .entries-are, d .count-is) (accepted _ (e .accepted) .few-entries, omega arith)
-
-same-length : tie.Need-same-length
-same-length c = search needs
+    let a = c .before .before .before .before .before .before .before .before .before .before .before .before .args in
+    let s = c .before .before in
+    let e = fit s in
+    let l = length-take-le (s .sized .given .0 .0 - 0) (a .point .now) (omega arith) in
+    let d = decoded-for s in
+    rw (version-for s, d .entries-are, d .count-is)
+    (version-most (a .rule .now) (e .accepted), accepted _ (e .accepted) .few-entries, omega arith)
 
 returns-2 : tie.Need-returns-2
 returns-2 c =
-    let a = c .before .before .before .before .before .before .before .before .before .before .before .before .before .before .args in
-    let e = enough (a .rule .now) (length (a .point .now)) _ (sym (c .before .before .before .before .before .sized .given .1) ∙ sized-for (c .before .before .before .before .before .before .before)) in
-    let d = decoded-for (c .before .before .before .before .before .before .before) (e .accepted) in
+    let a = c .before .before .before .before .before .before .before .before .before .before .before .before .before .before .before .args in
+    let s = c .before .before .before .before .before in
+    let w = c .before .before .write in
+    let e = fit s in
+    let d = decoded-for s in
     opens-done
     (a .rule .now)
     (a .point .now)
-    (c .before .before .write .last .1 .1 .0)
-    (c .before .before .before .before .before .sized .given .0 .0)
-    (c .before .before .before .before .before .sized .given .0 .0 - 0)
-    (sym (c .before .before .before .before .before .sized .given .1) ∙ sized-for (c .before .before .before .before .before .before .before))
+    (w .last .1 .1 .1 .0)
+    (s .sized .given .0 .0)
+    (s .sized .given .0 .0 - 0)
+    (words-of s)
     (omega arith)
-    (c .before .before .write .kept .1 .1 .0)
-    (rw (d .entries-are, d .count-is) at (c .before .before .write .ensures))
+    (w .kept .1 .1 .1 .0)
+    (rw (version-for s, d .entries-are, d .count-is) at (w .ensures))
 
 pub open-spec : {M : Type 1} → statement M
 open-spec =
     tie.close
     (tie.spec
-    check-header-requires
-    count-requires
+    (λ c κs. search needs)
+    (λ c κs. search needs)
+    (λ c κs. search needs)
     decode-requires
     measure-decoded-requires
-    size-of-requires
-    enum-known-sized
-    enum-told
-    number-requires
+    (λ c κs. search needs)
+    (λ c. search needs)
+    (λ c. search needs)
+    (λ c κs. search needs)
     returns
-    sub-write
-    part-write-start
+    (λ c. search needs)
+    (λ c. search needs)
     part-write-end
     write-requires
-    same-length
+    (λ c. search needs)
     returns-2)

@@ -4,11 +4,12 @@ use Prim.Native.Nat.{_≤_}
 use mathlib.Core.Path.{_≡_, sym, _∙_}
 use native.Mathlib.Omega.{arith}
 use lib.ListN.{length}
-use Rattle.rule.proofs.Headers.{few-to-decode}
-use Rattle.checkpoint.specs.Checkpoint.{need}
+use Rattle.rule.specs.Entries.{version}
+use Rattle.rule.proofs.Headers.{Decoded, few-to-decode}
+use Rattle.rule.proofs.Spans.{header-least}
 use Rattle.checkpoint.specs.Code.{checked-by}
 use Rattle.checkpoint.specs.Refusal.{summary-refusal}
-use Rattle.checkpoint.proofs.Sizes.{is-decoded}
+use Rattle.checkpoint.proofs.Sizes.{is-decoded, is-version}
 use Rattle.checkpoint.proofs.Checks.{fails-with, passed}
 use Rattle.checkpoint.proofs.Checks.{covers, own-is, is-accepted, has-room}
 use Rattle.monitor.proofs.Summarizing.{status-refused, status-told}
@@ -17,35 +18,56 @@ use Rattle.monitor.proofs.status.Tie as tie
 
 -- the checks are those of the rule
 checked-for : (d : tie.After-check-own) →
-    let a = d .before .before .before .before .before .before .before .args in d .check-own .result ≡ checked-by (summary-refusal (a .rule .now) (a .point .now))
+    let a = d .before .before .before .before .before .before .before .before .args in
+    d .check-own .result ≡ checked-by (summary-refusal (a .rule .now) (a .point .now))
 checked-for d =
-    let a = d .before .before .before .before .before .before .before .args in
-    d .check-own .ensures
-    ∙ own-is (a .rule .now) _ _ _ (d .before .before .before .before .check-header .ensures) (d .before .before .before .count .ensures) (d .before .before .decode .ensures)
+    let a = d .before .before .before .before .before .before .before .before .args in
+    d .check-own .ensures ∙
+    own-is (a .rule .now) _ _ _ _ (d .before .before .before .before .before .check-header .ensures) (d .before .before .before .before .version .ensures)
+    (d .before .before .before .count .ensures) (d .before .before .decode .ensures)
     (d .before .measure-decoded .result) (d .before .measure-decoded .ensures) (a .point .now)
 
 -- no refusal was met
-fine : (d : tie.After-enum-told) → let a = d .before .before .before .before .before .before .before .before .before .args in summary-refusal (a .rule .now) (a .point .now) ≡ 0
+fine : (d : tie.After-enum-told) →
+    let a = d .before .before .before .before .before .before .before .before .before .before .args in
+    summary-refusal (a .rule .now) (a .point .now) ≡ 0
 fine d = passed _ (sym (d .enum-told .given .1) ∙ checked-for (d .before .before))
 
+-- the version is the rule's, and so are the entries
+version-for : (d : tie.After-enum-told) → d .before .before .before .before .before .before .version .result ≡ version (d .before .before .before .before .before .before .before .before .before .before .args .rule .now)
+version-for d =
+    let a = d .before .before .before .before .before .before .before .before .before .before .args in
+    is-version _ _ _ (d .before .before .before .before .before .before .before .check-header .ensures) (d .before .before .before .before .before .before .version .ensures)
+    (is-accepted (a .rule .now) (a .point .now) (fine d))
+
+decoded-for : (d : tie.After-enum-told) →
+    Decoded (d .before .before .before .before .before .before .before .before .before .before .args .rule .now) (d .before .before .before .before .decode .result) (d .before .before .before .before .before .count .result)
+decoded-for d =
+    let a = d .before .before .before .before .before .before .before .before .before .before .args in
+    is-decoded (a .rule .now) _ _ _ (d .before .before .before .before .before .before .before .check-header .ensures) (d .before .before .before .before .before .count .ensures)
+    (d .before .before .before .before .decode .ensures) (is-accepted (a .rule .now) (a .point .now) (fine d))
+
 -- and the words that the rule needs are lent
-room : (d : tie.After-enum-told) → let a = d .before .before .before .before .before .before .before .before .before .args in need (a .rule .now) ≤ length (a .point .now)
-room d = let a = d .before .before .before .before .before .before .before .before .before .args in has-room (a .rule .now) (a .point .now) (fine d)
+room : (d : tie.After-enum-told) → 16 ≤ length (d .before .before .before .before .before .before .before .before .before .before .args .point .now)
+room d =
+    let a = d .before .before .before .before .before .before .before .before .before .before .args in
+    omega (arith, has-room (a .rule .now) (a .point .now) (fine d), header-least (version (a .rule .now)))
 
 decode-requires : tie.Need-decode-requires
-decode-requires c κs = omega (arith, c .count .ensures, few-to-decode _ _ (c .before .check-header .ensures))
+decode-requires c κs = omega (arith, c .count .ensures, few-to-decode _ _ (c .before .before .check-header .ensures))
 
 measure-decoded-requires : tie.Need-measure-decoded-requires
-measure-decoded-requires c κs = few-to-decode _ _ (c .before .before .check-header .ensures)
+measure-decoded-requires c κs = few-to-decode _ _ (c .before .before .before .check-header .ensures)
 
 check-own-requires : tie.Need-check-own-requires
 check-own-requires c κs =
-    covers _ _ _ _ (c .before .before .before .check-header .ensures) (c .before .before .count .ensures) (c .before .decode .ensures)
+    covers _ _ _ _ _ (c .before .before .before .before .check-header .ensures) (c .before .before .before .version .ensures)
+    (c .before .before .count .ensures) (c .before .decode .ensures)
     (c .measure-decoded .result) (c .measure-decoded .ensures)
 
 returns : tie.Need-returns
 returns c =
-    let a = c .before .before .before .before .before .before .before .before .before .before .args in
+    let a = c .before .before .before .before .before .before .before .before .before .before .before .args in
     let d = c .before .before .before in
     let n = c .before .enum-told2 .given in
     status-refused (a .rule .now) (a .point .now) (c .number .result)
@@ -53,24 +75,24 @@ returns c =
 
 first-wanted-requires : tie.Need-first-wanted-requires
 first-wanted-requires c κs =
-    let d = c .before .before .before .before in
-    omega (arith, d .before .before .before .count .ensures, few-to-decode _ _ (d .before .before .before .before .check-header .ensures))
+    omega (
+      arith,
+      c .before .before .before .before .before .before .before .count .ensures,
+      few-to-decode _ _ (c .before .before .before .before .before .before .before .before .before .check-header .ensures),
+    )
 
 returns-2 : tie.Need-returns-2
 returns-2 c =
-    let a = c .before .before .before .before .before .before .before .before .before .before .before .before .before .args in
-    let d = c .before .before .before .before .before .before in
-    let none = fine (c .before .before .before .before) in
-    let e =
-    is-decoded (a .rule .now) _ _ _ (d .before .before .before .before .check-header .ensures) (d .before .before .before .count .ensures) (d .before .before .decode .ensures)
-    (is-accepted (a .rule .now) (a .point .now) none) in
-    status-told (a .rule .now) (a .point .now) none (d .before .before .decode .result) (d .before .before .before .count .result) e
-    (c .before .first-wanted .result) (c .before .first-wanted .ensures)
+    let a = c .before .before .before .before .before .before .before .before .before .before .before .before .before .before .args in
+    let told = c .before .before .before .before in
+    let first = c .before .first-wanted in
+    status-told (a .rule .now) (a .point .now) (fine told) _ (version-for told) _ _ (decoded-for told) (first .result) (first .ensures)
 
 pub status-spec : {M : Type 1} → statement M
 status-spec =
     tie.close
     (tie.spec
+    (λ c κs. search needs)
     (λ c κs. search needs)
     (λ c κs. search needs)
     decode-requires
@@ -80,8 +102,8 @@ status-spec =
     (λ c. search needs)
     (λ c κs. search needs)
     returns
-    (λ c. let e = room (c .before) in omega arith)
-    (λ c. let e = room (c .before .before) in omega arith)
+    (λ c. omega (arith, room (c .before)))
+    (λ c. omega (arith, room (c .before .before)))
     first-wanted-requires
-    (λ c. let e = room (c .before .before .before .before) in omega arith)
+    (λ c. omega (arith, room (c .before .before .before .before)))
     returns-2)

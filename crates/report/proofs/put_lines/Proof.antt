@@ -10,10 +10,11 @@ use Rattle.report.proofs.put_lines.Statement.{statement}
 use Rattle.report.proofs.put_lines.Tie as tie
 
 abbrev Inv-loop : tie.InvT-loop
-Inv-loop verdicts text₀ from at₀ i₀ text at i = (i ≤ length verdicts) × (length text ≡ length text₀) × Writes text₀ from (lines verdicts i) at text
+Inv-loop verdicts columns text₀ from at₀ i₀ text at i =
+    (i ≤ length verdicts) × (length text ≡ length text₀) × Writes text₀ from (lines columns verdicts i) at text
 
 abbrev μ-loop : tie.MeasureT-loop
-μ-loop verdicts text₀ from at₀ i₀ text at i = length verdicts - i
+μ-loop verdicts columns text₀ from at₀ i₀ text at i = length verdicts - i
 
 loop-holds : tie.Need-loop-holds Inv-loop μ-loop
 unfolding lines
@@ -31,9 +32,9 @@ put-line-requires : tie.Need-put-line-requires Inv-loop μ-loop
 put-line-requires c κs =
     let l = c .before .before .before .loop in
     let s = c .before .before .before .before .before .before in
-    let few = short-lines (s .args .verdicts .now) (l .i) (omega (arith, s .pre .0)) in
-    let room : l .at + 9 ≤ length (l .text) = omega (arith, s .pre .1, l .inv .2 .ends) in
-    (omega (arith, s .pre .0), room)
+    let few = short-lines (s .args .columns) (s .args .verdicts .now) (l .i) (s .pre .1) (omega (arith, s .pre .0)) in
+    let room : l .at + 37 ≤ length (l .text) = omega (arith, s .pre .2, l .inv .2 .ends) in
+    (omega (arith, s .pre .0), s .pre .1, room)
 
 loop-less : tie.Need-loop-less Inv-loop μ-loop
 loop-less c = omega arith
@@ -44,13 +45,13 @@ loop-again c =
     let l = c .before .before .before .before .before .before .loop in
     let w = c .before .before .put-line in
     let s = c .before .before .before .before .before .before .before .before .before in
-    let few = short-lines (s .args .verdicts .now) (l .i) (omega (arith, s .pre .0)) in
+    let few = short-lines (s .args .columns) (s .args .verdicts .now) (l .i) (s .pre .1) (omega (arith, s .pre .0)) in
     let next : suc (l .i) ≡ l .i + 1 = omega arith in
-    let more : Writes (s .args .text .now) (s .args .from) (lines (s .args .verdicts .now) (suc (l .i))) (w .result) (w .last .1 .1 .0) =
-    writes-more (l .inv .2) (omega (arith, s .pre .1, l .inv .2 .ends)) (w .ensures) in (
+    let more : Writes (s .args .text .now) (s .args .from) (lines (s .args .columns) (s .args .verdicts .now) (suc (l .i))) (w .result) (w .last .1 .1 .1 .0) =
+    writes-more (l .inv .2) (omega (arith, s .pre .2, l .inv .2 .ends)) (w .ensures) in (
       omega arith,
-      w .kept .1 .1 .0 ∙ l .inv .1,
-      subst (λ (k : ℕ). Writes (s .args .text .now) (s .args .from) (lines (s .args .verdicts .now) k) (w .result) (w .last .1 .1 .0)) next more,
+      w .kept .1 .1 .1 .0 ∙ l .inv .1,
+      subst (λ (k : ℕ). Writes (s .args .text .now) (s .args .from) (lines (s .args .columns) (s .args .verdicts .now) k) (w .result) (w .last .1 .1 .1 .0)) next more,
     )
 
 same-length : tie.Need-same-length Inv-loop μ-loop

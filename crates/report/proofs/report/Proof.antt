@@ -2,16 +2,17 @@
 use borrow.Author.Needs.{needs}
 use Prim.Native.Nat.{ℕ, _+_, _*_, _≤_, _<_}
 use mathlib.Core.Bool.{false}
-use mathlib.Core.Path.{_≡_, refl, sym, _∙_, ap, subst}
+use mathlib.Core.Path.{_≡_, refl, sym, _∙_, ap, ap₂, subst}
 use mathlib.Core.List.{List, _++_}
 use native.Mathlib.Omega.{arith}
 use lib.ListN.{length, take}
 use lib.Seq.{length-take-le}
 use Rattle.trace.specs.Format.{record-count, records-of}
+use Rattle.emit.specs.Verdicts.{formulas-of, columns}
 use Rattle.report.specs.Report.{ascii, first-line, lines, too-long, Writes}
 use Rattle.report.proofs.Texts.{writes-more}
 use Rattle.report.proofs.Lines.{short-first-line}
-use Rattle.report.proofs.Runs.{Ran, not-opened, not-resumed, resumed}
+use Rattle.report.proofs.Runs.{Ran, eight-columns, not-opened, not-resumed, resumed}
 use Rattle.report.proofs.report.Statement.{statement}
 use Rattle.report.proofs.report.Tie as tie
 
@@ -23,7 +24,7 @@ short-of d = sym (d .before .is-too-long .ensures) ∙ d .if1 .left
 
 -- the number of records
 counted : (d : tie.After-count) →
-    let a = d .before .before .before .before .before .before .before .before .before .before .before .before .before .before .before .before .before .before .before .args in
+    let a = d .before .before .before .before .before .before .before .before .before .before .before .before .before .before .before .before .before .before .before .before .args in
     d .count .result ≡ record-count (records-of (a .log .now))
 counted d = d .count .ensures ∙ ap record-count (d .before .records .ensures)
 
@@ -55,6 +56,12 @@ ran d =
     (told .0 .1 .0)
     (told .1)
     refl
+
+-- how many words a line has: one per formula
+columned : (d : tie.After-columns-of) →
+    let a = d .before .before .before .before .before .before .before .before .before .before .before .before .before .before .before .before .before .before .args in
+    d .columns-of .result ≡ columns (formulas-of (a .rule .now))
+columned d = d .columns-of .ensures (ran (d .before .before) .accepts)
 
 is-too-long-requires : tie.Need-is-too-long-requires
 is-too-long-requires c κs = search needs
@@ -150,6 +157,9 @@ returns-3 c =
     (n .ensures) in
     subst (λ (t : List ℕ). Writes (a .text .now) 0 t (w .result) (w .last .1 .0)) (sym text) (w .ensures)
 
+columns-of-requires : tie.Need-columns-of-requires
+columns-of-requires c κs = search needs
+
 records-requires : tie.Need-records-requires
 records-requires c κs = search needs
 
@@ -158,41 +168,46 @@ count-requires c κs = search needs
 
 put-counts-requires : tie.Need-put-counts-requires
 put-counts-requires c κs =
-    let r = ran (c .before .before .before .before) in
+    let r = ran (c .before .before .before .before .before) in
     (omega (arith, r .few), omega (arith, r .few-records, counted (c .before)), search needs)
 
 array-share-prefix-sheet : tie.Need-array-share-prefix-sheet
-array-share-prefix-sheet c = ran (c .before .before .before .before .before) .fits
+array-share-prefix-sheet c = ran (c .before .before .before .before .before .before) .fits
 
 slice-aggregate-put-lines : tie.Need-slice-aggregate-put-lines
-slice-aggregate-put-lines c = sym (length-take-le _ _ (ran (c .before .before .before .before .before .before) .fits))
+slice-aggregate-put-lines c = sym (length-take-le _ _ (ran (c .before .before .before .before .before .before .before) .fits))
 
 put-lines-requires : tie.Need-put-lines-requires
 put-lines-requires c κs =
     let w = c .before .before .put-counts in
-    let given = c .before .before .before .before .before .before .before .resumed .given .0 .0 in
-    let sheet = c .before .before .before .before .before .before .before .before .before .before .before .resume .last .1 .1 .1 .0 in
-    let r = ran (c .before .before .before .before .before .before .before) in
+    let given = c .before .before .before .before .before .before .before .before .resumed .given .0 .0 in
+    let sheet = c .before .before .before .before .before .before .before .before .before .before .before .before .resume .last .1 .1 .1 .0 in
+    let r = ran (c .before .before .before .before .before .before .before .before) in
     let records : c .before .before .before .before .count .result < 10000 = omega (arith, r .few-records, counted (c .before .before .before .before)) in
     let line = short-first-line given (c .before .before .before .before .count .result) (omega (arith, r .few)) records in
     let size : length (take given sheet) ≡ given = length-take-le given sheet (r .fits) in
     let few : length (take given sheet) ≤ 8191 = omega (arith, r .few) in
-    let room : w .result + length (take given sheet) * 9 ≤ length (w .last .1 .1 .0) = omega (arith, w .ensures .ends, w .kept .1 .1 .0) in
-    (omega arith, room)
+    let room : w .result + length (take given sheet) * 37 ≤ length (w .last .1 .1 .0) = omega (arith, w .ensures .ends, w .kept .1 .1 .0) in
+    let most = eight-columns _ (r .accepts) in
+    let columned-by = columned (c .before .before .before .before .before .before) in
+    (omega arith, omega arith, room)
 
 returns-4 : tie.Need-returns-4
 returns-4 c =
-    let a = c .before .before .before .before .before .before .before .before .before .before .before .before .before .before .before .before .before .before .before .before .before .before .before .before .args in
+    let a = c .before .before .before .before .before .before .before .before .before .before .before .before .before .before .before .before .before .before .before .before .before .before .before .before .before .args in
     let w = c .before .before .before .put-counts in
     let v = c .put-lines in
-    let given = c .before .before .before .before .before .before .before .before .resumed .given .0 .0 in
-    let sheet = c .before .before .before .before .before .before .before .before .before .before .before .before .resume .last .1 .1 .1 .0 in
-    let r = ran (c .before .before .before .before .before .before .before .before) in
+    let given = c .before .before .before .before .before .before .before .before .before .resumed .given .0 .0 in
+    let sheet = c .before .before .before .before .before .before .before .before .before .before .before .before .before .resume .last .1 .1 .1 .0 in
+    let r = ran (c .before .before .before .before .before .before .before .before .before) in
     let records : c .before .before .before .before .before .count .result < 10000 = omega (arith, r .few-records, counted (c .before .before .before .before .before)) in
     let line = short-first-line given (c .before .before .before .before .before .count .result) (omega (arith, r .few)) records in
-    let text = r .text ∙ ap (λ (k : ℕ). first-line given k ++ lines (take given sheet) (length (take given sheet))) (sym (counted (c .before .before .before .before .before))) in
+    let text = r .text ∙
+    ap₂ (λ (k n : ℕ). first-line given k ++ lines n (take given sheet) (length (take given sheet)))
+    (sym (counted (c .before .before .before .before .before)))
+    (sym (columned (c .before .before .before .before .before .before .before))) in
     let room : w .result ≤ length (a .text .now) = omega (arith, w .ensures .ends) in
-    subst (λ (t : List ℕ). Writes (a .text .now) 0 t (v .result) (v .last .1 .0)) (sym text) (writes-more (w .ensures) room (v .ensures))
+    subst (λ (t : List ℕ). Writes (a .text .now) 0 t (v .result) (v .last .1 .1 .0)) (sym text) (writes-more (w .ensures) room (v .ensures))
 
 pub report-spec : {M : Type 1} → statement M
 report-spec =
@@ -217,6 +232,7 @@ report-spec =
     number-requires-2
     put-refused-requires-2
     returns-3
+    columns-of-requires
     records-requires
     count-requires
     put-counts-requires

@@ -31,7 +31,7 @@ struct Week {
 impl Week {
     fn new(r: &mut Random) -> Week {
         let (rule_shape, log_shape) = random::shapes(r, 8, 30);
-        let rule = rule::encode(&random::valid_entries(r, rule_shape));
+        let rule = random::rule(r, rule_shape);
         let untouched = random::log(r, log_shape);
         let mut ends: Vec<usize> = (0..r.from_to(1, 6)).map(|_| r.from_to(0, untouched.len())).collect();
         ends.sort();
@@ -45,7 +45,7 @@ impl Week {
     fn sheet_of(&self, day: Day) -> Vec<u8> {
         let rule = rule::parse(&self.rule).unwrap();
         let verdicts = if day.closing { reading::closed_verdicts } else { reading::verdicts };
-        verdicts(&rule, &self.untouched[..day.records]).into_iter().map(u8::from).collect()
+        verdicts(&rule, &self.untouched[..day.records])
     }
 
     /// The sheet in the end.

@@ -47,6 +47,46 @@ fn rules_as_formulas() {
 }
 
 #[test]
+fn several_formulas_in_one_rule() {
+    let place = Place::new();
+    let said = place.ok(&["rule", "e0 until[0,2] e1", "not (e0 until[0,2] e1)", "both.krl"]);
+    assert_eq!(said, "both.krl: 2 formulas, 7 entries\n");
+    let until = cases::p1_entries();
+    let not_until = [until.as_slice(), &[rule::Entry::not()]].concat();
+    assert_eq!(fs::read(place.path("both.krl")).unwrap(), rule::encode_several(&[until, not_until]));
+    let shown = "e0 until[0,2] e1\nnot (e0 until[0,2] e1)\nwords 148, reach 2 seconds\n";
+    assert_eq!(place.ok(&["formula", "both.krl"]), shown);
+    // one formula as version 2
+    fs::write(place.path("one.krl"), rule::encode_as(2, &cases::p1_entries())).unwrap();
+    assert_eq!(place.ok(&["formula", "one.krl"]), "e0 until[0,2] e1\nwords 78, reach 2 seconds\n");
+
+    let eight = ["rule", "e0", "e1", "e2", "e3", "e4", "e5", "e6", "e7", "eight.krl"];
+    assert_eq!(place.ok(&eight), "eight.krl: 8 formulas, 8 entries\n");
+    assert_eq!(place.ok(&["formula", "eight.krl"]), "e0\ne1\ne2\ne3\ne4\ne5\ne6\ne7\nwords 152, reach 0 seconds\n");
+    let nine = [&eight[..1], &["e8"], &eight[1..9], &["none.krl"]].concat();
+    let too_many = "These are 9 formulas; at most 8 can be judged together.";
+    assert_eq!(place.fails(1, &nine), format!("all together: {}\n{too_many}\n", Refusal::Shape));
+    // a rule file with several of them, and others beside it
+    let said = place.fails(1, &["new", "none", "eight.krl", "e0", "one.krl"]);
+    assert_eq!(said, format!("all together: {}\n{}\n", Refusal::Shape, too_many.replace('9', "10")));
+    assert!(!place.path("none").exists());
+    // the file's name is forgotten
+    let said = place.fails(2, &["rule", "e0", "e1"]);
+    let expected = "expected: havdrims rule FORMULA.. RULE\n";
+    assert_eq!(said, format!("`e1` is no name of a rule file: that ends in .krl\n{expected}"));
+    assert!(!place.path("e1").exists());
+    let said = place.fails(1, &["rule", "e0", "e1 or", "none.krl"]);
+    assert_eq!(said, format!("`e1 or`: {}\n", Refusal::NotDerived));
+    let many = "not ".repeat(64) + "e0";
+    let said = place.fails(1, &["rule", &many, &many, "none.krl"]);
+    assert_eq!(said, format!("all together: {}\n", Refusal::RuleLength));
+    let long = "e0 until[0,3600] e1";
+    let said = place.fails(1, &["rule", long, long, "none.krl"]);
+    assert_eq!(said, format!("all together: {}\n", Refusal::TooManyWords));
+    assert!(!place.path("none.krl").exists());
+}
+
+#[test]
 fn logs_to_try_a_kiosk_with() {
     let place = Place::new();
     assert_eq!(place.ok(&["worst", "0", "2", "5", "worst.klg"]), "worst.klg: 5 records, 3 seconds waiting\n");

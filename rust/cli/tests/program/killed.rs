@@ -10,8 +10,9 @@ use std::process::Stdio;
 use std::thread;
 use std::time::{Duration, Instant};
 
-/// Looks back, looks ahead, and has a checkpoint of some thousand words.
-const RULE: &str = "prev[0,9] e0 or e1 until[0,900] (e2 or prev[0,99] prev[0,99] e3)";
+/// Looks back, looks ahead, and has a checkpoint of some thousand words; and another formula beside it.
+const NEW: [&str; 4] =
+    ["new", "card", "prev[0,9] e0 or e1 until[0,900] (e2 or prev[0,99] prev[0,99] e3)", "e3 since[0,60] not e0"];
 
 /// Runs the command, and kills it after this time if it has not ended. Whether it was killed; else it ended well.
 fn run_for(place: &Place, words: &[&str], time: Duration) -> bool {
@@ -32,7 +33,7 @@ fn killed_at_random_moments() {
     let shape = LogShape { records: 60_000, letters: 4, hold: 20, step: 2, start: 7 };
     let untouched: Vec<Record> = random::log(&mut r, shape);
     let mut file = log::encode(&untouched);
-    place.ok(&["new", "card", RULE]);
+    place.ok(&NEW);
     let bytes = fs::read(place.path("card/rule.krl")).unwrap();
     let parsed = rule::parse(&bytes).unwrap();
     let (mut killed, mut evening, mut closings, mut records) = (0, 0, 0, 0);
@@ -57,13 +58,13 @@ fn killed_at_random_moments() {
             file[8..8 + 8 * (last + 1)].fill(0xFF);
         }
         let verdicts = if closing { linear::closed_verdicts } else { linear::verdicts };
-        let expected: Vec<u8> = verdicts(&parsed, &untouched[..records]).into_iter().map(u8::from).collect();
+        let expected = verdicts(&parsed, &untouched[..records]);
         assert_eq!(fs::read(place.path("card/sheet")).unwrap(), expected, "evening {evening}");
         if closing {
             closings += 1;
             // Another month, with the same log from its beginning.
             fs::remove_dir_all(place.path("card")).unwrap();
-            place.ok(&["new", "card", RULE]);
+            place.ok(&NEW);
             (file, records) = (log::encode(&untouched), 0);
         }
     }

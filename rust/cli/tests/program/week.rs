@@ -1,25 +1,28 @@
 //! The week as the README shows it, what the commands print, and wrong use.
 
 use crate::{ended, example, Place, RULE};
-use evaluator::log;
 use evaluator::random::{self, LogShape, Random};
+use evaluator::{log, rule};
+use havdrims::Refusal;
 use std::ffi::OsStr;
 use std::fs;
 use std::os::unix::ffi::OsStrExt;
 use std::path::Path;
 
-/// The commands and outputs of the README's week, which begins with `new`.
-fn shown() -> Vec<(String, String)> {
+/// The commands and outputs of each week that the README shows. A week begins with `new`.
+fn shown() -> Vec<Vec<(String, String)>> {
     let readme = fs::read_to_string(Path::new(env!("CARGO_MANIFEST_DIR")).join("../../README.md")).unwrap();
-    let from = readme.find("    $ havdrims new ").expect("the README shows a week");
-    let mut all: Vec<(String, String)> = Vec::new();
-    for line in readme[from..].lines().map_while(|line| line.strip_prefix("    ")) {
-        match line.strip_prefix("$ havdrims ") {
-            Some(words) => all.push((words.to_string(), String::new())),
-            None => all.last_mut().unwrap().1 += &format!("{line}\n"),
+    let weeks = readme.match_indices("    $ havdrims new ").map(|(from, _)| {
+        let mut all: Vec<(String, String)> = Vec::new();
+        for line in readme[from..].lines().map_while(|line| line.strip_prefix("    ")) {
+            match line.strip_prefix("$ havdrims ") {
+                Some(words) => all.push((words.to_string(), String::new())),
+                None => all.last_mut().unwrap().1 += &format!("{line}\n"),
+            }
         }
-    }
-    all
+        all
+    });
+    weeks.collect()
 }
 
 /// The words of a command line, some of them in single quotes.
@@ -35,15 +38,15 @@ fn split(line: &str) -> Vec<String> {
 }
 
 #[test]
-fn the_week_of_the_readme() {
+fn the_weeks_of_the_readme() {
     let place = Place::new();
     fs::create_dir_all(place.path("examples/day")).unwrap();
     for name in ["day.klg", "tuesday.klg"] {
         fs::copy(example(name), place.path(&format!("examples/day/{name}"))).unwrap();
     }
     let shown = shown();
-    assert_eq!(shown.len(), 6);
-    for (line, output) in shown {
+    assert_eq!(shown.iter().map(Vec::len).collect::<Vec<_>>(), [6, 3]);
+    for (line, output) in shown.into_iter().flatten() {
         let words = split(&line);
         let words: Vec<&str> = words.iter().map(String::as_str).collect();
         assert_eq!(place.ok(&words), output, "{line}");
@@ -121,6 +124,69 @@ fn a_rule_from_a_file_and_an_empty_one() {
     place.ok(&["new", "empty", "empty.krl"]);
     let said = place.ok(&["evening", "empty", "day.klg"]);
     assert!(said.starts_with("records 0 to 13: 14 yes, 0 no\nso far: 14 verdicts, 0 no\n"), "{said}");
+}
+
+/// One word per formula on each line, and counts for each formula.
+#[test]
+fn several_formulas_on_one_sheet() {
+    let place = Place::with_card(2);
+    let rules = ["not e1", RULE, "e0 since[0,inf] e1"];
+    let said = place.ok(&["new", "three", rules[0], rules[1], rules[2]]);
+    let formulas = |said: [&str; 3]| {
+        let lines = said.iter().enumerate().map(|(k, said)| format!("  formula {k}: {said}\n"));
+        lines.collect::<String>()
+    };
+    assert_eq!(said, format!("three: 3 formulas\n{}words 383, reach 90 seconds\n", formulas(rules)));
+    let none = format!("so far: 0 verdicts\n{}open: 0 of 0 records\n", formulas(["0 no"; 3]));
+    assert_eq!(place.ok(&["summary", "three"]), none);
+    assert_eq!(place.ok(&["sheet", "three", "--csv"]), "position,formula 0,formula 1,formula 2\n");
+    let said = place.ok(&["evening", "three", "day.klg"]);
+    let new = formulas(["9 yes, 3 no", "10 yes, 2 no", "7 yes, 5 no"]);
+    let counts = [(3, 11), (2, 8), (5, 6)].map(|(no, record)| format!("{no} no, the latest at record {record}"));
+    let counts = formulas(counts.each_ref().map(String::as_str));
+    let so_far = format!("so far: 12 verdicts\n{counts}open: 2 of 14 records\n");
+    assert_eq!(said, format!("records 0 to 11\n{new}{so_far}records 0 to 11 may be overwritten\n"));
+    assert_eq!(place.ok(&["summary", "three"]), so_far);
+    let said = place.ok(&["evening", "three", "day.klg"]);
+    assert_eq!(said, format!("no new verdict\n{so_far}records 0 to 11 may be overwritten\n"));
+    assert_eq!(place.ok(&["sheet", "three", "--from", "10"]), "10 yes yes yes\n11 no yes yes\n");
+    let csv = "position,formula 0,formula 1,formula 2\n11,no,yes,yes\n";
+    assert_eq!(place.ok(&["sheet", "three", "--csv", "--from", "11"]), csv);
+    place.ok(&["evening", "three", "tuesday.klg"]);
+    // the words of formula 1 are those of the card that has it alone
+    let column = |sheet: String, at: usize| -> Vec<String> {
+        sheet.lines().map(|line| line.split(' ').nth(at).unwrap().to_string()).collect()
+    };
+    assert_eq!(column(place.ok(&["sheet", "three"]), 2), column(place.ok(&["sheet", "card"]), 1));
+    let said = place.ok(&["close", "three", "tuesday.klg"]);
+    let last = formulas(["1 yes, 0 no", "0 yes, 1 no", "1 yes, 0 no"]);
+    assert!(said.starts_with(&format!("record 18\n{last}so far: 19 verdicts\n")), "{said}");
+    assert!(place.ok(&["summary", "three"]).ends_with("open: 0 of 19 records, and the card is closed\n"));
+}
+
+/// A rule of version 2 with one formula is shown as one of version 1 is; rule files and texts stand beside each other.
+#[test]
+fn one_formula_of_version_2_and_rule_files_together() {
+    let place = Place::with_card(1);
+    let bytes = rule::parse(&fs::read(example("rule.krl")).unwrap()).unwrap();
+    fs::write(place.path("one.krl"), rule::encode_as(2, &bytes.entries)).unwrap();
+    let said = place.ok(&["new", "one", "one.krl"]);
+    assert_eq!(said, format!("one: {RULE}\nwords 302, reach 90 seconds\n"));
+    let said = place.ok(&["evening", "one", "day.klg"]);
+    assert!(said.starts_with("records 0 to 11: 10 yes, 2 no\nso far: 12 verdicts, 2 no, the latest at record 8\n"));
+    for words in [&["sheet"][..], &["sheet", "--csv"], &["summary"]] {
+        assert_eq!(place.ok(&[words, &["one"]].concat()), place.ok(&[words, &["card"]].concat()), "{words:?}");
+    }
+    place.ok(&["new", "more", "one.krl", "e3", "one.krl"]);
+    let entries = [bytes.entries.as_slice(), &[rule::Entry::letter(3)], &bytes.entries].concat();
+    assert_eq!(fs::read(place.path("more/rule.krl")).unwrap(), rule::encode_as(2, &entries));
+    fs::write(place.path("empty.krl"), rule::encode(&[])).unwrap();
+    let said = place.fails(1, &["new", "none", "e0", "empty.krl"]);
+    assert_eq!(said, "empty.krl: a rule without entries cannot stand beside others\n");
+    fs::write(place.path("bad.krl"), b"KRL").unwrap();
+    let said = place.fails(1, &["new", "none", "e0", "bad.krl"]);
+    assert_eq!(said, format!("bad.krl: {}\n", Refusal::RuleMark));
+    assert!(!place.path("none").exists());
 }
 
 #[test]

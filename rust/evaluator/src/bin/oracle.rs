@@ -5,10 +5,12 @@
 //! ```text
 //! rule HEX             take this rule           words W reach R, or refused N (1 to 8)
 //! postfix ENTRY..      the same, typed          words W reach R, or refused N
+//! several ENTRY..      the same, of version 2   words W reach R, or refused N
 //! log HEX              the verdicts of a log    A and A digits, 1 for yes, 0 for no; or refused N (1 to 8, 12, 14)
 //! records RECORD..     the same, typed          as for log
 //! close                the last log, closed     as for log: N and N digits
 //! tally HEX            a sheet                  no N yes Y, or refused 15
+//! tally HEX FORMULAS   that of a version 2 rule the same, once for each formula
 //! bytes                                         the rule's bytes and the last log's in hexadecimal
 //! ```
 //!
@@ -22,7 +24,8 @@
 //! records 10:0 11:0 11: 12:0 13:1 20:0
 //! ```
 //!
-//! prints `words 70 reach 2` and `5 00011`.
+//! prints `words 70 reach 2` and `5 00011`. A rule with several formulas, whose entries stand one after the other, gets A
+//! digits for each of them: with `several e0 e1 until[0,2] e0 e1 until[0,2] not` the same records give `5 00011 11100`.
 
 use evaluator::log::{self, Record};
 use evaluator::rule::{self, Entry, NEXT, NO_END, PREVIOUS, SINCE, UNTIL};
@@ -98,15 +101,20 @@ fn judged(closing: bool, rule: &[u8], log: &[u8]) -> String {
                 (true, false) => linear::closed_verdicts,
             };
             let all = evaluate(&rule, &records);
-            let digits: String = all.iter().map(|&b| if b { '1' } else { '0' }).collect();
-            format!("{} {digits}", all.len()).trim_end().to_string()
+            let digit = |byte: u8, k: usize| if byte >> k & 1 == 1 { '1' } else { '0' };
+            let digits = |k: usize| all.iter().map(|&byte| digit(byte, k)).collect::<String>();
+            let formulas: Vec<String> = (0..rule.formulas()).map(digits).collect();
+            format!("{} {}", all.len(), formulas.join(" ")).trim_end().to_string()
         }
     }
 }
 
-fn tallied(sheet: &[u8]) -> String {
-    match model::tally(sheet) {
-        Ok((no, yes)) => format!("no {no} yes {yes}"),
+fn tallied(sheet: &[u8], formulas: u64) -> String {
+    match model::tally(sheet, formulas) {
+        Ok((no, yes)) => {
+            let counts: Vec<String> = no.iter().zip(yes).map(|(no, yes)| format!("no {no} yes {yes}")).collect();
+            counts.join(" ")
+        }
         Err(n) => format!("refused {n}"),
     }
 }
@@ -117,14 +125,19 @@ fn answer(line: &str, rule: &mut Vec<u8>, log: &mut Vec<u8>) -> Result<String, S
     match command {
         "rule" => *rule = unhex(rest.trim())?,
         "postfix" => *rule = rule::encode(&words().map(entry).collect::<Result<Vec<_>, _>>()?),
+        "several" => *rule = rule::encode_as(2, &words().map(entry).collect::<Result<Vec<_>, _>>()?),
         "log" => *log = unhex(rest.trim())?,
         "records" => *log = log::encode(&words().map(record).collect::<Result<Vec<_>, _>>()?),
         "close" => return Ok(judged(true, rule, log)),
-        "tally" => return Ok(tallied(&unhex(rest.trim())?)),
+        "tally" => {
+            let (sheet, formulas) = rest.split_once(' ').unwrap_or((rest, "1"));
+            let formulas = formulas.trim().parse().map_err(|_| format!("unknown number {formulas}"))?;
+            return Ok(tallied(&unhex(sheet)?, formulas));
+        }
         "bytes" => return Ok(format!("{} {}", hex(rule), hex(log))),
         _ => return Err(format!("unknown command {command}")),
     }
-    let of_rule = command == "rule" || command == "postfix";
+    let of_rule = ["rule", "postfix", "several"].contains(&command);
     Ok(if of_rule { measured(rule) } else { judged(false, rule, log) })
 }
 

@@ -1,9 +1,9 @@
 //! The functions called on guarded buffers, with what every call keeps checked after it.
 
 use crate::guard::{Lent, Side};
-use evaluator::model::{Status, Summary};
+use evaluator::model::{self, Status, Summary};
 use evaluator::random::Random;
-use havdrims::ffi;
+use havdrims::{ffi, MOST_FORMULAS};
 use std::cell::Cell;
 
 /// What stands behind the last pointers before a call.
@@ -65,15 +65,58 @@ pub fn measure(rule: &[u8], side: Side) -> Answer {
     answer(number, [words, reach])
 }
 
-/// havdrims_tally on a guarded sheet.
-pub fn tally(sheet: &[u8], side: Side) -> Answer {
+/// havdrims_formulas on a guarded rule.
+pub fn formulas(rule: &[u8], side: Side) -> Result<u64, u32> {
+    let mut copy = lent(rule, side);
+    copy.read_only_if(read_only_turn());
+    let mut formulas = KEPT[0];
+    // SAFETY: the rule is lent for reading, the number is this function's own.
+    let number = unsafe { ffi::havdrims_formulas(copy.pointer(), copy.length(), &mut formulas) };
+    assert_eq!(copy.bytes(), rule, "formulas changed the rule");
+    answer(number, [formulas, KEPT[1]]).map(|(formulas, _)| formulas)
+}
+
+/// What a call gives formula by formula: two guarded arrays of eight numbers.
+struct PerFormula([Lent; 2]);
+
+impl PerFormula {
+    fn new(side: Side) -> PerFormula {
+        PerFormula(KEPT.map(|kept| {
+            let mut lent = Lent::new(8 * MOST_FORMULAS);
+            lent.place_words(&[kept; MOST_FORMULAS], side);
+            lent
+        }))
+    }
+
+    fn pointers(&mut self) -> [*mut [u64; MOST_FORMULAS]; 2] {
+        self.0.each_mut().map(|lent| lent.pointer().cast())
+    }
+
+    /// The numbers of so many formulas, once it is sure that the others are kept, and all of them if the call is refused.
+    fn answer(&self, number: u32, formulas: usize) -> Result<[Vec<u64>; 2], u32> {
+        let written = if number == 0 { formulas } else { 0 };
+        for (lent, kept) in self.0.iter().zip(KEPT) {
+            assert!(lent.surroundings_kept(), "the call wrote outside the numbers");
+            let others = &lent.words()[written..];
+            assert!(others.iter().all(|&word| word == kept), "{number}: the call wrote other numbers, {others:?}");
+        }
+        if number != 0 {
+            return Err(number);
+        }
+        Ok(self.0.each_ref().map(|lent| lent.words()[..formulas].to_vec()))
+    }
+}
+
+/// havdrims_tally on a guarded sheet: the counts of no and of yes.
+pub fn tally(sheet: &[u8], formulas: u64, side: Side) -> Result<(Vec<u64>, Vec<u64>), u32> {
     let mut copy = lent(sheet, side);
     copy.read_only_if(read_only_turn());
-    let [mut no, mut yes] = KEPT;
+    let mut counts = PerFormula::new(side);
+    let [no, yes] = counts.pointers();
     // SAFETY: the sheet is lent for reading, the numbers are this function's own.
-    let number = unsafe { ffi::havdrims_tally(copy.pointer(), copy.length(), &mut no, &mut yes) };
+    let number = unsafe { ffi::havdrims_tally(copy.pointer(), copy.length(), formulas, no, yes) };
     assert_eq!(copy.bytes(), sheet, "tally changed the sheet");
-    answer(number, [no, yes])
+    counts.answer(number, formulas as usize).map(|[no, yes]| (no, yes))
 }
 
 /// A checkpoint in guarded words.
@@ -123,47 +166,46 @@ impl Checkpoint {
         }
     }
 
-    /// A call that only reads the rule and the first `words` words, and writes so many numbers. It keeps all, the numbers
-    /// too if it refuses.
-    fn asked<const N: usize>(
-        &mut self,
-        rule: &[u8],
-        side: Side,
-        call: impl FnOnce(*const u8, *const u64, &mut [u64; N]) -> u32,
-    ) -> Result<[u64; N], u32> {
+    /// A call that only reads the rule and the words: its number, once it is sure that it keeps both.
+    fn asked(&mut self, rule: &[u8], side: Side, call: impl FnOnce(*const u8, *const u64) -> u32) -> u32 {
         let before = self.words().to_vec();
         let mut copy = lent(rule, side);
         copy.read_only_if(read_only_turn());
         self.lent.read_only_if(read_only_turn());
-        let mut numbers = [KEPT[0]; N];
-        let number = call(copy.pointer(), self.lent.pointer().cast(), &mut numbers);
+        let number = call(copy.pointer(), self.lent.pointer().cast());
         self.lent.read_only_if(false);
         assert_eq!(copy.bytes(), rule, "the call changed the rule");
         assert_eq!(self.words(), before, "the call changed the point");
         assert!(self.lent.surroundings_kept(), "the call wrote outside the point");
-        if number == 0 {
-            return Ok(numbers);
-        }
-        assert_eq!(numbers, [KEPT[0]; N], "refusal {number} wrote its numbers");
-        Err(number)
+        number
     }
 
     /// havdrims_summary, lending the first `words` words.
     pub fn summary(&mut self, rule: &[u8], words: usize, side: Side) -> Result<Summary, u32> {
-        // SAFETY: rule and words are lent for reading, the numbers are the caller's own.
-        let [no, latest] = self.asked(rule, side, |lent, point, [no, latest]| unsafe {
+        let mut numbers = PerFormula::new(side);
+        let [no, latest] = numbers.pointers();
+        // SAFETY: rule and words are lent for reading, the numbers are this function's own.
+        let number = self.asked(rule, side, |lent, point| unsafe {
             ffi::havdrims_summary(lent, rule.len(), point, words, no, latest)
-        })?;
-        Ok(Summary { no, latest: (latest != u64::MAX).then_some(latest) })
+        });
+        let formulas = model::formulas(rule).unwrap_or(0) as usize;
+        let [no, latest] = numbers.answer(number, formulas)?;
+        Ok(Summary { no, latest: latest.into_iter().map(|at| (at != u64::MAX).then_some(at)).collect() })
     }
 
     /// havdrims_status, lending the first `words` words.
     pub fn status(&mut self, rule: &[u8], words: usize, side: Side) -> Result<Status, u32> {
-        // SAFETY: rule and words are lent for reading, the numbers are the caller's own.
-        let [given, seen, wanted, closed] =
-            self.asked(rule, side, |lent, point, [given, seen, wanted, closed]| unsafe {
-                ffi::havdrims_status(lent, rule.len(), point, words, given, seen, wanted, closed)
-            })?;
+        let mut numbers = [KEPT[0]; 4];
+        let [given, seen, wanted, closed] = &mut numbers;
+        // SAFETY: rule and words are lent for reading, the numbers are this function's own.
+        let number = self.asked(rule, side, |lent, point| unsafe {
+            ffi::havdrims_status(lent, rule.len(), point, words, given, seen, wanted, closed)
+        });
+        if number != 0 {
+            assert_eq!(numbers, [KEPT[0]; 4], "refusal {number} wrote its numbers");
+            return Err(number);
+        }
+        let [given, seen, wanted, closed] = numbers;
         assert!(closed <= 1, "closed is {closed}");
         Ok(Status { given, seen, wanted, closed: closed == 1 })
     }

@@ -1,9 +1,9 @@
 //! Document 01's worked cases, through the safe crate.
 
 use evaluator::rule::{Entry, NEXT, NO_END};
-use evaluator::{cases, log, rule};
-use havdrims::{close, measure, open, resume, status, summary, tally};
-use havdrims::{Needs, Refusal, Resumed, Status, Summary, Tally};
+use evaluator::{cases, log, model, rule};
+use havdrims::{close, formulas, measure, open, resume, status, summary, tally};
+use havdrims::{Needs, Refusal, Resumed, Status, MOST_FORMULAS};
 
 fn fresh(rule: &[u8]) -> Vec<u64> {
     let mut point = vec![0; measure(rule).unwrap().words];
@@ -14,22 +14,24 @@ fn fresh(rule: &[u8]) -> Vec<u64> {
 #[test]
 fn worked_cases() {
     for case in cases::all() {
-        let rule = rule::encode(&case.entries);
+        let rule = case.rule;
         let mut sheet = [7; 100];
         let got = resume(&rule, &log::encode(&case.records), &mut fresh(&rule), &mut sheet).unwrap();
         let c = case.verdicts.len();
         assert_eq!(got, Resumed { verdicts: c, more: false }, "{}", case.name);
         assert_eq!(sheet[..c], case.verdicts, "{}", case.name);
         assert!(sheet[c..].iter().all(|&b| b == 7), "{}", case.name);
-        let yes = case.verdicts.iter().filter(|&&b| b == 1).count() as u64;
-        assert_eq!(tally(&sheet[..c]), Ok(Tally { no: c as u64 - yes, yes }), "{}", case.name);
+        let number = formulas(&rule).unwrap();
+        let counts = tally(&sheet[..c], number).unwrap();
+        let (no, yes) = model::tally(&case.verdicts, number as u64).unwrap();
+        assert_eq!((counts.no(), counts.yes()), (&no[..], &yes[..]), "{}", case.name);
     }
 }
 
 #[test]
 fn closed_cases() {
     for case in cases::closed() {
-        let rule = rule::encode(&case.entries);
+        let rule = case.rule;
         let mut sheet = [7; 100];
         let got = close(&rule, &log::encode(&case.records), &mut fresh(&rule), &mut sheet).unwrap();
         let c = case.verdicts.len();
@@ -41,7 +43,7 @@ fn closed_cases() {
 #[test]
 fn worked_lists() {
     for list in cases::lists() {
-        let rule = rule::encode(&list.entries);
+        let rule = list.rule;
         let mut point = fresh(&rule);
         for (at, call) in list.calls.iter().enumerate() {
             let mut sheet = vec![7; call.sheet];
@@ -51,8 +53,9 @@ fn worked_lists() {
             assert_eq!(got, call.gives, "{}, call {at}", list.name);
             let c = got.map_or(0, |(verdicts, _)| verdicts.len());
             assert!(sheet[c..].iter().all(|&b| b == 7), "{}, call {at}", list.name);
-            let (no, latest) = call.no;
-            assert_eq!(summary(&rule, &point), Ok(Summary { no, latest }), "{}, call {at}", list.name);
+            let so_far = summary(&rule, &point).unwrap();
+            let counts: Vec<_> = so_far.no().iter().copied().zip(so_far.latest().iter().copied()).collect();
+            assert_eq!(counts, call.no, "{}, call {at}", list.name);
             let wanted = status(&rule, &point).map(|status| status.wanted as usize);
             assert_eq!(wanted, Ok(call.wanted), "{}, call {at}", list.name);
         }
@@ -65,7 +68,8 @@ fn a_fresh_checkpoint() {
     let point = fresh(&rule);
     assert_eq!(status(&rule, &point), Ok(Status { given: 0, seen: 0, wanted: 0, closed: false }));
     assert_eq!(status(&rule, &point[..69]), Err(Refusal::ShortPoint));
-    assert_eq!(summary(&rule, &point), Ok(Summary { no: 0, latest: None }));
+    let fresh = summary(&rule, &point).unwrap();
+    assert_eq!((fresh.no(), fresh.latest()), (&[0][..], &[None][..]));
     assert_eq!(summary(&rule, &point[..69]), Err(Refusal::ShortPoint));
     assert_eq!(summary(&rule::encode(&[]), &point), Err(Refusal::ForeignPoint));
 }
@@ -87,9 +91,59 @@ fn p10_and_limits() {
     let next = [Entry::letter(0), Entry::timed(NEXT, 1, NO_END)];
     assert_eq!(measure(&rule::encode(&next)), Ok(Needs { words: 48, reach: None }));
     let mut two_errors = rule::encode(&cases::p1_entries());
-    two_errors[4] = 2;
+    two_errors[4] = 3;
     two_errors.pop();
     assert_eq!(measure(&two_errors), Err(Refusal::RuleVersion));
+    two_errors[4] = 2;
+    assert_eq!(measure(&two_errors), Err(Refusal::RuleLength));
+}
+
+#[test]
+fn several_formulas_are_weighed() {
+    let p1 = rule::encode_as(2, &cases::p1_entries());
+    assert_eq!((measure(&p1), formulas(&p1)), (Ok(Needs { words: 78, reach: Some(2) }), Ok(1)));
+    let eight = rule::encode_several(&cases::letters(8));
+    assert_eq!((measure(&eight), formulas(&eight)), (Ok(Needs { words: 152, reach: Some(0) }), Ok(8)));
+    for refused in [
+        rule::encode_several(&cases::letters(9)),
+        rule::encode_as(2, &[]),
+        rule::encode_as(1, &cases::letters(2).concat()),
+    ] {
+        assert_eq!((measure(&refused), formulas(&refused)), (Err(Refusal::Shape), Err(Refusal::Shape)));
+    }
+    assert_eq!(measure(&cases::several_words(869)).map(|needs| needs.words), Ok(8192));
+    assert_eq!(measure(&cases::several_words(870)), Err(Refusal::TooManyWords));
+    for rule in [rule::encode(&cases::p1_entries()), rule::encode(&[])] {
+        assert_eq!(formulas(&rule), Ok(1));
+    }
+    assert_eq!(formulas(b"KRL"), Err(Refusal::RuleMark));
+    let header = include_str!("../../../../include/havdrims.h");
+    assert!(header.contains(&format!("#define HAVDRIMS_MOST_FORMULAS {MOST_FORMULAS}\n")), "the header's number");
+}
+
+/// A point of one version is refused with 10 under the other, also where the entries are the same.
+#[test]
+fn the_copy_of_the_rule_has_its_version() {
+    let [one, two] = [1, 2].map(|version| rule::encode_as(version, &cases::p1_entries()));
+    for (opened, other) in [(&one, &two), (&two, &one)] {
+        let mut point = vec![0; 78];
+        open(opened, &mut point).unwrap();
+        assert_eq!(summary(other, &point), Err(Refusal::ForeignPoint));
+        assert_eq!(status(other, &point), Err(Refusal::ForeignPoint));
+        for call in [resume, close] {
+            assert_eq!(call(other, &log::HEADER, &mut point, &mut []), Err(Refusal::ForeignPoint));
+        }
+        assert!(summary(opened, &point).is_ok());
+    }
+}
+
+#[test]
+fn worked_tallies() {
+    for (sheet, formulas, expected) in cases::tallies() {
+        let counts = tally(&sheet, formulas as usize).map_err(Refusal::number);
+        let counts = counts.map(|counts| (counts.no().to_vec(), counts.yes().to_vec()));
+        assert_eq!(counts, expected, "{sheet:?}, {formulas} formulas");
+    }
 }
 
 #[test]

@@ -6,20 +6,94 @@ use crate::runner::{cases, Counts};
 use evaluator::log;
 use evaluator::model::Summary;
 use evaluator::random::{self, Random};
+use evaluator::rule::{self, Rule, MOST_FORMULAS, NO_END, SINCE, UNTIL};
 
 /// The number of the checkpoint's format.
-const FORMAT: u64 = 5;
+const FORMAT: u64 = 6;
 
 /// The first word of a checkpoint of this format.
 fn mark(format: u64) -> u64 {
     u64::from(u32::from_be_bytes(*b"HAVD")) << 32 | format
 }
 
+/// Words of the header, as docs/CHECKPOINT.md numbers them.
+const GIVEN: usize = 1;
+const SEEN: usize = 2;
+const LAST: usize = 3;
+const RULE: usize = 4;
+const CLOSED: usize = 5;
+
+/// The words of a checkpoint before its first block.
+fn header(rule: &Rule) -> usize {
+    if rule.version == 1 {
+        16
+    } else {
+        24
+    }
+}
+
+/// The words of the count of no and of the latest no: of one formula in version 1, of eight in version 2, used or not.
+fn counts(rule: &Rule) -> Vec<(usize, usize)> {
+    match rule.version {
+        1 => vec![(8, 9)],
+        _ => (0..MOST_FORMULAS).map(|k| (8 + k, 16 + k)).collect(),
+    }
+}
+
+/// The first word of each block, and the cells of its ring.
+fn blocks(rule: &Rule) -> Vec<(usize, u64)> {
+    let mut at = header(rule);
+    let block = |e: &rule::Entry| {
+        let ring = match (e.kind, e.high) {
+            (SINCE, NO_END) => 1,
+            (SINCE, high) => u64::from(high) + 1,
+            _ => 0,
+        };
+        let unused = if e.kind == UNTIL { 2 * (e.high as usize + 1) } else { 0 };
+        let begins = at;
+        at += 16 + ring as usize + unused;
+        (begins, ring)
+    };
+    rule.entries.iter().map(block).collect()
+}
+
+/// Refusal 10 or 11, by the tables of docs/CHECKPOINT.md.
+fn refusal(rule: &Rule, words: &[u64]) -> Option<u32> {
+    let blocks = blocks(rule);
+    let copied = blocks.iter().zip(&rule.entries).all(|(&(at, _), e)| {
+        let entry = [u64::from(e.kind) << 8 | u64::from(e.letter), u64::from(e.low) << 32 | u64::from(e.high)];
+        words[at + 14..at + 16] == entry
+    });
+    let own = u64::from(rule.version) << 8 | rule.entries.len() as u64;
+    if words[0] != mark(FORMAT) || words[RULE] != own || !copied {
+        return Some(10);
+    }
+    let (given, seen) = (words[GIVEN], words[SEEN]);
+    let counted = |&(no, latest): &(usize, usize)| {
+        let (no, latest) = (words[no], words[latest]);
+        no <= given && latest <= given && (no == 0) == (latest == 0)
+    };
+    let block = |&(at, ring): &(usize, u64)| {
+        let word = |k: usize| words[at + k];
+        let taken = word(0) <= seen && word(1) <= 64 && word(3) <= 64 && word(5) <= seen;
+        let last = word(6) <= 1 && word(7) <= 1 && word(8) < 1 << 32;
+        let held = word(12) <= 64 && given + word(12) <= seen;
+        taken && last && word(9) <= ring && word(10) <= ring && held
+    };
+    let in_range = given <= seen
+        && seen <= 1_000_000
+        && words[LAST] < 1 << 32
+        && (words[CLOSED] == 0 || words[CLOSED] == seen + 1)
+        && counts(rule).iter().all(counted)
+        && blocks.iter().all(block);
+    (!in_range).then_some(11)
+}
+
 /// Changes some words, most of them to numbers that a point might hold.
 fn forge(r: &mut Random, words: &mut [u64], n: usize) {
     let times = r.pick(&[1, 1, 2, 4, 40]);
     for _ in 0..times {
-        let end = if r.one_in(3) { 16 } else { words.len() };
+        let end = if r.one_in(3) { words.len().min(24) } else { words.len() };
         let at = r.below(end);
         words[at] = match r.below(9) {
             0 => r.draw(),
@@ -85,8 +159,9 @@ fn forged_points() {
             let number = kiosk.point.resume(&call, &log, &sheet).err().unwrap_or(0);
             counts.returned(number);
             // All calls have checks 1 to 11.
+            let expected = refusal(&rule::parse(&kiosk.rule).unwrap(), &words);
             let early = Some(number).filter(|n| [10, 11].contains(n));
-            assert_eq!([summary.err(), status.err()], [early; 2], "{}point {words:?}", kiosk.story);
+            assert_eq!([early, summary.err(), status.err()], [expected; 3], "{}point {words:?}", kiosk.story);
             let possible = [0, 10, 11, 13, 14, if closing { 21 } else { 20 }].contains(&number);
             assert!(possible, "refused {number}\n{}point {words:?}\nlog {}", kiosk.story, hex(&log));
         }
@@ -96,37 +171,70 @@ fn forged_points() {
     });
 }
 
-/// The words of the count of no and of the latest no, in and out of their ranges (docs/CHECKPOINT.md).
+/// The words of a formula's count of no and of its latest no, in and out of their ranges (docs/CHECKPOINT.md).
 #[test]
 fn forged_counts() {
-    const NO: usize = 8;
-    const LATEST: usize = 9;
-    let body = |r: &mut Random, counts: &mut Counts| {
+    let body = |r: &mut Random, counted: &mut Counts| {
         let (mut kiosk, n) = used(r);
+        let rule = rule::parse(&kiosk.rule).unwrap();
         let given = kiosk.model.given() as u64;
         let near = [0, 1, given.saturating_sub(1), given, given + 1, u64::MAX];
         let mut words = kiosk.point.words().to_vec();
-        (words[NO], words[LATEST]) = (r.pick(&near), r.pick(&near));
+        let pairs = counts(&rule);
+        let (no, latest) = r.pick(&pairs);
+        (words[no], words[latest]) = (r.pick(&near), r.pick(&near));
         kiosk.point.set(&words, side(r));
-        let in_range = words[NO] <= given && words[LATEST] <= given && (words[NO] == 0) == (words[LATEST] == 0);
-        let expected =
-            if in_range { Ok(Summary { no: words[NO], latest: words[LATEST].checked_sub(1) }) } else { Err(11) };
+        let in_range = words[no] <= given && words[latest] <= given && (words[no] == 0) == (words[latest] == 0);
+        let of_formulas = &pairs[..rule.formulas()];
+        let expected = Summary {
+            no: of_formulas.iter().map(|&(no, _)| words[no]).collect(),
+            latest: of_formulas.iter().map(|&(_, latest)| words[latest].checked_sub(1)).collect(),
+        };
+        let expected = if in_range { Ok(expected) } else { Err(11) };
         let got = kiosk.point.summary(&kiosk.rule, words.len(), side(r));
-        assert_eq!(got, expected, "d {given}, {} and {}", words[NO], words[LATEST]);
+        assert_eq!(got, expected, "d {given}, words {no} and {latest}: {words:?}");
         let closing = kiosk.model.closed.is_some();
         let call = Call { closing, rule: &kiosk.rule, need: kiosk.need, words: words.len(), side: side(r) };
         let resumed = kiosk.point.resume(&call, &kiosk.brought(n), &[]).err();
-        assert_eq!(resumed, got.err(), "d {given}, {} and {}", words[NO], words[LATEST]);
-        counts.returned(resumed.unwrap_or(0));
+        assert_eq!(resumed, got.err(), "d {given}, words {no} and {latest}: {words:?}");
+        counted.returned(resumed.unwrap_or(0));
+        counted.add("of formulas that are not there", usize::from(no >= 8 + rule.formulas()));
     };
-    let both = |counts: &Counts| counts.get("accepted") > 0 && counts.get("refused 11") > 0;
-    cases("forged_counts", 5_000, body, both);
+    let names = ["accepted", "refused 11", "of formulas that are not there"];
+    cases("forged_counts", 10_000, body, |counted| names.iter().all(|name| counted.get(name) > 0));
+}
+
+/// The word of the rule's version and number of entries, and that of the answers held by an entry, which every block has.
+#[test]
+fn forged_versions_and_held_answers() {
+    let body = |r: &mut Random, counted: &mut Counts| {
+        let (mut kiosk, n) = used(r);
+        let rule = rule::parse(&kiosk.rule).unwrap();
+        let mut words = kiosk.point.words().to_vec();
+        assert_eq!(refusal(&rule, &words), None, "{}point {words:?}", kiosk.story);
+        let (given, seen) = (words[GIVEN], words[SEEN]);
+        let blocks = blocks(&rule);
+        if blocks.is_empty() || r.one_in(4) {
+            words[RULE] = r.pick(&[words[RULE] ^ 0x300, words[RULE] + 1, words[RULE] & 0xFF, words[RULE] + 0x100, 0]);
+        } else {
+            let (at, _) = r.pick(&blocks);
+            words[at + 12] = r.pick(&[0, 1, seen - given, seen - given + 1, 63, 64, 65, u64::MAX, u64::MAX - given]);
+            words[at + 13] = r.draw();
+        }
+        kiosk.point.set(&words, side(r));
+        let closing = kiosk.model.closed.is_some();
+        let call = Call { closing, rule: &kiosk.rule, need: kiosk.need, words: words.len(), side: side(r) };
+        let got = kiosk.point.resume(&call, &kiosk.brought(n), &[5; 9]).err();
+        assert_eq!(got, refusal(&rule, &words), "{}point {words:?}", kiosk.story);
+        counted.returned(got.unwrap_or(0));
+    };
+    let names = ["accepted", "refused 10", "refused 11"];
+    cases("forged_versions_and_held_answers", 10_000, body, |counted| names.iter().all(|name| counted.get(name) > 0));
 }
 
 /// The word that says at how many records the point was closed: 0, or one more than the records seen.
 #[test]
 fn forged_closings() {
-    const CLOSED: usize = 7;
     let body = |r: &mut Random, counts: &mut Counts| {
         let (mut kiosk, n) = used(r);
         let seen = kiosk.model.seen as u64;
@@ -234,7 +342,10 @@ fn another_rule() {
         let kiosk = Kiosk::new(r, 8, 10);
         let mut rule = kiosk.rule.clone();
         let count = (rule.len() - 8) / 10;
-        for _ in 0..r.from_to(1, 2).min(count) {
+        if r.one_in(4) {
+            rule[4] = 3 - rule[4];
+        }
+        for _ in 0..r.below(3).min(count) {
             let at = 8 + 10 * r.below(count);
             match rule[at] {
                 0 => rule[at + 1] = r.below(32) as u8,
@@ -243,11 +354,13 @@ fn another_rule() {
             }
         }
         let need = evaluator::model::measure(&rule).map_or(0, |m| m.0 as usize);
-        let mut point = Checkpoint::new(&vec![0; kiosk.need], side(r));
+        // Room for either version.
+        let words = kiosk.need + r.pick(&[0, 8]);
+        let mut point = Checkpoint::new(&vec![0; words], side(r));
         point.open(&kiosk.rule, kiosk.need, side(r)).unwrap();
         let closing = r.one_in(2);
-        let call = Call { closing, rule: &rule, need, words: kiosk.need, side: side(r) };
-        let expected = kiosk.model.check(closing, &rule, &log::HEADER, kiosk.need).err().unwrap_or(0);
+        let call = Call { closing, rule: &rule, need, words, side: side(r) };
+        let expected = kiosk.model.check(closing, &rule, &log::HEADER, words).err().unwrap_or(0);
         let got = point.resume(&call, &log::HEADER, &[]).err().unwrap_or(0);
         assert_eq!(got, expected, "opened for {}\nbrought {}", hex(&kiosk.rule), hex(&rule));
         counts.returned(got);

@@ -1,9 +1,10 @@
 //! The largest logs and rules, and the latest times.
 
-use crate::calls::{side, Call, Checkpoint};
+use crate::calls::{hex, side, tally, Call, Checkpoint};
 use crate::guard::{Lent, Side};
 use crate::runner::{cases, say, Counts};
 use evaluator::log::{self, Record};
+use evaluator::model::Summary;
 use evaluator::random::{self, LogShape, Random, RuleShape};
 use evaluator::rule::{self, Entry, NEXT, NO_END, PREVIOUS, SINCE, UNTIL};
 use evaluator::{linear, model};
@@ -17,7 +18,7 @@ fn letters(all: &[u8]) -> Vec<Entry> {
 }
 
 /// Rules for long logs, each with a name.
-fn rules() -> Vec<(&'static str, Vec<Entry>)> {
+fn rules() -> Vec<(&'static str, Vec<u8>)> {
     let ninety = [letters(&[0, 1]), vec![Entry::timed(UNTIL, 0, 90)]].concat();
     let ten_minutes = [letters(&[0, 1]), vec![Entry::timed(SINCE, 30, 600)]].concat();
     let endless = [letters(&[0, 1]), vec![Entry::timed(SINCE, 10, NO_END)]].concat();
@@ -34,13 +35,20 @@ fn rules() -> Vec<(&'static str, Vec<Entry>)> {
         Entry::timed(UNTIL, 2, 120),
         Entry::or(),
     ];
-    vec![
+    let several = [ninety.clone(), ten_minutes.clone(), letters(&[0]), endless.clone(), mix.clone()];
+    let eight: Vec<Vec<Entry>> =
+        several.iter().cloned().chain([letters(&[1]), letters(&[2]), ninety.clone()]).collect();
+    let one = [
         ("letter", letters(&[0])),
         ("ninety seconds", ninety),
         ("ten minutes", ten_minutes),
         ("endless", endless),
         ("mix", mix),
-    ]
+    ];
+    let mut all: Vec<(&str, Vec<u8>)> = one.into_iter().map(|(name, entries)| (name, rule::encode(&entries))).collect();
+    all.push(("five formulas", rule::encode_several(&several)));
+    all.push(("eight formulas", rule::encode_several(&eight)));
+    all
 }
 
 fn long_log(seed: u64, hold: usize, step: u32) -> Vec<Record> {
@@ -48,14 +56,13 @@ fn long_log(seed: u64, hold: usize, step: u32) -> Vec<Record> {
     random::log(&mut Random::new(seed), shape)
 }
 
-/// The rule's bytes, the verdicts and the point's words of a fresh point carried on to the end of the log, or closed
-/// there.
-fn expected(closing: bool, entries: &[Entry], records: &[Record]) -> (Vec<u8>, Vec<u8>, usize) {
-    let bytes = rule::encode(entries);
-    let rule = rule::parse(&bytes).unwrap();
+/// The verdicts, the point's words and the summary of a fresh point carried on to the end of the log, or closed there.
+fn expected(closing: bool, rule: &[u8], records: &[Record]) -> (Vec<u8>, usize, Summary) {
+    let rule = rule::parse(rule).unwrap();
     let verdicts = if closing { linear::closed_verdicts } else { linear::verdicts };
-    let all = verdicts(&rule, records).iter().map(|&b| b as u8).collect();
-    (bytes, all, rule.words as usize)
+    let all = verdicts(&rule, records);
+    let summary = model::summed(&all, rule.formulas());
+    (all, rule.words as usize, summary)
 }
 
 /// The bytes of the records that may be overwritten once so many verdicts are given.
@@ -72,10 +79,10 @@ fn open(rule: &[u8], need: usize) -> Checkpoint {
 
 #[test]
 fn million_records_in_one_call() {
-    for (name, entries) in rules() {
+    for (name, rule) in rules() {
         for (closing, seed, hold, step) in [(false, 1, 40, 2), (true, 2, 1, 3)] {
             let records = long_log(seed, hold, step);
-            let (rule, all, need) = expected(closing, &entries, &records);
+            let (all, need, summary) = expected(closing, &rule, &records);
             let mut log = Lent::new(8 + 8 * MILLION);
             log.place(&log::encode(&records), Side::Right);
             log.read_only_if(true);
@@ -85,18 +92,21 @@ fn million_records_in_one_call() {
             let given = point.resume_in_place(&call, &mut log, &vec![3; all.len()]).unwrap();
             let seconds = begun.elapsed().as_secs_f64();
             assert!(!given.more && given.verdicts == all, "{name}, seed {seed}");
-            assert_eq!(point.summary(&rule, need, Side::Left), Ok(model::summed(&all)), "{name}, seed {seed}");
-            let yes = all.iter().filter(|&&b| b == 1).count();
-            say(&format!("million_records_in_one_call: {name}, {} verdicts, {yes} yes ({seconds:.2} s)", all.len()));
+            say(&format!(
+                "million_records_in_one_call: {name}, {} verdicts, no {:?} ({seconds:.2} s)",
+                all.len(),
+                summary.no
+            ));
+            assert_eq!(point.summary(&rule, need, Side::Left), Ok(summary), "{name}, seed {seed}");
         }
     }
 }
 
 #[test]
 fn million_records_in_a_thousand_calls() {
-    for (name, entries) in rules() {
+    for (name, rule) in rules() {
         let records = long_log(3, 20, 2);
-        let (rule, all, need) = expected(true, &entries, &records);
+        let (all, need, summary) = expected(true, &rule, &records);
         let mut point = open(&rule, need);
         let mut log = Lent::new(8 + 8 * MILLION);
         log.place(&log::encode(&records), Side::Left);
@@ -116,7 +126,7 @@ fn million_records_in_a_thousand_calls() {
         }
         let seconds = begun.elapsed().as_secs_f64();
         assert!(written == all, "{name}");
-        assert_eq!(point.summary(&rule, need, Side::Left), Ok(model::summed(&all)), "{name}");
+        assert_eq!(point.summary(&rule, need, Side::Left), Ok(summary), "{name}");
         say(&format!("million_records_in_a_thousand_calls: {name}, {} verdicts ({seconds:.2} s)", written.len()));
     }
 }
@@ -132,8 +142,25 @@ fn too_many_records() {
     assert!(open(&rule, 32).resume(&call, &file, &[]).unwrap().more);
 }
 
-/// Rules of 128 entries and rules of up to 8,192 words.
-fn large_rule(r: &mut Random) -> Vec<Entry> {
+/// Rules of 128 entries and rules of up to 8,192 words, with one formula or several.
+fn large_rule(r: &mut Random) -> Vec<u8> {
+    match r.below(8) {
+        0 => evaluator::cases::several_words(869),
+        // Eight formulas of 16 entries each.
+        1 | 2 => loop {
+            let high = r.pick(&[5, 60, 100]);
+            let shape = RuleShape { entries: 16, letters: 4, high };
+            let drawn: Vec<Vec<Entry>> = (0..8).map(|_| random::entries(r, shape, 16)).collect();
+            let bytes = rule::encode_several(&drawn);
+            if rule::parse(&bytes).is_ok() {
+                break bytes;
+            }
+        },
+        _ => rule::encode(&large_formula(r)),
+    }
+}
+
+fn large_formula(r: &mut Random) -> Vec<Entry> {
     let endless = [PREVIOUS, NEXT].map(|kind| Entry::timed(kind, 0, NO_END));
     let unary = [Entry::not(), endless[0], endless[1], Entry::timed(NEXT, 0, 3600)];
     match r.below(5) {
@@ -168,7 +195,7 @@ fn large_rule(r: &mut Random) -> Vec<Entry> {
 #[test]
 fn largest_rules() {
     let body = |r: &mut Random, counts: &mut Counts| {
-        let entries = large_rule(r);
+        let rule = large_rule(r);
         let shape = LogShape {
             records: r.from_to(3_000, 9_000),
             letters: 4,
@@ -182,7 +209,7 @@ fn largest_rules() {
             records.iter_mut().enumerate().for_each(|(i, m)| m.time = shape.start.saturating_add(i as u32));
             records.iter_mut().for_each(|m| m.letters |= 3);
         }
-        let (rule, all, need) = expected(true, &entries, &records);
+        let (all, need, _) = expected(true, &rule, &records);
         let mut point = open(&rule, need);
         let mut file = log::encode(&records);
         let (mut n, mut written) = (0, Vec::new());
@@ -198,12 +225,14 @@ fn largest_rules() {
             written.extend(given.verdicts);
             file[free(&rule, written.len())].fill(r.pick(&[0, 255]));
         }
-        assert!(written == all, "{entries:?}");
+        assert!(written == all, "{}", hex(&rule));
         counts.add("verdicts", all.len());
-        counts.add("of 128 entries", (entries.len() == 128) as usize);
+        counts.add("of 128 entries", (rule.len() == 8 + 10 * 128) as usize);
         counts.add("of 8,192 words", (need == 8_192) as usize);
+        counts.add("of eight formulas", (model::formulas(&rule) == Ok(8)) as usize);
     };
-    let shown = |counts: &Counts| counts.get("of 128 entries") > 0 && counts.get("of 8,192 words") > 0;
+    let names = ["of 128 entries", "of 8,192 words", "of eight formulas"];
+    let shown = |counts: &Counts| names.iter().all(|name| counts.get(name) > 0);
     cases("largest_rules", 150, body, shown);
 }
 
@@ -212,18 +241,18 @@ fn largest_rules() {
 fn latest_times() {
     let body = |r: &mut Random, counts: &mut Counts| {
         let shape = RuleShape { entries: 8, letters: 2, high: r.pick(&[1, 5, 3600]) };
-        let entries = random::valid_entries(r, shape);
+        let rule = random::rule(r, shape);
         let n = r.from_to(0, 30);
         let points = [0, 1, 5, 3_600, 3_601, 1 << 31, (1 << 31) - 1, u32::MAX - 3_601, u32::MAX - 1, u32::MAX];
         let mut times: Vec<u32> = (0..n).map(|_| r.pick(&points)).collect();
         times.sort();
         let records: Vec<Record> = times.iter().map(|&time| Record { time, letters: r.draw() as u32 }).collect();
         let closing = r.one_in(2);
-        let (rule, all, need) = expected(closing, &entries, &records);
+        let (all, need, _) = expected(closing, &rule, &records);
         let call = Call { closing, rule: &rule, need, words: need, side: side(r) };
         let given = open(&rule, need).resume(&call, &log::encode(&records), &vec![3; n]).unwrap();
         assert!(!given.more);
-        assert_eq!(given.verdicts, all, "{entries:?} {records:?}");
+        assert_eq!(given.verdicts, all, "{} {records:?}", hex(&rule));
         counts.add("verdicts", all.len());
     };
     cases("latest_times", 20_000, body, |_| true);
@@ -233,8 +262,12 @@ fn latest_times() {
 #[test]
 fn large_sheets() {
     let mut r = Random::new(1);
-    let mut sheet: Vec<u8> = (0..MILLION).map(|_| r.below(2) as u8).collect();
-    assert_eq!(crate::calls::tally(&sheet, Side::Left), model::tally(&sheet));
-    sheet[MILLION - 1] = 2;
-    assert_eq!(crate::calls::tally(&sheet, Side::Right), Err(15));
+    for formulas in 1..=8 {
+        let mut sheet: Vec<u8> = (0..MILLION).map(|_| r.below(1 << formulas) as u8).collect();
+        assert_eq!(tally(&sheet, formulas, Side::Left), model::tally(&sheet, formulas));
+        if formulas < 8 {
+            sheet[MILLION - 1] = 1 << formulas;
+            assert_eq!(tally(&sheet, formulas, Side::Right), Err(15));
+        }
+    }
 }

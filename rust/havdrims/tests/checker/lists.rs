@@ -58,8 +58,13 @@ impl Kiosk {
     /// A random rule and log, with an open point.
     pub fn new(r: &mut Random, most_entries: usize, most_records: usize) -> Kiosk {
         let (shape, log_shape) = random::shapes(r, most_entries, most_records);
-        let rule = rule::encode(&random::valid_entries(r, shape));
+        let rule = random::rule(r, shape);
         let untouched = random::log(r, log_shape);
+        Kiosk::with(r, rule, shape, untouched)
+    }
+
+    /// This rule and this log.
+    fn with(r: &mut Random, rule: Vec<u8>, shape: RuleShape, untouched: Vec<Record>) -> Kiosk {
         let file = log::encode(&untouched);
         let need = model::measure(&rule).unwrap().0 as usize;
         let words: Vec<u64> = (0..need + r.pick(&[0, 0, 1, 7, 600])).map(|_| r.draw()).collect();
@@ -150,7 +155,10 @@ impl Kiosk {
         if r.one_in(4) {
             random::damage(r, &mut rule);
         } else if r.one_in(4) {
-            rule = rule::encode(&random::valid_entries(r, self.shape));
+            rule = random::rule(r, self.shape);
+        } else if r.one_in(8) {
+            // the other version, with the same entries
+            rule[4] = 3 - rule[4];
         }
         if r.one_in(4) {
             words = r.pick(&[0, 1, self.need / 2, self.need - 1]);
@@ -198,7 +206,7 @@ struct Brought {
 }
 
 /// The verdicts of one run: of a closing, or of a carry on.
-pub fn one_run(closing: bool, rule: &rule::Rule, records: &[Record]) -> Vec<bool> {
+pub fn one_run(closing: bool, rule: &rule::Rule, records: &[Record]) -> Vec<u8> {
     if closing {
         reading::closed_verdicts(rule, records)
     } else {
@@ -212,11 +220,14 @@ fn lists() {
     let body = |r: &mut Random, counts: &mut Counts| {
         let mut kiosk = Kiosk::new(r, 10, 40);
         let total = kiosk.untouched.len();
+        let formulas = model::formulas(&kiosk.rule).unwrap();
         let (mut n, mut closed, mut written, mut caught_up) = (0, false, Vec::new(), None);
         for _ in 0..r.from_to(0, 14) {
             if r.one_in(3) {
                 kiosk.overwrite(r);
-                counts.add("kept for previous", kiosk.model.given() - kiosk.wanted());
+                let kept = kiosk.model.given() - kiosk.wanted();
+                counts.add("kept for previous", kept);
+                counts.add("kept for one of several formulas", if formulas > 1 { kept } else { 0 });
             }
             if r.one_in(3) {
                 let n = r.from_to(n, total);
@@ -234,11 +245,12 @@ fn lists() {
             counts.add("of closings", if closed { given.verdicts.len() } else { 0 });
             counts.add("closings with more", usize::from(closed && given.more));
             counts.add("of empty rules", if kiosk.rule.len() == 8 { given.verdicts.len() } else { 0 });
+            counts.add("of several formulas", if formulas > 1 { given.verdicts.len() } else { 0 });
             written.extend(given.verdicts);
             caught_up = Some(!given.more);
         }
         let rule = rule::parse(&kiosk.rule).unwrap();
-        let one_run: Vec<u8> = one_run(closed, &rule, &kiosk.untouched[..n]).iter().map(|&b| b as u8).collect();
+        let one_run = one_run(closed, &rule, &kiosk.untouched[..n]);
         assert!(one_run.starts_with(&written), "{}", kiosk.story);
         if let Some(caught_up) = caught_up {
             assert_eq!(caught_up, one_run.len() == written.len(), "{}", kiosk.story);
@@ -246,7 +258,14 @@ fn lists() {
     };
     let shown = |counts: &Counts| {
         let met = |n: u32| counts.get(&format!("refused {n:02}")) > 0;
-        let names = ["of empty rules", "kept for previous", "of closings", "closings with more"];
+        let names = [
+            "of empty rules",
+            "of several formulas",
+            "kept for previous",
+            "kept for one of several formulas",
+            "of closings",
+            "closings with more",
+        ];
         let reached = names.iter().all(|name| counts.get(name) > 0) && met(20) && met(21);
         (1..=14).all(|n| met(n) || [3, 8, 11].contains(&n)) && reached
     };
@@ -260,7 +279,8 @@ fn sheets_of_all_lengths() {
         let start = Kiosk::new(r, 7, 20);
         let rule = rule::parse(&start.rule).unwrap();
         let closing = r.one_in(2);
-        let all: Vec<u8> = one_run(closing, &rule, &start.untouched).iter().map(|&b| b as u8).collect();
+        let all = one_run(closing, &rule, &start.untouched);
+        let several = rule.formulas() > 1;
         let fresh = start.point.words().to_vec();
         let mut kiosk = start;
         for length in 0..=all.len() + 2 {
@@ -274,6 +294,7 @@ fn sheets_of_all_lengths() {
                 let brought = Brought { closing, rule, log, words: fresh.len(), sheet: vec![9; next] };
                 let given = kiosk.carry_on(r, brought).unwrap();
                 counts.returned(0);
+                counts.add("of several formulas", if several { given.verdicts.len() } else { 0 });
                 written.extend(given.verdicts);
                 kiosk.overwrite(r);
                 if !given.more {
@@ -284,5 +305,43 @@ fn sheets_of_all_lengths() {
             assert_eq!(written, all, "{}", kiosk.story);
         }
     };
-    cases("sheets_of_all_lengths", 1_500, body, |counts| counts.get("accepted") > 0);
+    cases("sheets_of_all_lengths", 1_500, body, |counts| counts.get("of several formulas") > 0);
+}
+
+/// A random list over a log, with overwriting; in the end it is closed if so said. All its verdicts.
+fn verdicts_of_a_list(r: &mut Random, rule: Vec<u8>, shape: RuleShape, untouched: &[Record], closing: bool) -> Vec<u8> {
+    let mut kiosk = Kiosk::with(r, rule, shape, untouched.to_vec());
+    let (mut n, mut written) = (0, Vec::new());
+    for _ in 0..r.from_to(1, 6) {
+        n = r.from_to(n, untouched.len());
+        written.extend(kiosk.accepted(r, false, n).verdicts);
+        kiosk.overwrite(r);
+    }
+    if closing {
+        written.extend(kiosk.accepted(r, true, untouched.len()).verdicts);
+    }
+    written
+}
+
+/// "Each bit is the verdict that its formula would get in a run of its own": of version 1, whatever the two lists of calls.
+#[test]
+fn each_bit_is_the_verdict_of_its_formula_alone() {
+    let body = |r: &mut Random, counts: &mut Counts| {
+        let (shape, log_shape) = random::shapes(r, 10, 40);
+        let rule = random::rule(r, shape);
+        let untouched = random::log(r, log_shape);
+        let closing = r.one_in(2);
+        let together = verdicts_of_a_list(r, rule.clone(), shape, &untouched, closing);
+        let decoded = rule::parse(&rule).unwrap();
+        for (k, entries) in decoded.split().into_iter().enumerate() {
+            let alone = verdicts_of_a_list(r, rule::encode(entries), shape, &untouched, closing);
+            for (i, (byte, verdict)) in together.iter().zip(&alone).enumerate() {
+                assert_eq!(byte >> k & 1, *verdict, "formula {k} of {}, position {i}", hex(&rule));
+            }
+            let of_several = if decoded.formulas() > 1 { "bits of several formulas" } else { "bits of one formula" };
+            counts.add(of_several, together.len().min(alone.len()));
+        }
+    };
+    let shown = |counts: &Counts| counts.get("bits of several formulas") > 0;
+    cases("each_bit_is_the_verdict_of_its_formula_alone", 5_000, body, shown);
 }

@@ -12,8 +12,20 @@ fn any_rule(r: &mut Random) -> Vec<u8> {
     let high = r.pick(&[0, 2, 90, 700, 3600]);
     let most = r.pick(&[1, 3, 8, 20, 128]);
     let shape = RuleShape { entries: most, letters: 32, high };
-    let size = random::size(r, most);
-    let mut entries = random::entries(r, shape, size);
+    let formulas = r.pick(&[1, 1, 1, 2, 3, 7, 8, 9, 10]);
+    let mut entries = if formulas == 1 {
+        let size = random::size(r, most);
+        random::entries(r, shape, size)
+    } else {
+        random::formulas(r, shape, formulas).concat()
+    };
+    let size = entries.len();
+    // Most of the rules with several formulas are of version 2.
+    let version = match (formulas, r.below(10)) {
+        (_, 0) => r.pick(&[0, 3, 4, 0x0102, 0x0200]),
+        (1, 1..6) | (_, 1) => 1,
+        _ => 2,
+    };
     if size > 0 && r.one_in(6) {
         let at = r.below(entries.len());
         let bound = r.pick(&[0, 1, 3599, 3600, 3601, u32::MAX - 1, u32::MAX]);
@@ -27,7 +39,7 @@ fn any_rule(r: &mut Random) -> Vec<u8> {
         let at = r.below(entries.len());
         entries.swap(0, at);
     }
-    let mut bytes = rule::encode(&entries);
+    let mut bytes = rule::encode_as(version, &entries);
     if r.one_in(2) {
         random::damage(r, &mut bytes);
     }
@@ -45,9 +57,13 @@ fn measure() {
         let rule = any_rule(r);
         let expected = model::measure(&rule);
         assert_eq!(calls::measure(&rule, side(r)), expected, "rule {}", hex(&rule));
+        let formulas = model::formulas(&rule);
+        assert_eq!(calls::formulas(&rule, side(r)), formulas, "rule {}", hex(&rule));
         counts.returned(expected.err().unwrap_or(0));
+        counts.add("with several formulas", usize::from(formulas.is_ok_and(|number| number > 1)));
     };
-    cases("measure", 60_000, body, |counts| all_refused(counts, 1..=8));
+    let several = |counts: &Counts| counts.get("with several formulas") > 0;
+    cases("measure", 60_000, body, |counts| all_refused(counts, 1..=8) && several(counts));
 }
 
 #[test]
@@ -69,16 +85,22 @@ fn open() {
 fn tally() {
     let body = |r: &mut Random, counts: &mut Counts| {
         let most = r.pick(&[0, 1, 10, 100, 10_000]);
-        let mut sheet: Vec<u8> = (0..r.from_to(0, most)).map(|_| r.below(2) as u8).collect();
+        let formulas = r.from_to(1, 8);
+        let mut sheet: Vec<u8> = (0..r.from_to(0, most)).map(|_| r.below(1 << formulas) as u8).collect();
         if !sheet.is_empty() && r.one_in(3) {
             let at = r.pick(&[0, r.clone().below(sheet.len()), sheet.len() - 1]);
-            sheet[at] = r.pick(&[2, 3, 127, 128, 254, 255]);
+            sheet[at] = r.pick(&[1 << (formulas % 8), 2, 3, 127, 128, 254, 255]);
         }
-        let expected = model::tally(&sheet);
-        assert_eq!(calls::tally(&sheet, side(r)), expected, "sheet {}", hex(&sheet));
+        let number = if r.one_in(10) { r.pick(&[0, 9, 10, 64, 256, 1 << 32 | 1, u64::MAX]) } else { formulas as u64 };
+        let expected = model::tally(&sheet, number);
+        assert_eq!(calls::tally(&sheet, number, side(r)), expected, "{number} formulas, sheet {}", hex(&sheet));
+        let refused = expected.is_err();
+        counts.add("by a bit beyond", usize::from(refused && number == formulas as u64));
+        counts.add("by the number", usize::from(refused && number != formulas as u64));
         counts.returned(expected.err().unwrap_or(0));
     };
-    cases("tally", 20_000, body, |counts| counts.get("refused 15") > 0);
+    let names = ["accepted", "by a bit beyond", "by the number"];
+    cases("tally", 20_000, body, |counts| names.iter().all(|name| counts.get(name) > 0));
 }
 
 /// One carry on or closing from a fresh point, on logs without fault and on damaged ones.
@@ -86,7 +108,7 @@ fn tally() {
 fn one_call() {
     let body = |r: &mut Random, counts: &mut Counts| {
         let (rule_shape, log_shape) = random::shapes(r, 14, 60);
-        let rule = rule::encode(&random::valid_entries(r, rule_shape));
+        let rule = random::rule(r, rule_shape);
         let mut records = random::log(r, log_shape);
         if r.one_in(20) && records.len() > 1 {
             let at = r.from_to(1, records.len() - 1);
@@ -113,7 +135,7 @@ fn one_call() {
         assert_eq!(got, expected, "rule {}\nlog {}", hex(&rule), hex(&file));
         if let Ok(given) = got {
             counts.add("verdicts", given.verdicts.len());
-            counts.add("yes", given.verdicts.iter().map(|&b| b as usize).sum());
+            counts.add("yes", given.verdicts.iter().map(|&byte| byte.count_ones() as usize).sum());
         }
     };
     cases("one_call", 60_000, body, |counts| all_refused(counts, 12..=12) && counts.get("refused 14") > 0);
@@ -145,14 +167,16 @@ fn nothing_lent() {
         assert_eq!((a, b), (9, 9));
         assert_eq!(ffi::havdrims_close(rule.as_ptr(), 38, log, 8, p, 70, null_mut(), 0, &mut a, &mut b), 0);
         assert_eq!((a, b), (0, 0));
-        assert_eq!(ffi::havdrims_summary(null(), 0, null(), 0, &mut a, &mut b), 1);
-        assert_eq!(ffi::havdrims_summary(rule.as_ptr(), 38, null(), 0, &mut a, &mut b), 9);
-        assert_eq!((a, b), (0, 0));
+        let (mut no, mut other) = ([9; 8], [9; 8]);
+        assert_eq!(ffi::havdrims_summary(null(), 0, null(), 0, &mut no, &mut other), 1);
+        assert_eq!(ffi::havdrims_summary(rule.as_ptr(), 38, null(), 0, &mut no, &mut other), 9);
+        assert_eq!((no, other), ([9; 8], [9; 8]));
         let (mut c, mut d) = (9, 9);
         assert_eq!(ffi::havdrims_status(null(), 0, null(), 0, &mut a, &mut b, &mut c, &mut d), 1);
         assert_eq!(ffi::havdrims_status(rule.as_ptr(), 38, null(), 0, &mut a, &mut b, &mut c, &mut d), 9);
         assert_eq!((a, b, c, d), (0, 0, 9, 9));
-        assert_eq!(ffi::havdrims_tally(null(), 0, &mut a, &mut b), 0);
-        assert_eq!((a, b), (0, 0));
+        assert_eq!(ffi::havdrims_tally(null(), 0, 3, &mut no, &mut other), 0);
+        assert_eq!((no, other), ([0, 0, 0, 9, 9, 9, 9, 9], [0, 0, 0, 9, 9, 9, 9, 9]));
+        assert_eq!(ffi::havdrims_formulas(null(), 0, &mut a), 1);
     }
 }

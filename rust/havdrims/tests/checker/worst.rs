@@ -44,7 +44,7 @@ fn rule_bytes(low: u32, high: u32) -> Vec<u8> {
 }
 
 /// The distinct times among the positions that have no verdict.
-fn open_times(verdicts: &[bool], log: &[Record]) -> usize {
+fn open_times(verdicts: &[u8], log: &[Record]) -> usize {
     log[verdicts.len()..].iter().map(|r| r.time).collect::<HashSet<u32>>().len()
 }
 

@@ -6,7 +6,7 @@ use Rattle.checkpoint.proofs.check.block_fits.Statement.{statement}
 use Rattle.checkpoint.proofs.check.block_fits.Tie as tie
 
 returns : tie.Need-returns
-returns c = simp (getD-drop, add-zero)
+returns c = rw (c .has-room .ensures) (simp (getD-drop, add-zero))
 
 pub block-fits-spec : {M : Type 1} → statement M
 block-fits-spec =
@@ -38,4 +38,11 @@ block-fits-spec =
     (λ c. search needs)
     (λ c. search needs)
     (λ c. search needs)
+    (λ c. search needs)
+    (λ c. search needs)
+    (λ c. search needs)
+    (λ c. search needs)
+    (λ c. search needs)
+    (λ c. search needs)
+    (λ c κs. search needs)
     returns)

@@ -5,24 +5,24 @@ use mathlib.Core.Path.{_≡_, refl, sym}
 use lib.ListN.{length}
 use borrow.Author.Needs.{needs}
 use Rattle.mtl.specs.Satisfaction.{any}
-use Rattle.checkpoint.specs.Checkpoint.{seen, block-outside}
+use Rattle.checkpoint.specs.Checkpoint.{given, seen, block-outside}
 use Rattle.checkpoint.proofs.Offsets.{Walk, walk-start, walk-room, walk-on, walk-ends, any-more}
 use Rattle.checkpoint.proofs.check.blocks_outside.Statement.{statement}
 use Rattle.checkpoint.proofs.check.blocks_outside.Tie as tie
 
 abbrev Inv-loop : tie.InvT-loop
-Inv-loop count point entries size at₀ k₀ outside₀ at k outside =
-    Walk entries count at k × (size ≡ seen point) × (outside ≡ any k (block-outside entries point))
+Inv-loop base count point entries given₁ size at₀ k₀ outside₀ at k outside =
+    Walk base entries count at k × (given₁ ≡ given point) × (size ≡ seen point) × (outside ≡ any k (block-outside base entries point))
 
 abbrev μ-loop : tie.MeasureT-loop
-μ-loop count point entries size at₀ k₀ outside₀ at k outside = count - k
+μ-loop base count point entries given₁ size at₀ k₀ outside₀ at k outside = count - k
 
 loop-holds : tie.Need-loop-holds Inv-loop μ-loop
 unfolding any
-loop-holds c = (walk-start _ _, refl, refl)
+loop-holds c = (walk-start _ _ _, refl, refl, refl)
 
 -- the block of the entry at hand lies within the words
-room : (c : tie.In-loop Inv-loop μ-loop) → c .before .loop .at + 16 ≤ length (c .before .before .before .before .args .point .now)
+room : (c : tie.In-loop Inv-loop μ-loop) → c .before .loop .at + 16 ≤ length (c .before .before .before .before .before .args .point .now)
 room c = omega (arith, walk-room (c .before .loop .inv .0) (omega arith))
 
 add-at : tie.Need-add-at Inv-loop μ-loop
@@ -33,14 +33,15 @@ add-at c =
 loop-again : tie.Need-loop-again Inv-loop μ-loop
 loop-again c =
     let i = c .before .before .before .before .before .loop in
-    let a = c .before .before .before .before .before .before .before .before .args in (
+    let a = c .before .before .before .before .before .before .before .before .before .args in (
       walk-on (i .inv .0) (omega arith) _ (c .own-words .ensures .0) .0,
       refl,
-      simp (i .inv .2, c .before .block-fits .ensures, i .inv .0 .begins, c .before .before .cells .ensures) (sym (any-more (i .k) (block-outside (a .t1) (a .point .now)))),
+      refl,
+      simp (i .inv .3, c .before .block-fits .ensures, i .inv .0 .begins, c .before .before .cells .ensures) (sym (any-more (i .k) (block-outside (a .base) (a .t2) (a .point .now)))),
     )
 
 returns : tie.Need-returns Inv-loop μ-loop
-returns c = let i = c .before .loop in rw (walk-ends (i .inv .0) (omega arith)) at (i .inv .2)
+returns c = let i = c .before .loop in rw (walk-ends (i .inv .0) (omega arith)) at (i .inv .3)
 
 pub blocks-outside-spec : {M : Type 1} → statement M
 blocks-outside-spec =
@@ -48,6 +49,7 @@ blocks-outside-spec =
     (tie.spec
     Inv-loop
     μ-loop
+    (λ c. search needs)
     (λ c. search needs)
     loop-holds
     (λ c. search needs)

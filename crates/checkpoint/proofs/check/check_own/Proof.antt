@@ -20,18 +20,18 @@ returns c =
     let a = c .before .before .before .before .before .args in
     let stopped = c .before .enum-told2 .given .1 in
     ap Failed (c .number .ensures ∙ ap sized-number stopped)
-    ∙ ap (λ (r : Sized). own-checked r (a .entries) (a .count) (a .point .now)) (sym stopped ∙ c .before .before .before .size-of .ensures)
+    ∙ ap (λ (r : Sized). own-checked r (a .version) (a .entries) (a .count) (a .point .now)) (sym stopped ∙ c .before .before .before .size-of .ensures)
 
 check-words-requires : tie.Need-check-words-requires
 check-words-requires c κs =
     let s = c .before .before .before .before in
     let a = s .args in
-    covered (a .measured) (a .entries) (a .count) (length (a .point .now)) _ (s .pre) (words-of c)
+    covered (a .measured) (a .version) (a .entries) (a .count) (length (a .point .now)) _ (s .pre) (words-of c)
 
 returns-2 : tie.Need-returns-2
 returns-2 c =
     let a = c .before .before .before .before .before .args in
-    c .check-words .ensures ∙ ap (λ (r : Sized). own-checked r (a .entries) (a .count) (a .point .now)) (words-of (c .before))
+    c .check-words .ensures ∙ ap (λ (r : Sized). own-checked r (a .version) (a .entries) (a .count) (a .point .now)) (words-of (c .before))
 
 pub check-own-spec : {M : Type 1} → statement M
 check-own-spec =

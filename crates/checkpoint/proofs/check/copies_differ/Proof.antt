@@ -11,14 +11,14 @@ use Rattle.checkpoint.proofs.check.copies_differ.Statement.{statement}
 use Rattle.checkpoint.proofs.check.copies_differ.Tie as tie
 
 abbrev Inv-loop : tie.InvT-loop
-Inv-loop count point entries at₀ k₀ differ₀ at k differ = Walk entries count at k × (differ ≡ any k (copy-differs entries point))
+Inv-loop base count point entries at₀ k₀ differ₀ at k differ = Walk base entries count at k × (differ ≡ any k (copy-differs base entries point))
 
 abbrev μ-loop : tie.MeasureT-loop
-μ-loop count point entries at₀ k₀ differ₀ at k differ = count - k
+μ-loop base count point entries at₀ k₀ differ₀ at k differ = count - k
 
 loop-holds : tie.Need-loop-holds Inv-loop μ-loop
 unfolding any
-loop-holds c = (walk-start _ _, refl)
+loop-holds c = (walk-start _ _ _, refl)
 
 -- the block of the entry at hand lies within the words
 room : (c : tie.In-loop Inv-loop μ-loop) → c .before .loop .at + 16 ≤ length (c .before .before .before .args .point .now)
@@ -34,7 +34,7 @@ loop-again c =
     let i = c .before .before .before .before .before .before .before .loop in
     let a = c .before .before .before .before .before .before .before .before .before .args in (
       walk-on (i .inv .0) (omega arith) _ (c .own-words .ensures .0) .0,
-      simp (i .inv .1, i .inv .0 .begins, c .before .before .before .head-of .ensures, c .before .ends-of .ensures) (sym (any-more (i .k) (copy-differs (a .t1) (a .point .now)))),
+      simp (i .inv .1, i .inv .0 .begins, c .before .before .before .head-of .ensures, c .before .ends-of .ensures) (sym (any-more (i .k) (copy-differs (a .base) (a .t2) (a .point .now)))),
     )
 
 returns : tie.Need-returns Inv-loop μ-loop

@@ -1,21 +1,20 @@
--- `check::is_foreign` meets its contract, by that of `copies_differ`.
+-- `check::is_foreign` meets its contract, by those of `header_words`, `copy_start` and `copies_differ`.
+use native.Mathlib.Omega.{arith}
 use borrow.Author.Needs.{needs}
+use Rattle.rule.proofs.Spans.{header-least}
 use Rattle.checkpoint.proofs.check.is_foreign.Statement.{statement}
 use Rattle.checkpoint.proofs.check.is_foreign.Tie as tie
 
-shared-slice-read-result : tie.Need-shared-slice-read-result
-shared-slice-read-result c = search needs
-
-shared-slice-read-result-2 : tie.Need-shared-slice-read-result-2
-shared-slice-read-result-2 c = search needs
-
-copies-differ-requires : tie.Need-copies-differ-requires
-copies-differ-requires c κs = search needs
-
 returns : tie.Need-returns
-returns c = rw (c .copies-differ .ensures)
+returns c = rw (c .copies-differ .ensures, c .before .copy-start .ensures, c .before .before .before .before .header-words .ensures)
 
 pub is-foreign-spec : {M : Type 1} → statement M
 is-foreign-spec =
     tie.close
-    (tie.spec shared-slice-read-result shared-slice-read-result-2 copies-differ-requires returns)
+    (tie.spec
+    (λ c κs. search needs)
+    (λ c. omega (arith, header-least (c .before .before .before .args .version)))
+    (λ c. omega (arith, header-least (c .before .before .before .before .args .version)))
+    (λ c κs. search needs)
+    (λ c κs. search needs)
+    returns)

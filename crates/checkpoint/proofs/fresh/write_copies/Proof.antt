@@ -11,14 +11,14 @@ use Rattle.checkpoint.proofs.fresh.write_copies.Statement.{statement}
 use Rattle.checkpoint.proofs.fresh.write_copies.Tie as tie
 
 abbrev Inv-loop : tie.InvT-loop
-Inv-loop count words₀ entries at₀ k₀ words at k = Walk entries count at k × (words ≡ copies entries k words₀)
+Inv-loop base count words₀ entries at₀ k₀ words at k = Walk base entries count at k × (words ≡ copies base entries k words₀)
 
 abbrev μ-loop : tie.MeasureT-loop
-μ-loop count words₀ entries at₀ k₀ words at k = count - k
+μ-loop base count words₀ entries at₀ k₀ words at k = count - k
 
 loop-holds : tie.Need-loop-holds Inv-loop μ-loop
 unfolding copies
-loop-holds c = (walk-start _ _, refl)
+loop-holds c = (walk-start _ _ _, refl)
 
 -- the block of the entry at hand lies within the words
 room : (c : tie.In-loop Inv-loop μ-loop) → c .before .loop .at + 16 ≤ length (c .before .before .before .args .words .now)
@@ -26,7 +26,7 @@ room c = omega (arith, walk-room (c .before .loop .inv .0) (omega arith))
 
 -- the words keep their number
 kept : (c : tie.At-loop Inv-loop μ-loop) → length (c .loop .words) ≡ length (c .before .before .args .words .now)
-kept c = let a = c .before .before .args in ap length (c .loop .inv .1) ∙ copies-length (a .t1) (a .words .now) (c .loop .k)
+kept c = let a = c .before .before .args in ap length (c .loop .inv .1) ∙ copies-length (a .base) (a .t2) (a .words .now) (c .loop .k)
 
 add-at : tie.Need-add-at Inv-loop μ-loop
 add-at c =
@@ -38,7 +38,7 @@ loop-again c =
     let i = c .before .before .before .before .before .loop in
     let a = c .before .before .before .before .before .before .before .args in (
       walk-on (i .inv .0) (omega arith) _ (c .own-words .ensures .0) .0,
-      simp (i .inv .1, i .inv .0 .begins, c .before .before .head-of .ensures, c .before .ends-of .ensures) (sym (copies-more (a .t1) (a .words .now) (i .k))),
+      simp (i .inv .1, i .inv .0 .begins, c .before .before .head-of .ensures, c .before .ends-of .ensures) (sym (copies-more (a .base) (a .t2) (a .words .now) (i .k))),
     )
 
 returns : tie.Need-returns Inv-loop μ-loop

@@ -7,18 +7,20 @@ use lib.ListN.{length}
 use lib.Seq.{length-sets}
 use borrow.Author.Needs.{needs}
 use Rattle.engine.specs.Layout.{Laid}
-use Rattle.engine.proofs.Rows.{zeros, laid-next, left-next, left-fits, next-row, next-fits}
+use Rattle.engine.proofs.Rows.{laid-next, left-next, left-fits, next-row, next-fits}
 use Rattle.engine.proofs.layout.lay_out.Statement.{statement}
 use Rattle.engine.proofs.layout.lay_out.Tie as tie
 
 abbrev Inv-loop : tie.InvT-loop
-Inv-loop count entries firsts table₀ k₀ table k = (k ≤ count) × (length table ≡ 1024) × Laid entries k table
+Inv-loop count table₀ entries firsts k₀ table k = (k ≤ count) × (length table ≡ 1024) × Laid entries k table
 
 abbrev μ-loop : tie.MeasureT-loop
-μ-loop count entries firsts table₀ k₀ table k = count - k
+μ-loop count table₀ entries firsts k₀ table k = count - k
 
 loop-holds : tie.Need-loop-holds Inv-loop μ-loop
-loop-holds c = (omega arith, refl, record { rows = λ k j h. absurd (not-suc-le-zero h); rest = λ i h. zeros 1024 i })
+loop-holds c =
+    let s = c .before in
+    (omega arith, s .pre .2, record { rows = λ k j h. absurd (not-suc-le-zero h); rest = λ i h. s .pre .3 i })
 
 words-of-requires : tie.Need-words-of-requires Inv-loop μ-loop
 words-of-requires c κs =

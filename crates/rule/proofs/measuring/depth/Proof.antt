@@ -18,12 +18,12 @@ enum-told c = search needs
 returns : tie.Need-returns
 returns c =
     let a = c .before .before .before .args in
-    depth-faulty (formulas (a .table) (a .count)) (sym (c .before .before .read .ensures) ∙ c .enum-told .given .1)
+    depth-faulty (formulas (a .version) (a .table) (a .count)) (sym (c .before .before .read .ensures) ∙ c .enum-told .given .1)
 
 returns-2 : tie.Need-returns-2
 returns-2 c =
     let a = c .before .before .before .before .args in
-    depth-found (formulas (a .table) (a .count)) _ (sym (c .before .before .before .read .ensures) ∙ c .before .most .given .1)
+    depth-found (formulas (a .version) (a .table) (a .count)) _ (sym (c .before .before .before .read .ensures) ∙ c .before .most .given .1)
 
 pub depth-spec : {M : Type 1} → statement M
 depth-spec = tie.close (tie.spec read-requires enum-known-most enum-told returns returns-2)

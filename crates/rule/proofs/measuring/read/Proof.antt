@@ -2,21 +2,22 @@
 use Prim.Native.Nat.{_<_, zero-le, _+_, _-_, _≤_}
 use native.Mathlib.Omega.{arith}
 use borrow.Author.Needs.{needs}
-use mathlib.Core.Path.{_≡_, sym}
+use mathlib.Core.Path.{_≡_, sym, ap, _∙_}
+use Rattle.rule.specs.declared.measuring.Reading.the-variants.{Found}
 use Rattle.rule.specs.Entries.{entry}
 use Rattle.rule.specs.Operands.{operands}
-use Rattle.rule.proofs.Run.{Running, none-read, one-more, lacks-operand, one-formula, more-than-one}
+use Rattle.rule.proofs.Run.{Running, none-read, one-more, lacks-operand, enough-formulas, other-number}
 use Rattle.rule.proofs.measuring.read.Statement.{statement}
 use Rattle.rule.proofs.measuring.read.Tie as tie
 
 abbrev Inv-loop : tie.InvT-loop
-Inv-loop of count table stack₀ depth₀ k₀ stack depth k = (k ≤ count) × Running of table stack depth k
+Inv-loop of version count table stack₀ depth₀ k₀ stack depth k = (k ≤ count) × Running of table stack depth k
 
 abbrev μ-loop : tie.MeasureT-loop
-μ-loop of count table stack₀ depth₀ k₀ stack depth k = count - k
+μ-loop of version count table stack₀ depth₀ k₀ stack depth k = count - k
 
 loop-holds : tie.Need-loop-holds Inv-loop μ-loop
-loop-holds c = (zero-le, none-read (c .args .of) (c .args .t2))
+loop-holds c = (zero-le, none-read (c .args .of) (c .args .t3))
 
 mul-e : tie.Need-mul-e Inv-loop μ-loop
 mul-e c = search needs
@@ -31,8 +32,8 @@ returns : tie.Need-returns Inv-loop μ-loop
 returns c =
     let i = c .before .before .before .before .loop in
     let a = c .before .before .before .before .before .args in
-    let l : i .depth < operands (entry (a .t2) (i .k) .kind) = omega (arith, c .before .operands-of .ensures) in
-    sym (lacks-operand (a .of) (a .t2) (i .stack) (i .depth) (i .k) (a .count) (i .inv .1) (omega arith) (omega arith) l)
+    let l : i .depth < operands (entry (a .t3) (i .k) .kind) = omega (arith, c .before .operands-of .ensures) in
+    sym (lacks-operand (a .of) (a .version) (a .t3) (i .stack) (i .depth) (i .k) (a .count) (i .inv .1) (omega arith) (omega arith) l)
 
 add-at : tie.Need-add-at Inv-loop μ-loop
 add-at c = search needs
@@ -74,32 +75,35 @@ loop-again c =
     let i = c .before .before .before .before .before .loop in
     let a = c .before .before .before .before .before .before .args in
     let e = c .before .before .operands-of .ensures in
-    let l : operands (entry (a .t2) (i .k) .kind) ≤ i .depth = omega (arith, e) in (
+    let l : operands (entry (a .t3) (i .k) .kind) ≤ i .depth = omega (arith, e) in (
       omega arith,
       rw e
-          (one-more (a .of) (a .t2) (i .stack) (i .depth) (i .k) (c .joined .result) (i .inv .1) (omega arith) (omega arith) l
+          (one-more (a .of) (a .t3) (i .stack) (i .depth) (i .k) (c .joined .result) (i .inv .1) (omega arith) (omega arith) l
           (rw e at (c .joined .ensures .0)) (rw e at (c .joined .ensures .1))),
     )
 
-mul-t29 : tie.Need-mul-t29 Inv-loop μ-loop
-mul-t29 c = search needs
+fewest-of-requires : tie.Need-fewest-of-requires Inv-loop μ-loop
+fewest-of-requires c κs = search needs
 
-array-read-t32 : tie.Need-array-read-t32 Inv-loop μ-loop
-array-read-t32 c = search needs
+most-of-requires : tie.Need-most-of-requires Inv-loop μ-loop
+most-of-requires c κs = search needs
+
+highest-requires : tie.Need-highest-requires Inv-loop μ-loop
+highest-requires c κs = omega (arith, c .before .before .before .before .before .loop .inv .1 .deep)
 
 returns-2 : tie.Need-returns-2 Inv-loop μ-loop
 returns-2 c =
-    let i = c .before .before .loop in
-    let a = c .before .before .before .args in
+    let i = c .before .before .before .before .before .before .loop in
+    let a = c .before .before .before .before .before .before .before .args in
     let e : i .k ≡ a .count = omega arith in
-    sym (one-formula (a .of) (a .t2) (i .stack) (i .depth) (a .count) (rw e at (i .inv .1)) (omega arith))
+    ap Found (c .highest .ensures) ∙ sym (enough-formulas (a .of) (a .version) (a .t3) (i .stack) (i .depth) (a .count) (rw e at (i .inv .1)) (rw (c .before .before .before .before .fewest-of .ensures, c .before .before .before .most-of .ensures) at (c .before .before .if2 .taken)))
 
 returns-3 : tie.Need-returns-3 Inv-loop μ-loop
 returns-3 c =
-    let i = c .before .before .loop in
-    let a = c .before .before .before .args in
+    let i = c .before .before .before .before .loop in
+    let a = c .before .before .before .before .before .args in
     let e : i .k ≡ a .count = omega arith in
-    sym (more-than-one (a .of) (a .t2) (i .stack) (i .depth) (a .count) (rw e at (i .inv .1)) (λ l. omega arith))
+    sym (other-number (a .of) (a .version) (a .t3) (i .stack) (i .depth) (a .count) (rw e at (i .inv .1)) (rw (c .before .before .fewest-of .ensures, c .before .most-of .ensures) at (c .if2 .left)))
 
 pub read-spec : {M : Type 1} → statement M
 read-spec =
@@ -124,7 +128,8 @@ read-spec =
     add-k
     loop-less
     loop-again
-    mul-t29
-    array-read-t32
+    fewest-of-requires
+    most-of-requires
+    highest-requires
     returns-2
     returns-3)

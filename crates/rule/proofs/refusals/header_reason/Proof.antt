@@ -13,29 +13,14 @@ slice-aggregate-lacks-mark c = search needs
 lacks-mark-requires : tie.Need-lacks-mark-requires
 lacks-mark-requires c κs = search needs
 
+version-of-requires : tie.Need-version-of-requires
+version-of-requires c κs = search needs
+
 byte-at-requires : tie.Need-byte-at-requires
 byte-at-requires c κs = search needs
 
-wide-requires : tie.Need-wide-requires
-wide-requires c κs = search needs
-
-mul-version : tie.Need-mul-version
-mul-version c = search needs
-
 byte-at-requires-2 : tie.Need-byte-at-requires-2
 byte-at-requires-2 c κs = search needs
-
-wide-requires-2 : tie.Need-wide-requires-2
-wide-requires-2 c κs = search needs
-
-add-version : tie.Need-add-version
-add-version c = search needs
-
-byte-at-requires-3 : tie.Need-byte-at-requires-3
-byte-at-requires-3 c κs = search needs
-
-byte-at-requires-4 : tie.Need-byte-at-requires-4
-byte-at-requires-4 c κs = search needs
 
 mul-malformed : tie.Need-mul-malformed
 mul-malformed c = search needs
@@ -55,7 +40,7 @@ refuse-requires-3 c κs = search needs
 returns : tie.Need-returns
 unfolding header-refusal
 returns c =
-    simp (c .refuse3 .ensures, c .before .refuse2 .ensures, c .before .before .refuse .ensures, c .before .before .before .byte-at4 .ensures, c .before .before .before .before .byte-at3 .ensures, c .before .before .before .before .before .wide2 .ensures .0, c .before .before .before .before .before .before .byte-at2 .ensures, c .before .before .before .before .before .before .before .wide .ensures .0, c .before .before .before .before .before .before .before .before .byte-at .ensures, c .before .before .before .before .before .before .before .before .before .lacks-mark .ensures, c .before .before .before .before .before .before .before .before .before .before .before .entry-count .ensures .0)
+    simp (c .refuse3 .ensures, c .before .refuse2 .ensures, c .before .before .refuse .ensures, c .before .before .before .byte-at2 .ensures, c .before .before .before .before .byte-at .ensures, c .before .before .before .before .before .version-of .ensures .0, c .before .before .before .before .before .before .lacks-mark .ensures, c .before .before .before .before .before .before .before .before .entry-count .ensures .0)
 
 pub header-reason-spec : {M : Type 1} → statement M
 header-reason-spec =
@@ -64,14 +49,9 @@ header-reason-spec =
     entry-count-requires
     slice-aggregate-lacks-mark
     lacks-mark-requires
+    version-of-requires
     byte-at-requires
-    wide-requires
-    mul-version
     byte-at-requires-2
-    wide-requires-2
-    add-version
-    byte-at-requires-3
-    byte-at-requires-4
     mul-malformed
     add-malformed
     refuse-requires

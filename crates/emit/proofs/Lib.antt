@@ -1,0 +1,8 @@
+-- The laws behind the proofs.
+pub mod Meaning
+pub mod Kept
+pub mod Places
+pub mod Holding
+pub mod Spending
+pub mod Giving
+pub mod Emitting

@@ -1,0 +1,178 @@
+-- What the functions promise. `base` is the number of the checkpoint's own words, and `most` of a version's formulas.
+use Prim.Native.Nat.{ℕ, zero, suc, _+_, _-_, _/_, _≤_, _<_, _^_, min}
+use mathlib.Core.Bool.{Bool, true, cond}
+use mathlib.Core.Path.{_≡_}
+use mathlib.Core.List.{List}
+use mathlib.Core.Logic.{_⊎_}
+use lib.ListN.{length, getD, drop, set}
+use lib.Dec.{eqb, ltb}
+use Rattle.mtl.specs.Formula.{Formula}
+use Rattle.mtl.specs.Log.{Log, NeverFalls}
+use Rattle.mtl.specs.Progress.{settled-to, joint-progress}
+use Rattle.mtl.specs.Wanted.{wanted}
+use Rattle.bits.specs.Packed.{zeros, last-zero}
+use Rattle.verdicts.specs.Counts.{noes-in, laid-behind, later-end}
+use Rattle.rule.specs.declared.Entry.{Entry}
+use Rattle.rule.specs.Words.{offset}
+use Rattle.rule.specs.Postfix.{formula}
+use Rattle.rule.specs.Accepted.{WellFormed}
+use Rattle.trace.specs.Format.{record-count}
+use Rattle.trace.specs.Order.{last-time}
+use Rattle.blocks.specs.Block.{word}
+use Rattle.blocks.specs.Step.{Agrees}
+use Rattle.engine.specs.State.{words-before, KeptCopies}
+use Rattle.engine.specs.Table.{RowsOk, column}
+use Rattle.engine.specs.Tops.{place, Tops, Ended}
+use Rattle.checkpoint.specs.Checkpoint.{given, seen, last, closed-with, stored-noes}
+use Rattle.emit.specs.Verdicts.{columns, verdict}
+use Rattle.emit.specs.Top.{held-count, Waiting, part-of, Top}
+use Rattle.emit.specs.declared.Emitted.{Emitted}
+
+-- the formulas' places in so many words: all of them behind the header
+pub record Fits (table tops : List ℕ) (base number : ℕ) (fs : List Formula) (size : ℕ) : Type 0 where
+  pub laid : Tops table tops base number fs
+  pub header : 16 ≤ base
+  pub all : base + words-before fs (length fs) ≡ size
+
+-- that there are such formulas
+abbrev pub Fitting : (table tops : List ℕ) (number size : ℕ) → Type 0
+Fitting table tops number size = (base : ℕ) × (fs : List Formula) × Fits table tops base number fs size
+
+-- asking formula k, where it holds nothing: r is how many answers it holds then
+pub record HeldOne (base : ℕ) (fs : List Formula) (s : List ℕ) (closed : Bool) (k : ℕ) (ws : List ℕ) (r : ℕ) (ws′ : List ℕ) : Type 0 where
+  pub words-length : length ws′ ≡ length ws
+  pub count : r ≡ held-count (formula fs k) (part-of base fs k ws′)
+  pub others : (i : ℕ) → ((base + words-before fs k ≤ i) → (i < base + words-before fs (suc k)) → ⊥) → word ws′ i ≡ word ws i
+  pub kept : KeptCopies (formula fs k) (part-of base fs k ws) (part-of base fs k ws′)
+  pub meaning : (L : Log) (d : ℕ) → NeverFalls L → Agrees closed s L (wanted fs d) → Waiting (formula fs k) L d (part-of base fs k ws) →
+      Waiting (formula fs k) L d (part-of base fs k ws′) × (r ≡ 0 → settled-to (formula fs k) L ≡ d)
+
+-- what is promised of formula k by its place, whatever the formulas
+abbrev pub HoldsOne : (table tops s : List ℕ) (closed : Bool) (number k : ℕ) (ws : List ℕ) (r : ℕ) (ws′ : List ℕ) → Type 0
+HoldsOne table tops s closed number k ws r ws′ =
+    (base : ℕ) (fs : List Formula) → Fits table tops base number fs (length ws) → k < length fs → HeldOne base fs s closed k ws r ws′
+
+-- asking all formulas: r is the least number of answers held then, as far as one word goes
+pub record Held (base : ℕ) (fs : List Formula) (s : List ℕ) (closed : Bool) (ws : List ℕ) (r : ℕ) (ws′ : List ℕ) : Type 0 where
+  pub words-length : length ws′ ≡ length ws
+  pub header : (i : ℕ) → i < base → word ws′ i ≡ word ws i
+  pub few : r ≤ 64
+  pub least : (k : ℕ) → k < length fs → r ≤ held-count (formula fs k) (part-of base fs k ws′)
+  pub kept : (k : ℕ) → k < length fs → KeptCopies (formula fs k) (part-of base fs k ws) (part-of base fs k ws′)
+  pub meaning : (L : Log) (d : ℕ) → NeverFalls L → Agrees closed s L (wanted fs d) → Top base fs L d ws →
+      Top base fs L d ws′ × (d + r ≤ L .size) × (r ≡ 0 → joint-progress fs L ≡ d)
+
+abbrev pub Holds : (table tops s : List ℕ) (closed : Bool) (number : ℕ) (ws : List ℕ) (r : ℕ) (ws′ : List ℕ) → Type 0
+Holds table tops s closed number ws r ws′ =
+    (base : ℕ) (fs : List Formula) → Fits table tops base number fs (length ws) → Held base fs s closed ws r ws′
+
+-- the words of answers that the formulas hold; of an empty rule one word of yes
+pub record Answered (tops : List ℕ) (number : ℕ) (ws answers : List ℕ) : Type 0 where
+  pub long : length answers ≡ 8
+  pub each : (k : ℕ) → k < number → getD answers k 0 ≡ word ws (place 3 tops k + 1)
+  pub none : number ≡ 0 → getD answers 0 0 ≡ 2 ^ 64 - 1
+
+-- n of the answers at `held` given from d on, and the no among them counted at `at` and `late`
+abbrev pub spent-one : (held at late d n : ℕ) → List ℕ → List ℕ
+spent-one held at late d n ws =
+    let bits = word ws (held + 1) in
+    set (set (set (set ws at (word ws at + zeros n bits)) late (later-end (word ws late) d (last-zero n bits)))
+    held (word ws held - n))
+    (held + 1) (bits / 2 ^ n)
+
+-- the same of the first k formulas, whose answers stand at `held`
+unfoldable pub spent : (held : ℕ → ℕ) (most d n k : ℕ) → List ℕ → List ℕ
+spent held most d n zero ws = ws
+spent held most d n (suc k) ws = spent-one (held k) (8 + k) (8 + most + k) d n (spent held most d n k ws)
+
+-- all of them, and n verdicts more given
+abbrev pub all-spent : (tops : List ℕ) (most n number : ℕ) → List ℕ → List ℕ
+all-spent tops most n number ws = set (spent (place 3 tops) most (given ws) n number ws) 1 (given ws + n)
+
+-- where the formulas' answers stand: behind the counts, one formula behind the other
+pub record Row (held : ℕ → ℕ) (most number size : ℕ) : Type 0 where
+  pub formulas : number ≤ most
+  pub above : (k : ℕ) → k < number → 8 + most + most ≤ held k
+  pub apart : (j k : ℕ) → j < k → k < number → held j + 2 ≤ held k
+  pub inside : (k : ℕ) → k < number → held k + 1 < size
+
+-- n verdicts can be taken out of every formula's answers, and counted
+pub record Spendable (tops : List ℕ) (number most n : ℕ) (ws : List ℕ) : Type 0 where
+  pub few : n ≤ 64
+  pub small : most ≤ 8
+  pub room : 1 < length ws
+  pub row : Row (place 3 tops) most number (length ws)
+  pub held : (k : ℕ) → k < number → n ≤ word ws (place 3 tops k)
+  pub counted : (k : ℕ) → k < number → word ws (8 + k) + n < 2 ^ 64
+  pub given : given ws + n < 2 ^ 64
+
+-- c verdicts from d on: the bytes, and what the words stand for then
+pub record Giving (base : ℕ) (fs : List Formula) (L : Log) (d c : ℕ) (ws′ sheet′ : List ℕ) : Type 0 where
+  pub top : Top base fs L (d + c) ws′
+  pub bytes : (i : ℕ) → i < c → getD sheet′ i 0 ≡ verdict fs L (d + i)
+
+-- the words that no verdict changes: of the header all but the verdicts given and the counts of the rule's formulas
+pub record Untouched (base most : ℕ) (fs : List Formula) (ws ws′ : List ℕ) : Type 0 where
+  pub header : (i : ℕ) → i < 8 → (i ≡ 1 → ⊥) → word ws′ i ≡ word ws i
+  pub spare : (k : ℕ) → length fs ≤ k → k < most → (word ws′ (8 + k) ≡ word ws (8 + k)) × (word ws′ (8 + most + k) ≡ word ws (8 + most + k))
+  pub kept : (k : ℕ) → k < length fs → KeptCopies (formula fs k) (part-of base fs k ws) (part-of base fs k ws′)
+
+-- `give` writes c verdicts: as many as the sheet holds, or as there are
+pub record Gave (base most : ℕ) (fs : List Formula) (s : List ℕ) (closed : Bool) (ws sheet : List ℕ) (c : ℕ) (ws′ sheet′ : List ℕ) : Type 0 where
+  pub room : c ≤ length sheet
+  pub rest : drop c sheet′ ≡ drop c sheet
+  pub sheet-length : length sheet′ ≡ length sheet
+  pub words-length : length ws′ ≡ length ws
+  pub count : given ws′ ≡ given ws + c
+  pub untouched : Untouched base most fs ws ws′
+  pub noes : (k : ℕ) → k < columns fs → stored-noes most ws′ k ≡ laid-behind (stored-noes most ws k) (given ws) (noes-in k sheet′ c)
+  pub meaning : (L : Log) (d : ℕ) → NeverFalls L → Agrees closed s L (wanted fs d) → Top base fs L d ws →
+      Giving base fs L d c ws′ sheet′ × (c < length sheet → joint-progress fs L ≡ d + c)
+
+abbrev pub Gives : (table tops s : List ℕ) (closed : Bool) (number most : ℕ) (ws sheet : List ℕ) (c : ℕ) (ws′ sheet′ : List ℕ) → Type 0
+Gives table tops s closed number most ws sheet c ws′ sheet′ =
+    (base : ℕ) (fs : List Formula) → Fits table tops base number fs (length ws) → 8 + most + most ≤ base → Gave base most fs s closed ws sheet c ws′ sheet′
+
+-- a call's verdicts begin with at most 1,000,000 given and as many counted, so that no count can wrap
+pub record Countable (table tops : List ℕ) (number most : ℕ) (ws : List ℕ) : Type 0 where
+  pub fits : (base : ℕ) × (fs : List Formula) × Fits table tops base number fs (length ws) × (8 + most + most ≤ base)
+  pub formulas : number ≤ most
+  pub small : (1 ≤ most) × (most ≤ 8)
+  pub given : given ws ≤ 1000000
+  pub noes : (k : ℕ) → k < most → word ws (8 + k) ≤ 1000000
+
+-- an accepted call on exactly the words that the rule needs
+pub record Emits (base most : ℕ) (fs : List Formula) (s : List ℕ) (closed : Bool) (ws sheet : List ℕ) (r : Emitted) (ws′ sheet′ : List ℕ) : Type 0 where
+  pub room : r .count ≤ length sheet
+  pub rest : drop (r .count) sheet′ ≡ drop (r .count) sheet
+  pub sheet-length : length sheet′ ≡ length sheet
+  pub words-length : length ws′ ≡ length ws
+  pub count : given ws′ ≡ given ws + r .count
+  pub size : seen ws′ ≡ record-count s
+  pub time : last ws′ ≡ last-time s (seen ws) (last ws)
+  pub fits : last ws < 2 ^ 32 → last ws′ < 2 ^ 32
+  pub ended : closed-with ws′ ≡ cond closed (suc (record-count s)) 0
+  pub noes : (k : ℕ) → k < columns fs → stored-noes most ws′ k ≡ laid-behind (stored-noes most ws k) (given ws) (noes-in k sheet′ (r .count))
+  pub copy : (word ws′ 0 ≡ word ws 0) × (word ws′ 4 ≡ word ws 4)
+  pub untouched : (k : ℕ) → length fs ≤ k → k < most → (word ws′ (8 + k) ≡ word ws (8 + k)) × (word ws′ (8 + most + k) ≡ word ws (8 + most + k))
+  pub kept : (k : ℕ) → k < length fs → KeptCopies (formula fs k) (part-of base fs k ws) (part-of base fs k ws′)
+  pub meaning : (L : Log) (d : ℕ) → NeverFalls L → Agrees closed s L (wanted fs d) → Top base fs L d ws →
+      Giving base fs L d (r .count) ws′ sheet′ × (r .count ≡ min (joint-progress fs L - d) (length sheet)) ×
+      (r .more ≡ ltb (d + r .count) (joint-progress fs L))
+
+-- the decoded entries of an accepted rule, where its formulas end, and the words that they need
+pub record Ready (t : List Entry) (n : ℕ) (ends : List ℕ) (number most base : ℕ) (ws : List ℕ) : Type 0 where
+  pub few : n ≤ 128
+  pub well-formed : WellFormed t n
+  pub the-formulas : List Formula
+  pub ended : Ended t n ends number the-formulas
+  pub formulas : number ≤ most
+  pub small : (1 ≤ most) × (most ≤ 8)
+  pub header : (16 ≤ base) × (base ≤ 24) × (8 + most + most ≤ base)
+  pub size : length ws ≡ base + offset t n
+  pub given : given ws ≤ 1000000
+  pub noes : (k : ℕ) → k < most → word ws (8 + k) ≤ 1000000
+
+abbrev pub Emission : (closed : Bool) (t : List Entry) (n : ℕ) (ends : List ℕ) (number most base : ℕ) (s ws sheet : List ℕ) → Emitted → (ws′ sheet′ : List ℕ) → Type 0
+Emission closed t n ends number most base s ws sheet r ws′ sheet′ =
+    (fs : List Formula) → Ended t n ends number fs → Emits base most fs s closed ws sheet r ws′ sheet′

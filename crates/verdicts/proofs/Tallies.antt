@@ -1,0 +1,147 @@
+-- The counts of a sheet, byte by byte and formula by formula. Assumes nothing.
+use Prim.Native.Nat.{ℕ, zero, suc, _+_, _-_, _/_, _%_, _≤_, _<_, _^_}
+use native.Mathlib.Nat.{zero-div}
+use native.Mathlib.Numerals.{add-one}
+use native.Mathlib.Omega.{arith}
+use mathlib.Core.Bool.{Bool, true, false, cond, _||_, Bool·beq}
+use mathlib.Core.List.{List, [], _∷_, _++_, append-assoc}
+use mathlib.Core.Logic.{⊎-elim}
+use mathlib.Core.Path.{_≡_, refl, sym, ap, _∙_}
+use lib.Bits.{bitOr, or-zero-l, or-add-and, and-le-r, or-shr}
+use lib.Dec.{ltb}
+use lib.ListN.{length, getD, drop, set, length-append, List·getD-append}
+use lib.Seq.{drop-cons, set-at, getD-at}
+use borrow.Author.Tests.{ltb-false, lt-ltb}
+use Rattle.mtl.specs.Satisfaction.{any}
+use Rattle.mtl.proofs.Bounded.{true-and-false, le-or-lt}
+use Rattle.bits.specs.Packed.{bit, number}
+use Rattle.bits.proofs.Laws.{number-bit}
+use Rattle.verdicts.specs.Counts.{count-of, counts}
+use Rattle.verdicts.specs.Tally.{outside, beyond, Tallies}
+use Rattle.verdicts.specs.declared.Tallied.the-variants.{Counted, Refused}
+
+-- BITS BEYOND THE FORMULAS', of all bytes taken together
+
+positive : (x y : ℕ) → ltb 0 (bitOr x y) ≡ ltb 0 x || ltb 0 y
+positive zero y = ap (ltb 0) (or-zero-l y)
+positive (suc x) y =
+    let sum = or-add-and (suc x) y in
+    let less = and-le-r (suc x) y in
+    lt-ltb 0 (bitOr (suc x) y) (omega arith) ∙ rw (lt-ltb 0 (suc x) (omega arith))
+
+pub none-beyond : (formulas : ℕ) (s : List ℕ) → ltb 0 (0 / 2 ^ formulas) ≡ any 0 (beyond formulas s)
+unfolding any
+none-beyond formulas s = ap (ltb 0) (zero-div (2 ^ formulas))
+
+pub beyond-more : (formulas : ℕ) (s : List ℕ) (i all : ℕ) → ltb 0 (all / 2 ^ formulas) ≡ any i (beyond formulas s) →
+    ltb 0 (bitOr all (getD s i 0) / 2 ^ formulas) ≡ any (i + 1) (beyond formulas s)
+unfolding any
+beyond-more formulas s i all so-far =
+    ap (ltb 0) (or-shr all (getD s i 0) formulas)
+    ∙ positive (all / 2 ^ formulas) (getD s i 0 / 2 ^ formulas)
+    ∙ ap (λ (b : Bool). b || beyond formulas s i) so-far
+    ∙ ap (λ (n : ℕ). any n (beyond formulas s)) (sym (add-one i))
+
+module _ (k : ℕ) (s : List ℕ) where
+  pub count-none : (x : Bool) → 0 ≡ count-of x k s 0
+  unfolding count-of
+  count-none x = refl
+
+  number-is : (b : Bool) → cond (Bool·beq b true) 1 0 ≡ number b
+  number-is true = refl
+  number-is false = refl
+
+  -- one byte more counts by its bit
+  pub count-yes-more : (i : ℕ) → count-of true k s (i + 1) ≡ count-of true k s i + getD s i 0 / 2 ^ k % 2
+  unfolding count-of
+  count-yes-more i =
+      ap (count-of true k s) (add-one i)
+      ∙ ap (λ (v : ℕ). count-of true k s i + v) (number-is (bit (getD s i 0) k) ∙ number-bit (getD s i 0) k)
+
+  pub count-le : (x : Bool) (n : ℕ) → count-of x k s n ≤ n
+  unfolding count-of
+  count-le x zero = omega arith
+  count-le x (suc n) = by (Bool·beq (bit (getD s n 0) k) x) (count-le x n)
+    where
+      by : (b : Bool) → count-of x k s n ≤ n → count-of x k s n + cond b 1 0 ≤ suc n
+      by true h = omega arith
+      by false h = omega arith
+
+  -- a byte is no or yes
+  pub count-both : (n : ℕ) → count-of false k s n + count-of true k s n ≡ n
+  unfolding count-of
+  count-both zero = refl
+  count-both (suc n) = by (bit (getD s n 0) k) (count-both n)
+    where
+      by : (b : Bool) → count-of false k s n + count-of true k s n ≡ n →
+          count-of false k s n + cond (Bool·beq b false) 1 0 + (count-of true k s n + cond (Bool·beq b true) 1 0) ≡ suc n
+      by true e = omega arith
+      by false e = omega arith
+
+  pub count-no-is : (n : ℕ) → n - count-of true k s n ≡ count-of false k s n
+  count-no-is n = omega (arith, count-both n)
+
+-- THE COUNTS OF THE FIRST FORMULAS, in the first of lent words
+
+module _ (x : Bool) (s : List ℕ) where
+  pub length-counts : (k : ℕ) → length (counts x k s) ≡ k
+  unfolding counts
+  length-counts zero = refl
+  length-counts (suc k) =
+      let before = length-counts k in
+      let sum = length-append (counts x k s) (count-of x k s (length s) ∷ []) in
+      omega arith
+
+  -- count k is that of formula k
+  pub counts-at : (formulas k : ℕ) → k < formulas → getD (counts x formulas s) k 0 ≡ count-of x k s (length s)
+  unfolding counts
+  counts-at zero k h = absurd (omega arith)
+  counts-at (suc n) k h =
+      let c = count-of x n s (length s) in
+      ⊎-elim
+      (λ (l : n ≤ k). let same : k ≡ n = omega arith in rw same (getD-at (counts x n s) c [] 0 n (length-counts n)))
+      (λ (l : k < n). List·getD-append (counts x n s) (c ∷ []) 0 k (omega (arith, length-counts n)) ∙ counts-at n k l)
+      (le-or-lt n k)
+
+  pub counts-none : (l : List ℕ) → l ≡ counts x 0 s ++ drop 0 l
+  unfolding counts
+  counts-none l = refl
+
+  -- one formula more
+  pub counts-more : (k c : ℕ) (l l′ : List ℕ) → k < length l → c ≡ count-of x k s (length s) → l′ ≡ counts x k s ++ drop k l →
+      set l′ k c ≡ counts x (k + 1) s ++ drop (k + 1) l
+  unfolding counts
+  counts-more k c l l′ below e before =
+      ap (λ (m : List ℕ). set m k c) (before ∙ ap (λ (m : List ℕ). counts x k s ++ m) (drop-cons l k 0 below))
+      ∙ set-at (counts x k s) (getD l k 0) (drop (suc k) l) c k (length-counts k)
+      ∙ ap (λ (v : ℕ). counts x k s ++ (v ∷ drop (suc k) l)) e
+      ∙ sym (append-assoc (counts x k s) (count-of x k s (length s) ∷ []) (drop (suc k) l))
+      ∙ ap (λ (m : ℕ). counts x m s ++ drop m l) (sym (add-one k))
+
+-- THE ANSWER
+
+or-false : (a b : Bool) → a || b ≡ false → (a ≡ false) × (b ≡ false)
+or-false false b e = (refl, e)
+or-false true b e = let z : true ≡ false = e in absurd (true-and-false refl z)
+
+pub inside : (formulas : ℕ) → outside formulas ≡ false → (0 < formulas) × (formulas ≤ 8)
+inside formulas e =
+    let (low, high) = or-false (ltb formulas 1) (ltb 8 formulas) e in
+    (ltb-false formulas 1 low, ltb-false 8 formulas high)
+
+-- 15, and nothing is written
+pub refuses : (formulas : ℕ) (s nos yeses : List ℕ) → outside formulas || any (length s) (beyond formulas s) ≡ true →
+    Tallies formulas s nos yeses (Refused 15) nos yeses
+refuses formulas s nos yeses e = record { number = rw e; words = (omega arith, refl, refl) }
+
+pub refuses-number : (formulas : ℕ) (s nos yeses : List ℕ) → outside formulas ≡ true → Tallies formulas s nos yeses (Refused 15) nos yeses
+refuses-number formulas s nos yeses e = refuses formulas s nos yeses (rw e)
+
+pub refuses-byte : (formulas : ℕ) (s nos yeses : List ℕ) → outside formulas ≡ false → any (length s) (beyond formulas s) ≡ true →
+    Tallies formulas s nos yeses (Refused 15) nos yeses
+refuses-byte formulas s nos yeses within e = refuses formulas s nos yeses (rw (within, e))
+
+pub tallies : (formulas : ℕ) (s nos yeses nos′ yeses′ : List ℕ) → outside formulas ≡ false → any (length s) (beyond formulas s) ≡ false →
+    (nos′ ≡ counts false formulas s ++ drop formulas nos) × (yeses′ ≡ counts true formulas s ++ drop formulas yeses) →
+    Tallies formulas s nos yeses Counted nos′ yeses′
+tallies formulas s nos yeses nos′ yeses′ within none written = record { number = rw (within, none); words = written }
