@@ -2,7 +2,7 @@
 use Prim.Native.Nat.{ℕ, zero, suc, _+_, _*_, _-_, _≤_, _<_}
 use mathlib.Core.Bool.{Bool, true, false, cond, false≢true}
 use mathlib.Core.Logic.{⊎-elim}
-use mathlib.Core.Path.{_≡_, refl, sym, _∙_, ap, ap₂, subst}
+use mathlib.Core.Path.{_≡_, refl, sym, _∙_, ap, subst}
 use mathlib.Core.List.{List, [], _∷_, _++_}
 use native.Mathlib.Nat.{le-of-eq}
 use native.Mathlib.Omega.{arith}
@@ -13,7 +13,7 @@ use borrow.Author.Tests.{le-leb, leb-true, le-ltb, lt-ltb, ltb-true, ltb-false, 
 use Rattle.mtl.specs.Log.{Log, closing, NeverFalls, Agree, Continues}
 use Rattle.mtl.specs.Wanted.{wanted}
 use Rattle.mtl.proofs.Bounded.{same-test, le-or-lt}
-use Rattle.verdicts.specs.Counts.{Noes, noes-in}
+use Rattle.verdicts.specs.Counts.{noes-in}
 use Rattle.rule.specs.Entries.{version, count, decoded}
 use Rattle.rule.specs.Postfix.{most}
 use Rattle.rule.specs.Refusal.{first, refusal}
@@ -31,7 +31,7 @@ use Rattle.emit.specs.Verdicts.{formulas-of, columns, verdicts, first-records, 
 use Rattle.monitor.specs.Stands.{Stands}
 use Rattle.monitor.specs.Open.{Opens}
 use Rattle.monitor.specs.Resume.{resumed-number, Gives, Resumes}
-use Rattle.monitor.specs.Summary.{position-or, no-position, listed, Told, Summarizes}
+use Rattle.monitor.specs.Summary.{Told, Summarizes}
 use Rattle.monitor.specs.Status.{facts, known}
 use Rattle.monitor.specs.Status.{told as known-told}
 use Rattle.monitor.specs.declared.Opened.{Opened}
@@ -42,6 +42,7 @@ use Rattle.monitor.specs.declared.Resumed.the-variants.{Given, Refused}
 use Rattle.monitor.specs.declared.Summarized.{Summarized}
 use Rattle.monitor.specs.declared.Summarized.the-variants.{Counted}
 use Rattle.monitor.specs.declared.Summarized.the-variants.{Refused as SummaryRefused}
+use Rattle.monitor.proofs.Summarizing.{told-same}
 use Rattle.monitor.proofs.OwnCheckpoint.{own-given, own-within, not-outside}
 use Rattle.monitor.proofs.VerdictBytes.{length-verdicts, verdicts-more, take-verdicts, verdicts-stay}
 use Rattle.calls.specs.Calls.{Untouched, Call, given-by, brought-by, closed-by, closed-at, laid, the-call, Brings, BringsAfter, Lends, point-after, OneCall, Calls, Each, AllWhenCaughtUp, OneRun, Keeps, expected-refusal, Demand3}
@@ -429,19 +430,6 @@ none-met rule K d p fine stands =
       stands .own,
       not-outside rule K d p fine stands,
     )
-
--- numbers that are the same one by one
-listed-same : (f g : ℕ → ℕ) (n : ℕ) → ((k : ℕ) → k < n → f k ≡ g k) → listed f n ≡ listed g n
-unfolding listed
-listed-same f g zero same = refl
-listed-same f g (suc n) same = ap₂ (λ l x. l ++ (x ∷ [])) (listed-same f g n (λ k h. same k (omega arith))) (same n (omega arith))
-
-told-same : (n : ℕ) (x y : ℕ → Noes) (nos latest nos′ latest′ : List ℕ) → ((k : ℕ) → k < n → x k ≡ y k) →
-    Told n x nos latest nos′ latest′ → Told n y nos latest nos′ latest′
-told-same n x y nos latest nos′ latest′ same (counts, positions) = (
-  counts ∙ ap (λ l. l ++ drop n nos) (listed-same _ _ n (λ k h. ap (λ (a : Noes). a .count) (same k h))),
-  positions ∙ ap (λ l. l ++ drop n latest) (listed-same _ _ n (λ k h. ap (λ (a : Noes). position-or (a .latest) no-position) (same k h))),
-)
 
 -- of each formula the count of no and the latest of them, as a checkpoint has them
 own-summary : (rule : List ℕ) (K : Log) (d : ℕ) (p : List ℕ) → refusal rule ≡ 0 → Stands rule K d p →

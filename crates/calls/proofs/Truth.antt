@@ -26,7 +26,7 @@ use Rattle.verdicts.specs.Tally.{beyond, tally-refusal}
 use Rattle.verdicts.proofs.Bytes.{byte-of-one, byte-of-lt}
 use Rattle.rule.specs.Entries.{version}
 use Rattle.emit.specs.Verdicts.{formulas-of, answers-of, columns, verdict, first-records, answered}
-use Rattle.monitor.specs.Summary.{listed, counts-of}
+use Rattle.monitor.specs.Summary.{counts-of}
 use Rattle.monitor.proofs.Meaning.{most-few, rule-reads, few-columns}
 use Rattle.monitor.proofs.VerdictBytes.{length-verdicts, verdict-at}
 use Rattle.calls.specs.Calls.{Untouched, Call, given-by, brought-by, closed-by, before-closing, laid, Calls, Says, Demand2}
@@ -89,12 +89,6 @@ module _ (rule log : List ℕ) (untouched : Untouched log) (h : List Call) (poin
 
 nothing-left : (byte n : ℕ) → byte < 2 ^ n → ltb 0 (byte / 2 ^ n) ≡ false
 nothing-left byte n h = rw (div-eq-of-lt h)
-
--- the counts of `tally` are those of the scan
-counts-listed : (s : List ℕ) (n : ℕ) → counts false n s ≡ counts-of (λ k. noes-in k s (length s)) n
-unfolding counts listed
-counts-listed s zero = refl
-counts-listed s (suc n) = ap (λ l. l ++ (noes-in n s (length s) .count ∷ [])) (counts-listed s n)
 
 -- BEFORE THE FIRST CLOSING
 
@@ -168,4 +162,4 @@ module _ (rule log : List ℕ) (untouched : Untouched log) (h : List Call) (poin
       let eight = most-few (version rule) in
       let none : any (length bytes) (beyond n bytes) ≡ false =
       any-false-iff (length bytes) (beyond n bytes) .1 (λ i l. nothing-left (getD bytes i 0) n (demand-2 .no-bit-beyond i l)) in
-      (rw (le-ltb n 1 (omega arith), le-ltb 8 n (omega arith), none), counts-listed bytes n)
+      (rw (le-ltb n 1 (omega arith), le-ltb 8 n (omega arith), none), refl)

@@ -1,15 +1,14 @@
 -- What `summary`, `status` and `formulas` promise, by the outcome of their checks.
-use Prim.Native.Nat.{ℕ, zero, suc, _+_, _≤_, _<_, max}
-use mathlib.Core.Path.{_≡_, refl, sym, ap, ap₂, _∙_}
-use mathlib.Core.List.{List, [], _∷_, _++_, append-assoc}
-use native.Mathlib.Numerals.{add-one}
+use Prim.Native.Nat.{ℕ, _+_, _≤_, _<_, max}
+use mathlib.Core.Path.{_≡_, refl, sym, ap, _∙_}
+use mathlib.Core.List.{List, _++_}
 use native.Mathlib.Omega.{arith}
 use lib.Dec.{ltb}
-use lib.ListN.{length, getD, drop, set, length-append}
-use lib.Seq.{drop-cons, set-at}
+use lib.ListN.{length, drop}
 use borrow.Author.Tests.{eq-eqb, ne-eqb}
 use Rattle.mtl.specs.Wanted.{wanted}
 use Rattle.verdicts.specs.Counts.{Noes}
+use Rattle.verdicts.proofs.Listed.{listed-same}
 use Rattle.rule.specs.declared.Entry.{Entry}
 use Rattle.rule.specs.declared.measuring.Ends.{Ends}
 use Rattle.rule.specs.Entries.{version}
@@ -22,7 +21,7 @@ use Rattle.checkpoint.specs.Refusal.{summary-refusal}
 use Rattle.checkpoint.proofs.Checks.{is-accepted, has-room}
 use Rattle.checkpoint.proofs.Offsets.{noes-within}
 use Rattle.emit.specs.Verdicts.{formulas-of, columns}
-use Rattle.monitor.specs.Summary.{position-or, no-position, listed, counts-of, latest-words, Told, Summarizes}
+use Rattle.monitor.specs.Summary.{position-or, no-position, counts-of, latest-words, Told, Summarizes}
 use Rattle.monitor.specs.Status.{known}
 use Rattle.monitor.specs.Status.{answer as standing-of, told as known-told, refused-with as known-refused}
 use Rattle.monitor.specs.Formulas.{Answer, answer, formula-count}
@@ -32,39 +31,6 @@ use Rattle.monitor.specs.declared.Standing.the-variants.{Refused as Unkn
 use Rattle.monitor.specs.declared.FormulaCount.the-variants.{Formulas}
 use Rattle.monitor.specs.declared.FormulaCount.the-variants.{Refused as Uncounted}
 use Rattle.monitor.proofs.Meaning.{most-few, few-columns, rule-ended}
-
--- ONE NUMBER FOR EACH FORMULA
-
-module _ (f : ℕ → ℕ) where
-  length-listed : (n : ℕ) → length (listed f n) ≡ n
-  unfolding listed
-  length-listed zero = refl
-  length-listed (suc k) =
-      let e = length-listed k in
-      let sum = length-append (listed f k) (f k ∷ []) in
-      omega arith
-
-  pub listed-none : (l : List ℕ) → l ≡ listed f 0 ++ drop 0 l
-  unfolding listed
-  listed-none l = refl
-
-  -- one formula more
-  pub listed-more : (k v : ℕ) (l l′ : List ℕ) → k < length l → v ≡ f k → l′ ≡ listed f k ++ drop k l →
-      set l′ k v ≡ listed f (k + 1) ++ drop (k + 1) l
-  unfolding listed
-  listed-more k v l l′ below e before =
-      ap (λ (m : List ℕ). set m k v) (before ∙ ap (λ (m : List ℕ). listed f k ++ m) (drop-cons l k 0 below)) ∙
-      set-at (listed f k) (getD l k 0) (drop (suc k) l) v k (length-listed k) ∙
-      ap (λ (w : ℕ). listed f k ++ (w ∷ drop (suc k) l)) e ∙
-      sym (append-assoc (listed f k) (f k ∷ []) (drop (suc k) l)) ∙
-      ap (λ (m : ℕ). listed f m ++ drop m l) (sym (add-one k))
-
--- the numbers are the same where those of each formula are
-pub listed-same : (f g : ℕ → ℕ) (n : ℕ) → ((k : ℕ) → k < n → f k ≡ g k) → listed f n ≡ listed g n
-unfolding listed
-listed-same f g zero same = refl
-listed-same f g (suc n) same =
-    ap₂ (λ (l : List ℕ) (v : ℕ). l ++ (v ∷ [])) (listed-same f g n (λ k h. same k (omega arith))) (same n (omega arith))
 
 -- what is told of counts is told of the same counts
 pub told-same : (n : ℕ) (x y : ℕ → Noes) (nos latest nos′ latest′ : List ℕ) → ((k : ℕ) → k < n → x k ≡ y k) → Told n x nos latest nos′ latest′ →

@@ -22,9 +22,9 @@ use Rattle.trace.specs.Order.{last-time}
 use Rattle.checkpoint.specs.Refusal.{log-refusal, resume-refusal}
 use Rattle.checkpoint.specs.Checkpoint.{format, copy-start, stored-noes}
 use Rattle.verdicts.specs.Bytes.{byte-of}
-use Rattle.verdicts.specs.Counts.{count-of, latest-no, Noes, noes-in, laid-behind}
+use Rattle.verdicts.specs.Counts.{count-of, latest-no, Noes, noes-in, laid-behind, listed}
 use Rattle.emit.specs.Verdicts.{formulas-of, verdicts, answered, all-verdicts}
-use Rattle.monitor.specs.Summary.{no-position, listed, counts-of, latest-words}
+use Rattle.monitor.specs.Summary.{no-position, counts-of, latest-words}
 use Rattle.monitor.specs.Status.{Answer, told, refused-with, known}
 use Rattle.monitor.specs.Formulas.{formula-count}
 

@@ -5,7 +5,7 @@ use mathlib.Core.Path.{_≡_}
 use mathlib.Core.List.{List, [], _∷_, _++_}
 use mathlib.Core.Option.{Option, none, some}
 use lib.ListN.{drop}
-use Rattle.verdicts.specs.Counts.{Noes}
+use Rattle.verdicts.specs.Counts.{Noes, listed}
 use Rattle.rule.specs.Entries.{version}
 use Rattle.rule.specs.Postfix.{most}
 use Rattle.checkpoint.specs.Checkpoint.{stored-noes}
@@ -28,11 +28,6 @@ position-or (some i) other = i
 -- the lent word where no verdict given is no: no position is that large
 abbrev pub no-position : ℕ
 no-position = 2 ^ 64 - 1
-
--- one number for each of the first n formulas, that of formula 0 first
-unfoldable pub listed : (f : ℕ → ℕ) (n : ℕ) → List ℕ
-listed f zero = []
-listed f (suc k) = listed f k ++ (f k ∷ [])
 
 abbrev pub counts-of : (noes : ℕ → Noes) (n : ℕ) → List ℕ
 counts-of noes n = listed (λ k. noes k .count) n

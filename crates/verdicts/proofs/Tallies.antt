@@ -4,16 +4,14 @@ use native.Mathlib.Nat.{zero-div}
 use native.Mathlib.Numerals.{add-one}
 use native.Mathlib.Omega.{arith}
 use mathlib.Core.Bool.{Bool, true, false, cond, _||_, Bool·beq}
-use mathlib.Core.List.{List, [], _∷_, _++_, append-assoc}
-use mathlib.Core.Logic.{⊎-elim}
+use mathlib.Core.List.{List, _++_}
 use mathlib.Core.Path.{_≡_, refl, sym, ap, _∙_}
 use lib.Bits.{bitOr, or-zero-l, or-add-and, and-le-r, or-shr}
 use lib.Dec.{ltb}
-use lib.ListN.{length, getD, drop, set, length-append, List·getD-append}
-use lib.Seq.{drop-cons, set-at, getD-at}
+use lib.ListN.{length, getD, drop}
 use borrow.Author.Tests.{ltb-false, lt-ltb}
 use Rattle.mtl.specs.Satisfaction.{any}
-use Rattle.mtl.proofs.Bounded.{true-and-false, le-or-lt}
+use Rattle.mtl.proofs.Bounded.{true-and-false}
 use Rattle.bits.specs.Packed.{bit, number}
 use Rattle.bits.proofs.Laws.{number-bit}
 use Rattle.verdicts.specs.Counts.{count-of, counts}
@@ -80,43 +78,6 @@ module _ (k : ℕ) (s : List ℕ) where
 
   pub count-no-is : (n : ℕ) → n - count-of true k s n ≡ count-of false k s n
   count-no-is n = omega (arith, count-both n)
-
--- THE COUNTS OF THE FIRST FORMULAS, in the first of lent words
-
-module _ (x : Bool) (s : List ℕ) where
-  pub length-counts : (k : ℕ) → length (counts x k s) ≡ k
-  unfolding counts
-  length-counts zero = refl
-  length-counts (suc k) =
-      let before = length-counts k in
-      let sum = length-append (counts x k s) (count-of x k s (length s) ∷ []) in
-      omega arith
-
-  -- count k is that of formula k
-  pub counts-at : (formulas k : ℕ) → k < formulas → getD (counts x formulas s) k 0 ≡ count-of x k s (length s)
-  unfolding counts
-  counts-at zero k h = absurd (omega arith)
-  counts-at (suc n) k h =
-      let c = count-of x n s (length s) in
-      ⊎-elim
-      (λ (l : n ≤ k). let same : k ≡ n = omega arith in rw same (getD-at (counts x n s) c [] 0 n (length-counts n)))
-      (λ (l : k < n). List·getD-append (counts x n s) (c ∷ []) 0 k (omega (arith, length-counts n)) ∙ counts-at n k l)
-      (le-or-lt n k)
-
-  pub counts-none : (l : List ℕ) → l ≡ counts x 0 s ++ drop 0 l
-  unfolding counts
-  counts-none l = refl
-
-  -- one formula more
-  pub counts-more : (k c : ℕ) (l l′ : List ℕ) → k < length l → c ≡ count-of x k s (length s) → l′ ≡ counts x k s ++ drop k l →
-      set l′ k c ≡ counts x (k + 1) s ++ drop (k + 1) l
-  unfolding counts
-  counts-more k c l l′ below e before =
-      ap (λ (m : List ℕ). set m k c) (before ∙ ap (λ (m : List ℕ). counts x k s ++ m) (drop-cons l k 0 below))
-      ∙ set-at (counts x k s) (getD l k 0) (drop (suc k) l) c k (length-counts k)
-      ∙ ap (λ (v : ℕ). counts x k s ++ (v ∷ drop (suc k) l)) e
-      ∙ sym (append-assoc (counts x k s) (count-of x k s (length s) ∷ []) (drop (suc k) l))
-      ∙ ap (λ (m : ℕ). counts x m s ++ drop m l) (sym (add-one k))
 
 -- THE ANSWER
 

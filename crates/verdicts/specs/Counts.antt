@@ -17,10 +17,14 @@ unfoldable pub latest-no : (k : ℕ) → List ℕ → (n : ℕ) → Option ℕ
 latest-no k s zero = none
 latest-no k s (suc n) = cond (bit (getD s n 0) k) (latest-no k s n) (some n)
 
--- the counts of the first formulas over a whole sheet, one a formula
-unfoldable pub counts : (x : Bool) (formulas : ℕ) → List ℕ → List ℕ
-counts x zero s = []
-counts x (suc k) s = counts x k s ++ (count-of x k s (length s) ∷ [])
+-- one number for each of the first n formulas, that of formula 0 first
+unfoldable pub listed : (f : ℕ → ℕ) (n : ℕ) → List ℕ
+listed f zero = []
+listed f (suc k) = listed f k ++ (f k ∷ [])
+
+-- the counts of the first formulas over a whole sheet
+abbrev pub counts : (x : Bool) (formulas : ℕ) → List ℕ → List ℕ
+counts x formulas s = listed (λ k. count-of x k s (length s)) formulas
 
 pub record Noes : Type 0 where
   pub count : ℕ

@@ -6,7 +6,7 @@ use mathlib.Core.Option.{some}
 use mathlib.Core.Path.{_≡_, refl}
 use Rattle.mtl.specs.Satisfaction.{any}
 use Rattle.verdicts.specs.Bytes.{byte-of, answers-at, bytes-of}
-use Rattle.verdicts.specs.Counts.{count-of, latest-no, counts, noes-in, laid-behind}
+use Rattle.verdicts.specs.Counts.{count-of, latest-no, listed, counts, noes-in, laid-behind}
 use Rattle.verdicts.specs.Tally.{tally-refusal}
 
 -- eight answers in one byte: formulas 0, 1, 4 and 7 say yes
@@ -29,11 +29,11 @@ abbrev sheet : List ℕ
 sheet = 1 ∷ 2 ∷ 1 ∷ 1 ∷ []
 
 no-counts : counts false 2 sheet ≡ 1 ∷ 3 ∷ []
-unfolding count-of counts
+unfolding count-of listed
 no-counts = refl
 
 yes-counts : counts true 2 sheet ≡ 3 ∷ 1 ∷ []
-unfolding count-of counts
+unfolding count-of listed
 yes-counts = refl
 
 tallied : tally-refusal 2 sheet ≡ 0

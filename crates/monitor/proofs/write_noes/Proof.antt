@@ -8,7 +8,7 @@ use lib.ListN.{length, drop, length-set}
 use borrow.Author.Needs.{needs}
 use Rattle.checkpoint.specs.Checkpoint.{stored-noes}
 use Rattle.monitor.specs.Summary.{position-or, no-position, counts-of, latest-words}
-use Rattle.monitor.proofs.Summarizing.{listed-none, listed-more}
+use Rattle.verdicts.proofs.Listed.{listed-none, listed-more}
 use Rattle.monitor.proofs.write_noes.Statement.{statement}
 use Rattle.monitor.proofs.write_noes.Tie as tie
 

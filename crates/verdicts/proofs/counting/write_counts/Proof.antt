@@ -1,15 +1,20 @@
 -- `counting::write_counts` meets its contract. The loop's invariant: the counts of the first k formulas are written.
 use Prim.Native.Nat.{ℕ, _-_, _≤_}
 use native.Mathlib.Omega.{arith}
-use mathlib.Core.Bool.{true, false}
-use mathlib.Core.List.{_++_}
+use mathlib.Core.Bool.{Bool, true, false}
+use mathlib.Core.List.{List, _++_}
 use mathlib.Core.Path.{_≡_, refl, ap, _∙_}
 use lib.ListN.{length, drop, length-set}
 use borrow.Author.Needs.{needs}
 use Rattle.verdicts.specs.Counts.{count-of, counts}
-use Rattle.verdicts.proofs.Tallies.{counts-none, counts-more, count-no-is}
+use Rattle.verdicts.proofs.Listed.{listed-none, listed-more}
+use Rattle.verdicts.proofs.Tallies.{count-no-is}
 use Rattle.verdicts.proofs.counting.write_counts.Statement.{statement}
 use Rattle.verdicts.proofs.counting.write_counts.Tie as tie
+
+-- formula k's count over the whole sheet
+abbrev numbers : Bool → List ℕ → ℕ → ℕ
+numbers x s k = count-of x k s (length s)
 
 abbrev Inv-loop : tie.InvT-loop
 Inv-loop sheet formulas no₀ yes₀ k₀ no' yes' k =
@@ -25,7 +30,7 @@ abbrev μ-loop : tie.MeasureT-loop
 loop-holds : tie.Need-loop-holds Inv-loop μ-loop
 loop-holds c =
     let a = c .before .before .before .args in
-    (omega arith, refl, refl, counts-none false (a .sheet .now) (a .no .now), counts-none true (a .sheet .now) (a .yes .now))
+    (omega arith, refl, refl, listed-none (numbers false (a .sheet .now)) (a .no .now), listed-none (numbers true (a .sheet .now)) (a .yes .now))
 
 loop-again : tie.Need-loop-again Inv-loop μ-loop
 loop-again c =
@@ -38,8 +43,8 @@ loop-again c =
       omega arith,
       simp length-set (l .inv .1),
       simp length-set (l .inv .2),
-      counts-more false s (l .k) (length s - count) (a .no .now) (l .no) (omega arith) is-no (l .inv .3),
-      counts-more true s (l .k) count (a .yes .now) (l .yes) (omega arith) is (l .inv .4),
+      listed-more (numbers false s) (l .k) (length s - count) (a .no .now) (l .no) (omega arith) is-no (l .inv .3),
+      listed-more (numbers true s) (l .k) count (a .yes .now) (l .yes) (omega arith) is (l .inv .4),
     )
 
 returns : tie.Need-returns Inv-loop μ-loop
