@@ -27,7 +27,7 @@ use Rattle.mtl.proofs.Closing.{
 }
 use Rattle.bits.specs.Packed.{Packed}
 use Rattle.bits.proofs.Laws.{packed-none, packed-push, packed-same, packed-not, packed-or, packed-and}
-use Rattle.trace.specs.Format.{record-count, has-letter}
+use Rattle.trace.specs.Format.{record-count, time-at, has-letter}
 use Rattle.blocks.specs.Block.{taken, left-count, left-bits, right-count, right-bits, answered, KeptBlock, Core, Own, RightBuffer, Buffers, Ready, took-right, took-both}
 use Rattle.blocks.specs.Near.{near-at}
 use Rattle.blocks.specs.Step.{Agrees, Stepped, Moved, has-left, left-to-do}
@@ -143,12 +143,12 @@ module _ (s b : List ℕ) (room : 16 ≤ length b) (n : ℕ) (some : 0 < n) wher
       -- χ at g + i is the operand's answer at the i-th position that is taken, if position from + i lies in the interval after
       -- the one before
       near-packed : {closed : Bool} (χ : Formula) (from near : ℕ) → 0 < from → from + n ≤ record-count s → Agrees closed s L (from - 1) →
-          Packed (near-at low high s) from n near → RightBuffer φ L b →
+          Packed (near-at low high (time-at s)) from n near → RightBuffer φ L b →
           ((i : ℕ) → i < n → sat χ L (g + i) ≡ within low high (L .time (from + i - 1)) (L .time (from + i)) && sat φ L (taken b + i)) →
           Packed (sat χ L) g n (bitAnd near (right-bits b))
       near-packed χ from near past inside agrees packed right same =
           let size = agrees .size in
-          let is-near = near-at low high s in
+          let is-near = near-at low high (time-at s) in
           let operand : ℕ → Bool = λ j. sat φ L (taken b + (j - from)) in
           let held = packed-same (sat φ L) operand (taken b) from n (right-bits b) (λ i l. ap (λ j. sat φ L (taken b + j)) (omega arith)) (first-of n h right) in
           packed-same
@@ -165,7 +165,7 @@ module _ (s b : List ℕ) (room : 16 ≤ length b) (n : ℕ) (some : 0 < n) wher
           (packed-and is-near operand from n near (right-bits b) packed held)
 
       pub previous-batch : {closed : Bool} → Agrees closed s L (g - 1) → (near : ℕ) → 0 < answered b → answered b + n ≤ record-count s →
-          Packed (near-at low high s) (answered b) n near → Ready (previous low high φ) L g b →
+          Packed (near-at low high (time-at s)) (answered b) n near → Ready (previous low high φ) L g b →
           Stepped (previous low high φ) L g b (Batch (bitAnd near (right-bits b)) n) (set (took-right n b) 5 (answered b + n))
       unfolding sat
       previous-batch agrees near past inside packed ready =
@@ -229,7 +229,7 @@ module _ (s b : List ℕ) (room : 16 ≤ length b) (n : ℕ) (some : 0 < n) wher
           )
 
       pub next-batch : {closed : Bool} → Agrees closed s L g → (near : ℕ) → 0 < taken b → taken b + n ≤ record-count s →
-          Packed (near-at low high s) (taken b) n near → Ready (next low high φ) L g b →
+          Packed (near-at low high (time-at s)) (taken b) n near → Ready (next low high φ) L g b →
           Stepped (next low high φ) L g b (Batch (bitAnd near (right-bits b)) n) (set (took-right n b) 5 (answered b + n))
       unfolding sat
       next-batch agrees near past inside packed ready =
