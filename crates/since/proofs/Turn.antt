@@ -19,12 +19,13 @@ use Rattle.bits.proofs.Laws.{with-bit-lt, packed-none, packed-push, packed-same
 use Rattle.rule.specs.Words.{ring-words}
 use Rattle.trace.specs.Format.{record-count, times-from}
 use Rattle.trace.proofs.Laws.{time-bound}
-use Rattle.blocks.specs.Block.{word, taken, left-count, left-bits, right-count, right-bits, KeptBlock, Ready, took-both}
+use Rattle.blocks.specs.Block.{word, taken, left-count, left-bits, right-count, right-bits, Onward, Ready, took-both}
 use Rattle.blocks.specs.Ring.{Ring, Rings, Witnesses, turned, turns, reaches, reached}
 use Rattle.blocks.specs.Step.{Agrees, Stepped, Steps}
 use Rattle.blocks.specs.declared.Step.the-variants.{Batch, Left, Right, Open}
 use Rattle.blocks.proofs.Words.{word-stores, after, fits, Available}
-use Rattle.blocks.proofs.Taking.{both-stores, both-keeps, first-of, taken-both}
+use Rattle.blocks.proofs.Onward.{still, onward-trans}
+use Rattle.blocks.proofs.Taking.{both-stores, both-onward, first-of, taken-both}
 use Rattle.since.proofs.Witnesses.{turn-keeps, oldest-decides}
 use Rattle.since.proofs.Cells.{ring-kept, followed}
 
@@ -108,9 +109,13 @@ module _ (low high : ℕ) (time : ℕ → ℕ) (left right : ℕ → Bool) (g n 
             packed,
       )
 
--- the turns and the taking keep words 12 to 15
-pub since-keeps : {cells : ℕ} {f : List ℕ → List ℕ} {b d : List ℕ} (n : ℕ) → Rings cells f b d → KeptBlock b (took-both n d)
-since-keeps {d = d} n turn i h l = both-keeps n d i h l ∙ turn .others i l (λ e. omega arith) (λ e. omega arith)
+-- the turns move no head, and the taking puts none back
+pub since-onward : {cells : ℕ} {f : List ℕ → List ℕ} {b d : List ℕ} (n : ℕ) → 16 ≤ length d → Rings cells f b d → Onward 12 b (took-both n d)
+since-onward {b = b} {d = d} n room turn =
+    onward-trans
+    (still b d (turn .others 0 (omega arith) (λ e. omega arith) (λ e. omega arith)) (turn .others 5 (omega arith) (λ e. omega arith) (λ e. omega arith))
+    (λ i h l. turn .others i l (λ e. omega arith) (λ e. omega arith)))
+    (both-onward n d room)
 
 module _ (low high : ℕ) (s b : List ℕ) where
   pub since-left : (closed : Bool) (φ ψ : Formula) → Steps closed (since low high φ ψ) s b Left b
@@ -210,7 +215,6 @@ module _ (low high : ℕ) (s b : List ℕ) where
                   at = at;
                   count = count-right;
                   bits = words 4 ∙ ap (λ (x : ℕ). x / 2 ^ n) (turned-word 4 (omega arith));
-                  answered = omega (arith, kept 5 (omega arith));
                 };
                 count = count-left;
                 bits = words 2 ∙ ap (λ (x : ℕ). x / 2 ^ n) (turned-word 2 (omega arith));

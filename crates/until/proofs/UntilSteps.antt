@@ -41,7 +41,7 @@ use Rattle.blocks.specs.Block.{
   last-left,
   last-right,
   last-time,
-  KeptBlock,
+  Onward,
   Until,
   Buffer,
   Ready,
@@ -55,7 +55,7 @@ use Rattle.until.specs.declared.Settled.the-variants.{Known, Unknown}
 use Rattle.blocks.specs.declared.Step.{Step}
 use Rattle.blocks.specs.declared.Step.the-variants.{Batch, Left, Right, Again, Open}
 use Rattle.until.proofs.UntilLogic as logic
-use Rattle.blocks.proofs.Words.{Store, put, after, word-stores, stores-keep, fits, less-to-do, Available}
+use Rattle.blocks.proofs.Words.{Store, put, after, word-stores, stores-onward, fits, less-to-do, Available}
 use Rattle.blocks.proofs.Taking.{both-stores, first-of, taken-both}
 
 -- an answer as a word, and back
@@ -319,9 +319,8 @@ module _ {low high : ℕ} {s : List ℕ} {closed : Bool} {b : List ℕ} {n : ℕ
   at : (k : ℕ) → word b′ k ≡ after (walked-stores w b) (word b) k
   at = word-stores (walked-stores w b) b (omega arith) (went .room)
 
-  -- words 12 to 15 are kept
-  pub walked-keeps : KeptBlock b b′
-  walked-keeps = stores-keep (walked-stores w b) b (omega arith)
+  pub walked-onward : Onward 12 b b′
+  walked-onward = stores-onward (walked-stores w b) b (went .room) (omega arith) (omega arith) (omega arith)
 
   -- the walk's end fits the block
   pub put-back-fits : taken b ≤ record-count s → record-count s < 2 ^ 64 → answered b < 2 ^ 64 →
@@ -334,7 +333,7 @@ module _ {low high : ℕ} {s : List ℕ} {closed : Bool} {b : List ℕ} {n : ℕ
 
   -- what is left to do falls with every position taken
   pub took-ends : 0 < w .took → Ends true true s b Again b′
-  took-ends h = (less-to-do s b b′ (w .took) h (let i = went .some .inside (omega arith) in omega arith) (at 0), walked-keeps)
+  took-ends h = (less-to-do s b b′ (w .took) h (let i = went .some .inside (omega arith) in omega arith) (at 0), walked-onward)
 
   module _ (φ ψ : Formula) (L : Log) (g : ℕ) (falls : NeverFalls L) (agrees : Agrees closed s L g) (ready : Ready (until low high φ ψ) L g b) where
     -- the first n positions of a buffer
@@ -376,7 +375,7 @@ module _ {low high : ℕ} {s : List ℕ} {closed : Bool} {b : List ℕ} {n : ℕ
         (omega (arith, at 0, at 1, at 3, at 5, at 6, at 7, at 8, at 9, at 10, fits lefts))
         (at 5 ∙ ap (λ (q : ℕ). q + w .count) i, rw (at 0, at 6, at 7, at 8) (reached .heads))
         (λ q. q) (omega arith) (omega arith)
-        (record { right = record { at = at 0; count = at 3; bits = at 4; answered = omega (arith, at 5) }; count = at 1; bits = at 2 })
+        (record { right = record { at = at 0; count = at 3; bits = at 4 }; count = at 1; bits = at 2 })
         (ready .buffers .0) (ready .buffers .1)
 
     pub answers-some : 0 < w .count → Stepped (until low high φ ψ) L g b (Batch (w .bits) (w .count)) b′
