@@ -15,9 +15,9 @@ use Rattle.verdicts.proofs.Noes.{noes, noes-of-bits, latest-end}
 use Rattle.rule.specs.Postfix.{formula}
 use Rattle.blocks.specs.Block.{word}
 use Rattle.blocks.proofs.Words.{later}
-use Rattle.engine.specs.State.{words, own-at, words-before, KeptCopies}
+use Rattle.engine.specs.State.{words, own-at, words-before, OnwardFormula}
 use Rattle.engine.specs.Tops.{place}
-use Rattle.engine.proofs.Held.{HeldWords, held-state, copies-held}
+use Rattle.engine.proofs.Held.{HeldWords, held-state, formula-held}
 use Rattle.engine.proofs.Beside.{before-grows}
 use Rattle.checkpoint.specs.Checkpoint.{given, stored-noes}
 use Rattle.emit.specs.Top.{held-count, held-bits, Waiting, part-of, Top}
@@ -320,8 +320,8 @@ module _ {table tops : List ℕ} {base number : ℕ} {fs : List Formula} (most n
               (le-or-lt (words φ) i);
         }
 
-    pub now-kept : KeptCopies φ (part-of base fs k ws) (part-of base fs k spent-all)
-    now-kept = copies-held φ (part-of base fs k ws) (part-of base fs k spent-all) now-held
+    pub now-onward : OnwardFormula φ (part-of base fs k ws) (part-of base fs k spent-all)
+    now-onward = formula-held φ (part-of base fs k ws) (part-of base fs k spent-all) now-held
 
     now-waiting : (L : Log) (d : ℕ) → n ≤ held-count φ (part-of base fs k ws) → Waiting φ L d (part-of base fs k ws) → Waiting φ L (d + n) (part-of base fs k spent-all)
     now-waiting L d some waits =
