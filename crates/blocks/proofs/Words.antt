@@ -15,7 +15,7 @@ use Rattle.mtl.specs.Progress.{settled-to}
 use Rattle.mtl.proofs.Closing.{settled-le-size}
 use Rattle.bits.proofs.Laws.{packed-none, packed-rest}
 use Rattle.trace.specs.Format.{record-count}
-use Rattle.blocks.specs.Block.{word, taken, left-count, right-count, answered, Forward, Onward, Buffer}
+use Rattle.blocks.specs.Block.{word, taken, left-count, right-count, answered, Onward, Buffer}
 use Rattle.blocks.specs.Step.{empty, left-to-do}
 
 -- a store: an index and the word put there

@@ -1,7 +1,7 @@
 -- One accepted call on exactly the words that its rule needs: where its formulas stand, and the header once the log's end is noted.
 use Prim.Native.Nat.{ℕ, suc, _+_, _-_, _≤_, _<_, min}
-use mathlib.Core.Bool.{Bool, true, false, cond}
-use mathlib.Core.Path.{_≡_, refl, sym, ap₂, _∙_}
+use mathlib.Core.Bool.{Bool, cond}
+use mathlib.Core.Path.{_≡_, sym, ap₂, _∙_}
 use mathlib.Core.List.{List}
 use mathlib.Core.Logic.{⊎-elim}
 use native.Mathlib.Omega.{arith}
@@ -26,7 +26,7 @@ use Rattle.engine.proofs.Formulas.{rule-size}
 use Rattle.engine.proofs.Uniform.{agrees-later}
 use Rattle.checkpoint.specs.Checkpoint.{stored-noes}
 use Rattle.emit.specs.Top.{held-count, part-of, Top}
-use Rattle.emit.specs.Code.{Fits, Held, Giving, Frame, Gave, Ready, Emits}
+use Rattle.emit.specs.Code.{Fits, Held, Frame, Gave, Ready, Emits}
 use Rattle.emit.specs.declared.Emitted.{Emitted}
 use Rattle.emit.proofs.Meaning.{joint-least}
 use Rattle.emit.proofs.Places.{part-same}

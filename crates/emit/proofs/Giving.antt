@@ -1,16 +1,15 @@
 -- The verdicts of one call, portion by portion: what holds between two portions, and what holds at the end.
-use Prim.Native.Nat.{ℕ, zero, suc, _+_, _-_, _≤_, _<_, _^_, max, zero-le}
-use mathlib.Core.Bool.{Bool, true, false}
+use Prim.Native.Nat.{ℕ, zero, suc, _+_, _-_, _≤_, _<_, _^_, zero-le}
+use mathlib.Core.Bool.{Bool, false}
 use mathlib.Core.Logic.{⊎-elim}
 use mathlib.Core.Option.{none}
 use mathlib.Core.Path.{_≡_, refl, sym, ap, ap₂, _∙_}
-use mathlib.Core.List.{List, [], _∷_}
+use mathlib.Core.List.{List}
 use native.Mathlib.Omega.{arith}
 use lib.ListN.{length, getD, take, drop, length-take}
 use lib.Seq.{drop-drop, getD-take}
 use Rattle.mtl.specs.Formula.{Formula}
 use Rattle.mtl.specs.Log.{Log, NeverFalls}
-use Rattle.mtl.specs.Progress.{joint-progress}
 use Rattle.mtl.specs.Wanted.{wanted}
 use Rattle.mtl.proofs.Bounded.{le-or-lt}
 use Rattle.bits.specs.Packed.{bit, zeros, last-zero}
@@ -25,8 +24,8 @@ use Rattle.engine.specs.Tops.{place}
 use Rattle.engine.proofs.Onward.{formula-refl, formula-trans}
 use Rattle.engine.proofs.Uniform.{agrees-later}
 use Rattle.checkpoint.specs.Checkpoint.{given, stored-noes}
-use Rattle.emit.specs.Verdicts.{columns, verdict}
-use Rattle.emit.specs.Top.{held-count, held-bits, part-of, Top}
+use Rattle.emit.specs.Verdicts.{columns}
+use Rattle.emit.specs.Top.{part-of, Top}
 use Rattle.emit.specs.Code.{Fits, Held, Answered, all-spent, Spendable, Giving, Frame, Gave}
 use Rattle.emit.proofs.Meaning.{all-bits, verdict-answers}
 use Rattle.emit.proofs.Places.{count-at, bits-at}

@@ -1,8 +1,8 @@
 -- What asking one formula does to the words, and asking all of them, one after the other.
-use Prim.Native.Nat.{ℕ, zero, suc, _+_, _-_, _≤_, _<_, min}
+use Prim.Native.Nat.{ℕ, suc, _+_, _-_, _≤_, _<_, min}
 use mathlib.Core.Bool.{Bool, true, false}
 use mathlib.Core.Logic.{_⊎_, inl, inr, ⊎-elim}
-use mathlib.Core.Path.{_≡_, refl, sym, ap, subst, _∙_}
+use mathlib.Core.Path.{_≡_, refl, sym, ap, _∙_}
 use mathlib.Core.List.{List, _++_}
 use native.Mathlib.Omega.{arith}
 use lib.ListN.{length, getD, take, drop, set, length-set, length-append, length-take, length-drop, List·getD-append, List·getD-eq-default}
@@ -22,16 +22,16 @@ use Rattle.engine.specs.State.{words, own-at, words-before, State, OnwardAll, O
 use Rattle.engine.proofs.Onward.{formula-refl, formula-trans, all-formula}
 use Rattle.engine.specs.Ask.{part, back, stored, Asks}
 use Rattle.engine.specs.Tops.{place}
-use Rattle.engine.proofs.Parts.{part-back, drop-back, part-before}
+use Rattle.engine.proofs.Parts.{part-back, drop-back}
 use Rattle.engine.proofs.Held.{HeldWords, held-state, formula-held}
 use Rattle.engine.proofs.Beside.{before-grows}
 use Rattle.engine.proofs.Uniform.{agrees-later}
 use Rattle.checkpoint.specs.Checkpoint.{given}
-use Rattle.emit.specs.Top.{held-count, held-bits, Waiting, part-of, Top}
+use Rattle.emit.specs.Top.{held-count, held-bits, part-of, Top}
 use Rattle.emit.specs.Code.{Fits, HeldOne, Held}
 use Rattle.emit.proofs.Kept.{kept-own}
 use Rattle.emit.proofs.Meaning.{joint-le, joint-least, reads-wanted}
-use Rattle.emit.proofs.Places.{Place, place-of, part-word, part-same, lent-part, place-in, held-inside, count-at, bits-at}
+use Rattle.emit.proofs.Places.{Place, part-word, part-same, lent-part, place-in, held-inside, count-at, bits-at}
 
 same-or-not : (j k : ℕ) → (j ≡ k) ⊎ (j ≡ k → ⊥)
 same-or-not j k =

@@ -1,11 +1,10 @@
 -- What the functions promise. `base` is the number of the checkpoint's own words, and `most` of a version's formulas.
 use Prim.Native.Nat.{ℕ, zero, suc, _+_, _-_, _/_, _≤_, _<_, _^_, min}
-use mathlib.Core.Bool.{Bool, true, cond}
+use mathlib.Core.Bool.{Bool, cond}
 use mathlib.Core.Path.{_≡_}
 use mathlib.Core.List.{List}
-use mathlib.Core.Logic.{_⊎_}
 use lib.ListN.{length, getD, drop, set}
-use lib.Dec.{eqb, ltb}
+use lib.Dec.{ltb}
 use Rattle.mtl.specs.Formula.{Formula}
 use Rattle.mtl.specs.Log.{Log, NeverFalls}
 use Rattle.mtl.specs.Progress.{settled-to, joint-progress}
@@ -21,7 +20,6 @@ use Rattle.trace.specs.Order.{last-time}
 use Rattle.blocks.specs.Block.{word}
 use Rattle.blocks.specs.Step.{Agrees}
 use Rattle.engine.specs.State.{words-before, OnwardFormula}
-use Rattle.engine.specs.Table.{RowsOk, column}
 use Rattle.engine.specs.Tops.{place, Tops, Ended}
 use Rattle.checkpoint.specs.Checkpoint.{given, seen, last, closed-with, stored-noes}
 use Rattle.emit.specs.Verdicts.{columns, verdict}

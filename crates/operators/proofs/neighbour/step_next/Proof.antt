@@ -63,7 +63,7 @@ returns-end c =
     let start = c .before .before .before .before .before .before .before in
     let b = start .args .block .now in
     let end = at-end (start .args .closed) (taken b) (c .before .before .count .result) (c .if2 .taken) in (
-      stores-onward (put 5 (answered b + 1) ∷ []) b (start .pre) (omega arith) (omega arith) (omega arith),
+      stores-onward (put 5 _ ∷ []) b (start .pre) (omega arith) (omega arith) (omega arith),
       λ φ L g falls agrees ready.
           next-end (start .args .records .now) b (start .pre) (start .args .low) (start .args .high) φ L g agrees ready
           (agrees .ends ∙ end .0) (left (c .before)) (end .1 ∙ c .before .before .count .ensures),

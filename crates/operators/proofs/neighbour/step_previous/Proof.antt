@@ -74,7 +74,7 @@ returns-2 c =
     let start = c .before .before .before .before .before .before .before in
     let b = start .args .block .now in
     let first = not-open (taken b) (answered b) (record-count (start .args .records .now)) (rw (c .before .before .before .count .ensures) at (c .before .if1 .left)) in (
-      stores-onward (put 5 1 ∷ []) b (start .pre) (omega arith) (omega arith) (omega (arith, c .if2 .taken)),
+      stores-onward (put 5 _ ∷ []) b (start .pre) (omega arith) (omega arith) (omega (arith, c .if2 .taken)),
       λ closed φ L g falls agrees ready.
           previous-first (start .args .records .now) (start .args .block .now) (start .pre) (omega arith) (c .if2 .taken) (start .args .low) (start .args .high)
           φ L g agrees ready,
