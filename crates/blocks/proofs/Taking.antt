@@ -1,6 +1,7 @@
 -- An operator's block after positions were taken out of its buffers, whatever else its operator stored. Assumes nothing.
 use Prim.Native.Nat.{ℕ, _+_, _-_, _/_, _≤_, _<_, _^_, min}
 use native.Mathlib.Omega.{arith}
+use lib.ListN.{length}
 use mathlib.Core.Bool.{Bool, false, false≢true}
 use mathlib.Core.List.{List, [], _∷_}
 use mathlib.Core.Path.{_≡_, sym, _∙_}
@@ -11,9 +12,9 @@ use Rattle.mtl.specs.Progress.{settled-to}
 use Rattle.bits.specs.Packed.{Packed}
 use Rattle.bits.proofs.Laws.{packed-first}
 use Rattle.trace.specs.Format.{record-count}
-use Rattle.blocks.specs.Block.{taken, left-count, left-bits, right-count, right-bits, answered, kind-of, high-of, cells-of, KeptBlock, InRange, Own, Buffer, LeftBuffer, RightBuffer, Buffers, Ready, took-right, took-both}
+use Rattle.blocks.specs.Block.{taken, left-count, left-bits, right-count, right-bits, kind-of, high-of, cells-of, Onward, InRange, Own, Buffer, LeftBuffer, RightBuffer, Buffers, Ready, took-right, took-both}
 use Rattle.blocks.specs.Step.{Agrees, Moved, has-left}
-use Rattle.blocks.proofs.Words.{Store, put, stores-keep, available, later, fits}
+use Rattle.blocks.proofs.Words.{Store, put, stores-onward, available, later, fits}
 
 -- the stores of take_right and take_both, and more
 abbrev pub right-stores : ℕ → List ℕ → List Store → List Store
@@ -22,12 +23,11 @@ right-stores n b more = put 0 (taken b + n) ∷ put 3 (right-count b - n) ∷ pu
 abbrev pub both-stores : ℕ → List ℕ → List Store → List Store
 both-stores n b more = right-stores n b (put 1 (left-count b - n) ∷ put 2 (left-bits b / 2 ^ n) ∷ more)
 
--- they keep words 12 to 15
-pub right-keeps : (n : ℕ) (b : List ℕ) → KeptBlock b (took-right n b)
-right-keeps n b = stores-keep (right-stores n b []) b (omega arith)
+pub right-onward : (n : ℕ) (b : List ℕ) → 16 ≤ length b → Onward 12 b (took-right n b)
+right-onward n b room = stores-onward (right-stores n b []) b room (omega arith) (omega arith) (omega arith)
 
-pub both-keeps : (n : ℕ) (b : List ℕ) → KeptBlock b (took-both n b)
-both-keeps n b = stores-keep (both-stores n b []) b (omega arith)
+pub both-onward : (n : ℕ) (b : List ℕ) → 16 ≤ length b → Onward 12 b (took-both n b)
+both-onward n b room = stores-onward (both-stores n b []) b room (omega arith) (omega arith) (omega arith)
 
 -- `available` gives all of a buffer
 pub all-of : {closed : Bool} {s : List ℕ} {φ : Formula} {L : Log} {g p count bits : ℕ} → Agrees closed s L g → Buffer φ L p count bits →
@@ -60,7 +60,6 @@ pub record TookRight (n : ℕ) (b b′ : List ℕ) : Type 0 where
   pub at : taken b′ ≡ taken b + n
   pub count : right-count b′ ≡ right-count b - n
   pub bits : right-bits b′ ≡ right-bits b / 2 ^ n
-  pub answered : answered b ≤ answered b′
 
 pub record TookBoth (n : ℕ) (b b′ : List ℕ) : Type 0 where
   pub right : TookRight n b b′
@@ -78,7 +77,7 @@ module _ (φ : Formula) {L : Log} (b : List ℕ) (n g′ : ℕ) (b′ : List ℕ
       core = record { reached = reached; range = range; own = own };
       buffers = whole (later n h (took .at) (took .count) (took .bits) right);
     },
-    record { left = λ e. absurd (false≢true (sym single ∙ e)); right = λ e. omega arith; taken = omega arith; answered = took .answered },
+    record { left = λ e. absurd (false≢true (sym single ∙ e)); right = λ e. omega arith },
   )
 
   -- ψ and χ are the operands
@@ -93,5 +92,5 @@ module _ (φ : Formula) {L : Log} (b : List ℕ) (n g′ : ℕ) (b′ : List ℕ
             later n r (both .at) (both .count) (both .bits) right,
           );
         },
-        record { left = λ e. omega arith; right = λ e. omega arith; taken = omega arith; answered = both .answered },
+        record { left = λ e. omega arith; right = λ e. omega arith },
       )

@@ -15,7 +15,7 @@ use Rattle.mtl.specs.Progress.{settled-to}
 use Rattle.mtl.proofs.Closing.{settled-le-size}
 use Rattle.bits.proofs.Laws.{packed-none, packed-rest}
 use Rattle.trace.specs.Format.{record-count}
-use Rattle.blocks.specs.Block.{word, taken, left-count, right-count, KeptBlock, Buffer}
+use Rattle.blocks.specs.Block.{word, taken, left-count, right-count, answered, Onward, Buffer}
 use Rattle.blocks.specs.Step.{empty, left-to-do}
 
 -- a store: an index and the word put there
@@ -64,11 +64,25 @@ Low [] = Unit {0}
 Low (w ∷ ws) = (w .index < 12) × Low ws
 
 -- such stores keep the words from there on
-pub stores-keep : (ws : List Store) (b : List ℕ) → Low ws → KeptBlock b (stores ws b)
-stores-keep [] b low i h l = refl
-stores-keep (w ∷ ws) b low i h l =
-    stores-keep ws (set b (w .index) (w .value)) (low .1) i h l ∙
+stores-keep : (ws : List Store) (b : List ℕ) → Low ws → (i : ℕ) → 12 ≤ i → word (stores ws b) i ≡ word b i
+stores-keep [] b low i h = refl
+stores-keep (w ∷ ws) b low i h =
+    stores-keep ws (set b (w .index) (w .value)) (low .1) i h ∙
     getD-set-other b (w .index) i (w .value) 0 (λ e. omega (arith, low .0))
+
+low-inside : (ws : List Store) → Low ws → Inside ws
+low-inside [] low = tt
+low-inside (w ∷ ws) low = (omega (arith, low .0), low-inside ws (low .1))
+
+-- and go on, if they put no head back
+pub stores-onward : (ws : List Store) (b : List ℕ) → 16 ≤ length b → Low ws → taken b ≤ after ws (word b) 0 → answered b ≤ after ws (word b) 5 →
+    Onward 12 b (stores ws b)
+stores-onward ws b room low head answer =
+    let at = word-stores ws b (low-inside ws low) room in
+    record {
+      heads = record { taken = omega (arith, at 0); answered = omega (arith, at 5) };
+      kept = λ i h l. stores-keep ws b low i h;
+    }
 
 -- what is left of a buffer after n of its positions are taken
 pub later : {φ : Formula} {L : Log} {p count bits p′ count′ bits′ : ℕ} (n : ℕ) → n ≤ count → p′ ≡ p + n → count′ ≡ count - n → bits′ ≡ bits / 2 ^ n →

@@ -91,10 +91,6 @@ high-of (until low high φ ψ) = high
 abbrev pub FreshBlock : List ℕ → Type 0
 FreshBlock b = (i : ℕ) → i < 12 → word b i ≡ 0
 
--- words 12 to 15 are no operator's: they are as they were, whatever they hold
-abbrev pub KeptBlock : List ℕ → List ℕ → Type 0
-KeptBlock b b′ = (i : ℕ) → 12 ≤ i → i < 16 → word b′ i ≡ word b i
-
 -- words 12 and 13 of the block of a formula's last entry: for how many positions the formula has answered and was not given yet, and
 -- the word of those answers
 abbrev pub held-count : List ℕ → ℕ
@@ -103,9 +99,16 @@ held-count b = word b 12
 abbrev pub held-bits : List ℕ → ℕ
 held-bits b = word b 13
 
--- words 14 and 15, the copy of the entry, are as they were
-abbrev pub KeptCopy : List ℕ → List ℕ → Type 0
-KeptCopy b b′ = (i : ℕ) → 14 ≤ i → i < 16 → word b′ i ≡ word b i
+-- no head goes back
+pub record Forward (b b′ : List ℕ) : Type 0 where
+  pub taken : taken b ≤ taken b′
+  pub answered : answered b ≤ answered b′
+
+-- what is done to a block, whatever its words hold: no head goes back, and the words from `first` to 15 are as they were. Words 12 to 15
+-- are no operator's; words 12 and 13 of a formula's last entry are written where its answers are held and given.
+pub record Onward (first : ℕ) (b b′ : List ℕ) : Type 0 where
+  pub heads : Forward b b′
+  pub kept : (i : ℕ) → first ≤ i → i < 16 → word b′ i ≡ word b i
 
 -- the cells of an entry's ring: a since has one, the other kinds none
 abbrev pub cells-of : (kind high : ℕ) → ℕ

@@ -9,7 +9,6 @@ use lib.ListN.{getD, length}
 use lib.Dec.{ltb, leb, eqb}
 use Rattle.bits.specs.Packed.{bit}
 use Rattle.mtl.specs.Formula.{unbounded}
-use Rattle.trace.specs.Format.{time-at}
 
 -- the cell that is `at` cells behind the first, in a ring of `cells`: past the last comes the first again
 abbrev pub wrap : (cells at : ℕ) → ℕ
@@ -63,15 +62,15 @@ turned cells high left right at qs = pushed cells right at (kept left (dropped h
 abbrev pub reaches : (low at : ℕ) → List ℕ → Bool
 reaches low at qs = ltb 0 (length qs) && leb low (at - getD qs 0 0)
 
--- the turns of n positions of the records from `from` on, where left and right are words of answers
-unfoldable pub turns : (cells high : ℕ) (s : List ℕ) (from left right : ℕ) → ℕ → List ℕ → List ℕ
-turns cells high s from left right zero qs = qs
-turns cells high s from left right (suc n) qs =
-    turned cells high (bit left n) (bit right n) (time-at s (from + n)) (turns cells high s from left right n qs)
+-- the turns of n positions, whose times are `at`, where left and right are words of answers
+unfoldable pub turns : (cells high : ℕ) (at : ℕ → ℕ) (left right : ℕ) → ℕ → List ℕ → List ℕ
+turns cells high at left right zero qs = qs
+turns cells high at left right (suc n) qs =
+    turned cells high (bit left n) (bit right n) (at n) (turns cells high at left right n qs)
 
 -- what the i-th of them answers
-abbrev pub reached : (low cells high : ℕ) (s : List ℕ) (from left right : ℕ) → List ℕ → ℕ → Bool
-reached low cells high s from left right qs i = reaches low (time-at s (from + i)) (turns cells high s from left right (suc i) qs)
+abbrev pub reached : (low cells high : ℕ) (at : ℕ → ℕ) (left right : ℕ) → List ℕ → ℕ → Bool
+reached low cells high at left right qs i = reaches low (at i) (turns cells high at left right (suc i) qs)
 
 -- what is done to a ring: its list by f, and every other word of the block as it was
 pub record Rings (cells : ℕ) (f : List ℕ → List ℕ) (b b′ : List ℕ) : Type 0 where

@@ -9,7 +9,7 @@ use Rattle.mtl.specs.Log.{Log, NeverFalls, Agree}
 use Rattle.mtl.specs.Progress.{settled-to}
 use Rattle.trace.specs.Format.{record-count}
 use Rattle.trace.specs.Log.{log-of}
-use Rattle.blocks.specs.Block.{taken, left-count, right-count, answered, KeptBlock, Buffer, Ready}
+use Rattle.blocks.specs.Block.{taken, left-count, right-count, Onward, Buffer, Ready}
 use Rattle.blocks.specs.declared.Step.{Step}
 use Rattle.blocks.specs.declared.Step.the-variants.{Batch, Left, Right, Again, Open}
 
@@ -58,12 +58,10 @@ right-of (next low high φ) = φ
 right-of (since low high φ ψ) = ψ
 right-of (until low high φ ψ) = ψ
 
--- every position taken is taken out of the buffers: the operands themselves stay where they stand; and no head goes back
+-- every position taken is taken out of the buffers: the operands themselves stay where they stand
 pub record Moved (φ : Formula) (b b′ : List ℕ) : Type 0 where
   pub left : has-left φ ≡ true → taken b′ + left-count b′ ≡ taken b + left-count b
   pub right : has-right φ ≡ true → taken b′ + right-count b′ ≡ taken b + right-count b
-  pub taken : taken b ≤ taken b′
-  pub answered : answered b ≤ answered b′
 
 -- a batch: the answers at some positions from g on
 pub record Batched (φ : Formula) (L : Log) (g bits count : ℕ) : Type 0 where
@@ -103,11 +101,11 @@ empty (suc n) = 0
 abbrev pub left-to-do : List ℕ → List ℕ → ℕ
 left-to-do s b = 3 * (record-count s - taken b) + empty (left-count b) + empty (right-count b)
 
--- what a step promises on any words, for an operator that has a left operand and a right one, or not: where it writes, it keeps
--- words 12 to 15
+-- what a step promises on any words, for an operator that has a left operand and a right one, or not: where it writes, no head goes
+-- back, and words 12 to 15 are kept
 abbrev pub Ends : (left right : Bool) → List ℕ → List ℕ → Step → List ℕ → Type 0
-Ends left right s b (Batch bits count) b′ = KeptBlock b b′
-Ends left right s b Again b′ = (left-to-do s b′ < left-to-do s b) × KeptBlock b b′
+Ends left right s b (Batch bits count) b′ = Onward 12 b b′
+Ends left right s b Again b′ = (left-to-do s b′ < left-to-do s b) × Onward 12 b b′
 Ends left right s b Left b′ = (left ≡ true) × (b′ ≡ b) × (left-count b ≡ 0)
 Ends left right s b Right b′ = (right ≡ true) × (b′ ≡ b) × (right-count b ≡ 0)
 Ends left right s b Open b′ = b′ ≡ b

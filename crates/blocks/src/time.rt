@@ -3,7 +3,7 @@ ghost use mathlib.Core.Path.{_≡_};
 ghost use Prim.Native.Nat.{_+_, _-_, _≤_, _<_, _^_};
 ghost use Rattle.mtl.specs.Satisfaction.{within as within-spec};
 ghost use Rattle.bits.specs.Packed.{Packed};
-ghost use Rattle.trace.specs.Format.{record-count};
+ghost use Rattle.trace.specs.Format.{record-count, time-at};
 ghost use Rattle.blocks.specs.Near.{near-at};
 
 // A later time minus an earlier one.
@@ -26,7 +26,7 @@ pub fn within(low: u64, high: u64, earlier: u64, later: u64) -> bool
 // word of answers.
 pub fn near(low: u64, high: u64, records: &[u8], from: usize, n: usize) -> u64
     requires { ⌜ (0 < from) × (from + n ≤ record-count (now records)) × (n ≤ 64) ⌝ }
-    ensures { λ r. ⌜ Packed (near-at low high (now (records .entry))) from n r ⌝ }
+    ensures { λ r. ⌜ Packed (near-at low high (time-at (now (records .entry)))) from n r ⌝ }
 {
     let mut answers: u64 = 0;
     let mut last = trace::time(records, from - 1);

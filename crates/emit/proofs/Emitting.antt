@@ -1,7 +1,7 @@
 -- One accepted call on exactly the words that its rule needs: where its formulas stand, and the header once the log's end is noted.
 use Prim.Native.Nat.{ℕ, suc, _+_, _-_, _≤_, _<_, min}
-use mathlib.Core.Bool.{Bool, true, false, cond}
-use mathlib.Core.Path.{_≡_, refl, sym, ap₂, _∙_}
+use mathlib.Core.Bool.{Bool, cond}
+use mathlib.Core.Path.{_≡_, sym, ap₂, _∙_}
 use mathlib.Core.List.{List}
 use mathlib.Core.Logic.{⊎-elim}
 use native.Mathlib.Omega.{arith}
@@ -21,17 +21,16 @@ use Rattle.trace.specs.Format.{record-count}
 use Rattle.trace.specs.Order.{last-time}
 use Rattle.trace.proofs.Laws.{last-time-bound}
 use Rattle.blocks.specs.Block.{word}
-use Rattle.engine.specs.State.{KeptCopies}
 use Rattle.engine.specs.Tops.{Tops, Ended}
 use Rattle.engine.proofs.Formulas.{rule-size}
 use Rattle.engine.proofs.Uniform.{agrees-later}
 use Rattle.checkpoint.specs.Checkpoint.{stored-noes}
 use Rattle.emit.specs.Top.{held-count, part-of, Top}
-use Rattle.emit.specs.Code.{Fits, Held, Giving, Untouched, Gave, Ready, Emits}
+use Rattle.emit.specs.Code.{Fits, Held, Frame, Gave, Ready, Emits}
 use Rattle.emit.specs.declared.Emitted.{Emitted}
 use Rattle.emit.proofs.Meaning.{joint-least}
 use Rattle.emit.proofs.Places.{part-same}
-use Rattle.emit.proofs.Giving.{untouched-held, noes-held, untouched-then}
+use Rattle.emit.proofs.Giving.{frame-held, noes-held, frame-then}
 
 -- the formulas of the rule have all words behind the header
 pub fits-of : (t : List Entry) (n : ℕ) (ends : List ℕ) (number most base : ℕ) (ws table tops : List ℕ) → Ready t n ends number most base ws →
@@ -119,9 +118,9 @@ emitted {base = base} {most = most} {fs = fs} s closed ws sheet c ws₁ sheet₁
     let header = fits .header in
     let wide : 16 ≤ length ws₂ = omega (arith, held .words-length, gave .words-length, fits .all) in
     let note = noted-other time size ended ws₂ wide in
-    let kept : Untouched base most fs ws ws₂ = untouched-then base most fs ws ws₁ ws₂ (gave .untouched) (untouched-held counts held) in
-    let seen-same = kept .header 2 (omega arith) (λ e. omega arith) in
-    let last-same = kept .header 3 (omega arith) (λ e. omega arith) in
+    let frame : Frame base most fs ws ws₂ = frame-then base most fs ws ws₁ ws₂ (gave .frame) (frame-held counts held) in
+    let seen-same = frame .header 2 (omega arith) (λ e. omega arith) in
+    let last-same = frame .header 3 (omega arith) (λ e. omega arith) in
     let now : time ≡ last-time s (word ws 2) (word ws 3) = rw (seen-same, last-same) at timed in
     rw (c-is, more-is)
     (record {
@@ -135,16 +134,13 @@ emitted {base = base} {most = most} {fs = fs} s closed ws sheet c ws₁ sheet₁
       fits = λ small. rw (noted-time time size ended ws₂ wide, now) (last-time-bound s (word ws 2) (word ws 3) byte small);
       ended = noted-ended time size ended ws₂ wide ∙ rw sized at noting;
       noes = λ k h. noted-noes time size ended ws₂ wide most k ∙ noes-held counts held k (omega (arith, fits .laid .number)) ∙ gave .noes k h;
-      copy = (
-        note 0 (λ e. omega arith) (λ e. omega arith) (λ e. omega arith) ∙ kept .header 0 (omega arith) (λ e. omega arith),
-        note 4 (λ e. omega arith) (λ e. omega arith) (λ e. omega arith) ∙ kept .header 4 (omega arith) (λ e. omega arith),
-      );
-      untouched = λ k late h.
-          let (x, y) = kept .spare k late h in (
+      header = λ i low one two three five. note i three two five ∙ frame .header i low one;
+      spare = λ k late h.
+          let (x, y) = frame .spare k late h in (
             note (8 + k) (λ e. omega arith) (λ e. omega arith) (λ e. omega arith) ∙ x,
             note (8 + most + k) (λ e. omega arith) (λ e. omega arith) (λ e. omega arith) ∙ y,
           );
-      kept = λ k h. rw (noted-part time size ended ws₂ wide base fs k header) (kept .kept k h);
+      onward = λ k h. rw (noted-part time size ended ws₂ wide base fs k header) (frame .onward k h);
       meaning = λ L d never agrees top.
           let (giving, short) = gave .meaning L d never agrees top in
           let (after, within, is-open) = held .meaning L (d + c) never (agrees-later agrees (omega arith)) (giving .top) in

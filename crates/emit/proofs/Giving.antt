@@ -1,16 +1,15 @@
 -- The verdicts of one call, portion by portion: what holds between two portions, and what holds at the end.
-use Prim.Native.Nat.{ℕ, zero, suc, _+_, _-_, _≤_, _<_, _^_, max, zero-le}
-use mathlib.Core.Bool.{Bool, true, false}
+use Prim.Native.Nat.{ℕ, zero, suc, _+_, _-_, _≤_, _<_, _^_, zero-le}
+use mathlib.Core.Bool.{Bool, false}
 use mathlib.Core.Logic.{⊎-elim}
 use mathlib.Core.Option.{none}
 use mathlib.Core.Path.{_≡_, refl, sym, ap, ap₂, _∙_}
-use mathlib.Core.List.{List, [], _∷_}
+use mathlib.Core.List.{List}
 use native.Mathlib.Omega.{arith}
 use lib.ListN.{length, getD, take, drop, length-take}
 use lib.Seq.{drop-drop, getD-take}
 use Rattle.mtl.specs.Formula.{Formula}
 use Rattle.mtl.specs.Log.{Log, NeverFalls}
-use Rattle.mtl.specs.Progress.{joint-progress}
 use Rattle.mtl.specs.Wanted.{wanted}
 use Rattle.mtl.proofs.Bounded.{le-or-lt}
 use Rattle.bits.specs.Packed.{bit, zeros, last-zero}
@@ -21,17 +20,16 @@ use Rattle.verdicts.proofs.Written.{written, length-written, drop-written, writ
 use Rattle.rule.specs.Postfix.{formula}
 use Rattle.blocks.specs.Block.{word}
 use Rattle.blocks.specs.Step.{Agrees}
-use Rattle.engine.specs.State.{KeptCopies}
 use Rattle.engine.specs.Tops.{place}
-use Rattle.engine.proofs.Kept.{copies-refl, copies-trans}
+use Rattle.engine.proofs.Onward.{formula-refl, formula-trans}
 use Rattle.engine.proofs.Uniform.{agrees-later}
 use Rattle.checkpoint.specs.Checkpoint.{given, stored-noes}
-use Rattle.emit.specs.Verdicts.{columns, verdict}
-use Rattle.emit.specs.Top.{held-count, held-bits, part-of, Top}
-use Rattle.emit.specs.Code.{Fits, Held, Answered, all-spent, Spendable, Giving, Untouched, Gave}
+use Rattle.emit.specs.Verdicts.{columns}
+use Rattle.emit.specs.Top.{part-of, Top}
+use Rattle.emit.specs.Code.{Fits, Held, Answered, all-spent, Spendable, Giving, Frame, Gave}
 use Rattle.emit.proofs.Meaning.{all-bits, verdict-answers}
 use Rattle.emit.proofs.Places.{count-at, bits-at}
-use Rattle.emit.proofs.Spending.{its-row, length-all, now-given, now-header, now-spare, now-noes, now-kept, top-spent}
+use Rattle.emit.proofs.Spending.{its-row, length-all, now-given, now-header, now-spare, now-noes, now-onward, top-spent}
 
 -- NOTHING COUNTED IN A WORD OF YES
 
@@ -48,31 +46,31 @@ yes-noes n h = let (z, l) = no-zeros n h in ap₂ (λ (c a : ℕ). noes c (lates
 
 -- PORTIONS
 
-untouched-none : (base most : ℕ) (fs : List Formula) (ws : List ℕ) → Untouched base most fs ws ws
-untouched-none base most fs ws =
-    record { header = λ i low ne. refl; spare = λ k late h. (refl, refl); kept = λ k h. copies-refl (formula fs k) (part-of base fs k ws) }
+frame-none : (base most : ℕ) (fs : List Formula) (ws : List ℕ) → Frame base most fs ws ws
+frame-none base most fs ws =
+    record { header = λ i low ne. refl; spare = λ k late h. (refl, refl); onward = λ k h. formula-refl (formula fs k) (part-of base fs k ws) }
 
-pub untouched-then : (base most : ℕ) (fs : List Formula) (ws ws′ ws″ : List ℕ) → Untouched base most fs ws ws′ → Untouched base most fs ws′ ws″ →
-    Untouched base most fs ws ws″
-untouched-then base most fs ws ws′ ws″ a b =
+pub frame-then : (base most : ℕ) (fs : List Formula) (ws ws′ ws″ : List ℕ) → Frame base most fs ws ws′ → Frame base most fs ws′ ws″ →
+    Frame base most fs ws ws″
+frame-then base most fs ws ws′ ws″ a b =
     record {
       header = λ i low ne. b .header i low ne ∙ a .header i low ne;
       spare = λ k late h.
           let (x, y) = a .spare k late h in
           let (x′, y′) = b .spare k late h in
           (x′ ∙ x, y′ ∙ y);
-      kept = λ k h.
-          copies-trans (formula fs k) (part-of base fs k ws) (part-of base fs k ws′) (part-of base fs k ws″) (a .kept k h) (b .kept k h);
+      onward = λ k h.
+          formula-trans (formula fs k) (part-of base fs k ws) (part-of base fs k ws′) (part-of base fs k ws″) (a .onward k h) (b .onward k h);
     }
 
 -- asking touches no header
-pub untouched-held : {base most : ℕ} {fs : List Formula} {s : List ℕ} {closed : Bool} {ws : List ℕ} {r : ℕ} {ws′ : List ℕ} → 8 + most + most ≤ base →
-    Held base fs s closed ws r ws′ → Untouched base most fs ws ws′
-untouched-held room held =
+pub frame-held : {base most : ℕ} {fs : List Formula} {s : List ℕ} {closed : Bool} {ws : List ℕ} {r : ℕ} {ws′ : List ℕ} → 8 + most + most ≤ base →
+    Held base fs s closed ws r ws′ → Frame base most fs ws ws′
+frame-held room held =
     record {
       header = λ i low ne. held .header i (omega arith);
       spare = λ k late h. (held .header _ (omega arith), held .header _ (omega arith));
-      kept = held .kept;
+      onward = held .onward;
     }
 
 -- nor counts anything
@@ -88,7 +86,7 @@ pub record Going (base most : ℕ) (fs : List Formula) (s : List ℕ) (closed : 
   pub sheet-length : length sheet′ ≡ length sheet
   pub words-length : length ws′ ≡ length ws
   pub count : given ws′ ≡ given ws + done
-  pub untouched : Untouched base most fs ws ws′
+  pub frame : Frame base most fs ws ws′
   pub noes : (k : ℕ) → k < columns fs → stored-noes most ws′ k ≡ laid-behind (stored-noes most ws k) (given ws) (noes-in k sheet′ done)
   pub meaning : (L : Log) (d : ℕ) → NeverFalls L → Agrees closed s L (wanted fs d) → Top base fs L d ws → Giving base fs L d done ws′ sheet′
 
@@ -101,7 +99,7 @@ going-none base most fs s closed ws sheet =
       sheet-length = refl;
       words-length = refl;
       count = omega arith;
-      untouched = untouched-none base most fs ws;
+      frame = frame-none base most fs ws;
       noes = λ k h. behind-none (stored-noes most ws k) (given ws);
       meaning = λ L d never agrees top.
           let still : d + 0 ≡ d = omega arith in
@@ -174,12 +172,12 @@ module _ {table tops : List ℕ} {base number most : ℕ} {fs : List Formula} {s
         behind-behind (stored-noes most ws k) (noes-in k sheet₁ done) (given ws) done (zeros n bits) (latest-of (last-zero n bits)) ∙
         ap (laid-behind (stored-noes most ws k) (given ws)) (sym new)
 
-    spent-untouched : Untouched base most fs ws₂ ws₃
-    spent-untouched =
+    spent-frame : Frame base most fs ws₂ ws₃
+    spent-frame =
         record {
           header = now-header most n ws₂ fits-now counts few;
           spare = λ k late h. now-spare most n ws₂ fits-now counts few k (omega (arith, fits .laid .number)) h;
-          kept = now-kept most n ws₂ fits-now counts few;
+          onward = now-onward most n ws₂ fits-now counts few;
         }
 
     -- one portion more
@@ -195,9 +193,9 @@ module _ {table tops : List ℕ} {base number most : ℕ} {fs : List Formula} {s
           sheet-length = length-written done n rows sheet₁ inside₁ ∙ going .sheet-length;
           words-length = length-all most n ws₂ fits-now counts few ∙ held .words-length ∙ going .words-length;
           count = omega (arith, now-given most n ws₂ fits-now counts few, held .header 1 (omega (arith, fits .header)), going .count);
-          untouched =
-              untouched-then base most fs ws ws₁ ws₃ (going .untouched)
-              (untouched-then base most fs ws₁ ws₂ ws₃ (untouched-held counts held) spent-untouched);
+          frame =
+              frame-then base most fs ws ws₁ ws₃ (going .frame)
+              (frame-then base most fs ws₁ ws₂ ws₃ (frame-held counts held) spent-frame);
           noes = noes-portion;
           meaning = λ L d never agrees top.
               let so-far = going .meaning L d never agrees top in
@@ -250,7 +248,7 @@ module _ {table tops : List ℕ} {base number most : ℕ} {fs : List Formula} {s
         sheet-length = going .sheet-length;
         words-length = held .words-length ∙ going .words-length;
         count = held .header 1 (omega (arith, fits .header)) ∙ going .count;
-        untouched = untouched-then base most fs ws ws₁ ws₂ (going .untouched) (untouched-held counts held);
+        frame = frame-then base most fs ws ws₁ ws₂ (going .frame) (frame-held counts held);
         noes = λ k h. noes-held counts held k (most-columns k h) ∙ going .noes k h;
         meaning = λ L d never agrees top.
             let so-far = going .meaning L d never agrees top in
@@ -268,7 +266,7 @@ gave-full going full =
       sheet-length = going .sheet-length;
       words-length = going .words-length;
       count = going .count;
-      untouched = going .untouched;
+      frame = going .frame;
       noes = going .noes;
       meaning = λ L d never agrees top. (going .meaning L d never agrees top, λ below. absurd (omega arith));
     }

@@ -1,8 +1,8 @@
 -- What asking one formula does to the words, and asking all of them, one after the other.
-use Prim.Native.Nat.{ℕ, zero, suc, _+_, _-_, _≤_, _<_, min}
+use Prim.Native.Nat.{ℕ, suc, _+_, _-_, _≤_, _<_, min}
 use mathlib.Core.Bool.{Bool, true, false}
 use mathlib.Core.Logic.{_⊎_, inl, inr, ⊎-elim}
-use mathlib.Core.Path.{_≡_, refl, sym, ap, subst, _∙_}
+use mathlib.Core.Path.{_≡_, refl, sym, ap, _∙_}
 use mathlib.Core.List.{List, _++_}
 use native.Mathlib.Omega.{arith}
 use lib.ListN.{length, getD, take, drop, set, length-set, length-append, length-take, length-drop, List·getD-append, List·getD-eq-default}
@@ -18,20 +18,20 @@ use Rattle.trace.specs.Format.{record-count}
 use Rattle.blocks.specs.Block.{word}
 use Rattle.blocks.specs.Step.{Agrees, Batched}
 use Rattle.blocks.proofs.Words.{empty-buffer}
-use Rattle.engine.specs.State.{words, own-at, words-before, State, Kept, KeptCopies}
-use Rattle.engine.proofs.Kept.{copies-refl, copies-trans, kept-copies}
+use Rattle.engine.specs.State.{words, own-at, words-before, State, OnwardAll, OnwardFormula}
+use Rattle.engine.proofs.Onward.{formula-refl, formula-trans, all-formula}
 use Rattle.engine.specs.Ask.{part, back, stored, Asks}
 use Rattle.engine.specs.Tops.{place}
-use Rattle.engine.proofs.Parts.{part-back, drop-back, part-before}
-use Rattle.engine.proofs.Held.{HeldWords, held-state, copies-held}
+use Rattle.engine.proofs.Parts.{part-back, drop-back}
+use Rattle.engine.proofs.Held.{HeldWords, held-state, formula-held}
 use Rattle.engine.proofs.Beside.{before-grows}
 use Rattle.engine.proofs.Uniform.{agrees-later}
 use Rattle.checkpoint.specs.Checkpoint.{given}
-use Rattle.emit.specs.Top.{held-count, held-bits, Waiting, part-of, Top}
+use Rattle.emit.specs.Top.{held-count, held-bits, part-of, Top}
 use Rattle.emit.specs.Code.{Fits, HeldOne, Held}
 use Rattle.emit.proofs.Kept.{kept-own}
 use Rattle.emit.proofs.Meaning.{joint-le, joint-least, reads-wanted}
-use Rattle.emit.proofs.Places.{Place, place-of, part-word, part-same, lent-part, place-in, held-inside, count-at, bits-at}
+use Rattle.emit.proofs.Places.{Place, part-word, part-same, lent-part, place-in, held-inside, count-at, bits-at}
 
 same-or-not : (j k : ℕ) → (j ≡ k) ⊎ (j ≡ k → ⊥)
 same-or-not j k =
@@ -48,7 +48,7 @@ already {base = base} {fs = fs} s closed k ws r fits h is some =
       words-length = refl;
       count = is ∙ sym (count-at fits k h ws);
       others = λ i away. refl;
-      kept = copies-refl (formula fs k) (part-of base fs k ws);
+      onward = formula-refl (formula fs k) (part-of base fs k ws);
       meaning = λ L d never agrees waits. (waits, λ z. absurd (omega arith));
     }
 
@@ -116,18 +116,18 @@ module _ {table tops : List ℕ} {base number : ℕ} {fs : List Formula} (s : Li
     asked-part = sym (lent-part fits k h asked) ∙ part-back from to ys ws ordered inside kept
 
     -- it is open: it holds nothing still
-    asked-open : (r : ℕ) → r ≡ word asked slot → Kept φ (part-of base fs k ws) ys →
+    asked-open : (r : ℕ) → r ≡ word asked slot → OnwardAll φ (part-of base fs k ws) ys →
         ((L : Log) (d : ℕ) → NeverFalls L → Agrees closed s L (wanted fs d) → State φ L d (part-of base fs k ws) → (settled-to φ L ≡ d) × State φ L d ys) →
         HeldOne base fs s closed k ws r asked
-    asked-open r is keeps means =
-        let none : held-count φ ys ≡ 0 = kept-own φ (part-of base fs k ws) ys keeps 12 (omega arith) (omega arith) ∙ count-at fits k h ws ∙ empty in
+    asked-open r is goes means =
+        let none : held-count φ ys ≡ 0 = kept-own φ (part-of base fs k ws) ys goes 12 (omega arith) (omega arith) ∙ count-at fits k h ws ∙ empty in
         let long = length-back from to ys ws ordered inside kept in
         let same-fits : Fits table tops base number fs (length asked) = rw long fits in
         record {
           words-length = long;
           count = is ∙ sym (count-at same-fits k h asked);
           others = λ i away. word-back from to ys ws ordered inside kept i (λ l m. away (omega (arith, from-is)) (omega (arith, to-is)));
-          kept = rw asked-part (kept-copies φ (part-of base fs k ws) ys keeps);
+          onward = rw asked-part (all-formula φ (part-of base fs k ws) ys goes);
           meaning = λ L d never agrees waits.
               let still : d + held-count φ (part-of base fs k ws) ≡ d = omega (arith, count-at fits k h ws, empty) in
               let here : d + held-count φ ys ≡ d = omega arith in
@@ -182,11 +182,11 @@ module _ {table tops : List ℕ} {base number : ℕ} {fs : List Formula} (s : Li
       held-words = record { room = omega (arith, length-filled-part); same = part-filled }
 
       -- it has answered
-      asked-filled : (r : ℕ) → r ≡ word filled slot → 1 ≤ count → Kept φ (part-of base fs k ws) ys →
+      asked-filled : (r : ℕ) → r ≡ word filled slot → 1 ≤ count → OnwardAll φ (part-of base fs k ws) ys →
           ((L : Log) (d : ℕ) → NeverFalls L → Agrees closed s L (wanted fs d) → State φ L d (part-of base fs k ws) →
           Batched φ L d bits count × State φ L (d + count) ys) →
           HeldOne base fs s closed k ws r filled
-      asked-filled r is some keeps means =
+      asked-filled r is some goes means =
           record {
             words-length = length-filled;
             count = is ∙ sym (count-at filled-fits k h filled);
@@ -194,8 +194,8 @@ module _ {table tops : List ℕ} {base number : ℕ} {fs : List Formula} (s : Li
                 let p = its-place in
                 filled-other i (λ e. away (omega (arith, slot-is)) (omega (arith, slot-is, p .next, p .block))) (λ e. away (omega (arith, slot-is)) (omega (arith, slot-is, p .next, p .block))) ∙
                 word-back from to ys ws ordered inside kept i (λ l m. away (omega (arith, from-is)) (omega (arith, to-is)));
-            kept = copies-trans φ (part-of base fs k ws) ys (part-of base fs k filled) (kept-copies φ (part-of base fs k ws) ys keeps)
-                (copies-held φ ys (part-of base fs k filled) held-words);
+            onward = formula-trans φ (part-of base fs k ws) ys (part-of base fs k filled) (all-formula φ (part-of base fs k ws) ys goes)
+                (formula-held φ ys (part-of base fs k filled) held-words);
             meaning = λ L d never agrees waits.
                 let still : d + held-count φ (part-of base fs k ws) ≡ d = omega (arith, count-at fits k h ws, empty) in
                 let (gives, next) = means L d never agrees (rw still at (waits .state)) in
@@ -212,13 +212,13 @@ module _ {table tops : List ℕ} {base number : ℕ} {fs : List Formula} (s : Li
   -- what asking promises
   asked-by : (b : Bool) (r : ℕ) (ws′ : List ℕ) → r ≡ word ws′ slot → Asks table s closed (place 0 tops k) from to slot ws b ws′ →
       HeldOne base fs s closed k ws r ws′
-  asked-by true r ws′ is (ys, kept, keeps, (bits, count, some, e, means)) =
+  asked-by true r ws′ is (ys, kept, goes, (bits, count, some, e, means)) =
       let has = fits .laid .each k h .has in
-      rw e (asked-filled ys kept bits count r (rw e at is) some (rw (lent-part fits k h ws) at (keeps φ has))
+      rw e (asked-filled ys kept bits count r (rw e at is) some (rw (lent-part fits k h ws) at (goes φ has))
       (λ L d never agrees state. means φ L d has never (agrees-later agrees (reads-wanted fs k d h)) (rw (lent-part fits k h ws) state)))
-  asked-by false r ws′ is (ys, kept, keeps, (e, means)) =
+  asked-by false r ws′ is (ys, kept, goes, (e, means)) =
       let has = fits .laid .each k h .has in
-      rw e (asked-open ys kept r (rw e at is) (rw (lent-part fits k h ws) at (keeps φ has))
+      rw e (asked-open ys kept r (rw e at is) (rw (lent-part fits k h ws) at (goes φ has))
       (λ L d never agrees state. means φ L d has never (agrees-later agrees (reads-wanted fs k d h)) (rw (lent-part fits k h ws) state)))
 
 pub asked-holds : {table tops : List ℕ} {base number : ℕ} {fs : List Formula} (s : List ℕ) (closed : Bool) (k : ℕ) (ws : List ℕ) (b : Bool) (r : ℕ) (ws′ : List ℕ) →
@@ -234,7 +234,7 @@ pub record Asked (base : ℕ) (fs : List Formula) (s : List ℕ) (closed : Bool)
   pub header : (i : ℕ) → i < base → word ws′ i ≡ word ws i
   pub few : r ≤ 64
   pub least : (k : ℕ) → k < n → k < length fs → r ≤ held-count (formula fs k) (part-of base fs k ws′)
-  pub kept : (k : ℕ) → k < length fs → KeptCopies (formula fs k) (part-of base fs k ws) (part-of base fs k ws′)
+  pub onward : (k : ℕ) → k < length fs → OnwardFormula (formula fs k) (part-of base fs k ws) (part-of base fs k ws′)
   pub meaning : (L : Log) (d : ℕ) → NeverFalls L → Agrees closed s L (wanted fs d) → Top base fs L d ws →
       Top base fs L d ws′ × (d + r ≤ L .size) × (r ≡ 0 → joint-progress fs L ≡ d)
 
@@ -246,7 +246,7 @@ asked-none base fs s closed ws r is =
       header = λ i h. refl;
       few = omega arith;
       least = λ k none h. absurd (omega arith);
-      kept = λ k h. copies-refl (formula fs k) (part-of base fs k ws);
+      onward = λ k h. formula-refl (formula fs k) (part-of base fs k ws);
       meaning = λ L d never agrees top.
           let at = top .at in
           let size = agrees .size in
@@ -279,10 +279,10 @@ module _ {base : ℕ} {fs : List Formula} {s : List ℕ} {closed : Bool} {ws : L
             (λ (l : n ≤ k). let same : k ≡ n = omega arith in rw same (omega (arith, one .count)))
             (λ (l : k < n). rw (other-part k q ws₂ inside h (λ e. omega arith) one) (omega (arith, so-far .least k l inside)))
             (le-or-lt n k);
-        kept = λ k inside.
+        onward = λ k inside.
             ⊎-elim
-            (λ (e : k ≡ n). rw e (copies-trans (formula fs n) (part-of base fs n ws) (part-of base fs n ws₁) (part-of base fs n ws₂) (so-far .kept n h) (one .kept)))
-            (λ (ne : k ≡ n → ⊥). rw (other-part k q ws₂ inside h ne one) (so-far .kept k inside))
+            (λ (e : k ≡ n). rw e (formula-trans (formula fs n) (part-of base fs n ws) (part-of base fs n ws₁) (part-of base fs n ws₂) (so-far .onward n h) (one .onward)))
+            (λ (ne : k ≡ n → ⊥). rw (other-part k q ws₂ inside h ne one) (so-far .onward k inside))
             (same-or-not k n);
         meaning = λ L d never agrees top.
             let (before, size, short) = so-far .meaning L d never agrees top in
@@ -319,6 +319,6 @@ all-asked all a =
       header = a .header;
       few = a .few;
       least = λ k h. a .least k (omega arith) h;
-      kept = a .kept;
+      onward = a .onward;
       meaning = a .meaning;
     }

@@ -6,25 +6,13 @@ use native.Mathlib.Omega.{arith}
 use lib.ListN.{length, take, drop, length-take, length-drop}
 use lib.Seq.{getD-take, getD-drop, ext-getD}
 use Rattle.mtl.specs.Formula.{Formula}
-use Rattle.mtl.specs.Formula.Formula.{letter, not, or, previous, next, since, until}
 use Rattle.blocks.specs.Block.{word}
-use Rattle.engine.specs.State.{own-at, Kept, KeptParts}
-
-own-kept : {Left Right : List ℕ → List ℕ → Type 0} {a c : ℕ} {ws ws′ : List ℕ} → KeptParts Left Right a c ws ws′ →
-    (i : ℕ) → 12 ≤ i → i < 16 → word ws′ (a + c + i) ≡ word ws (a + c + i)
-own-kept {a = a} {c = c} {ws = ws} {ws′ = ws′} k i l h =
-    sym (getD-drop (a + c) ws′ i 0) ∙ k .own i l h ∙ getD-drop (a + c) ws i 0
+use Rattle.engine.specs.State.{own-at, OnwardAll}
+use Rattle.engine.proofs.Onward.{all-own}
 
 -- words 12 to 15 of its own block, where the engine keeps them
-pub kept-own : (φ : Formula) (ws ws′ : List ℕ) → Kept φ ws ws′ → (i : ℕ) → 12 ≤ i → i < 16 → word ws′ (own-at φ + i) ≡ word ws (own-at φ + i)
-unfolding Kept
-kept-own (letter n) ws ws′ k = own-kept k
-kept-own (not φ) ws ws′ k = own-kept k
-kept-own (or φ ψ) ws ws′ k = own-kept k
-kept-own (previous low high φ) ws ws′ k = own-kept k
-kept-own (next low high φ) ws ws′ k = own-kept k
-kept-own (since low high φ ψ) ws ws′ k = own-kept k
-kept-own (until low high φ ψ) ws ws′ k = own-kept k
+pub kept-own : (φ : Formula) (ws ws′ : List ℕ) → OnwardAll φ ws ws′ → (i : ℕ) → 12 ≤ i → i < 16 → word ws′ (own-at φ + i) ≡ word ws (own-at φ + i)
+kept-own φ ws ws′ s i l h = sym (getD-drop (own-at φ) ws′ i 0) ∙ all-own φ ws ws′ s .kept i l h ∙ getD-drop (own-at φ) ws i 0
 
 -- a part of words that are the same there
 pub same-part : (a n : ℕ) (ws ws′ : List ℕ) → length ws′ ≡ length ws → ((i : ℕ) → a ≤ i → i < a + n → word ws′ i ≡ word ws i) →

@@ -4,25 +4,25 @@ use mathlib.Core.Logic.{⊎-elim}
 use mathlib.Core.Path.{_≡_, refl, sym, ap, ap₂, _∙_}
 use mathlib.Core.List.{List}
 use native.Mathlib.Omega.{arith}
-use lib.ListN.{length, getD, take, drop, set, length-set, length-take, length-drop, List·getD-eq-default}
+use lib.ListN.{length, drop, set, length-set, length-take, length-drop, List·getD-eq-default}
 use lib.Seq.{getD-set-same, getD-set-other}
 use Rattle.mtl.specs.Formula.{Formula}
 use Rattle.mtl.specs.Log.{Log}
 use Rattle.mtl.proofs.Bounded.{le-or-lt}
 use Rattle.bits.specs.Packed.{zeros, last-zero}
-use Rattle.verdicts.specs.Counts.{Noes, laid-behind, latest-of, later-end}
+use Rattle.verdicts.specs.Counts.{laid-behind, latest-of, later-end}
 use Rattle.verdicts.proofs.Noes.{noes, noes-of-bits, latest-end}
 use Rattle.rule.specs.Postfix.{formula}
 use Rattle.blocks.specs.Block.{word}
 use Rattle.blocks.proofs.Words.{later}
-use Rattle.engine.specs.State.{words, own-at, words-before, KeptCopies}
+use Rattle.engine.specs.State.{words, own-at, words-before, OnwardFormula}
 use Rattle.engine.specs.Tops.{place}
-use Rattle.engine.proofs.Held.{HeldWords, held-state, copies-held}
+use Rattle.engine.proofs.Held.{HeldWords, held-state, formula-held}
 use Rattle.engine.proofs.Beside.{before-grows}
 use Rattle.checkpoint.specs.Checkpoint.{given, stored-noes}
 use Rattle.emit.specs.Top.{held-count, held-bits, Waiting, part-of, Top}
 use Rattle.emit.specs.Code.{Fits, Row, spent-one, spent, all-spent, Spendable}
-use Rattle.emit.proofs.Places.{Place, part-word, place-in, held-inside, count-at, bits-at, apart}
+use Rattle.emit.proofs.Places.{part-word, place-in, held-inside, count-at, bits-at, apart}
 
 -- formula k's counts and answers, which stand at four places one behind the other
 record Four (held at late size : ℕ) : Type 0 where
@@ -320,8 +320,8 @@ module _ {table tops : List ℕ} {base number : ℕ} {fs : List Formula} (most n
               (le-or-lt (words φ) i);
         }
 
-    pub now-kept : KeptCopies φ (part-of base fs k ws) (part-of base fs k spent-all)
-    now-kept = copies-held φ (part-of base fs k ws) (part-of base fs k spent-all) now-held
+    pub now-onward : OnwardFormula φ (part-of base fs k ws) (part-of base fs k spent-all)
+    now-onward = formula-held φ (part-of base fs k ws) (part-of base fs k spent-all) now-held
 
     now-waiting : (L : Log) (d : ℕ) → n ≤ held-count φ (part-of base fs k ws) → Waiting φ L d (part-of base fs k ws) → Waiting φ L (d + n) (part-of base fs k spent-all)
     now-waiting L d some waits =

@@ -1,11 +1,10 @@
 -- What the functions promise. `base` is the number of the checkpoint's own words, and `most` of a version's formulas.
 use Prim.Native.Nat.{ℕ, zero, suc, _+_, _-_, _/_, _≤_, _<_, _^_, min}
-use mathlib.Core.Bool.{Bool, true, cond}
+use mathlib.Core.Bool.{Bool, cond}
 use mathlib.Core.Path.{_≡_}
 use mathlib.Core.List.{List}
-use mathlib.Core.Logic.{_⊎_}
 use lib.ListN.{length, getD, drop, set}
-use lib.Dec.{eqb, ltb}
+use lib.Dec.{ltb}
 use Rattle.mtl.specs.Formula.{Formula}
 use Rattle.mtl.specs.Log.{Log, NeverFalls}
 use Rattle.mtl.specs.Progress.{settled-to, joint-progress}
@@ -20,8 +19,7 @@ use Rattle.trace.specs.Format.{record-count}
 use Rattle.trace.specs.Order.{last-time}
 use Rattle.blocks.specs.Block.{word}
 use Rattle.blocks.specs.Step.{Agrees}
-use Rattle.engine.specs.State.{words-before, KeptCopies}
-use Rattle.engine.specs.Table.{RowsOk, column}
+use Rattle.engine.specs.State.{words-before, OnwardFormula}
 use Rattle.engine.specs.Tops.{place, Tops, Ended}
 use Rattle.checkpoint.specs.Checkpoint.{given, seen, last, closed-with, stored-noes}
 use Rattle.emit.specs.Verdicts.{columns, verdict}
@@ -43,7 +41,7 @@ pub record HeldOne (base : ℕ) (fs : List Formula) (s : List ℕ) (closed : Boo
   pub words-length : length ws′ ≡ length ws
   pub count : r ≡ held-count (formula fs k) (part-of base fs k ws′)
   pub others : (i : ℕ) → ((base + words-before fs k ≤ i) → (i < base + words-before fs (suc k)) → ⊥) → word ws′ i ≡ word ws i
-  pub kept : KeptCopies (formula fs k) (part-of base fs k ws) (part-of base fs k ws′)
+  pub onward : OnwardFormula (formula fs k) (part-of base fs k ws) (part-of base fs k ws′)
   pub meaning : (L : Log) (d : ℕ) → NeverFalls L → Agrees closed s L (wanted fs d) → Waiting (formula fs k) L d (part-of base fs k ws) →
       Waiting (formula fs k) L d (part-of base fs k ws′) × (r ≡ 0 → settled-to (formula fs k) L ≡ d)
 
@@ -58,7 +56,7 @@ pub record Held (base : ℕ) (fs : List Formula) (s : List ℕ) (closed : Bool) 
   pub header : (i : ℕ) → i < base → word ws′ i ≡ word ws i
   pub few : r ≤ 64
   pub least : (k : ℕ) → k < length fs → r ≤ held-count (formula fs k) (part-of base fs k ws′)
-  pub kept : (k : ℕ) → k < length fs → KeptCopies (formula fs k) (part-of base fs k ws) (part-of base fs k ws′)
+  pub onward : (k : ℕ) → k < length fs → OnwardFormula (formula fs k) (part-of base fs k ws) (part-of base fs k ws′)
   pub meaning : (L : Log) (d : ℕ) → NeverFalls L → Agrees closed s L (wanted fs d) → Top base fs L d ws →
       Top base fs L d ws′ × (d + r ≤ L .size) × (r ≡ 0 → joint-progress fs L ≡ d)
 
@@ -111,11 +109,12 @@ pub record Giving (base : ℕ) (fs : List Formula) (L : Log) (d c : ℕ) (ws′ 
   pub top : Top base fs L (d + c) ws′
   pub bytes : (i : ℕ) → i < c → getD sheet′ i 0 ≡ verdict fs L (d + i)
 
--- the words that no verdict changes: of the header all but the verdicts given and the counts of the rule's formulas
-pub record Untouched (base most : ℕ) (fs : List Formula) (ws ws′ : List ℕ) : Type 0 where
+-- what stays, whatever the words hold: of the header all but the verdicts given and the counts of the rule's formulas; in the formulas'
+-- blocks no head goes back, and the words that no operator writes are kept but for the answers held
+pub record Frame (base most : ℕ) (fs : List Formula) (ws ws′ : List ℕ) : Type 0 where
   pub header : (i : ℕ) → i < 8 → (i ≡ 1 → ⊥) → word ws′ i ≡ word ws i
   pub spare : (k : ℕ) → length fs ≤ k → k < most → (word ws′ (8 + k) ≡ word ws (8 + k)) × (word ws′ (8 + most + k) ≡ word ws (8 + most + k))
-  pub kept : (k : ℕ) → k < length fs → KeptCopies (formula fs k) (part-of base fs k ws) (part-of base fs k ws′)
+  pub onward : (k : ℕ) → k < length fs → OnwardFormula (formula fs k) (part-of base fs k ws) (part-of base fs k ws′)
 
 -- `give` writes c verdicts: as many as the sheet holds, or as there are
 pub record Gave (base most : ℕ) (fs : List Formula) (s : List ℕ) (closed : Bool) (ws sheet : List ℕ) (c : ℕ) (ws′ sheet′ : List ℕ) : Type 0 where
@@ -124,7 +123,7 @@ pub record Gave (base most : ℕ) (fs : List Formula) (s : List ℕ) (closed : B
   pub sheet-length : length sheet′ ≡ length sheet
   pub words-length : length ws′ ≡ length ws
   pub count : given ws′ ≡ given ws + c
-  pub untouched : Untouched base most fs ws ws′
+  pub frame : Frame base most fs ws ws′
   pub noes : (k : ℕ) → k < columns fs → stored-noes most ws′ k ≡ laid-behind (stored-noes most ws k) (given ws) (noes-in k sheet′ c)
   pub meaning : (L : Log) (d : ℕ) → NeverFalls L → Agrees closed s L (wanted fs d) → Top base fs L d ws →
       Giving base fs L d c ws′ sheet′ × (c < length sheet → joint-progress fs L ≡ d + c)
@@ -153,9 +152,10 @@ pub record Emits (base most : ℕ) (fs : List Formula) (s : List ℕ) (closed : 
   pub fits : last ws < 2 ^ 32 → last ws′ < 2 ^ 32
   pub ended : closed-with ws′ ≡ cond closed (suc (record-count s)) 0
   pub noes : (k : ℕ) → k < columns fs → stored-noes most ws′ k ≡ laid-behind (stored-noes most ws k) (given ws) (noes-in k sheet′ (r .count))
-  pub copy : (word ws′ 0 ≡ word ws 0) × (word ws′ 4 ≡ word ws 4)
-  pub untouched : (k : ℕ) → length fs ≤ k → k < most → (word ws′ (8 + k) ≡ word ws (8 + k)) × (word ws′ (8 + most + k) ≡ word ws (8 + most + k))
-  pub kept : (k : ℕ) → k < length fs → KeptCopies (formula fs k) (part-of base fs k ws) (part-of base fs k ws′)
+  -- what stays, whatever the words hold
+  pub header : (i : ℕ) → i < 8 → (i ≡ 1 → ⊥) → (i ≡ 2 → ⊥) → (i ≡ 3 → ⊥) → (i ≡ 5 → ⊥) → word ws′ i ≡ word ws i
+  pub spare : (k : ℕ) → length fs ≤ k → k < most → (word ws′ (8 + k) ≡ word ws (8 + k)) × (word ws′ (8 + most + k) ≡ word ws (8 + most + k))
+  pub onward : (k : ℕ) → k < length fs → OnwardFormula (formula fs k) (part-of base fs k ws) (part-of base fs k ws′)
   pub meaning : (L : Log) (d : ℕ) → NeverFalls L → Agrees closed s L (wanted fs d) → Top base fs L d ws →
       Giving base fs L d (r .count) ws′ sheet′ × (r .count ≡ min (joint-progress fs L - d) (length sheet)) ×
       (r .more ≡ ltb (d + r .count) (joint-progress fs L))

@@ -14,12 +14,12 @@ use Rattle.mtl.proofs.Bounded.{true-and-false}
 use Rattle.trace.specs.Format.{record-count}
 use Rattle.rule.specs.Words.{own-words}
 use Rattle.rule.proofs.Spans.{own-least}
-use Rattle.blocks.specs.Block.{word, taken, KeptBlock, Ready}
+use Rattle.blocks.specs.Block.{word, taken, Onward, Ready}
 use Rattle.blocks.specs.Step.{Agrees, Batched, Moved, Stepped, Steps, Ends, empty, left-to-do}
 use Rattle.engine.specs.State.{State}
 use Rattle.blocks.specs.Kinds.{takes-left, takes-right, Fields}
 use Rattle.engine.specs.Table.{Has, Row, RowOk, RowsOk, column}
-use Rattle.engine.specs.Answer.{Keeps, first-read, Answers}
+use Rattle.engine.specs.Answer.{GoesOn, first-read, Answers}
 use Rattle.engine.specs.Ask.{part, back, stored, Asks}
 use Rattle.blocks.specs.declared.Step.{Step}
 use Rattle.blocks.specs.declared.Step.the-variants.{Batch, Left, Right, Again, Open}
@@ -27,17 +27,18 @@ use Rattle.engine.specs.declared.Reply.the-variants.{Batch as Answered, 
 use Rattle.engine.proofs.Parts.{part-end, length-part, put-back, back-from, drop-back-last, back-same, Side, other, by-side, start, stop, slot, lent, lent-own, Asked, asked, asked-stored}
 use Rattle.engine.proofs.Parts.Side.{on-left, on-right}
 use Rattle.engine.proofs.Uniform.{View, view, unview, has, of, entry, Stands-at, operand, view-of, agrees-later, step-from, operand-from, row, operand-rows}
-use Rattle.engine.proofs.Kept.{kept-refl, kept-trans, KeptAt, kept-of}
-use Rattle.engine.proofs.Fill.{stored-at, stored-keeps, stored-count, stored-count-other, ready-filled}
+use Rattle.blocks.proofs.Onward.{onward-refl}
+use Rattle.engine.proofs.Onward.{all-refl, all-trans, OnwardAt, all-from}
+use Rattle.engine.proofs.Fill.{stored-at, stored-onward, stored-count, stored-count-other, ready-filled}
 
--- the blocks' words 12 to 15 are those of the loop's start, and the words stand for whatever formula they stood for then
+-- the blocks have gone on from the loop's start, and the words stand for whatever formula they stood for then
 abbrev pub Stands : (t s : List ℕ) → Bool → ℕ → (ws₀ ws : List ℕ) → Type 0
 Stands t s closed k ws₀ ws =
-    Keeps t k ws₀ ws ×
+    GoesOn t k ws₀ ws ×
     ((φ : Formula) (L : Log) (g : ℕ) → Has φ t k → NeverFalls L → Agrees closed s L (first-read φ g) → State φ L g ws₀ → State φ L g ws)
 
 pub stands-first : (t s : List ℕ) (closed : Bool) (k : ℕ) (ws : List ℕ) → Stands t s closed k ws ws
-stands-first t s closed k ws = (λ φ entered. kept-refl φ ws, λ φ L g entered never agrees state. state)
+stands-first t s closed k ws = (λ φ entered. all-refl φ ws, λ φ L g entered never agrees state. state)
 
 -- the row of entry k as it is read: its operands have a and c words, and it has `end` in all
 pub record Reading (t : List ℕ) (k kind letter low high left a c end : ℕ) : Type 0 where
@@ -168,18 +169,18 @@ module _ {t s : List ℕ} {closed : Bool} {k left a c end : ℕ} {ws₀ ws b′ 
     stay : (x : Side) → lent x a c (put-back (a + c) end b′ ws) ≡ lent x a c ws
     stay x = lent-own x a c end ws b′ (turn .last) (omega (arith, turn .room)) (turn .size)
 
-    -- words ws′ whose blocks are kept from words ws
-    keeps-from : (ws′ : List ℕ) → KeptBlock (drop (a + c) ws) (drop (a + c) ws′) →
-        ((φ : Formula) → Has φ t k → (x : Side) → KeptAt x a c φ ws ws′) → Keeps t k ws₀ ws′
-    keeps-from ws′ own parts φ entered =
+    -- words ws′ whose blocks have gone on from words ws
+    goes-from : (ws′ : List ℕ) → Onward 12 (drop (a + c) ws) (drop (a + c) ws′) →
+        ((φ : Formula) → Has φ t k → (x : Side) → OnwardAt x a c φ ws ws′) → GoesOn t k ws₀ ws′
+    goes-from ws′ own parts φ entered =
         let e = row φ t k entered in
-        kept-trans φ ws₀ ws ws′ (turn .stands .0 φ entered)
-        (kept-of φ ws ws′ (turn .is-a ∙ e .left-words) (turn .is-c ∙ e .right-words) own (parts φ entered))
+        all-trans φ ws₀ ws ws′ (turn .stands .0 φ entered)
+        (all-from φ ws ws′ (turn .is-a ∙ e .left-words) (turn .is-c ∙ e .right-words) own (parts φ entered))
 
-    -- a step keeps its own block's, and its operands' blocks are as they were
-    keeps-on : KeptBlock (drop (a + c) ws) b′ → Keeps t k ws₀ (put-back (a + c) end b′ ws)
-    keeps-on own =
-        keeps-from (put-back (a + c) end b′ ws) (rw own-put own) (λ φ entered x e. rw (stay x) (kept-refl (of x φ) (lent x a c ws)))
+    -- a step goes on in its own block, and its operands' blocks are as they were
+    goes-on : Onward 12 (drop (a + c) ws) b′ → GoesOn t k ws₀ (put-back (a + c) end b′ ws)
+    goes-on own =
+        goes-from (put-back (a + c) end b′ ws) (rw own-put own) (λ φ entered x e. rw (stay x) (all-refl (of x φ) (lent x a c ws)))
 
     module _ (φ : Formula) (L : Log) (g : ℕ) (entered : Has φ t k) where
       viewed : NeverFalls L → Agrees closed s L (first-read φ g) → State φ L g ws₀ → View a c φ L g ws
@@ -215,7 +216,7 @@ module _ {t s : List ℕ} {closed : Bool} {k left a c end : ℕ} {ws₀ ws b′ 
   pub batch-turn : {bits n : ℕ} → Turn t s closed k left a c end ws₀ ws (Batch bits n) b′ →
       Answers t s closed k ws₀ (Answered bits n) (put-back (a + c) end b′ ws)
   batch-turn {bits} {n} turn = (
-    keeps-on turn (turn .ends),
+    goes-on turn (turn .ends),
     λ φ L g entered never agrees state.
         let v = viewed turn φ L g entered never agrees state in
         let st = stepped turn φ L g entered never agrees v in
@@ -224,7 +225,7 @@ module _ {t s : List ℕ} {closed : Bool} {k left a c end : ℕ} {ws₀ ws b′ 
 
   pub again-turn : Turn t s closed k left a c end ws₀ ws Again b′ → Stands t s closed k ws₀ (put-back (a + c) end b′ ws)
   again-turn turn = (
-    keeps-on turn (turn .ends .1),
+    goes-on turn (turn .ends .1),
     λ φ L g entered never agrees state.
         let v = viewed turn φ L g entered never agrees state in
         let st = stepped turn φ L g entered never agrees v in
@@ -331,17 +332,17 @@ module _ {t s : List ℕ} {closed : Bool} {k left a c end : ℕ} {ws₀ ws b′ 
       n
       (asked side a c ws ys inside kept)
 
-  -- the operand keeps its own blocks
-  keeps-asked : (ws′ ys b : List ℕ) → Asked side a c ws ys ws′ b → KeptBlock (drop (a + c) ws) b →
-      Keeps t (entry side left k) (lent side a c ws) ys → Keeps t k ws₀ ws′
-  keeps-asked ws′ ys b frame own keeps =
-      keeps-from turn ws′ (rw (frame .own) own)
+  -- the operand goes on in its own blocks
+  goes-asked : (ws′ ys b : List ℕ) → Asked side a c ws ys ws′ b → Onward 12 (drop (a + c) ws) b →
+      GoesOn t (entry side left k) (lent side a c ws) ys → GoesOn t k ws₀ ws′
+  goes-asked ws′ ys b frame own goes =
+      goes-from turn ws′ (rw (frame .own) own)
       (λ φ entered.
       by-side
-      (λ x. KeptAt x a c φ ws ws′)
+      (λ x. OnwardAt x a c φ ws ws′)
       side
-      (λ e. rw (frame .here) (keeps (of side φ) (rw (turn .is-left) (operand-rows φ t k entered side e))))
-      (λ e. rw (frame .there) (kept-refl (of (other side) φ) (lent (other side) a c ws))))
+      (λ e. rw (frame .here) (goes (of side φ) (rw (turn .is-left) (operand-rows φ t k entered side e))))
+      (λ e. rw (frame .there) (all-refl (of (other side) φ) (lent (other side) a c ws))))
 
   pub open-asked : (x : Bool) (ws′ : List ℕ) → negate x ≡ true →
       Asks t s closed (entry side left k) (start side a) (stop side a c) (a + c + slot side) (put-back (a + c) end b′ ws) x ws′ →
@@ -354,7 +355,7 @@ module _ {t s : List ℕ} {closed : Bool} {k left a c end : ℕ} {ws₀ ws b′ 
       let after = back (start side a) (stop side a c) ys ws in
       let here : taken b + word b (slot side) ≡ taken b = omega (arith, none) in
       let frame = asked side a c ws ys inside (got .1) in (
-        rw (got .3 .0) (keeps-asked after ys b frame (λ i h l. refl) (got .2)),
+        rw (got .3 .0) (goes-asked after ys b frame (onward-refl b) (got .2)),
         λ φ L g entered never agrees state.
             let v = viewed turn φ L g entered never agrees state in
             let st = wanting side φ L g b (stepped turn φ L g entered never agrees v) in
@@ -393,7 +394,7 @@ module _ {t s : List ℕ} {closed : Bool} {k left a c end : ℕ} {ws₀ ws b′ 
       let new = stored b (slot side) bits n in
       let after = stored (back (start side a) (stop side a c) ys ws) (a + c + slot side) bits n in
       let frame = framed ys bits n (got .1) in (
-        rw (got .3 .3) (keeps-asked after ys new frame (stored-keeps side b long bits n) (got .2)),
+        rw (got .3 .3) (goes-asked after ys new frame (stored-onward side b long bits n) (got .2)),
         λ φ L g entered never agrees state.
             let v = viewed turn φ L g entered never agrees state in
             let st = wanting side φ L g b (stepped turn φ L g entered never agrees v) in

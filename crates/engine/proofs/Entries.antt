@@ -20,11 +20,12 @@ use Rattle.rule.specs.Postfix.{root}
 use Rattle.rule.specs.Operands.{operands, left, part, FormulaAt, Unary, Binary}
 use Rattle.rule.specs.Accepted.{WellFormed}
 use Rattle.rule.proofs.Spans.{own-least, offset-mono}
-use Rattle.blocks.specs.Block.{word, taken, left-count, right-count, kind-of, high-of, FreshBlock, KeptBlock, KeptCopy, cells-of, InRange, Own, Core, Buffers, Ready}
-use Rattle.engine.specs.State.{words, Parts, Absent, State, KeptParts, KeptNone, Kept, KeptCopies}
+use Rattle.blocks.specs.Block.{word, taken, left-count, right-count, kind-of, high-of, FreshBlock, Onward, cells-of, InRange, Own, Core, Buffers, Ready}
+use Rattle.engine.specs.State.{words, Parts, Absent, State, OnwardParts, OnwardNone, OnwardAll, OnwardFormula}
 use Rattle.engine.specs.Layout.{first}
 use Rattle.engine.proofs.Rows.{words-at, fields-of}
 use Rattle.blocks.proofs.Words.{empty-buffer}
+use Rattle.blocks.proofs.Onward.{onward-fewer, onward-same}
 
 -- the words of the subformula that ends at entry k
 abbrev pub part-words : List Entry → ℕ → List ℕ → List ℕ
@@ -224,46 +225,44 @@ own-ranged t W φ L g k a c is all ready j l l′ =
     (fields-entry (λ kind high. InRange (L .size) (cells-of kind high) (drop (offset t k) W)) φ (entry t k) is
     (range-same (drop (a + c) (part-words t k W)) (drop (offset t k) W) same (ready .core .range)))
 
--- A BLOCK WITH WORDS 12 TO 15 AS BEFORE
+-- A BLOCK THAT HAS GONE ON
 
--- the block of entry j in W and in W′
-abbrev pub KeptEntry : List Entry → (W W′ : List ℕ) → ℕ → Type 0
-KeptEntry t W W′ j = KeptBlock (drop (offset t j) W) (drop (offset t j) W′)
+-- the block of entry j in W and in W′, with the words from w on kept
+abbrev pub OnwardEntry : (w : ℕ) → List Entry → (W W′ : List ℕ) → ℕ → Type 0
+OnwardEntry w t W W′ j = Onward w (drop (offset t j) W) (drop (offset t j) W′)
 
-own-kept : (t : List Entry) (W W′ : List ℕ) (k a c : ℕ) → part t k ≡ a + c + own (entry t k) →
-    KeptBlock (drop (a + c) (part-words t k W)) (drop (a + c) (part-words t k W′)) → (j : ℕ) → k ≤ j → j ≤ k → KeptEntry t W W′ j
-own-kept t W W′ k a c all kept j l l′ =
-    subst (KeptEntry t W W′) (omega arith)
-    (λ i h m. sym (own-same t W′ k a c all i m) ∙ kept i h m ∙ own-same t W k a c all i m)
+own-onward : (w : ℕ) (t : List Entry) (W W′ : List ℕ) (k a c : ℕ) → part t k ≡ a + c + own (entry t k) →
+    Onward w (drop (a + c) (part-words t k W)) (drop (a + c) (part-words t k W′)) → (j : ℕ) → k ≤ j → j ≤ k → OnwardEntry w t W W′ j
+own-onward w t W W′ k a c all onward j l l′ =
+    subst (OnwardEntry w t W W′) (omega arith)
+    (onward-same (drop (a + c) (part-words t k W)) (drop (offset t k) W) (drop (a + c) (part-words t k W′)) (drop (offset t k) W′)
+    (own-same t W k a c all) (own-same t W′ k a c all) onward)
 
--- the block of entry j where entry k is the last of a formula: of that one, words 14 and 15
-abbrev pub CopiedEntry : List Entry → (W W′ : List ℕ) → (k j : ℕ) → Type 0
-CopiedEntry t W W′ k j = (i : ℕ) → 12 ≤ i → i < 16 → (j ≡ k → 14 ≤ i) → word (drop (offset t j) W′) i ≡ word (drop (offset t j) W) i
+-- the block of entry j where entry k is the last of a formula: that one's words 12 and 13 may be written
+abbrev pub FormulaEntry : List Entry → (W W′ : List ℕ) → (k j : ℕ) → Type 0
+FormulaEntry t W W′ k j = OnwardEntry 14 t W W′ j × ((j ≡ k → ⊥) → OnwardEntry 12 t W W′ j)
 
-own-copied : (t : List Entry) (W W′ : List ℕ) (k a c : ℕ) → part t k ≡ a + c + own (entry t k) →
-    KeptCopy (drop (a + c) (part-words t k W)) (drop (a + c) (part-words t k W′)) → (j : ℕ) → k ≤ j → j ≤ k → CopiedEntry t W W′ k j
-own-copied t W W′ k a c all kept j l l′ =
-    subst (CopiedEntry t W W′ k) (omega arith)
-    (λ i h m late. sym (own-same t W′ k a c all i m) ∙ kept i (late refl) m ∙ own-same t W k a c all i m)
+as-last : (t : List Entry) (W W′ : List ℕ) (k j : ℕ) → k ≤ j → j ≤ k → OnwardEntry 14 t W W′ j → FormulaEntry t W W′ k j
+as-last t W W′ k j l l′ onward = (onward, λ other. absurd (other (omega arith)))
 
 -- BLOCK BY BLOCK
 
--- every block of the entries from f to k is fresh, in its ranges, or kept
+-- every block of the entries from f to k is fresh, in its ranges, or has gone on
 abbrev pub FreshFrom : List Entry → List ℕ → ℕ → ℕ → Type 0
 FreshFrom t W f k = (j : ℕ) → f ≤ j → j ≤ k → FreshBlock (drop (offset t j) W)
 
 abbrev pub RangedFrom : List Entry → List ℕ → (size : ℕ) → ℕ → ℕ → Type 0
 RangedFrom t W size f k = (j : ℕ) → f ≤ j → j ≤ k → Ranged t W size j
 
-abbrev pub KeptFrom : List Entry → (W W′ : List ℕ) → ℕ → ℕ → Type 0
-KeptFrom t W W′ f k = (j : ℕ) → f ≤ j → j ≤ k → KeptEntry t W W′ j
+abbrev pub OnwardFrom : List Entry → (W W′ : List ℕ) → ℕ → ℕ → Type 0
+OnwardFrom t W W′ f k = (j : ℕ) → f ≤ j → j ≤ k → OnwardEntry 12 t W W′ j
 
-abbrev pub CopiedFrom : List Entry → (W W′ : List ℕ) → ℕ → ℕ → Type 0
-CopiedFrom t W W′ f k = (j : ℕ) → f ≤ j → j ≤ k → CopiedEntry t W W′ k j
+abbrev pub FormulaFrom : List Entry → (W W′ : List ℕ) → ℕ → ℕ → Type 0
+FormulaFrom t W W′ f k = (j : ℕ) → f ≤ j → j ≤ k → FormulaEntry t W W′ k j
 
--- the operands' entries have all four words
-copied-from : (t : List Entry) (W W′ : List ℕ) (f m k : ℕ) → KeptFrom t W W′ f m → (j : ℕ) → f ≤ j → j ≤ m → CopiedEntry t W W′ k j
-copied-from t W W′ f m k kept j from to i h l late = kept j from to i h l
+-- the operands' entries keep all four words
+operand-entries : (t : List Entry) (W W′ : List ℕ) (f m k : ℕ) → OnwardFrom t W W′ f m → (j : ℕ) → f ≤ j → j ≤ m → FormulaEntry t W W′ k j
+operand-entries t W W′ f m k onward j from to = (onward-fewer (omega arith) (onward j from to), λ other. onward j from to)
 
 -- an entry of χ with one operand φ
 module _ (t : List Entry) (n : ℕ) (ok : WellFormed t n) (χ φ : Formula) (k : ℕ) (h : k < n) (is : entry t k ≡ root χ)
@@ -291,17 +290,15 @@ module _ (t : List Entry) (n : ℕ) (ok : WellFormed t n) (χ φ : Formula) (k :
   from-one P here right j from to =
       ⊎-elim (λ (l : k ≤ j). here j l to) (λ (l : j < k). right j (omega (arith, one-first)) (omega arith)) (le-or-lt k j)
 
-  kept-one : (W W′ : List ℕ) → KeptParts KeptNone (Kept φ) 0 (words φ) (part-words t k W) (part-words t k W′) →
-      (Kept φ (part-words t (k - 1) W) (part-words t (k - 1) W′) → KeptFrom t W W′ (first t (k - 1)) (k - 1)) → KeptFrom t W W′ (first t k) k
-  kept-one W W′ s right =
-      from-one (KeptEntry t W W′) (own-kept t W W′ k 0 (words φ) one-part (s .own)) (right (rw (one-right W, one-right W′) at (s .right)))
+  module _ (W W′ : List ℕ) (right : OnwardAll φ (part-words t (k - 1) W) (part-words t (k - 1) W′) → OnwardFrom t W W′ (first t (k - 1)) (k - 1)) where
+    onward-one : OnwardParts 12 OnwardNone (OnwardAll φ) 0 (words φ) (part-words t k W) (part-words t k W′) → OnwardFrom t W W′ (first t k) k
+    onward-one s =
+        from-one (OnwardEntry 12 t W W′) (own-onward 12 t W W′ k 0 (words φ) one-part (s .own)) (right (rw (one-right W, one-right W′) at (s .right)))
 
-  copied-one : (W W′ : List ℕ) → KeptCopy (drop (0 + words φ) (part-words t k W)) (drop (0 + words φ) (part-words t k W′)) →
-      Kept φ (take (words φ) (drop 0 (part-words t k W))) (take (words φ) (drop 0 (part-words t k W′))) →
-      (Kept φ (part-words t (k - 1) W) (part-words t (k - 1) W′) → KeptFrom t W W′ (first t (k - 1)) (k - 1)) → CopiedFrom t W W′ (first t k) k
-  copied-one W W′ own s right =
-      from-one (CopiedEntry t W W′ k) (own-copied t W W′ k 0 (words φ) one-part own)
-      (copied-from t W W′ (first t (k - 1)) (k - 1) k (right (rw (one-right W, one-right W′) at s)))
+    formula-one : OnwardParts 14 OnwardNone (OnwardAll φ) 0 (words φ) (part-words t k W) (part-words t k W′) → FormulaFrom t W W′ (first t k) k
+    formula-one s =
+        from-one (FormulaEntry t W W′ k) (λ j l l′. as-last t W W′ k j l l′ (own-onward 14 t W W′ k 0 (words φ) one-part (s .own) j l l′))
+        (operand-entries t W W′ (first t (k - 1)) (k - 1) k (right (rw (one-right W, one-right W′) at (s .right))))
 
   module _ (W : List ℕ) (L : Log) where
     fresh-one : offset t n ≤ length W → FreshFrom t W (first t k) k →
@@ -363,23 +360,19 @@ module _ (t : List Entry) (n : ℕ) (ok : WellFormed t n) (χ φ ψ : Formula) (
       (le-or-lt j (left t k)))
       (le-or-lt k j)
 
-  kept-two : (W W′ : List ℕ) → KeptParts (Kept φ) (Kept ψ) (words φ) (words ψ) (part-words t k W) (part-words t k W′) →
-      (Kept φ (part-words t (left t k) W) (part-words t (left t k) W′) → KeptFrom t W W′ (first t (left t k)) (left t k)) →
-      (Kept ψ (part-words t (k - 1) W) (part-words t (k - 1) W′) → KeptFrom t W W′ (first t (k - 1)) (k - 1)) → KeptFrom t W W′ (first t k) k
-  kept-two W W′ s lefts rights =
-      from-two (KeptEntry t W W′) (own-kept t W W′ k (words φ) (words ψ) two-part (s .own))
-      (lefts (rw (two-left W, two-left W′) at (s .left)))
-      (rights (rw (two-right W, two-right W′) at (s .right)))
+  module _ (W W′ : List ℕ) (lefts : OnwardAll φ (part-words t (left t k) W) (part-words t (left t k) W′) → OnwardFrom t W W′ (first t (left t k)) (left t k))
+      (rights : OnwardAll ψ (part-words t (k - 1) W) (part-words t (k - 1) W′) → OnwardFrom t W W′ (first t (k - 1)) (k - 1)) where
+    onward-two : OnwardParts 12 (OnwardAll φ) (OnwardAll ψ) (words φ) (words ψ) (part-words t k W) (part-words t k W′) → OnwardFrom t W W′ (first t k) k
+    onward-two s =
+        from-two (OnwardEntry 12 t W W′) (own-onward 12 t W W′ k (words φ) (words ψ) two-part (s .own))
+        (lefts (rw (two-left W, two-left W′) at (s .left)))
+        (rights (rw (two-right W, two-right W′) at (s .right)))
 
-  copied-two : (W W′ : List ℕ) → KeptCopy (drop (words φ + words ψ) (part-words t k W)) (drop (words φ + words ψ) (part-words t k W′)) →
-      Kept φ (take (words φ) (part-words t k W)) (take (words φ) (part-words t k W′)) →
-      Kept ψ (take (words ψ) (drop (words φ) (part-words t k W))) (take (words ψ) (drop (words φ) (part-words t k W′))) →
-      (Kept φ (part-words t (left t k) W) (part-words t (left t k) W′) → KeptFrom t W W′ (first t (left t k)) (left t k)) →
-      (Kept ψ (part-words t (k - 1) W) (part-words t (k - 1) W′) → KeptFrom t W W′ (first t (k - 1)) (k - 1)) → CopiedFrom t W W′ (first t k) k
-  copied-two W W′ own s s′ lefts rights =
-      from-two (CopiedEntry t W W′ k) (own-copied t W W′ k (words φ) (words ψ) two-part own)
-      (copied-from t W W′ (first t (left t k)) (left t k) k (lefts (rw (two-left W, two-left W′) at s)))
-      (copied-from t W W′ (first t (k - 1)) (k - 1) k (rights (rw (two-right W, two-right W′) at s′)))
+    formula-two : OnwardParts 14 (OnwardAll φ) (OnwardAll ψ) (words φ) (words ψ) (part-words t k W) (part-words t k W′) → FormulaFrom t W W′ (first t k) k
+    formula-two s =
+        from-two (FormulaEntry t W W′ k) (λ j l l′. as-last t W W′ k j l l′ (own-onward 14 t W W′ k (words φ) (words ψ) two-part (s .own) j l l′))
+        (operand-entries t W W′ (first t (left t k)) (left t k) k (lefts (rw (two-left W, two-left W′) at (s .left))))
+        (operand-entries t W W′ (first t (k - 1)) (k - 1) k (rights (rw (two-right W, two-right W′) at (s .right))))
 
   module _ (W : List ℕ) (L : Log) where
     fresh-two : offset t n ≤ length W → FreshFrom t W (first t k) k →
@@ -450,52 +443,52 @@ state-ranges t n ok W (until low high φ ψ) k h (e, b, f, f′) L g s =
     ranged-two t n ok (until low high φ ψ) φ ψ k h e refl f f′ W L g s (state-ranges t n ok W φ (left t k) (omega arith) f L)
     (state-ranges t n ok W ψ (k - 1) (omega arith) f′ L)
 
--- THEOREM: where words 12 to 15 of a subformula's blocks are kept, they are kept in each of its entries' blocks.
-pub entries-kept : (t : List Entry) (n : ℕ) → WellFormed t n → (W W′ : List ℕ) (φ : Formula) (k : ℕ) → k < n → FormulaAt t k φ →
-    Kept φ (part-words t k W) (part-words t k W′) → KeptFrom t W W′ (first t k) k
-unfolding FormulaAt Kept
-entries-kept t n ok W W′ (letter l) k h e s =
+-- THEOREM: where no head goes back in a subformula's blocks and words 12 to 15 are kept, so it is in each of its entries' blocks.
+pub entries-onward : (t : List Entry) (n : ℕ) → WellFormed t n → (W W′ : List ℕ) (φ : Formula) (k : ℕ) → k < n → FormulaAt t k φ →
+    OnwardAll φ (part-words t k W) (part-words t k W′) → OnwardFrom t W W′ (first t k) k
+unfolding FormulaAt OnwardAll
+entries-onward t n ok W W′ (letter l) k h e s =
     let p = ok .leaf k h (ap (λ x. operands (x .kind)) e) in
     let q = p .span-is in
     let q′ = p .part-is in
-    λ j from to. own-kept t W W′ k 0 0 (omega arith) (s .own) j (omega arith) to
-entries-kept t n ok W W′ (not φ) k h (e, b, f) s =
-    kept-one t n ok (not φ) φ k h e refl f W W′ s (entries-kept t n ok W W′ φ (k - 1) (omega arith) f)
-entries-kept t n ok W W′ (or φ ψ) k h (e, b, f, f′) s =
-    kept-two t n ok (or φ ψ) φ ψ k h e refl f f′ W W′ s (entries-kept t n ok W W′ φ (left t k) (omega arith) f)
-    (entries-kept t n ok W W′ ψ (k - 1) (omega arith) f′)
-entries-kept t n ok W W′ (previous low high φ) k h (e, b, f) s =
-    kept-one t n ok (previous low high φ) φ k h e refl f W W′ s (entries-kept t n ok W W′ φ (k - 1) (omega arith) f)
-entries-kept t n ok W W′ (next low high φ) k h (e, b, f) s =
-    kept-one t n ok (next low high φ) φ k h e refl f W W′ s (entries-kept t n ok W W′ φ (k - 1) (omega arith) f)
-entries-kept t n ok W W′ (since low high φ ψ) k h (e, b, f, f′) s =
-    kept-two t n ok (since low high φ ψ) φ ψ k h e refl f f′ W W′ s (entries-kept t n ok W W′ φ (left t k) (omega arith) f)
-    (entries-kept t n ok W W′ ψ (k - 1) (omega arith) f′)
-entries-kept t n ok W W′ (until low high φ ψ) k h (e, b, f, f′) s =
-    kept-two t n ok (until low high φ ψ) φ ψ k h e refl f f′ W W′ s (entries-kept t n ok W W′ φ (left t k) (omega arith) f)
-    (entries-kept t n ok W W′ ψ (k - 1) (omega arith) f′)
+    λ j from to. own-onward 12 t W W′ k 0 0 (omega arith) (s .own) j (omega arith) to
+entries-onward t n ok W W′ (not φ) k h (e, b, f) s =
+    onward-one t n ok (not φ) φ k h e refl f W W′ (entries-onward t n ok W W′ φ (k - 1) (omega arith) f) s
+entries-onward t n ok W W′ (or φ ψ) k h (e, b, f, f′) s =
+    onward-two t n ok (or φ ψ) φ ψ k h e refl f f′ W W′ (entries-onward t n ok W W′ φ (left t k) (omega arith) f)
+    (entries-onward t n ok W W′ ψ (k - 1) (omega arith) f′) s
+entries-onward t n ok W W′ (previous low high φ) k h (e, b, f) s =
+    onward-one t n ok (previous low high φ) φ k h e refl f W W′ (entries-onward t n ok W W′ φ (k - 1) (omega arith) f) s
+entries-onward t n ok W W′ (next low high φ) k h (e, b, f) s =
+    onward-one t n ok (next low high φ) φ k h e refl f W W′ (entries-onward t n ok W W′ φ (k - 1) (omega arith) f) s
+entries-onward t n ok W W′ (since low high φ ψ) k h (e, b, f, f′) s =
+    onward-two t n ok (since low high φ ψ) φ ψ k h e refl f f′ W W′ (entries-onward t n ok W W′ φ (left t k) (omega arith) f)
+    (entries-onward t n ok W W′ ψ (k - 1) (omega arith) f′) s
+entries-onward t n ok W W′ (until low high φ ψ) k h (e, b, f, f′) s =
+    onward-two t n ok (until low high φ ψ) φ ψ k h e refl f f′ W W′ (entries-onward t n ok W W′ φ (left t k) (omega arith) f)
+    (entries-onward t n ok W W′ ψ (k - 1) (omega arith) f′) s
 
 -- THEOREM: the same but for words 12 and 13 of the formula's own block.
-pub entries-copied : (t : List Entry) (n : ℕ) → WellFormed t n → (W W′ : List ℕ) (φ : Formula) (k : ℕ) → k < n → FormulaAt t k φ →
-    KeptCopies φ (part-words t k W) (part-words t k W′) → CopiedFrom t W W′ (first t k) k
+pub entries-formula : (t : List Entry) (n : ℕ) → WellFormed t n → (W W′ : List ℕ) (φ : Formula) (k : ℕ) → k < n → FormulaAt t k φ →
+    OnwardFormula φ (part-words t k W) (part-words t k W′) → FormulaFrom t W W′ (first t k) k
 unfolding FormulaAt
-entries-copied t n ok W W′ (letter l) k h e s =
+entries-formula t n ok W W′ (letter l) k h e s =
     let p = ok .leaf k h (ap (λ x. operands (x .kind)) e) in
     let q = p .span-is in
     let q′ = p .part-is in
-    λ j from to. own-copied t W W′ k 0 0 (omega arith) (s .own) j (omega arith) to
-entries-copied t n ok W W′ (not φ) k h (e, b, f) s =
-    copied-one t n ok (not φ) φ k h e refl f W W′ (s .own) (s .right) (entries-kept t n ok W W′ φ (k - 1) (omega arith) f)
-entries-copied t n ok W W′ (or φ ψ) k h (e, b, f, f′) s =
-    copied-two t n ok (or φ ψ) φ ψ k h e refl f f′ W W′ (s .own) (s .left) (s .right) (entries-kept t n ok W W′ φ (left t k) (omega arith) f)
-    (entries-kept t n ok W W′ ψ (k - 1) (omega arith) f′)
-entries-copied t n ok W W′ (previous low high φ) k h (e, b, f) s =
-    copied-one t n ok (previous low high φ) φ k h e refl f W W′ (s .own) (s .right) (entries-kept t n ok W W′ φ (k - 1) (omega arith) f)
-entries-copied t n ok W W′ (next low high φ) k h (e, b, f) s =
-    copied-one t n ok (next low high φ) φ k h e refl f W W′ (s .own) (s .right) (entries-kept t n ok W W′ φ (k - 1) (omega arith) f)
-entries-copied t n ok W W′ (since low high φ ψ) k h (e, b, f, f′) s =
-    copied-two t n ok (since low high φ ψ) φ ψ k h e refl f f′ W W′ (s .own) (s .left) (s .right) (entries-kept t n ok W W′ φ (left t k) (omega arith) f)
-    (entries-kept t n ok W W′ ψ (k - 1) (omega arith) f′)
-entries-copied t n ok W W′ (until low high φ ψ) k h (e, b, f, f′) s =
-    copied-two t n ok (until low high φ ψ) φ ψ k h e refl f f′ W W′ (s .own) (s .left) (s .right) (entries-kept t n ok W W′ φ (left t k) (omega arith) f)
-    (entries-kept t n ok W W′ ψ (k - 1) (omega arith) f′)
+    λ j from to. as-last t W W′ k j (omega arith) to (own-onward 14 t W W′ k 0 0 (omega arith) (s .own) j (omega arith) to)
+entries-formula t n ok W W′ (not φ) k h (e, b, f) s =
+    formula-one t n ok (not φ) φ k h e refl f W W′ (entries-onward t n ok W W′ φ (k - 1) (omega arith) f) s
+entries-formula t n ok W W′ (or φ ψ) k h (e, b, f, f′) s =
+    formula-two t n ok (or φ ψ) φ ψ k h e refl f f′ W W′ (entries-onward t n ok W W′ φ (left t k) (omega arith) f)
+    (entries-onward t n ok W W′ ψ (k - 1) (omega arith) f′) s
+entries-formula t n ok W W′ (previous low high φ) k h (e, b, f) s =
+    formula-one t n ok (previous low high φ) φ k h e refl f W W′ (entries-onward t n ok W W′ φ (k - 1) (omega arith) f) s
+entries-formula t n ok W W′ (next low high φ) k h (e, b, f) s =
+    formula-one t n ok (next low high φ) φ k h e refl f W W′ (entries-onward t n ok W W′ φ (k - 1) (omega arith) f) s
+entries-formula t n ok W W′ (since low high φ ψ) k h (e, b, f, f′) s =
+    formula-two t n ok (since low high φ ψ) φ ψ k h e refl f f′ W W′ (entries-onward t n ok W W′ φ (left t k) (omega arith) f)
+    (entries-onward t n ok W W′ ψ (k - 1) (omega arith) f′) s
+entries-formula t n ok W W′ (until low high φ ψ) k h (e, b, f, f′) s =
+    formula-two t n ok (until low high φ ψ) φ ψ k h e refl f f′ W W′ (entries-onward t n ok W W′ φ (left t k) (omega arith) f)
+    (entries-onward t n ok W W′ ψ (k - 1) (omega arith) f′) s

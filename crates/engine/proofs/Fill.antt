@@ -9,8 +9,9 @@ use lib.Seq.{getD-set-same, getD-set-other}
 use Rattle.mtl.specs.Formula.{Formula}
 use Rattle.mtl.specs.Formula.Formula.{letter, not, or, previous, next, since, until}
 use Rattle.mtl.specs.Log.{Log}
-use Rattle.blocks.specs.Block.{word, taken, KeptBlock, Own, Ready}
+use Rattle.blocks.specs.Block.{word, taken, Onward, Own, Ready}
 use Rattle.blocks.specs.Step.{Batched}
+use Rattle.blocks.proofs.Onward.{still}
 use Rattle.engine.specs.Ask.{stored}
 use Rattle.engine.proofs.Parts.{Side, other, by-side, slot}
 use Rattle.engine.proofs.Parts.Side.{on-left, on-right}
@@ -105,10 +106,11 @@ module _ (side : Side) (b : List ℕ) (room : 16 ≤ length b) (bits n : ℕ) wh
       let s = slots side in
       stored-other 0 (λ e. omega arith) (λ e. omega arith)
 
-  pub stored-keeps : KeptBlock b (stored b (slot side) bits n)
-  stored-keeps i h l =
+  pub stored-onward : Onward 12 b (stored b (slot side) bits n)
+  stored-onward =
       let s = slots side in
-      stored-other i (λ e. omega arith) (λ e. omega arith)
+      still b (stored b (slot side) bits n) stored-at (stored-other 5 (λ e. omega arith) (λ e. omega arith))
+      (λ i h l. stored-other i (λ e. omega arith) (λ e. omega arith))
 
   pub stored-count : word (stored b (slot side) bits n) (slot side) ≡ n
   stored-count =

@@ -17,12 +17,12 @@ use Rattle.rule.specs.Postfix.{root, size, formula, start}
 use Rattle.rule.specs.Operands.{FormulaAt}
 use Rattle.rule.specs.Accepted.{WellFormed, Whole}
 use Rattle.rule.proofs.Order.{some-size, within-whole}
-use Rattle.blocks.specs.Block.{kind-of, high-of, FreshBlock, KeptCopy}
-use Rattle.engine.specs.State.{words, words-before, formula-words, own-at, State, Kept, KeptCopies}
+use Rattle.blocks.specs.Block.{kind-of, high-of, FreshBlock}
+use Rattle.engine.specs.State.{words, words-before, formula-words, own-at, State, OnwardFormula}
 use Rattle.engine.specs.Layout.{first}
 use Rattle.engine.proofs.Uniform.{all-words}
 use Rattle.engine.proofs.Rows.{words-at, fields-of}
-use Rattle.engine.proofs.Entries.{part-words, part-ends, Ranged, KeptEntry, CopiedFrom, fresh-state, state-ranges, entries-kept, entries-copied}
+use Rattle.engine.proofs.Entries.{part-words, part-ends, Ranged, OnwardEntry, FormulaFrom, fresh-state, state-ranges, entries-formula}
 
 -- the last entry of formula k
 abbrev pub last-entry : List Formula → ℕ → ℕ
@@ -143,33 +143,23 @@ module _ (t : List Entry) (n : ℕ) (ok : WellFormed t n) (fs : List Formula) (w
       state-ranges t n ok W (formula fs k) (last-entry fs k) (last-below k h) (last-at k h) L g
       (subst (State (formula fs k) L g) (sym (words-are k h W)) s))
 
-  -- THEOREM: where words 12 to 15 of each formula's blocks are kept, they are kept in every entry's block.
-  pub rule-kept : (W W′ : List ℕ) → ((k : ℕ) → k < length fs → Kept (formula fs k) (formula-words fs k W) (formula-words fs k W′)) →
-      (j : ℕ) → j < n → KeptEntry t W W′ j
-  rule-kept W W′ kept =
-      by-formula (KeptEntry t W W′) (λ k h.
-      entries-kept t n ok W W′ (formula fs k) (last-entry fs k) (last-below k h) (last-at k h)
-      (rw (words-are k h W, words-are k h W′) (kept k h)))
+  -- THEOREM: where each formula's words have gone on, no head goes back in any entry's block and its words 14 and 15 are kept; words 12
+  -- to 15 are where the entry is no formula's last.
+  module _ (W W′ : List ℕ) (onward : (k : ℕ) → k < length fs → OnwardFormula (formula fs k) (formula-words fs k W) (formula-words fs k W′)) where
+    blocks : (k : ℕ) (h : k < length fs) → FormulaFrom t W W′ (first t (last-entry fs k)) (last-entry fs k)
+    blocks k h =
+        entries-formula t n ok W W′ (formula fs k) (last-entry fs k) (last-below k h) (last-at k h)
+        (rw (words-are k h W, words-are k h W′) (onward k h))
 
-  -- THEOREM: the same but for words 12 and 13 of the formulas' own blocks: words 14 and 15 are kept in every entry's block, and all four
-  -- where the entry is no formula's last.
-  module _ (W W′ : List ℕ) (kept : (k : ℕ) → k < length fs → KeptCopies (formula fs k) (formula-words fs k W) (formula-words fs k W′)) where
-    copied : (k : ℕ) (h : k < length fs) → CopiedFrom t W W′ (first t (last-entry fs k)) (last-entry fs k)
-    copied k h =
-        entries-copied t n ok W W′ (formula fs k) (last-entry fs k) (last-below k h) (last-at k h)
-        (rw (words-are k h W, words-are k h W′) (kept k h))
-
-    pub rule-copies : (j : ℕ) → j < n → KeptCopy (drop (offset t j) W) (drop (offset t j) W′)
-    rule-copies =
-        by-formula (λ j. KeptCopy (drop (offset t j) W) (drop (offset t j) W′))
-        (λ k h j from to i late l. copied k h j from to i (omega arith) l (λ e. late))
+    pub rule-onward : (j : ℕ) → j < n → OnwardEntry 14 t W W′ j
+    rule-onward = by-formula (OnwardEntry 14 t W W′) (λ k h j from to. blocks k h j from to .0)
 
     -- either entry j is the last of a formula, or its block has words 12 to 15 as before
-    pub rule-others : (j : ℕ) → j < n → ((k : ℕ) × (k < length fs) × (j ≡ last-entry fs k)) ⊎ KeptEntry t W W′ j
+    pub rule-others : (j : ℕ) → j < n → ((k : ℕ) × (k < length fs) × (j ≡ last-entry fs k)) ⊎ OnwardEntry 12 t W W′ j
     rule-others =
-        by-formula (λ j. ((k : ℕ) × (k < length fs) × (j ≡ last-entry fs k)) ⊎ KeptEntry t W W′ j)
+        by-formula (λ j. ((k : ℕ) × (k < length fs) × (j ≡ last-entry fs k)) ⊎ OnwardEntry 12 t W W′ j)
         (λ k h j from to.
         ⊎-elim
         (λ (last : last-entry fs k ≤ j). inl (k, h, omega arith))
-        (λ (before : j < last-entry fs k). inr (λ i m l. copied k h j from to i m l (λ e. absurd (omega arith))))
+        (λ (before : j < last-entry fs k). inr (blocks k h j from to .1 (λ e. omega arith)))
         (le-or-lt (last-entry fs k) j))

@@ -15,7 +15,8 @@ use Rattle.rule.proofs.Spans.{own-least}
 use Rattle.blocks.specs.Ring.{Ring}
 use Rattle.blocks.specs.Block.{word, kind-of, high-of, InRange, Own, Buffers, Ready}
 use Rattle.blocks.specs.Step.{has-left, has-right, left-of, right-of}
-use Rattle.engine.specs.State.{words, left-words, right-words, own-at, Parts, Absent, State, KeptParts, KeptNone, Kept, KeptOperand, KeptCopies}
+use Rattle.blocks.proofs.Onward.{still}
+use Rattle.engine.specs.State.{words, left-words, right-words, own-at, Parts, Absent, State, OnwardParts, OnwardNone, OnwardAll, OnwardOperand, OnwardFormula}
 use Rattle.engine.proofs.Uniform.{all-words}
 
 -- a formula's own block has 16 words and more
@@ -226,45 +227,49 @@ pub state-held : (φ : Formula) (L : Log) (g : ℕ) (ws ws′ : List ℕ) → le
     State φ L g ws → State φ L g ws′
 state-held φ L g ws ws′ room same = held-state φ L g ws ws′ (record { room = room; same = same })
 
--- KEPT WORDS
+-- NO HEAD GOES BACK
 
-parts-kept : (Left Right : List ℕ → List ℕ → Type 0) (a c : ℕ) (ws ws′ : List ℕ) → SamePart ws ws′ →
-    ((us us′ : List ℕ) → SamePart us us′ → Left us us′) → ((us us′ : List ℕ) → SamePart us us′ → Right us us′) → KeptParts Left Right a c ws ws′
-parts-kept Left Right a c ws ws′ same left right =
+parts-same : (Left Right : List ℕ → List ℕ → Type 0) (a c : ℕ) (ws ws′ : List ℕ) → SamePart ws ws′ →
+    ((us us′ : List ℕ) → SamePart us us′ → Left us us′) → ((us us′ : List ℕ) → SamePart us us′ → Right us us′) → OnwardParts 12 Left Right a c ws ws′
+parts-same Left Right a c ws ws′ same left right =
     let held = same-held (a + c) ws ws′ same in
+    let at : (i : ℕ) → word (drop (a + c) ws′) i ≡ word (drop (a + c) ws) i =
+    λ i. getD-drop (a + c) ws′ i 0 ∙ same .1 (a + c + i) ∙ sym (getD-drop (a + c) ws i 0) in
     record {
-      own = λ i h l. getD-drop (a + c) ws′ i 0 ∙ same .1 (a + c + i) ∙ sym (getD-drop (a + c) ws i 0);
+      own = still (drop (a + c) ws) (drop (a + c) ws′) (at 0) (at 5) (λ i h l. at i);
       left = left _ _ (part-beside (a + c) 0 a ws ws′ (inl (omega arith)) held);
       right = right _ _ (part-beside (a + c) a c ws ws′ (inl (omega arith)) held);
     }
 
-none-kept : (us us′ : List ℕ) → SamePart us us′ → KeptNone us us′
-none-kept us us′ same = tt
+none-same : (us us′ : List ℕ) → SamePart us us′ → OnwardNone us us′
+none-same us us′ same = tt
 
--- the same words are kept
-kept-same : (φ : Formula) (ws ws′ : List ℕ) → SamePart ws ws′ → Kept φ ws ws′
-unfolding Kept
-kept-same (letter k) ws ws′ same = parts-kept KeptNone KeptNone 0 0 ws ws′ same none-kept none-kept
-kept-same (not φ) ws ws′ same = parts-kept KeptNone (Kept φ) 0 (words φ) ws ws′ same none-kept (kept-same φ)
-kept-same (or φ ψ) ws ws′ same = parts-kept (Kept φ) (Kept ψ) (words φ) (words ψ) ws ws′ same (kept-same φ) (kept-same ψ)
-kept-same (previous low high φ) ws ws′ same = parts-kept KeptNone (Kept φ) 0 (words φ) ws ws′ same none-kept (kept-same φ)
-kept-same (next low high φ) ws ws′ same = parts-kept KeptNone (Kept φ) 0 (words φ) ws ws′ same none-kept (kept-same φ)
-kept-same (since low high φ ψ) ws ws′ same = parts-kept (Kept φ) (Kept ψ) (words φ) (words ψ) ws ws′ same (kept-same φ) (kept-same ψ)
-kept-same (until low high φ ψ) ws ws′ same = parts-kept (Kept φ) (Kept ψ) (words φ) (words ψ) ws ws′ same (kept-same φ) (kept-same ψ)
+-- the same words
+all-same : (φ : Formula) (ws ws′ : List ℕ) → SamePart ws ws′ → OnwardAll φ ws ws′
+unfolding OnwardAll
+all-same (letter k) ws ws′ same = parts-same OnwardNone OnwardNone 0 0 ws ws′ same none-same none-same
+all-same (not φ) ws ws′ same = parts-same OnwardNone (OnwardAll φ) 0 (words φ) ws ws′ same none-same (all-same φ)
+all-same (or φ ψ) ws ws′ same = parts-same (OnwardAll φ) (OnwardAll ψ) (words φ) (words ψ) ws ws′ same (all-same φ) (all-same ψ)
+all-same (previous low high φ) ws ws′ same = parts-same OnwardNone (OnwardAll φ) 0 (words φ) ws ws′ same none-same (all-same φ)
+all-same (next low high φ) ws ws′ same = parts-same OnwardNone (OnwardAll φ) 0 (words φ) ws ws′ same none-same (all-same φ)
+all-same (since low high φ ψ) ws ws′ same = parts-same (OnwardAll φ) (OnwardAll ψ) (words φ) (words ψ) ws ws′ same (all-same φ) (all-same ψ)
+all-same (until low high φ ψ) ws ws′ same = parts-same (OnwardAll φ) (OnwardAll ψ) (words φ) (words ψ) ws ws′ same (all-same φ) (all-same ψ)
 
-operand-same : (b : Bool) (φ : Formula) (us us′ : List ℕ) → SamePart us us′ → KeptOperand b φ us us′
-operand-same true φ us us′ same = kept-same φ us us′ same
+operand-same : (b : Bool) (φ : Formula) (us us′ : List ℕ) → SamePart us us′ → OnwardOperand b φ us us′
+operand-same true φ us us′ same = all-same φ us us′ same
 operand-same false φ us us′ same = tt
 
--- THEOREM: whatever is written to words 12 and 13 of the formula's own block, words 14 and 15 of every block are kept, and all four of every
--- other block.
-pub copies-held : (φ : Formula) (ws ws′ : List ℕ) → HeldWords (own-at φ) ws ws′ → KeptCopies φ ws ws′
-copies-held φ ws ws′ held =
+-- THEOREM: whatever is written to words 12 and 13 of the formula's own block, no head goes back in any block, words 14 and 15 of every
+-- block are kept, and all four of every other block.
+pub formula-held : (φ : Formula) (ws ws′ : List ℕ) → HeldWords (own-at φ) ws ws′ → OnwardFormula φ ws ws′
+formula-held φ ws ws′ held =
     let a = left-words φ in
     let c = right-words φ in
+    let b = drop (a + c) ws in
+    let b′ = drop (a + c) ws′ in
     let block = block-held (a + c) ws ws′ held in
     record {
-      own = λ i h l. block .same i (λ e. omega arith) (λ e. omega arith);
+      own = still b b′ (low-same b b′ block 0 (omega arith)) (low-same b b′ block 5 (omega arith)) (λ i h l. block .same i (λ e. omega arith) (λ e. omega arith));
       left = operand-same (has-left φ) (left-of φ) (take a ws) (take a ws′) (part-beside (a + c) 0 a ws ws′ (inl (omega arith)) held);
       right =
           operand-same (has-right φ) (right-of φ) (take c (drop a ws)) (take c (drop a ws′)) (part-beside (a + c) a c ws ws′ (inl (omega arith)) held);

@@ -8,7 +8,7 @@ use Rattle.mtl.specs.Log.{Log, NeverFalls}
 use Rattle.mtl.specs.Progress.{settled-to}
 use Rattle.mtl.specs.Wanted.{depth}
 use Rattle.blocks.specs.Step.{Agrees, Batched}
-use Rattle.engine.specs.State.{State, Kept}
+use Rattle.engine.specs.State.{State, OnwardAll}
 use Rattle.engine.specs.Table.{Has}
 use Rattle.engine.specs.declared.Reply.{Reply}
 use Rattle.engine.specs.declared.Reply.the-variants.{Batch, Open}
@@ -18,9 +18,9 @@ abbrev pub Replied : Formula → Log → ℕ → Reply → List ℕ → Type 0
 Replied φ L g (Batch bits count) ws′ = Batched φ L g bits count × State φ L (g + count) ws′
 Replied φ L g Open ws′ = (settled-to φ L ≡ g) × State φ L g ws′
 
--- words 12 to 15 of the blocks of entry k's subformula are kept, on any words
-abbrev pub Keeps : List ℕ → ℕ → List ℕ → List ℕ → Type 0
-Keeps t k ws ws′ = (φ : Formula) → Has φ t k → Kept φ ws ws′
+-- in the blocks of entry k's subformula no head goes back, and words 12 to 15 are kept, on any words
+abbrev pub GoesOn : List ℕ → ℕ → List ℕ → List ℕ → Type 0
+GoesOn t k ws ws′ = (φ : Formula) → Has φ t k → OnwardAll φ ws ws′
 
 -- the first record that the formula's entries may read, where g is the next position that it answers: its operands, and theirs, may
 -- have answered one position fewer for each previous on the way
@@ -30,5 +30,5 @@ first-read φ g = g - depth φ
 -- the promise of `answer` for entry k of table t, on records s, closed or open, from words ws to words ws′
 abbrev pub Answers : List ℕ → List ℕ → Bool → ℕ → List ℕ → Reply → List ℕ → Type 0
 Answers t s closed k ws r ws′ =
-    Keeps t k ws ws′ ×
+    GoesOn t k ws ws′ ×
     ((φ : Formula) (L : Log) (g : ℕ) → Has φ t k → NeverFalls L → Agrees closed s L (first-read φ g) → State φ L g ws → Replied φ L g r ws′)

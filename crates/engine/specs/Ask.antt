@@ -10,7 +10,7 @@ use Rattle.mtl.specs.Progress.{settled-to}
 use Rattle.blocks.specs.Step.{Agrees, Batched}
 use Rattle.engine.specs.State.{State}
 use Rattle.engine.specs.Table.{Has}
-use Rattle.engine.specs.Answer.{Keeps, first-read}
+use Rattle.engine.specs.Answer.{GoesOn, first-read}
 
 -- a part that was lent, and the whole with the part put back
 abbrev pub part : (from to : ℕ) → List ℕ → List ℕ
@@ -36,4 +36,4 @@ Filled t s closed o from to slot ws false ws′ ys =
 
 abbrev pub Asks : List ℕ → List ℕ → Bool → ℕ → (from to slot : ℕ) → List ℕ → Bool → List ℕ → Type 0
 Asks t s closed o from to slot ws r ws′ =
-    (ys : List ℕ) × (length ys ≡ to - from) × Keeps t o (part from to ws) ys × Filled t s closed o from to slot ws r ws′ ys
+    (ys : List ℕ) × (length ys ≡ to - from) × GoesOn t o (part from to ws) ys × Filled t s closed o from to slot ws r ws′ ys

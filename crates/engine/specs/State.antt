@@ -8,7 +8,7 @@ use Rattle.mtl.specs.Formula.Formula.{letter, not, or, previous, next, since, u
 use Rattle.mtl.specs.Log.{Log}
 use Rattle.rule.specs.Words.{ring-words}
 use Rattle.rule.specs.Postfix.{formula}
-use Rattle.blocks.specs.Block.{taken, left-count, right-count, KeptBlock, KeptCopy, Ready}
+use Rattle.blocks.specs.Block.{taken, left-count, right-count, Onward, Ready}
 use Rattle.blocks.specs.Step.{has-left, has-right, left-of, right-of}
 
 -- "16 for each entry, and for since with a finite high (high + 1), for since without upper end 1, for until 2 × (high + 1)"
@@ -74,33 +74,32 @@ State (next low high φ) L g = Parts (Ready (next low high φ) L g) Absent (Stat
 State (since low high φ ψ) L g = Parts (Ready (since low high φ ψ) L g) (State φ L) (State ψ L) (words φ) (words ψ)
 State (until low high φ ψ) L g = Parts (Ready (until low high φ ψ) L g) (State φ L) (State ψ L) (words φ) (words ψ)
 
--- such parts before and after: the operator's own block has words 12 to 15 as before, and so have its operands' blocks
-pub record KeptParts (Left Right : List ℕ → List ℕ → Type 0) (a c : ℕ) (ws ws′ : List ℕ) : Type 0 where
-  pub own : KeptBlock (drop (a + c) ws) (drop (a + c) ws′)
+-- such parts before and after: what is done to the operator's own block, and to its operands' parts
+pub record OnwardParts (first : ℕ) (Left Right : List ℕ → List ℕ → Type 0) (a c : ℕ) (ws ws′ : List ℕ) : Type 0 where
+  pub own : Onward first (drop (a + c) ws) (drop (a + c) ws′)
   pub left : Left (take a ws) (take a ws′)
   pub right : Right (take c (drop a ws)) (take c (drop a ws′))
 
-abbrev pub KeptNone : List ℕ → List ℕ → Type 0
-KeptNone ws ws′ = Unit {0}
+abbrev pub OnwardNone : List ℕ → List ℕ → Type 0
+OnwardNone ws ws′ = Unit {0}
 
--- every block of the subformula has words 12 to 15 as before, whatever they hold
-unfoldable pub Kept : Formula → List ℕ → List ℕ → Type 0
-Kept (letter k) = KeptParts KeptNone KeptNone 0 0
-Kept (not φ) = KeptParts KeptNone (Kept φ) 0 (words φ)
-Kept (or φ ψ) = KeptParts (Kept φ) (Kept ψ) (words φ) (words ψ)
-Kept (previous low high φ) = KeptParts KeptNone (Kept φ) 0 (words φ)
-Kept (next low high φ) = KeptParts KeptNone (Kept φ) 0 (words φ)
-Kept (since low high φ ψ) = KeptParts (Kept φ) (Kept ψ) (words φ) (words ψ)
-Kept (until low high φ ψ) = KeptParts (Kept φ) (Kept ψ) (words φ) (words ψ)
+-- in every block of the subformula no head goes back, and words 12 to 15 are as before, whatever they hold
+unfoldable pub OnwardAll : Formula → List ℕ → List ℕ → Type 0
+OnwardAll (letter k) = OnwardParts 12 OnwardNone OnwardNone 0 0
+OnwardAll (not φ) = OnwardParts 12 OnwardNone (OnwardAll φ) 0 (words φ)
+OnwardAll (or φ ψ) = OnwardParts 12 (OnwardAll φ) (OnwardAll ψ) (words φ) (words ψ)
+OnwardAll (previous low high φ) = OnwardParts 12 OnwardNone (OnwardAll φ) 0 (words φ)
+OnwardAll (next low high φ) = OnwardParts 12 OnwardNone (OnwardAll φ) 0 (words φ)
+OnwardAll (since low high φ ψ) = OnwardParts 12 (OnwardAll φ) (OnwardAll ψ) (words φ) (words ψ)
+OnwardAll (until low high φ ψ) = OnwardParts 12 (OnwardAll φ) (OnwardAll ψ) (words φ) (words ψ)
 
 -- an operand's blocks, where there is one
-abbrev pub KeptOperand : Bool → Formula → List ℕ → List ℕ → Type 0
-KeptOperand true φ = Kept φ
-KeptOperand false φ = KeptNone
+abbrev pub OnwardOperand : Bool → Formula → List ℕ → List ℕ → Type 0
+OnwardOperand true φ = OnwardAll φ
+OnwardOperand false φ = OnwardNone
 
--- every block of the formula has words 14 and 15 as before, and every one but its own has words 12 and 13 as before too: those two
--- words of its own hold what it has answered and was not given yet
-pub record KeptCopies (φ : Formula) (ws ws′ : List ℕ) : Type 0 where
-  pub own : KeptCopy (drop (own-at φ) ws) (drop (own-at φ) ws′)
-  pub left : KeptOperand (has-left φ) (left-of φ) (take (left-words φ) ws) (take (left-words φ) ws′)
-  pub right : KeptOperand (has-right φ) (right-of φ) (take (right-words φ) (drop (left-words φ) ws)) (take (right-words φ) (drop (left-words φ) ws′))
+-- the same of the words of a formula of the rule, but for words 12 and 13 of its own block: those hold what it has answered and was not
+-- given yet
+abbrev pub OnwardFormula : Formula → List ℕ → List ℕ → Type 0
+OnwardFormula φ =
+    OnwardParts 14 (OnwardOperand (has-left φ) (left-of φ)) (OnwardOperand (has-right φ) (right-of φ)) (left-words φ) (right-words φ)

@@ -9,7 +9,7 @@ use native.Mathlib.Nat.{sub-zero}
 use borrow.Author.Tests.{le-ltb, lt-ltb, ne-eqb, eqb-false}
 use lib.Dec.{eqb}
 use lib.ListN.{length, take, drop, length-append, length-drop, List·getD-append}
-use lib.Seq.{length-take-le, take-at, drop-at, getD-take}
+use lib.Seq.{length-take-le, take-at, drop-at, getD-take, getD-drop}
 use Rattle.mtl.specs.Formula.{Formula}
 use Rattle.mtl.specs.Log.{Log, NeverFalls, Continues}
 use Rattle.mtl.specs.Progress.{joint-progress}
@@ -28,11 +28,12 @@ use Rattle.rule.proofs.Acceptance.{accepted}
 use Rattle.rule.proofs.Spans.{header-least, header-most}
 use Rattle.trace.specs.Format.{record-count, records-of}
 use Rattle.trace.specs.Order.{last-time}
-use Rattle.blocks.specs.Block.{word}
+use Rattle.blocks.specs.Block.{word, Onward}
 use Rattle.blocks.specs.Step.{Agrees}
+use Rattle.blocks.proofs.Onward.{onward-same}
 use Rattle.engine.specs.Ask.{part}
-use Rattle.engine.specs.State.{KeptCopies, formula-words}
-use Rattle.engine.proofs.Formulas.{last-next, rule-copies, rule-others}
+use Rattle.engine.specs.State.{OnwardFormula, formula-words}
+use Rattle.engine.proofs.Formulas.{last-next, rule-onward, rule-others}
 use Rattle.engine.proofs.Longer.{buffer-longer, state-longer}
 use Rattle.engine.proofs.Parts.{put-back}
 use Rattle.checkpoint.specs.Checkpoint.{given, seen, last, stored-noes, need, block-at, foreign}
@@ -40,7 +41,7 @@ use Rattle.checkpoint.specs.Refusal.{point-refusal}
 use Rattle.checkpoint.specs.Code.{sized-of}
 use Rattle.checkpoint.specs.declared.check.Sized.the-variants.{Words}
 use Rattle.checkpoint.proofs.Checks.{Met, passes}
-use Rattle.checkpoint.proofs.Copies.{foreign-same, foreign-within}
+use Rattle.checkpoint.proofs.Copies.{foreign-same}
 use Rattle.checkpoint.proofs.Offsets.{in-block, block-fits, noes-within}
 use Rattle.checkpoint.proofs.Sizes.{enough}
 use Rattle.emit.specs.Verdicts.{formulas-of, columns, verdicts}
@@ -49,7 +50,7 @@ use Rattle.emit.specs.Code.{Giving, Emits, Emission, Ready}
 use Rattle.emit.specs.declared.Emitted.{Emitted}
 use Rattle.emit.proofs.Meaning.{joint-least}
 use Rattle.monitor.specs.Stands.{last-of, Stands}
-use Rattle.monitor.specs.Resume.{Resumes}
+use Rattle.monitor.specs.Resume.{block-of, Resumes}
 use Rattle.monitor.specs.declared.Resumed.the-variants.{Given, Refused}
 use Rattle.monitor.proofs.Meaning.{most-few, rule-whole, few-formulas, few-columns, rule-ended, part-is}
 use Rattle.monitor.proofs.VerdictBytes.{noes-more, verdicts-stay}
@@ -136,26 +137,42 @@ module _ (closing : Bool) (rule log p sheet : List ℕ) (ok : refusal rule ≡ 0
   own-counts k h = omega (arith, noes-within (version rule))
 
   -- each formula's words, as its entries' blocks have them
-  kept-words : (k : ℕ) → k < length fs →
-      KeptCopies (formula fs k) (formula-words fs k (drop base (take (need rule) p))) (formula-words fs k (drop base ws′))
-  kept-words k h = rw (← part-is base fs k (take (need rule) p), ← part-is base fs k ws′) (done .kept k h)
+  onward-words : (k : ℕ) → k < length fs →
+      OnwardFormula (formula fs k) (formula-words fs k (drop base (take (need rule) p))) (formula-words fs k (drop base ws′))
+  onward-words k h = rw (← part-is base fs k (take (need rule) p), ← part-is base fs k ws′) (done .onward k h)
 
-  -- the rule's copy is what it was
-  copies-now : (k i : ℕ) → k < count rule → 14 ≤ i → i < 16 →
-      word ws′ (block-at base (decoded rule) k + i) ≡ word (take (need rule) p) (block-at base (decoded rule) k + i)
-  copies-now k i h late l =
-      sym (in-block base (decoded rule) ws′ k i) ∙
-      rule-copies (decoded rule) (count rule) (accepted rule ok .well-formed) fs (rule-whole rule ok) _ _ kept-words k h i late l ∙
-      in-block base (decoded rule) (take (need rule) p) k i
+  -- the block of an entry, before and after
+  block-was : (k : ℕ) → k < count rule → (i : ℕ) → i < 16 →
+      word (drop (offset (decoded rule) k) (drop base (take (need rule) p))) i ≡ word (block-of rule k p) i
+  block-was k h i l =
+      let t = decoded rule in
+      in-block base t (take (need rule) p) k i ∙ was (block-at base t k + i) (omega (arith, block-fits base t (count rule) k h)) ∙
+      sym (getD-drop (block-at base t k) p i 0)
 
+  block-now : (k : ℕ) → k < count rule → (i : ℕ) → i < 16 → word (drop (offset (decoded rule) k) (drop base ws′)) i ≡ word (block-of rule k after) i
+  block-now k h i l =
+      let t = decoded rule in
+      in-block base t ws′ k i ∙ sym (now (block-at base t k + i) (omega (arith, block-fits base t (count rule) k h))) ∙
+      sym (getD-drop (block-at base t k) after i 0)
+
+  -- no head goes back, and words 14 and 15 are what they were
+  onward-now : (k : ℕ) → k < count rule → Onward 14 (block-of rule k p) (block-of rule k after)
+  onward-now k h =
+      onward-same _ (block-of rule k p) _ (block-of rule k after) (block-was k h) (block-now k h)
+      (rule-onward (decoded rule) (count rule) (accepted rule ok .well-formed) fs (rule-whole rule ok) _ _ onward-words k h)
+
+  header-now : (i : ℕ) → i < 8 → (i ≡ 1 → ⊥) → (i ≡ 2 → ⊥) → (i ≡ 3 → ⊥) → (i ≡ 5 → ⊥) → word after i ≡ word p i
+  header-now i low a b c d = now i (own-header i low) ∙ done .header i low a b c d ∙ was i (own-header i low)
+
+  -- so the rule's copy is what it was
   foreign-now : foreign (version rule) (decoded rule) (count rule) after ≡ foreign (version rule) (decoded rule) (count rule) p
   foreign-now =
-      let v = version rule in
       let t = decoded rule in
-      let n = count rule in
-      foreign-within v t n after ws′ now ∙
-      foreign-same v t n ws′ (take (need rule) p) (done .copy .0) (done .copy .1) copies-now ∙
-      foreign-within v t n (take (need rule) p) p was
+      foreign-same (version rule) t (count rule) after p
+      (header-now 0 (omega arith) (λ e. omega arith) (λ e. omega arith) (λ e. omega arith) (λ e. omega arith))
+      (header-now 4 (omega arith) (λ e. omega arith) (λ e. omega arith) (λ e. omega arith) (λ e. omega arith))
+      (λ k i h late l.
+      sym (getD-drop (block-at base t k) after i 0) ∙ onward-now k h .kept i late l ∙ getD-drop (block-at base t k) p i 0)
 
   -- an entry that is no formula's last holds what it held
   spare-now : (j : ℕ) → j < count rule → word p (block-at base (decoded rule) j + 12) ≡ 0 →
@@ -171,10 +188,10 @@ module _ (closing : Bool) (rule log p sheet : List ℕ) (ok : refusal rule ≡ 0
       (λ is.
       let (k, l, e) = is in
       inl (k, l, omega (arith, last-next t n good fs whole k l)))
-      (λ kept.
-      inr (now at (omega arith) ∙ sym (in-block base t ws′ j 12) ∙ kept 12 (omega arith) (omega arith) ∙
+      (λ onward.
+      inr (now at (omega arith) ∙ sym (in-block base t ws′ j 12) ∙ onward .kept 12 (omega arith) (omega arith) ∙
       in-block base t (take (need rule) p) j 12 ∙ was at (omega arith) ∙ zero))
-      (rule-others t n good fs whole _ _ kept-words j h)
+      (rule-others t n good fs whole _ _ onward-words j h)
 
   length-now : length after ≡ length p
   length-now = simp (length-append, size, length-drop) (omega arith)
@@ -199,7 +216,7 @@ module _ (closing : Bool) (rule log p sheet : List ℕ) (ok : refusal rule ≡ 0
   unused-now k h l =
       let m = most (version rule) in
       let inside = own-counts k l in
-      let same = done .untouched k (omega arith) l in (
+      let same = done .spare k (omega arith) l in (
         now (8 + k) (inside .0) ∙ same .0 ∙ was (8 + k) (inside .0),
         now (8 + m + k) (inside .1) ∙ same .1 ∙ was (8 + m + k) (inside .1),
       )
@@ -260,6 +277,7 @@ module _ (closing : Bool) (rule log p sheet : List ℕ) (ok : refusal rule ≡ 0
               noes = noes-now;
               unused = unused-now;
               own = foreign-now;
+              heads = λ k h. onward-now k h .heads;
               meaning = λ K L d stands longer never agrees.
                   let top = top-longer base fs K L d (take (need rule) p) longer never (stands .top) in
                   let (giving, count, further) = done .meaning L d never agrees top in

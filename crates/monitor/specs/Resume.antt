@@ -10,12 +10,14 @@ use Rattle.mtl.specs.Progress.{joint-progress}
 use Rattle.mtl.specs.Wanted.{wanted}
 use Rattle.trace.specs.Format.{record-count, records-of}
 use Rattle.trace.specs.Order.{last-time}
+use Rattle.blocks.specs.Block.{Forward}
 use Rattle.blocks.specs.Step.{Agrees}
 use Rattle.verdicts.specs.Counts.{noes-in, laid-behind}
 use Rattle.rule.specs.Entries.{version, decoded}
 use Rattle.rule.specs.Entries.{count as entry-count}
 use Rattle.rule.specs.Postfix.{most}
-use Rattle.checkpoint.specs.Checkpoint.{given, seen, last, closed-with, no-count, after-latest, stored-noes, need, foreign}
+use Rattle.rule.specs.Words.{header-words}
+use Rattle.checkpoint.specs.Checkpoint.{given, seen, last, closed-with, no-count, after-latest, stored-noes, need, block-at, foreign}
 use Rattle.checkpoint.specs.Refusal.{resume-refusal}
 use Rattle.emit.specs.Verdicts.{formulas-of, columns, verdict}
 use Rattle.monitor.specs.Stands.{Stands}
@@ -42,6 +44,10 @@ pub record Gives (rule : List ℕ) (L : Log) (d : ℕ) (sheet : List ℕ) (c : �
   pub more : m ≡ ltb (d + c) (joint-progress (formulas-of rule) L)
   pub stands : Stands rule L (d + c) p′
 
+-- the block of entry k
+abbrev pub block-of : (rule : List ℕ) (k : ℕ) → List ℕ → List ℕ
+block-of rule k p = drop (block-at (header-words (version rule)) (decoded rule) k) p
+
 -- an accepted call: what holds on any words, and `meaning`, where the checkpoint stands for the rule and a log as it was last
 -- seen, the log brought continues it, and the lent records are its own from the first still wanted on: those before may have been
 -- overwritten
@@ -61,6 +67,8 @@ pub record Accepted (closing : Bool) (rule log p sheet : List ℕ) (c : ℕ) (mo
       (no-count p′ k ≡ no-count p k) × (after-latest (most (version rule)) p′ k ≡ after-latest (most (version rule)) p k)
   -- the copy of the rule is kept, whatever else the words hold: as this call does not meet 10, no later one with the rule does
   pub own : foreign (version rule) (decoded rule) (entry-count rule) p′ ≡ foreign (version rule) (decoded rule) (entry-count rule) p
+  -- no head goes back, whatever the words hold
+  pub heads : (k : ℕ) → k < entry-count rule → Forward (block-of rule k p) (block-of rule k p′)
   pub meaning : (K L : Log) (d : ℕ) → Stands rule K d p → Continues K L → NeverFalls L → Agrees closing (records-of log) L (wanted (formulas-of rule) d) →
       Gives rule L d sheet c more p′ sheet′
 

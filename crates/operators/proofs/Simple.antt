@@ -27,21 +27,20 @@ use Rattle.mtl.proofs.Closing.{
 }
 use Rattle.bits.specs.Packed.{Packed}
 use Rattle.bits.proofs.Laws.{packed-none, packed-push, packed-same, packed-not, packed-or, packed-and}
-use Rattle.trace.specs.Format.{record-count, has-letter}
-use Rattle.blocks.specs.Block.{taken, left-count, left-bits, right-count, right-bits, answered, KeptBlock, Core, Own, RightBuffer, Buffers, Ready, took-right, took-both}
+use Rattle.trace.specs.Format.{record-count, time-at, has-letter}
+use Rattle.blocks.specs.Block.{taken, left-count, left-bits, right-count, right-bits, answered, Onward, Core, Own, RightBuffer, Buffers, Ready, took-right, took-both}
 use Rattle.blocks.specs.Near.{near-at}
 use Rattle.blocks.specs.Step.{Agrees, Stepped, Moved, has-left, left-to-do}
 use Rattle.blocks.specs.declared.Step.the-variants.{Batch, Again}
-use Rattle.blocks.proofs.Words.{Store, put, stores, word-stores, stores-keep, less-to-do, fits}
+use Rattle.blocks.proofs.Words.{Store, put, stores, word-stores, stores-onward, less-to-do, fits}
 use Rattle.blocks.proofs.Taking.{right-stores, both-stores, first-of, taken-right, taken-both}
 
 -- the stores of a previous or a next that has taken n positions for as many answers
 abbrev answered-stores : ℕ → List ℕ → List Store
 answered-stores n b = right-stores n b (put 5 (answered b + n) ∷ [])
 
--- they keep words 12 to 15
-pub answered-keeps : (n : ℕ) (b : List ℕ) → KeptBlock b (set (took-right n b) 5 (answered b + n))
-answered-keeps n b = stores-keep (answered-stores n b) b (omega arith)
+pub answered-onward : (n : ℕ) (b : List ℕ) → 16 ≤ length b → Onward 12 b (set (took-right n b) 5 (answered b + n))
+answered-onward n b room = stores-onward (answered-stores n b) b room (omega arith) (omega arith) (omega arith)
 
 module _ (s b : List ℕ) (room : 16 ≤ length b) (n : ℕ) (some : 0 < n) where
   right-at : taken (took-right n b) ≡ taken b + n
@@ -76,7 +75,7 @@ module _ (s b : List ℕ) (room : 16 ≤ length b) (n : ℕ) (some : 0 < n) wher
             };
             buffers = tt;
           },
-          record { left = λ e. absurd (false≢true e); right = λ e. absurd (false≢true e); taken = omega (arith, at 0); answered = omega (arith, at 5) },
+          record { left = λ e. absurd (false≢true e); right = λ e. absurd (false≢true e) },
         )
 
     -- not stores nothing more, nor does next at position 0; φ is either, and ψ its operand
@@ -88,7 +87,7 @@ module _ (s b : List ℕ) (room : 16 ≤ length b) (n : ℕ) (some : 0 < n) wher
         let range = core .range in
         let most = fits right in
         taken-right φ b n g′ (took-right n b) reached (omega (arith, at 0, at 1, at 3, at 5, at 6, at 7, at 8, at 9, at 10)) own single whole h
-        (record { at = at 0; count = at 3; bits = at 4; answered = omega (arith, at 5) })
+        (record { at = at 0; count = at 3; bits = at 4 })
         right
 
     pub not-batch : (φ : Formula) → n ≤ right-count b → right-bits b < 2 ^ 64 → Ready (not φ) L g b →
@@ -125,7 +124,7 @@ module _ (s b : List ℕ) (room : 16 ≤ length b) (n : ℕ) (some : 0 < n) wher
         (omega (arith, at 0, at 1, at 3, at 5, at 6, at 7, at 8, at 9, at 10))
         (omega (arith, at 0))
         (λ x. x) l r
-        (record { right = record { at = at 0; count = at 3; bits = at 4; answered = omega (arith, at 5) }; count = at 1; bits = at 2 })
+        (record { right = record { at = at 0; count = at 3; bits = at 4 }; count = at 1; bits = at 2 })
         left right
         in (
           record {
@@ -143,12 +142,12 @@ module _ (s b : List ℕ) (room : 16 ≤ length b) (n : ℕ) (some : 0 < n) wher
       -- χ at g + i is the operand's answer at the i-th position that is taken, if position from + i lies in the interval after
       -- the one before
       near-packed : {closed : Bool} (χ : Formula) (from near : ℕ) → 0 < from → from + n ≤ record-count s → Agrees closed s L (from - 1) →
-          Packed (near-at low high s) from n near → RightBuffer φ L b →
+          Packed (near-at low high (time-at s)) from n near → RightBuffer φ L b →
           ((i : ℕ) → i < n → sat χ L (g + i) ≡ within low high (L .time (from + i - 1)) (L .time (from + i)) && sat φ L (taken b + i)) →
           Packed (sat χ L) g n (bitAnd near (right-bits b))
       near-packed χ from near past inside agrees packed right same =
           let size = agrees .size in
-          let is-near = near-at low high s in
+          let is-near = near-at low high (time-at s) in
           let operand : ℕ → Bool = λ j. sat φ L (taken b + (j - from)) in
           let held = packed-same (sat φ L) operand (taken b) from n (right-bits b) (λ i l. ap (λ j. sat φ L (taken b + j)) (omega arith)) (first-of n h right) in
           packed-same
@@ -165,7 +164,7 @@ module _ (s b : List ℕ) (room : 16 ≤ length b) (n : ℕ) (some : 0 < n) wher
           (packed-and is-near operand from n near (right-bits b) packed held)
 
       pub previous-batch : {closed : Bool} → Agrees closed s L (g - 1) → (near : ℕ) → 0 < answered b → answered b + n ≤ record-count s →
-          Packed (near-at low high s) (answered b) n near → Ready (previous low high φ) L g b →
+          Packed (near-at low high (time-at s)) (answered b) n near → Ready (previous low high φ) L g b →
           Stepped (previous low high φ) L g b (Batch (bitAnd near (right-bits b)) n) (set (took-right n b) 5 (answered b + n))
       unfolding sat
       previous-batch agrees near past inside packed ready =
@@ -192,7 +191,7 @@ module _ (s b : List ℕ) (room : 16 ≤ length b) (n : ℕ) (some : 0 < n) wher
           refl
           (λ x. x)
           h
-          (record { at = at 0; count = at 3; bits = at 4; answered = omega (arith, at 5) })
+          (record { at = at 0; count = at 3; bits = at 4 })
           right
           in (
             record {
@@ -229,7 +228,7 @@ module _ (s b : List ℕ) (room : 16 ≤ length b) (n : ℕ) (some : 0 < n) wher
           )
 
       pub next-batch : {closed : Bool} → Agrees closed s L g → (near : ℕ) → 0 < taken b → taken b + n ≤ record-count s →
-          Packed (near-at low high s) (taken b) n near → Ready (next low high φ) L g b →
+          Packed (near-at low high (time-at s)) (taken b) n near → Ready (next low high φ) L g b →
           Stepped (next low high φ) L g b (Batch (bitAnd near (right-bits b)) n) (set (took-right n b) 5 (answered b + n))
       unfolding sat
       next-batch agrees near past inside packed ready =
@@ -260,7 +259,7 @@ module _ (s b : List ℕ) (room : 16 ≤ length b) (n : ℕ) (some : 0 < n) wher
           refl
           (λ x. x)
           h
-          (record { at = at 0; count = at 3; bits = at 4; answered = omega (arith, at 5) })
+          (record { at = at 0; count = at 3; bits = at 4 })
           right
           in (
             record {
@@ -295,7 +294,7 @@ module _ (b : List ℕ) (room : 16 ≤ length b) (χ φ : Formula) (L : Log) (g 
       single
       whole
       (omega arith)
-      (record { at = omega (arith, at 0); count = omega (arith, at 3); bits = omega (arith, at 4); answered = omega (arith, at 5) })
+      (record { at = omega (arith, at 0); count = omega (arith, at 3); bits = omega (arith, at 4) })
       right
       in (
         record {

@@ -17,23 +17,24 @@ use Rattle.mtl.proofs.Closing.{settled-since}
 use Rattle.bits.specs.Packed.{bit, with-bit, Packed}
 use Rattle.bits.proofs.Laws.{with-bit-lt, packed-none, packed-push, packed-same}
 use Rattle.rule.specs.Words.{ring-words}
-use Rattle.trace.specs.Format.{record-count, time-at}
+use Rattle.trace.specs.Format.{record-count, times-from}
 use Rattle.trace.proofs.Laws.{time-bound}
-use Rattle.blocks.specs.Block.{word, taken, left-count, left-bits, right-count, right-bits, KeptBlock, Ready, took-both}
+use Rattle.blocks.specs.Block.{word, taken, left-count, left-bits, right-count, right-bits, Onward, Ready, took-both}
 use Rattle.blocks.specs.Ring.{Ring, Rings, Witnesses, turned, turns, reaches, reached}
 use Rattle.blocks.specs.Step.{Agrees, Stepped, Steps}
 use Rattle.blocks.specs.declared.Step.the-variants.{Batch, Left, Right, Open}
 use Rattle.blocks.proofs.Words.{word-stores, after, fits, Available}
-use Rattle.blocks.proofs.Taking.{both-stores, both-keeps, first-of, taken-both}
+use Rattle.blocks.proofs.Onward.{still, onward-trans}
+use Rattle.blocks.proofs.Taking.{both-stores, both-onward, first-of, taken-both}
 use Rattle.since.proofs.Witnesses.{turn-keeps, oldest-decides}
 use Rattle.since.proofs.Cells.{ring-kept, followed}
 
 -- the loop of `turn_all`: after i turns block b has become d, and `answers` has what they answer
-module _ (low high : ℕ) (s : List ℕ) (from left right : ℕ) (b : List ℕ) where
+module _ (low high : ℕ) (at : ℕ → ℕ) (left right : ℕ) (b : List ℕ) where
   pub record Turning (i answers : ℕ) (d : List ℕ) : Type 0 where
     pub small : answers < 2 ^ i
-    pub rings : Rings (ring-words high) (turns (ring-words high) high s from left right i) b d
-    pub packed : (qs : List ℕ) → Ring (ring-words high) b qs → Packed (reached low (ring-words high) high s from left right qs) 0 i answers
+    pub rings : Rings (ring-words high) (turns (ring-words high) high at left right i) b d
+    pub packed : (qs : List ℕ) → Ring (ring-words high) b qs → Packed (reached low (ring-words high) high at left right qs) 0 i answers
 
   pub turning-none : Turning 0 0 b
   unfolding turns
@@ -45,35 +46,35 @@ module _ (low high : ℕ) (s : List ℕ) (from left right : ℕ) (b : List ℕ) 
       }
 
   pub turning-next : (i answers : ℕ) (d : List ℕ) → Turning i answers d → i < 64 →
-      (cells : ℕ) → cells ≡ ring-words high → (now : ℕ) → now ≡ time-at s (from + i) →
+      (cells : ℕ) → cells ≡ ring-words high → (now : ℕ) → now ≡ at i →
       (l r holds : Bool) → l ≡ bit left i → r ≡ bit right i → (e : List ℕ) → Rings cells (turned cells high l r now) d e →
       ((qs : List ℕ) → Ring cells d qs → holds ≡ reaches low now (turned cells high l r now qs)) →
       Turning (i + 1) (with-bit answers i holds) e
   unfolding turns
   turning-next i answers d t few cells ec now en l r holds el er e turn verdict =
-      let here = turned (ring-words high) high (bit left i) (bit right i) (time-at s (from + i)) in
+      let here = turned (ring-words high) high (bit left i) (bit right i) (at i) in
       let rings : Rings (ring-words high) here d e = rw (ec, en, el, er) at turn in
-      let says : (qs : List ℕ) → Ring (ring-words high) d qs → holds ≡ reaches low (time-at s (from + i)) (here qs) = rw (ec, en, el, er) at verdict in
+      let says : (qs : List ℕ) → Ring (ring-words high) d qs → holds ≡ reaches low (at i) (here qs) = rw (ec, en, el, er) at verdict in
       record {
         small = with-bit-lt answers i holds (t .small);
         rings = rw (add-one i) (followed (t .rings) rings);
         packed = λ qs ring.
-            let reached-here = reached low (ring-words high) high s from left right qs in
+            let reached-here = reached low (ring-words high) high at left right qs in
             packed-push reached-here 0 i answers holds few (t .small)
             (ap reached-here (zero-add i) ∙ sym (says _ (t .rings .ring qs ring)))
             (t .packed qs ring);
       }
 
--- n positions from g on: the records tell their times, two words what left and right answer there
+-- n positions from g on: `at` tells their times, two words what left and right answer there
 module _ (low high : ℕ) (time : ℕ → ℕ) (left right : ℕ → Bool) (g n : ℕ) (falls : (i j : ℕ) → i ≤ j → j < g + n → time i ≤ time j)
-    (s : List ℕ) (small : (i : ℕ) → time-at s i < 4294967296) (same : (i : ℕ) → i < n → time (g + i) ≡ time-at s (g + i))
+    (at : ℕ → ℕ) (small : (i : ℕ) → i < n → at i < 4294967296) (same : (i : ℕ) → i < n → time (g + i) ≡ at i)
     (v w : ℕ) (lefts : Packed left g n v) (rights : Packed right g n w) (times : List ℕ) (alive : Witnesses high time left right g times) where
   abbrev after-turns : ℕ → List ℕ
-  after-turns i = turns (ring-words high) high s g v w i times
+  after-turns i = turns (ring-words high) high at v w i times
 
   module _ (i : ℕ) (h : i < n) where
     time-small : time (g + i) ≤ unbounded
-    time-small = omega (arith, small (g + i), same i h)
+    time-small = omega (arith, small i h, same i h)
 
     falls-here : (j k : ℕ) → j ≤ k → k ≤ g + i → time j ≤ time k
     falls-here j k l m = falls j k l (omega arith)
@@ -82,13 +83,13 @@ module _ (low high : ℕ) (time : ℕ → ℕ) (left right : ℕ → Bool) (g n 
     next = omega arith
 
     keeps : (qs : List ℕ) → Witnesses high time left right (g + i) qs →
-        Witnesses high time left right (g + suc i) (turned (ring-words high) high (bit v i) (bit w i) (time-at s (g + i)) qs)
+        Witnesses high time left right (g + suc i) (turned (ring-words high) high (bit v i) (bit w i) (at i) qs)
     keeps qs here =
         rw (next, ← lefts .same i h, ← rights .same i h, ← same i h)
         (turn-keeps high time left right (g + i) falls-here time-small qs here)
 
     decides : Witnesses high time left right (g + suc i) (after-turns (suc i)) →
-        since-at low high time left right (g + i) ≡ reached low (ring-words high) high s g v w times i
+        since-at low high time left right (g + i) ≡ reached low (ring-words high) high at v w times i
     decides here =
         rw (← same i h) (sym (oldest-decides high time left right (g + i) falls-here time-small low _ (rw next at here)))
 
@@ -98,19 +99,23 @@ module _ (low high : ℕ) (time : ℕ → ℕ) (left right : ℕ → Bool) (g n 
   keep (suc i) h = keeps i h _ (keep i (omega arith))
 
   -- THEOREM: their turns keep the times of the witnesses, and answer since at each of them.
-  turns-answer : (answers : ℕ) → Packed (reached low (ring-words high) high s g v w times) 0 n answers →
+  turns-answer : (answers : ℕ) → Packed (reached low (ring-words high) high at v w times) 0 n answers →
       Witnesses high time left right (g + n) (after-turns n) × Packed (since-at low high time left right) g n answers
   turns-answer answers packed =
-      let answer = reached low (ring-words high) high s g v w times in (
+      let answer = reached low (ring-words high) high at v w times in (
         keep n (omega arith),
         packed-same answer (since-at low high time left right) 0 g n answers
             (λ i h. decides i h (keep (suc i) h) ∙ ap answer (sym (zero-add i)))
             packed,
       )
 
--- the turns and the taking keep words 12 to 15
-pub since-keeps : {cells : ℕ} {f : List ℕ → List ℕ} {b d : List ℕ} (n : ℕ) → Rings cells f b d → KeptBlock b (took-both n d)
-since-keeps {d = d} n turn i h l = both-keeps n d i h l ∙ turn .others i l (λ e. omega arith) (λ e. omega arith)
+-- the turns move no head, and the taking puts none back
+pub since-onward : {cells : ℕ} {f : List ℕ → List ℕ} {b d : List ℕ} (n : ℕ) → 16 ≤ length d → Rings cells f b d → Onward 12 b (took-both n d)
+since-onward {b = b} {d = d} n room turn =
+    onward-trans
+    (still b d (turn .others 0 (omega arith) (λ e. omega arith) (λ e. omega arith)) (turn .others 5 (omega arith) (λ e. omega arith) (λ e. omega arith))
+    (λ i h l. turn .others i l (λ e. omega arith) (λ e. omega arith)))
+    (both-onward n d room)
 
 module _ (low high : ℕ) (s b : List ℕ) where
   pub since-left : (closed : Bool) (φ ψ : Formula) → Steps closed (since low high φ ψ) s b Left b
@@ -138,7 +143,7 @@ module _ (low high : ℕ) (s b : List ℕ) where
 
     -- d is the block after their turns
     module _ (some : 0 < n) (d : List ℕ) (long : length d ≡ length b)
-        (turn : Rings (ring-words high) (turns (ring-words high) high s (taken b) (left-bits b) (right-bits b) n) b d) where
+        (turn : Rings (ring-words high) (turns (ring-words high) high (times-from s (taken b)) (left-bits b) (right-bits b) n) b d) where
       turned-word : (i : ℕ) → i < 9 → word d i ≡ word b i
       turned-word i h = turn .others i (omega arith) (omega arith) (omega arith)
 
@@ -162,7 +167,7 @@ module _ (low high : ℕ) (s b : List ℕ) where
 
       module _ (byte : (i : ℕ) → getD s i 0 < 256) (answers : ℕ)
           (packed : (qs : List ℕ) → Ring (ring-words high) b qs →
-          Packed (reached low (ring-words high) high s (taken b) (left-bits b) (right-bits b) qs) 0 n answers) where
+          Packed (reached low (ring-words high) high (times-from s (taken b)) (left-bits b) (right-bits b) qs) 0 n answers) where
         module _ (closed : Bool) (φ ψ : Formula) (L : Log) (falls : NeverFalls L) (agrees : Agrees closed s L (taken b)) (ready : Ready (since low high φ ψ) L (taken b) b) where
           within-settled : taken b + n ≤ settled-to (since low high φ ψ) L
           within-settled =
@@ -185,8 +190,8 @@ module _ (low high : ℕ) (s b : List ℕ) where
               let (alive, answer) =
               turns-answer low high (L .time) (sat φ L) (sat ψ L) (taken b) n
               (λ i j h k. falls i j h (omega arith))
-              s
-              (time-bound s byte)
+              (times-from s (taken b))
+              (λ i h. time-bound s byte (taken b + i))
               (λ i h. sym (agrees .same (taken b + i) (omega arith) (omega arith) .time))
               (left-bits b)
               (right-bits b)
@@ -210,7 +215,6 @@ module _ (low high : ℕ) (s b : List ℕ) where
                   at = at;
                   count = count-right;
                   bits = words 4 ∙ ap (λ (x : ℕ). x / 2 ^ n) (turned-word 4 (omega arith));
-                  answered = omega (arith, kept 5 (omega arith));
                 };
                 count = count-left;
                 bits = words 2 ∙ ap (λ (x : ℕ). x / 2 ^ n) (turned-word 2 (omega arith));

@@ -6,7 +6,7 @@ ghost use lib.ListN.{length};
 ghost use Rattle.mtl.specs.Formula.{Formula};
 ghost use Rattle.mtl.specs.Formula.Formula.{since};
 ghost use Rattle.bits.specs.Packed.{Packed};
-ghost use Rattle.trace.specs.Format.{record-count};
+ghost use Rattle.trace.specs.Format.{record-count, times-from};
 ghost use Rattle.blocks.specs.Step.{Steps, Ends};
 ghost use Rattle.rule.specs.Words.{ring-words};
 ghost use Rattle.blocks.specs.Ring.{Ring, Rings, turns, reached};
@@ -28,8 +28,8 @@ fn turn_all(
     block: &mut [u64],
 ) -> u64
     requires { ⌜ (high < 2 ^ 32) × (16 + ring-words high ≤ length (now block)) × (from + n ≤ record-count (now records)) × (n ≤ 64) ⌝ }
-    ensures { λ _. ⌜ Rings (ring-words high) (turns (ring-words high) high (now (records .entry)) from left right n) (now (block .entry)) (now (block .exit)) ⌝ }
-    ensures { λ r. ⌜ ((qs : List ℕ) → Ring (ring-words high) (now (block .entry)) qs → Packed (reached low (ring-words high) high (now (records .entry)) from left right qs) 0 n r) ⌝ }
+    ensures { λ _. ⌜ Rings (ring-words high) (turns (ring-words high) high (times-from (now (records .entry)) from) left right n) (now (block .entry)) (now (block .exit)) ⌝ }
+    ensures { λ r. ⌜ ((qs : List ℕ) → Ring (ring-words high) (now (block .entry)) qs → Packed (reached low (ring-words high) high (times-from (now (records .entry)) from) left right qs) 0 n r) ⌝ }
 {
     let cells = ring::cells_for(high);
     let mut answers: u64 = 0;

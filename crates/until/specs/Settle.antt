@@ -13,7 +13,6 @@ use Rattle.mtl.specs.Satisfaction.{sat}
 use Rattle.bits.specs.Packed.{bit, number}
 use Rattle.trace.specs.Format.{record-count, time-at}
 use Rattle.blocks.specs.Block.{left-count, right-count, answered, took-both, Until, Buffer}
-use Rattle.blocks.specs.Step.{Agrees}
 use Rattle.until.specs.declared.Last.{Last}
 use Rattle.until.specs.declared.Walked.{Walked}
 use Rattle.until.specs.declared.Settled.{Settled}
@@ -37,22 +36,39 @@ abbrev pub settle-spec : (low high start : ℕ) → Last → (next : ℕ) → (e
 settle-spec low high start last next ended =
     pick (is-met low start last || (is-over high start last next || ended)) (Known (is-met low start last)) Unknown
 
+-- what the two heads read: how many positions there are, and their times, by position
+pub record Times : Type 0 where
+  pub total : ℕ
+  pub start : ℕ → ℕ
+  pub next : ℕ → ℕ
+
+-- of records that are all positions
+abbrev pub plain : List ℕ → Times
+plain s = record { total = record-count s; start = time-at s; next = time-at s }
+
+-- it is the log's, from position g on
+pub record Reads (closed : Bool) (s : Times) (L : Log) (g : ℕ) : Type 0 where
+  pub ends : L .closed ≡ closed
+  pub size : s .total ≡ L .size
+  pub start : (i : ℕ) → g ≤ i → i < L .size → s .start i ≡ L .time i
+  pub next : (i : ℕ) → g ≤ i → i < L .size → s .next i ≡ L .time i
+
 -- the time of position p, or the last one's where the log has no position p
-abbrev pub next-time : List ℕ → (p : ℕ) → Last → ℕ
-next-time s p last = cond (ltb p (record-count s)) (time-at s p) (last .time)
+abbrev pub next-time : Times → (p : ℕ) → Last → ℕ
+next-time s p last = cond (ltb p (s .total)) (s .next p) (last .time)
 
 -- the log is closed and has no position p
-abbrev pub has-ended : List ℕ → (closed : Bool) → (p : ℕ) → Bool
-has-ended s closed p = cond (ltb p (record-count s)) false closed
+abbrev pub has-ended : Times → (closed : Bool) → (p : ℕ) → Bool
+has-ended s closed p = cond (ltb p (s .total)) false closed
 
 -- what is known of position g, where p is the next to take
-abbrev pub look-spec : (low high : ℕ) → List ℕ → (closed : Bool) → (g p : ℕ) → Last → Settled
+abbrev pub look-spec : (low high : ℕ) → Times → (closed : Bool) → (g p : ℕ) → Last → Settled
 look-spec low high s closed g p last =
-    pick (leb p g) Unknown (settle-spec low high (time-at s g) last (next-time s p last) (has-ended s closed p))
+    pick (leb p g) Unknown (settle-spec low high (s .start g) last (next-time s p last) (has-ended s closed p))
 
 -- position i of those from `at` on, out of the operands' words
-abbrev pub take-spec : List ℕ → (at i left right : ℕ) → Last
-take-spec s at i left right = record { left = bit left i; right = bit right i; time = time-at s (at + i) }
+abbrev pub take-spec : Times → (at i left right : ℕ) → Last
+take-spec s at i left right = record { left = bit left i; right = bit right i; time = s .next (at + i) }
 
 -- count positions from g on are answered, and `took` positions from `at` on are taken
 pub record Reached (low high : ℕ) (φ ψ : Formula) (L : Log) (g at bits count took : ℕ) (last : Last) : Type 0 where
@@ -61,9 +77,9 @@ pub record Reached (low high : ℕ) (φ ψ : Formula) (L : Log) (g at bits count
   pub answers : Buffer (until-formula low high φ ψ) L g count bits
 
 -- what a walk promises where it starts from a block that stands for the formula on some log
-abbrev pub Walks : (low high : ℕ) → List ℕ → (closed : Bool) → (g at n left right : ℕ) → Last → (bits count took : ℕ) → Last → Type 0
+abbrev pub Walks : (low high : ℕ) → Times → (closed : Bool) → (g at n left right : ℕ) → Last → (bits count took : ℕ) → Last → Type 0
 Walks low high s closed g at n left right from bits count took last =
-    (φ ψ : Formula) (L : Log) → NeverFalls L → Agrees closed s L g → Buffer φ L at n left → Buffer ψ L at n right →
+    (φ ψ : Formula) (L : Log) → NeverFalls L → Reads closed s L g → Buffer φ L at n left → Buffer ψ L at n right →
     Reached low high φ ψ L g at 0 0 0 from → Reached low high φ ψ L g at bits count took last
 
 -- what it promises on any words
@@ -75,7 +91,7 @@ pub record Limits (g at n bits count took : ℕ) (from last : Last) : Type 0 whe
   pub bound : from .time < 2 ^ 32 → last .time < 2 ^ 32
 
 -- where a walk ends with fewer than 64 answers: all n positions are taken, and the next to answer waits
-pub record Waiting (low high : ℕ) (s : List ℕ) (closed : Bool) (g at n count took : ℕ) (last : Last) : Type 0 where
+pub record Waiting (low high : ℕ) (s : Times) (closed : Bool) (g at n count took : ℕ) (last : Last) : Type 0 where
   pub all : took ≡ n
   pub unknown : look-spec low high s closed (g + count) (at + took) last ≡ Unknown
 

@@ -8,7 +8,7 @@ ghost use Rattle.mtl.specs.Formula.Formula.{until};
 ghost use Rattle.trace.specs.Format.{record-count};
 ghost use Rattle.blocks.specs.Block.{taken, left-count, right-count, answered};
 ghost use Rattle.blocks.specs.Step.{Steps, Ends};
-ghost use Rattle.until.specs.Settle.{settle-spec, look-spec, take-spec, Walks, Limits, Waiting, walked, Wants};
+ghost use Rattle.until.specs.Settle.{settle-spec, look-spec, take-spec, Walks, Limits, Waiting, walked, Wants, plain};
 use blocks::Step;
 use blocks::time;
 use blocks::word;
@@ -50,7 +50,7 @@ fn settle(low: u64, high: u64, start: u64, last: Last, next: u64, ended: bool) -
 // What is known of position g, where `at` is the next to take. Where the log is closed and has no position `at`, none follows.
 fn look(low: u64, high: u64, records: &[u8], closed: bool, g: u64, at: u64, last: Last) -> Settled
     requires { ⌜ at ≤ record-count (now records) ⌝ }
-    ensures { λ r. ⌜ r ≡ look-spec low high (now (records .entry)) closed g at last ⌝ }
+    ensures { λ r. ⌜ r ≡ look-spec low high (plain (now (records .entry))) closed g at last ⌝ }
 {
     if at <= g {
         return Settled::Unknown;
@@ -66,7 +66,7 @@ fn look(low: u64, high: u64, records: &[u8], closed: bool, g: u64, at: u64, last
 // Position `at + i` out of the operands' words of answers.
 fn take(records: &[u8], at: u64, i: u64, left: u64, right: u64) -> Last
     requires { ⌜ (at + i < record-count (now records)) × (i < 64) ⌝ }
-    ensures { λ r. ⌜ (r ≡ take-spec (now (records .entry)) at i left right) × (r .time < 2 ^ 32) ⌝ }
+    ensures { λ r. ⌜ (r ≡ take-spec (plain (now (records .entry))) at i left right) × (r .time < 2 ^ 32) ⌝ }
 {
     Last {
         left: bits::test(left, i),
@@ -90,8 +90,8 @@ fn walk(
 ) -> Walked
     requires { ⌜ (at + n ≤ record-count (now records)) × (n ≤ 64) ⌝ }
     ensures { λ r. ⌜ Limits g at n (r .bits) (r .count) (r .took) from (r .last) ⌝ }
-    ensures { λ r. ⌜ (r .count < 64 → Waiting low high (now (records .entry)) closed g at n (r .count) (r .took) (r .last)) ⌝ }
-    ensures { λ r. ⌜ Walks low high (now (records .entry)) closed g at n left right from (r .bits) (r .count) (r .took) (r .last) ⌝ }
+    ensures { λ r. ⌜ (r .count < 64 → Waiting low high (plain (now (records .entry))) closed g at n (r .count) (r .took) (r .last)) ⌝ }
+    ensures { λ r. ⌜ Walks low high (plain (now (records .entry))) closed g at n left right from (r .bits) (r .count) (r .took) (r .last) ⌝ }
 {
     let mut last = from;
     let mut bits: u64 = 0;

@@ -8,7 +8,7 @@ use borrow.Author.Needs.{needs}
 use Rattle.trace.specs.Format.{record-count}
 use Rattle.blocks.specs.Block.{taken, left-count, right-count}
 use Rattle.blocks.proofs.Words.{Available, available}
-use Rattle.since.proofs.Turn.{since-keeps, since-left, since-right, since-open, takable, since-batch}
+use Rattle.since.proofs.Turn.{since-onward, since-left, since-right, since-open, takable, since-batch}
 use Rattle.since.proofs.step_since.Statement.{statement}
 use Rattle.since.proofs.step_since.Tie as tie
 
@@ -97,7 +97,7 @@ returns-4 c =
     let a = c .before .before .before .before .before .before .before .before .before .before .before .before .before .before .before .before .before .before .before .before .before .before .before .args in
     let (left, right, room) = both (c .before .before .before .before .before .before .before .before .before .before .before .before .before .before .before .before) in
     let turn = c .before .before .before .before .before .before .turn-all in (
-      rw (c .before .before .take-both .ensures) (since-keeps (c .before .before .before .before .before .before .before .before .before .before .before .available .result) (turn .ensures .0)),
+      rw (c .before .before .take-both .ensures) (since-onward (c .before .before .before .before .before .before .before .before .before .before .before .available .result) (omega (arith, turn .kept .1 .1 .1 .1 .1 .1 .1 .0)) (turn .ensures .0)),
       rw (c .before .before .take-both .ensures)
           (since-batch (a .low) (a .high) (a .records .now) (a .block .now) (c .before .before .before .before .before .before .before .before .before .before .before .available .result) left right room (taking (c .before .before .before .before .before .before .before .before .before .before .before))
           (pos-of-ne-zero (c .before .before .before .before .before .before .before .before .before .before .if3 .left))

@@ -4,13 +4,14 @@ use native.Mathlib.Omega.{arith}
 use mathlib.Core.Path.{_≡_, refl, _∙_}
 use lib.ListN.{length}
 use borrow.Author.Needs.{needs}
+use Rattle.trace.specs.Format.{times-from}
 use Rattle.since.proofs.Turn.{Turning, turning-none, turning-next}
 use Rattle.since.proofs.turn_all.Statement.{statement}
 use Rattle.since.proofs.turn_all.Tie as tie
 
 abbrev Inv-loop : tie.InvT-loop
 Inv-loop low high records from n left right block₀ cells answers₀ i₀ block answers i =
-    (i ≤ n) × (length block ≡ length block₀) × Turning low high records from left right block₀ i answers block
+    (i ≤ n) × (length block ≡ length block₀) × Turning low high (times-from records from) left right block₀ i answers block
 
 abbrev μ-loop : tie.MeasureT-loop
 μ-loop low high records from n left right block₀ cells answers₀ i₀ block answers i = n - i
@@ -21,7 +22,7 @@ cells-for-requires c κs = search needs
 loop-holds : tie.Need-loop-holds Inv-loop μ-loop
 loop-holds c =
     let a = c .before .before .before .args in
-    (omega arith, refl, turning-none (a .low) (a .high) (a .records .now) (a .from) (a .left) (a .right) (a .block .now))
+    (omega arith, refl, turning-none (a .low) (a .high) (times-from (a .records .now) (a .from)) (a .left) (a .right) (a .block .now))
 
 add-time : tie.Need-add-time Inv-loop μ-loop
 add-time c = search needs
@@ -57,7 +58,7 @@ loop-again c =
       omega arith,
       turn .kept .1 .1 .1 .1 .1 .1 .0 ∙ l .inv .1,
       rw (c .push .ensures .0)
-          (turning-next (a .low) (a .high) (a .records .now) (a .from) (a .left) (a .right) (a .block .now) (l .i) (l .answers) (l .block) (l .inv .2) (omega arith)
+          (turning-next (a .low) (a .high) (times-from (a .records .now) (a .from)) (a .left) (a .right) (a .block .now) (l .i) (l .answers) (l .block) (l .inv .2) (omega arith)
           (c .before .before .before .before .before .before .before .before .before .before .cells-for .result)
           (c .before .before .before .before .before .before .before .before .before .before .cells-for .ensures .0)
           (c .before .before .before .before .before .before .before .time .result)

@@ -8,7 +8,7 @@ use Rattle.until.proofs.UntilSteps.{
   none-done,
   some-done,
   put-back-fits,
-  walked-keeps,
+  walked-onward,
   wanted-ends,
   took-ends,
   wants,
@@ -67,7 +67,7 @@ returns-answers c =
     let p = c .before .before .before .before in
     let k = p .before .before .before .before .before in
     rw (p .put-back .ensures) (
-      walked-keeps (went k),
+      walked-onward (went k),
       λ φ ψ L g falls agrees ready. answers-some (went k) φ ψ L g falls agrees ready (omega arith),
     )
 

@@ -3,14 +3,15 @@ use Prim.Native.Nat.{_+_, _-_}
 use native.Mathlib.Omega.{arith}
 use mathlib.Core.Path.{sym, _∙_}
 use borrow.Author.Needs.{needs}
-use Rattle.until.specs.Settle.{Limits, Walks}
+use Rattle.trace.proofs.Laws.{time-bound}
+use Rattle.until.specs.Settle.{Limits, Walks, plain}
 use Rattle.until.proofs.UntilSteps.{known-behind, walks-known, walks-unknown}
 use Rattle.until.proofs.walk.Statement.{statement}
 use Rattle.until.proofs.walk.Tie as tie
 
 abbrev Inv-loop : tie.InvT-loop
 Inv-loop low high records closed g at n left right last₀ bits₀ count₀ took₀ last bits count took =
-    Limits g at n bits count took last₀ last × Walks low high records closed g at n left right last₀ bits count took last
+    Limits g at n bits count took last₀ last × Walks low high (plain records) closed g at n left right last₀ bits count took last
 
 abbrev μ-loop : tie.MeasureT-loop
 μ-loop low high records closed g at n left right last₀ bits₀ count₀ took₀ last bits count took = (n - took) + (64 - count)
@@ -29,7 +30,7 @@ loop-again c =
     let a = q .before .before .before .before .args in
     let w = l .inv .0 in
     let e = sym (q .look .ensures) ∙ k .holds .given .1 in
-    let some = known-behind (a .low) (a .high) (a .records .now) (a .closed) (a .g + l .count) (a .at + l .took) (l .last) (k .holds .given .0 .0) e in (
+    let some = known-behind (a .low) (a .high) (plain (a .records .now)) (a .closed) (a .g + l .count) (a .at + l .took) (l .last) (k .holds .given .0 .0) e in (
       record {
         few = omega arith;
         small = c .push .ensures .1;
@@ -38,7 +39,7 @@ loop-again c =
         bound = w .bound;
       },
       rw (c .push .ensures .0)
-          (walks-known (a .low) (a .high) (a .records .now) (λ i. q .before .before .before .shared-slice-known .given i .fits) (a .closed) (a .g) (a .at) (a .n) (a .left) (a .right) (a .from)
+          (walks-known (a .low) (a .high) (plain (a .records .now)) (time-bound (a .records .now) (λ i. q .before .before .before .shared-slice-known .given i .fits)) (a .closed) (a .g) (a .at) (a .n) (a .left) (a .right) (a .from)
           (l .bits)
           (l .count)
           (l .took)
@@ -61,7 +62,7 @@ loop-again-2 c =
     let t = c .take .ensures in (
       record { few = w .few; small = w .small; most = omega arith; behind = omega arith; bound = λ h. t .1 },
       rw (t .0)
-          (walks-unknown (a .low) (a .high) (a .records .now) (λ i. q .before .before .before .shared-slice-known .given i .fits) (a .closed) (a .g) (a .at) (a .n) (a .left) (a .right) (a .from)
+          (walks-unknown (a .low) (a .high) (plain (a .records .now)) (time-bound (a .records .now) (λ i. q .before .before .before .shared-slice-known .given i .fits)) (a .closed) (a .g) (a .at) (a .n) (a .left) (a .right) (a .from)
           (l .bits)
           (l .count)
           (l .took)

@@ -16,14 +16,14 @@ use Rattle.blocks.proofs.time.near.Tie as tie
 
 record Answered (low high : ℕ) (s : List ℕ) (from n word last i : ℕ) : Type 0 where
   inside : i ≤ n
-  pushed : Pushed (near-at low high s) from i word
+  pushed : Pushed (near-at low high (time-at s)) from i word
   told : last ≡ time-at s (from + i - 1)
 
 module _ (low high : ℕ) (s : List ℕ) (from n : ℕ) where
   none-yet : (last : ℕ) → last ≡ time-at s (from - 1) → Answered low high s from n 0 last 0
   none-yet last e =
       let here : from + 0 - 1 ≡ from - 1 = omega arith in
-      record { inside = omega arith; pushed = pushed-none (near-at low high s) from; told = rw here e }
+      record { inside = omega arith; pushed = pushed-none (near-at low high (time-at s)) from; told = rw here e }
 
   more : (word last i now : ℕ) (x : Bool) (word′ : ℕ) → i < n → n ≤ 64 → now ≡ time-at s (from + i) → x ≡ within low high last now →
       (word′ ≡ with-bit word i x) × (word′ < 2 ^ (i + 1)) → Answered low high s from n word last i → Answered low high s from n word′ now (i + 1)
@@ -31,11 +31,11 @@ module _ (low high : ℕ) (s : List ℕ) (from n : ℕ) where
       let here : from + (i + 1) - 1 ≡ from + i = omega arith in
       record {
         inside = omega arith;
-        pushed = pushed-more (near-at low high s) from i word x word′ (omega arith) (rw (near, done .told, e)) gave (done .pushed);
+        pushed = pushed-more (near-at low high (time-at s)) from i word x word′ (omega arith) (rw (near, done .told, e)) gave (done .pushed);
         told = rw (here, e);
       }
 
-  all : (word last i : ℕ) → n ≤ i → Answered low high s from n word last i → Packed (near-at low high s) from n word
+  all : (word last i : ℕ) → n ≤ i → Answered low high s from n word last i → Packed (near-at low high (time-at s)) from n word
   all word last i h done = let same : n ≡ i = omega arith in rw same (done .pushed .packed)
 
 abbrev Inv-loop : tie.InvT-loop

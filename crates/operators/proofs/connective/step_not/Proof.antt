@@ -4,7 +4,7 @@ use mathlib.Core.Path.{refl, _∙_}
 use borrow.Author.Needs.{needs}
 use Rattle.mtl.proofs.Closing.{settled-not}
 use Rattle.operators.proofs.Simple.{not-batch}
-use Rattle.blocks.proofs.Taking.{right-keeps, all-of}
+use Rattle.blocks.proofs.Taking.{right-onward, all-of}
 use Rattle.operators.proofs.connective.step_not.Statement.{statement}
 use Rattle.operators.proofs.connective.step_not.Tie as tie
 
@@ -41,7 +41,7 @@ same-length c = search needs
 returns-3 : tie.Need-returns-3
 returns-3 c =
     let start = c .before .before .before .before .before .before .before .before .before .before .before .before .before .before in (
-      rw (c .before .before .take-right .ensures) (right-keeps (c .before .before .before .before .before .before .available .result) (start .args .block .now)),
+      rw (c .before .before .take-right .ensures) (right-onward (c .before .before .before .before .before .before .available .result) (start .args .block .now) (start .pre)),
       λ closed φ L g falls agrees ready.
           rw (c .before .before .take-right .ensures)
           (not-batch (start .args .records .now) (start .args .block .now) (start .pre) (c .before .before .before .before .before .before .available .result) (omega arith) L g

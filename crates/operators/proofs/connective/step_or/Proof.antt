@@ -6,7 +6,7 @@ use borrow.Author.Needs.{needs}
 use Rattle.mtl.proofs.Closing.{settled-or}
 use Rattle.blocks.specs.Block.{taken, left-count, right-count}
 use Rattle.blocks.proofs.Words.{fits}
-use Rattle.blocks.proofs.Taking.{both-keeps, Shared, shared}
+use Rattle.blocks.proofs.Taking.{both-onward, Shared, shared}
 use Rattle.operators.proofs.Simple.{or-batch}
 use Rattle.operators.proofs.connective.step_or.Statement.{statement}
 use Rattle.operators.proofs.connective.step_or.Tie as tie
@@ -82,7 +82,7 @@ returns-4 : tie.Need-returns-4
 returns-4 c =
     let start = c .before .before .before .before .before .before .before .before .before .before .before .before .before .before .before .before .before .before .before in
     let n = taking (c .before .before .before .before .before .before) in (
-      rw (c .before .before .take-both .ensures) (both-keeps (c .before .before .before .before .before .before .before .available .result) (start .args .block .now)),
+      rw (c .before .before .take-both .ensures) (both-onward (c .before .before .before .before .before .before .before .available .result) (start .args .block .now) (start .pre)),
       λ closed φ ψ L g falls agrees ready.
           rw (c .before .before .take-both .ensures)
           (or-batch (start .args .records .now) (start .args .block .now) (start .pre) (c .before .before .before .before .before .before .before .available .result) (n .some) L g

@@ -4,7 +4,7 @@ use mathlib.Core.List.{[], _∷_}
 use mathlib.Core.Path.{refl}
 use borrow.Author.Needs.{needs}
 use Rattle.mtl.proofs.Closing.{settled-letter}
-use Rattle.blocks.proofs.Words.{put, stores-keep}
+use Rattle.blocks.proofs.Words.{put, stores-onward}
 use Rattle.operators.proofs.Simple.{letter-batch}
 use Rattle.operators.proofs.letter.step_letter.Statement.{statement}
 use Rattle.operators.proofs.letter.step_letter.Tie as tie
@@ -36,7 +36,7 @@ same-length c = search needs
 returns-2 : tie.Need-returns-2
 returns-2 c =
     let start = c .before .before .before .before .before .before .before in (
-      stores-keep (put 0 _ ∷ []) (start .args .block .now) (omega arith),
+      stores-onward (put 0 _ ∷ []) (start .args .block .now) (start .pre .1) (omega arith) (omega arith) (omega arith),
       λ closed L g falls agrees ready.
           letter-batch (start .args .records .now) (start .args .block .now) (start .pre .1) (c .before .before .available .result) (omega arith) L g agrees
           (start .args .letter) (c .letter-bits .result) (omega arith) (c .letter-bits .ensures) ready,

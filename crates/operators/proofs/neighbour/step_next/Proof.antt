@@ -12,9 +12,9 @@ use borrow.Author.Tests.{eqb-true, eq-eqb}
 use Rattle.mtl.proofs.Bounded.{and-iff}
 use Rattle.trace.specs.Format.{record-count}
 use Rattle.blocks.specs.Block.{taken, right-count, answered}
-use Rattle.blocks.proofs.Words.{put, stores-keep, available}
-use Rattle.blocks.proofs.Taking.{right-keeps, all-of}
-use Rattle.operators.proofs.Simple.{answered-keeps, right-less, next-pass, next-batch, next-none, next-end, next-right}
+use Rattle.blocks.proofs.Words.{put, stores-onward, available}
+use Rattle.blocks.proofs.Taking.{right-onward, all-of}
+use Rattle.operators.proofs.Simple.{answered-onward, right-less, next-pass, next-batch, next-none, next-end, next-right}
 use Rattle.operators.proofs.neighbour.step_next.Statement.{statement}
 use Rattle.operators.proofs.neighbour.step_next.Tie as tie
 
@@ -63,7 +63,7 @@ returns-end c =
     let start = c .before .before .before .before .before .before .before in
     let b = start .args .block .now in
     let end = at-end (start .args .closed) (taken b) (c .before .before .count .result) (c .if2 .taken) in (
-      stores-keep (put 5 (answered b + 1) ∷ []) b (omega arith),
+      stores-onward (put 5 _ ∷ []) b (start .pre) (omega arith) (omega arith) (omega arith),
       λ φ L g falls agrees ready.
           next-end (start .args .records .now) b (start .pre) (start .args .low) (start .args .high) φ L g agrees ready
           (agrees .ends ∙ end .0) (left (c .before)) (end .1 ∙ c .before .before .count .ensures),
@@ -93,7 +93,7 @@ returns-pass c =
     let n = taking (c .before .before .before .before .before) in (
       rw (c .before .before .take-right .ensures) (
         right-less (start .args .records .now) (start .args .block .now) (start .pre) 1 (omega arith) (omega arith),
-        right-keeps 1 (start .args .block .now),
+        right-onward 1 (start .args .block .now) (start .pre),
       ),
       λ φ L g falls agrees ready.
           rw (c .before .before .take-right .ensures)
@@ -113,7 +113,7 @@ returns-batch c =
     let start = c .before .before .before .before .before .before .before .before .before .before .before .before .before .before .before .before .before .before .before in
     let n = taking (c .before .before .before .before .before .before .before) in
     let near = c .before .before .before .before .before .near in (
-      rw (c .before .before .take-right2 .ensures) (answered-keeps (c .before .before .before .before .before .before .before .before .available .result) (start .args .block .now)),
+      rw (c .before .before .take-right2 .ensures) (answered-onward (c .before .before .before .before .before .before .before .before .available .result) (start .args .block .now) (start .pre)),
       λ φ L g falls agrees ready.
           rw (c .before .before .take-right2 .ensures)
           (next-batch (start .args .records .now) (start .args .block .now) (start .pre) (c .before .before .before .before .before .before .before .before .available .result) (n .2) L g (start .args .low) (start .args .high)

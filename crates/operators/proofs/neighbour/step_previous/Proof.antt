@@ -13,8 +13,8 @@ use Rattle.mtl.proofs.Closing.{settled-previous}
 use Rattle.trace.specs.Format.{record-count}
 use Rattle.trace.proofs.Laws.{neither}
 use Rattle.blocks.specs.Block.{taken, right-count, answered}
-use Rattle.blocks.proofs.Words.{put, stores-keep}
-use Rattle.operators.proofs.Simple.{answered-keeps, previous-open, previous-first, previous-batch}
+use Rattle.blocks.proofs.Words.{put, stores-onward}
+use Rattle.operators.proofs.Simple.{answered-onward, previous-open, previous-first, previous-batch}
 use Rattle.operators.proofs.neighbour.step_previous.Statement.{statement}
 use Rattle.operators.proofs.neighbour.step_previous.Tie as tie
 
@@ -74,7 +74,7 @@ returns-2 c =
     let start = c .before .before .before .before .before .before .before in
     let b = start .args .block .now in
     let first = not-open (taken b) (answered b) (record-count (start .args .records .now)) (rw (c .before .before .before .count .ensures) at (c .before .if1 .left)) in (
-      stores-keep (put 5 1 ∷ []) b (omega arith),
+      stores-onward (put 5 _ ∷ []) b (start .pre) (omega arith) (omega arith) (omega (arith, c .if2 .taken)),
       λ closed φ L g falls agrees ready.
           previous-first (start .args .records .now) (start .args .block .now) (start .pre) (omega arith) (c .if2 .taken) (start .args .low) (start .args .high)
           φ L g agrees ready,
@@ -117,7 +117,7 @@ returns-4 c =
     let start = c .before .before .before .before .before .before .before .before .before .before .before .before .before .before .before .before .before in
     let near = c .before .before .before .before .before .near in
     let (past, (behind, some, most, few, inside)) = taking (c .before .before .before .before .before .before) in (
-      rw (c .before .before .take-right .ensures) (answered-keeps (c .before .before .before .before .before .before .available .result) (start .args .block .now)),
+      rw (c .before .before .take-right .ensures) (answered-onward (c .before .before .before .before .before .before .available .result) (start .args .block .now) (start .pre)),
       λ closed φ L g falls agrees ready.
           rw (c .before .before .take-right .ensures)
           (previous-batch (start .args .records .now) (start .args .block .now) (start .pre) (c .before .before .before .before .before .before .available .result) some L g (start .args .low) (start .args .high)
