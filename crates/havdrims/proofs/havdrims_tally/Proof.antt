@@ -1,17 +1,17 @@
 -- `havdrims::havdrims_tally` meets its contract: each outcome of `tally` by one law.
 use borrow.Author.Needs.{needs}
+use mathlib.Core.Path.{sym, ap}
+use Rattle.verdicts.specs.Tally.{answer}
+use Rattle.verdicts.specs.declared.Tallied.{Tallied}
 use Rattle.havdrims.proofs.Outcomes.{tallying}
 use Rattle.havdrims.proofs.havdrims_tally.Statement.{statement}
 use Rattle.havdrims.proofs.havdrims_tally.Tie as tie
 
-tally-requires : tie.Need-tally-requires
-tally-requires c κs = search needs
-
-number-requires : tie.Need-number-requires
-number-requires c κs = search needs
-
 returns : tie.Need-returns
 returns c = search (needs, tallying)
 
+returns-2 : tie.Need-returns-2
+returns-2 c = search (needs, tallying, sym (ap (λ (x : Tallied). answer x .number) (c .enum-told .given .1)))
+
 pub havdrims-tally-spec : {M : Type 1} → statement M
-havdrims-tally-spec = tie.close (tie.spec tally-requires number-requires returns)
+havdrims-tally-spec = tie.close (tie.spec (λ c κs. search needs) (λ c. search needs) (λ c. search needs) (λ c κs. search needs) returns returns-2)
