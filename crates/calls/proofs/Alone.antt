@@ -24,7 +24,7 @@ use Rattle.rule.proofs.Alone.{Alone as Accepts, alone as accepts}
 use Rattle.emit.specs.Verdicts.{formulas-of, answers-of, verdict, first-records}
 use Rattle.emit.proofs.Meaning.{joint-le, verdict-stays}
 use Rattle.calls.specs.Calls.{Untouched, Call, brought-by, closed-by, Calls}
-use Rattle.calls.specs.Alone.{AloneOn, rule-alone, Comparable, SameVerdicts, Alone}
+use Rattle.calls.specs.Alone.{AloneOn, rule-alone, SameVerdicts, Comparable, SameWhereComparable, Alone}
 use Rattle.calls.proofs.Demand3.{first-longer, first-falls}
 use Rattle.calls.proofs.Truth.{length-answers, byte-at}
 
@@ -79,6 +79,12 @@ module _ (φ : Formula) (one : Accepts φ) where
 
 -- THE VERDICTS OF TWO LISTS OF CALLS
 
+both-alike : (closed closed′ : Bool) (n n′ : ℕ) → closed ≡ closed′ → n ≡ n′ → Comparable closed closed′ n n′
+both-alike false false n n′ e records = tt
+both-alike false true n n′ e records = absurd (false≢true e)
+both-alike true false n n′ e records = absurd (false≢true (sym e))
+both-alike true true n n′ e records = records
+
 module _ (rule log : List ℕ) (untouched : Untouched log) where
   -- a log that continues those of both lists
   common : (closed closed′ : Bool) (n n′ : ℕ) → Comparable closed closed′ n n′ →
@@ -119,9 +125,9 @@ module _ (rule log : List ℕ) (untouched : Untouched log) where
       sym (verdict-stays fs (first-records closed′ log n) end (first-longer rule log untouched closed′ true n n (omega arith) (λ e. (refl, refl))) falls i l′)
 
   module _ (k : ℕ) (among : k < length (formulas-of rule)) (one : Accepts (formula (formulas-of rule) k)) where
-    same-verdict : (h : List Call) (point : List ℕ) → Calls rule log h point → (h′ : List Call) (point′ : List ℕ) → Calls (rule-alone rule k) log h′ point′ →
-        SameVerdicts rule log k h h′
-    same-verdict h point calls h′ point′ calls′ closed closed′ both i there there′ l l′ =
+    same-comparable : (h : List Call) (point : List ℕ) → Calls rule log h point → (h′ : List Call) (point′ : List ℕ) → Calls (rule-alone rule k) log h′ point′ →
+        SameWhereComparable rule log k h h′
+    same-comparable h point calls h′ point′ calls′ closed closed′ both i there there′ l l′ =
         let fs = formulas-of rule in
         let φ = formula fs k in
         let n = brought-by h in
@@ -143,6 +149,19 @@ module _ (rule log : List ℕ) (untouched : Untouched log) where
         closed-or-open (φ ∷ []) closed′ (closed-by h′) n′ i at′ own′ ∙
         ap (λ gs. verdict gs K′ i) (sym only) ∙ sym is′
 
+    -- what both have given both have answered
+    same-verdicts : (h : List Call) (point : List ℕ) → Calls rule log h point → (h′ : List Call) (point′ : List ℕ) → Calls (rule-alone rule k) log h′ point′ →
+        SameVerdicts k h h′
+    same-verdicts h point calls h′ point′ calls′ records closings i l l′ =
+        let fs = formulas-of rule in
+        let φ = formula fs k in
+        let K = first-records (closed-by h) log (brought-by h) in
+        let settled = byte-at rule log untouched h point calls i l .0 in
+        let own : i < joint-progress (φ ∷ []) K = omega (arith, settled, alone-on K fs k among .no-fewer) in
+        same-comparable h point calls h′ point′ calls′ (closed-by h) (closed-by h′) (both-alike (closed-by h) (closed-by h′) _ _ closings records) i
+        (subst (λ gs. i < joint-progress gs K) (sym (reads-one φ one)) own)
+        (byte-at (rule-alone rule k) log untouched h′ point′ calls′ i l′ .0) l l′
+
 -- THE THEOREM of the calls, for every accepted rule and each of its formulas
 pub alone : (rule : List ℕ) → refusal rule ≡ 0 → (k : ℕ) → k < length (formulas-of rule) → Alone rule k
 alone rule fine k among =
@@ -159,5 +178,6 @@ alone rule fine k among =
       no-fewer = λ closed log n.
           let L = first-records closed log n in
           subst (λ gs. joint-progress fs L ≤ joint-progress gs L) (sym (reads-one (formula fs k) one)) (alone-on L fs k among .no-fewer);
-      same = λ log untouched h point calls h′ point′ calls′. same-verdict rule log untouched k among one h point calls h′ point′ calls′;
+      same = λ log untouched h point calls h′ point′ calls′. same-verdicts rule log untouched k among one h point calls h′ point′ calls′;
+      same-comparable = λ log untouched h point calls h′ point′ calls′. same-comparable rule log untouched k among one h point calls h′ point′ calls′;
     }

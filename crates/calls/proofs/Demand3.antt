@@ -2,7 +2,7 @@
 use Prim.Native.Nat.{ℕ, zero, suc, _+_, _*_, _-_, _≤_, _<_}
 use mathlib.Core.Bool.{Bool, true, false, cond, false≢true}
 use mathlib.Core.Logic.{⊎-elim}
-use mathlib.Core.Path.{_≡_, refl, sym, _∙_, ap, subst}
+use mathlib.Core.Path.{_≡_, refl, sym, _∙_, ap, ap₂, subst}
 use mathlib.Core.List.{List, [], _∷_, _++_}
 use native.Mathlib.Nat.{le-of-eq}
 use native.Mathlib.Omega.{arith}
@@ -29,19 +29,14 @@ use Rattle.checkpoint.specs.Refusal.{open-refusal, resumes-closed, closes-more,
 use Rattle.checkpoint.proofs.Sizes.{enough-words}
 use Rattle.emit.specs.Verdicts.{formulas-of, columns, verdicts, first-records, answered, all-verdicts}
 use Rattle.monitor.specs.Stands.{Stands}
-use Rattle.monitor.specs.Open.{Opens}
-use Rattle.monitor.specs.Resume.{resumed-number, Gives, Resumes}
-use Rattle.monitor.specs.Summary.{Told, Summarizes}
+use Rattle.monitor.specs.Open.{done, Opening, Opens}
+use Rattle.monitor.specs.Open.{Answer as OpenAnswer}
+use Rattle.monitor.specs.Resume.{Answer, gave, refused-with, Gives, Resumes}
+use Rattle.monitor.specs.Summary.{counted, Told, Summarizes}
+use Rattle.monitor.specs.Summary.{Answer as SummaryAnswer}
 use Rattle.monitor.specs.Status.{facts, known}
 use Rattle.monitor.specs.Status.{told as known-told}
-use Rattle.monitor.specs.declared.Opened.{Opened}
-use Rattle.monitor.specs.declared.Opened.the-variants.{Done}
-use Rattle.monitor.specs.declared.Opened.the-variants.{Refused as OpenRefused}
-use Rattle.monitor.specs.declared.Resumed.{Resumed}
-use Rattle.monitor.specs.declared.Resumed.the-variants.{Given, Refused}
-use Rattle.monitor.specs.declared.Summarized.{Summarized}
-use Rattle.monitor.specs.declared.Summarized.the-variants.{Counted}
-use Rattle.monitor.specs.declared.Summarized.the-variants.{Refused as SummaryRefused}
+use Rattle.monitor.proofs.Answers.{open-unrefused, resume-number, resume-unrefused}
 use Rattle.monitor.proofs.Summarizing.{told-same}
 use Rattle.monitor.proofs.OwnCheckpoint.{own-given, own-within, not-outside}
 use Rattle.monitor.proofs.VerdictBytes.{length-verdicts, verdicts-more, take-verdicts, verdicts-stay}
@@ -60,25 +55,14 @@ open-enough rule lent fine enough = rw (eq-eqb (refusal rule) 0 fine, le-ltb len
 pub exactly-enough : (rule : List ℕ) → refusal rule ≡ 0 → (open-refusal rule (need rule) ≡ 0) × (measured rule .words ≡ need rule)
 exactly-enough rule fine = (open-enough rule (need rule) fine (omega arith), rw (eq-eqb (refusal rule) 0 fine))
 
-open-accepts : (rule lent : List ℕ) (r : Opened) (p : List ℕ) → refusal rule ≡ 0 → need rule ≤ length lent → Opens rule lent r p → r ≡ Done
-open-accepts rule lent Done p fine enough opens = refl
-open-accepts rule lent (OpenRefused n) p fine enough opens =
-    let none = open-enough rule (length lent) fine enough in
-    let number = opens .number in
-    let some = opens .words .0 in
-    absurd (omega arith)
+open-accepts : (rule lent : List ℕ) (a : OpenAnswer) (p : List ℕ) → refusal rule ≡ 0 → need rule ≤ length lent → Opens rule lent a p → a ≡ done
+open-accepts rule lent a p fine enough opens = rw (open-enough rule (length lent) fine enough) at (opens .outcome)
 
 -- refusal 9 is met before what the words, the log and the sheet hold is looked at
-nine : (closing : Bool) (rule log p sheet : List ℕ) (r : Resumed) (p′ sheet′ : List ℕ) → refusal rule ≡ 0 → length p < need rule →
-    Resumes closing rule log p sheet r p′ sheet′ → r ≡ Refused 9
-nine closing rule log p sheet r p′ sheet′ fine short resumes = go r (resumes .number ∙ is-nine)
-  where
-    is-nine : resume-refusal closing rule log p ≡ 9
-    is-nine = rw (eq-eqb (refusal rule) 0 fine, lt-ltb (length p) (need rule) short)
-
-    go : (r : Resumed) → resumed-number r ≡ 9 → r ≡ Refused 9
-    go (Given c more) e = absurd (omega arith)
-    go (Refused n) e = ap Refused e
+nine : (closing : Bool) (rule log p sheet : List ℕ) (a : Answer) (p′ sheet′ : List ℕ) → refusal rule ≡ 0 → length p < need rule →
+    Resumes closing rule log p sheet a p′ sheet′ → a ≡ refused-with 9
+nine closing rule log p sheet a p′ sheet′ fine short resumes =
+    rw (eq-eqb (refusal rule) 0 fine, lt-ltb (length p) (need rule) short) at (resumes .outcome)
 
 -- 20 and 21 of a point that stands for m records, closed or open, where n records are brought and no other refusal applies
 number-by : (closing was : Bool) (m n w records : ℕ) → w ≡ cond was (suc m) 0 → records ≡ n →
@@ -255,20 +239,20 @@ module _ (rule log : List ℕ) (untouched : Untouched log) where
       allowed : resume-refusal closed rule log′ p ≡ 0 → was ≡ true → (closed ≡ true) × (m ≡ n)
       allowed none = allowed-by closed was m n more (sym number-met ∙ none)
 
-      gives : (sheet : List ℕ) (c : ℕ) (b : Bool) (p′ sheet′ : List ℕ) → Resumes closed rule log′ p sheet (Given c b) p′ sheet′ →
+      gives : (sheet : List ℕ) (c : ℕ) (b : Bool) (p′ sheet′ : List ℕ) → Resumes closed rule log′ p sheet (gave c b) p′ sheet′ →
           Gives rule new d sheet c b p′ sheet′
       gives sheet c b p′ sheet′ resumes =
-          resumes .words .meaning old new d stands (first-longer was closed m n more (allowed (sym (resumes .number)))) (first-falls closed n) brought-agrees
+          resumes .words .meaning old new d stands (first-longer was closed m n more (allowed (resume-unrefused resumes))) (first-falls closed n) brought-agrees
 
       -- the bytes of an accepted call, behind those of the verdicts before it
-      gives-bytes : (sheet : List ℕ) (c : ℕ) (b : Bool) (p′ sheet′ : List ℕ) → Resumes closed rule log′ p sheet (Given c b) p′ sheet′ →
+      gives-bytes : (sheet : List ℕ) (c : ℕ) (b : Bool) (p′ sheet′ : List ℕ) → Resumes closed rule log′ p sheet (gave c b) p′ sheet′ →
           verdicts (formulas-of rule) old d ++ take c sheet′ ≡ verdicts (formulas-of rule) new (d + c)
       gives-bytes sheet c b p′ sheet′ resumes =
           let settled = given-settled rule fine old d p stands in
           let room = resumes .words .room in
           let kept = resumes .sheet-length in
           let bytes = gives sheet c b p′ sheet′ resumes .bytes in
-          ap (λ vs. vs ++ take c sheet′) (verdicts-stay (formulas-of rule) old new (first-longer was closed m n more (allowed (sym (resumes .number)))) (first-falls closed n) d (omega arith)) ∙
+          ap (λ vs. vs ++ take c sheet′) (verdicts-stay (formulas-of rule) old new (first-longer was closed m n more (allowed (resume-unrefused resumes))) (first-falls closed n) d (omega arith)) ∙
           verdicts-more (formulas-of rule) new d c sheet′ (omega arith) bytes
 
   -- what holds after every list of calls
@@ -283,9 +267,9 @@ module _ (rule log : List ℕ) (untouched : Untouched log) where
     pub each : Each rule log h
 
   -- on an opened checkpoint
-  module _ (lent p : List ℕ) (opens : Opens rule lent Done p) where
+  module _ (lent p : List ℕ) (opens : Opens rule lent done p) where
     opened-fine : refusal rule ≡ 0
-    opened-fine = before-none (refusal rule) _ (sym (opens .number)) .0
+    opened-fine = before-none (refusal rule) _ (open-unrefused opens) .0
 
     opened-stands : Stands rule (first-records false log 0) 0 p
     opened-stands = opens .words .1 (first-records false log 0) (first-size 0 (omega arith)) refl
@@ -308,11 +292,11 @@ module _ (rule log : List ℕ) (untouched : Untouched log) where
   -- after an accepted call on the words p
   module _ (h : List Call) (point p : List ℕ) (before : Invariant h point) (lends : Lends point p)
       (closed : Bool) (n : ℕ) (log′ sheet : List ℕ) (c : ℕ) (more : Bool) (p′ sheet′ : List ℕ)
-      (brought : BringsAfter rule log h n log′) (resumes : Resumes closed rule log′ p sheet (Given c more) p′ sheet′) where
+      (brought : BringsAfter rule log h n log′) (resumes : Resumes closed rule log′ p sheet (gave c more) p′ sheet′) where
     accepted-whole : length point ≤ length p
     accepted-whole =
         let size = before .size in
-        let enough = enough-words rule (length p) (before-none (open-refusal rule (length p)) _ (sym (resumes .number)) .0) in
+        let enough = enough-words rule (length p) (before-none (open-refusal rule (length p)) _ (resume-unrefused resumes) .0) in
         omega arith
 
     accepted-stands : Stands rule (first-records (closed-by h) log (brought-by h)) (given-by h) p
@@ -329,7 +313,7 @@ module _ (rule log : List ℕ) (untouched : Untouched log) where
         by true e =
             before .at-first e ∙
             allowed closed (given-by h) n log′ (brought .brings) (closed-by h) (brought-by h) p (brought .no-fewer) (before .fine) accepted-stands
-            (sym (resumes .number)) e .1
+            (resume-unrefused resumes) e .1
 
     after-accepted : Invariant (the-call closed n sheet c more sheet′ ∷ h) (point-after point p′)
     unfolding given-by brought-by closed-by closed-at laid Each AllWhenCaughtUp
@@ -377,7 +361,7 @@ module _ (rule log : List ℕ) (untouched : Untouched log) where
   after-call : {h h′ : List Call} {p′ : List ℕ} (point p : List ℕ) → Invariant h point → Lends point p → OneCall rule log h p h′ p′ →
       Invariant h′ (point-after point p′)
   after-call point p before lends (refused closed rule′ log′ sheet number p′ sheet′ resumes) =
-      rw (resumes .words .1, after-unchanged point p lends) before
+      rw (resumes .words .0, after-unchanged point p lends) before
   after-call {h} point p before lends (accepted closed n log′ sheet c more p′ sheet′ brought resumes) =
       after-accepted h point p before lends closed n log′ sheet c more p′ sheet′ brought resumes
 
@@ -391,34 +375,30 @@ module _ (rule log : List ℕ) (untouched : Untouched log) where
       record { size = brings .size; within = brings .within; header = brings .header; same = λ i lo hi. brings .same i (omega arith) hi }
 
   -- "One run is a carry on from a fresh point with a sheet of A bytes, and it writes just these."
-  one-run-writes : (closed : Bool) (n : ℕ) (r : Resumed) (sheet′ : List ℕ) → OneRun closed rule log n r sheet′ →
-      (r ≡ Given (answered closed rule log n) false) × (sheet′ ≡ all-verdicts closed rule log n)
+  one-run-writes : (closed : Bool) (n : ℕ) (a : Answer) (sheet′ : List ℕ) → OneRun closed rule log n a sheet′ →
+      (a ≡ gave (answered closed rule log n) false) × (sheet′ ≡ all-verdicts closed rule log n)
   unfolding verdicts
-  one-run-writes closed n (Refused number) sheet′ run =
-      let fine = opened-fine (run .lent) (run .fresh) (run .opens) in
-      let stands = opened-stands (run .lent) (run .fresh) (run .opens) in
-      let whole = brings-whole 0 n (run .brought) (run .brings) in
-      let number-is = number-met closed 0 n (run .brought) whole false 0 (run .fresh) (omega arith) fine stands in
-      let none = fresh-allowed closed 0 n in
-      let is = run .resumes .number in
-      let some = run .resumes .words .0 in
-      absurd (omega arith)
-  one-run-writes closed n (Given c more) sheet′ run =
+  one-run-writes closed n a sheet′ run =
       let fine = opened-fine (run .lent) (run .fresh) (run .opens) in
       let stands = opened-stands (run .lent) (run .fresh) (run .opens) in
       let fs = formulas-of rule in
       let all = answered closed rule log n in
+      let c = a .count in
+      let more = a .more in
       let brings = brings-whole 0 n (run .brought) (run .brings) in
-      let step = gives closed 0 n (run .brought) brings false 0 (run .fresh) (omega arith) fine stands (run .sheet) c more (run .left) sheet′ (run .resumes) in
+      let none = number-met closed 0 n (run .brought) brings false 0 (run .fresh) (omega arith) fine stands ∙ fresh-allowed closed 0 n in
+      let is : a ≡ gave c more = rw none at (run .resumes .outcome) in
+      let resumes = subst (λ (x : Answer). Resumes closed rule (run .brought) (run .fresh) (run .sheet) x (run .left) sheet′) is (run .resumes) in
+      let step = gives closed 0 n (run .brought) brings false 0 (run .fresh) (omega arith) fine stands (run .sheet) c more (run .left) sheet′ resumes in
       let bytes =
-      gives-bytes closed 0 n (run .brought) brings false 0 (run .fresh) (omega arith) fine stands (run .sheet) c more (run .left) sheet′ (run .resumes) in
+      gives-bytes closed 0 n (run .brought) brings false 0 (run .fresh) (omega arith) fine stands (run .sheet) c more (run .left) sheet′ resumes in
       let count = step .count in
       let room = run .room in
       let kept = run .resumes .sheet-length in
       let whole : c ≡ all = omega arith in
       let sum : 0 + c ≡ all = omega arith in
       let caught-up : more ≡ false = step .more ∙ le-ltb (0 + c) all (omega arith) in (
-        rw (whole, caught-up),
+        is ∙ ap₂ gave whole caught-up,
         sym (take-all c sheet′ (omega arith)) ∙ bytes ∙ ap (verdicts fs (first-records closed log n)) sum,
       )
 
@@ -433,19 +413,14 @@ none-met rule K d p fine stands =
 
 -- of each formula the count of no and the latest of them, as a checkpoint has them
 own-summary : (rule : List ℕ) (K : Log) (d : ℕ) (p : List ℕ) → refusal rule ≡ 0 → Stands rule K d p →
-    (nos latest : List ℕ) (r : Summarized) (nos′ latest′ : List ℕ) → Summarizes rule p nos latest r nos′ latest′ →
-    (r ≡ Counted (columns (formulas-of rule))) ×
-    Told (columns (formulas-of rule)) (λ k. noes-in k (verdicts (formulas-of rule) K d) d) nos latest nos′ latest′
-own-summary rule K d p fine stands nos latest (SummaryRefused n) nos′ latest′ told =
-    let none = none-met rule K d p fine stands in
-    let number = told .number in
-    let some = told .words .0 in
-    absurd (omega arith)
-own-summary rule K d p fine stands nos latest (Counted n) nos′ latest′ told =
-    let (all, words) = told .words in (
-      ap Counted all,
+    (nos latest : List ℕ) (a : SummaryAnswer) (nos′ latest′ : List ℕ) → Summarizes rule p nos latest a nos′ latest′ →
+    (a ≡ counted (columns (formulas-of rule))) ×
+    Told 0 (columns (formulas-of rule)) (λ k. noes-in k (verdicts (formulas-of rule) K d) d) nos latest nos′ latest′
+own-summary rule K d p fine stands nos latest a nos′ latest′ told =
+    let is : a ≡ counted (columns (formulas-of rule)) = rw (none-met rule K d p fine stands) at (told .outcome) in (
+      is,
       told-same (columns (formulas-of rule)) (stored-noes (most (version rule)) p) _ nos latest nos′ latest′ (stands .noes)
-          (subst (λ m. Told m (stored-noes (most (version rule)) p) nos latest nos′ latest′) all words),
+          (subst (λ (x : SummaryAnswer). Told (x .number) (x .formulas) (stored-noes (most (version rule)) p) nos latest nos′ latest′) is (told .words)),
     )
 
 -- a closing was accepted exactly where its records were noted
@@ -466,13 +441,16 @@ own-status rule K d p fine stands =
 
 -- WORDS BEHIND THE POINT
 
-open-keeps : (rule words : List ℕ) (r : Opened) (fresh : List ℕ) → refusal rule ≡ 0 → Opens rule words r fresh → Keeps rule words fresh
-open-keeps rule words Done fresh fine opens = record { behind = rw (exactly-enough rule fine .1) (opens .words .0); number = opens .length }
-open-keeps rule words (OpenRefused n) fresh fine opens = record { behind = ap (drop (measured rule .words)) (opens .words .1); number = opens .length }
+open-keeps : (rule words : List ℕ) (a : OpenAnswer) (fresh : List ℕ) → refusal rule ≡ 0 → Opens rule words a fresh → Keeps rule words fresh
+open-keeps rule words a fresh fine opens = record { behind = by (a .refused) (opens .words); number = opens .length }
+  where
+    by : (refused : Bool) → Opening refused rule words fresh → drop (measured rule .words) fresh ≡ drop (measured rule .words) words
+    by false (beyond, stands) = rw (exactly-enough rule fine .1) beyond
+    by true kept = ap (drop (measured rule .words)) kept
 
 call-keeps : (rule log : List ℕ) {h h′ : List Call} (p : List ℕ) {p′ : List ℕ} → refusal rule ≡ 0 → OneCall rule log h p h′ p′ → Keeps rule p p′
 call-keeps rule log p fine (refused closed rule′ log′ sheet number p′ sheet′ resumes) =
-    record { behind = ap (drop (measured rule .words)) (resumes .words .1); number = resumes .point-length }
+    record { behind = ap (drop (measured rule .words)) (resumes .words .0); number = resumes .point-length }
 call-keeps rule log p fine (accepted closed n log′ sheet c more p′ sheet′ brought resumes) =
     record { behind = rw (exactly-enough rule fine .1) (resumes .words .beyond); number = resumes .point-length }
 
@@ -488,23 +466,23 @@ demand-3 rule log untouched h point calls =
       first = rw (i .bytes, length-verdicts fs L (given-by h)) (sym (take-verdicts fs L (given-by h) (answered (closed-by h) rule log (brought-by h)) (omega arith)));
       all = i .all;
       each = i .each;
-      not-refused = λ p lends whole closed n log′ sheet brought r p′ sheet′ resumes.
-          resumes .number ∙
+      not-refused = λ p lends whole closed n log′ sheet brought a p′ sheet′ resumes.
+          resume-number resumes ∙
           number-met rule log untouched closed (given-by h) n log′ (brought .brings) (closed-by h) (brought-by h) p (brought .no-fewer) (i .fine)
           (stands-lent rule (i .fine) L (given-by h) point p size lends whole (i .stands)) ∙
           expected-at closed (closed-by h) (closed-at h) (brought-by h) n (i .at-first);
-      too-few = λ p short closed log′ sheet r p′ sheet′. nine closed rule log′ p sheet r p′ sheet′ (i .fine) (omega arith);
+      too-few = λ p short closed log′ sheet a p′ sheet′. nine closed rule log′ p sheet a p′ sheet′ (i .fine) (omega arith);
       size = size ∙ sym (exactly-enough rule (i .fine) .1);
-      enough = λ words r fresh size opens.
-          open-accepts rule words r fresh (i .fine) (le-of-eq (sym (size ∙ exactly-enough rule (i .fine) .1))) opens;
-      open-keeps = λ words r fresh. open-keeps rule words r fresh (i .fine);
+      enough = λ words a fresh size opens.
+          open-accepts rule words a fresh (i .fine) (le-of-eq (sym (size ∙ exactly-enough rule (i .fine) .1))) opens;
+      open-keeps = λ words a fresh. open-keeps rule words a fresh (i .fine);
       call-keeps = λ p p′ h′. call-keeps rule log p (i .fine);
       one-run = one-run-writes rule log untouched;
-      summary = λ p lends whole nos latest r nos′ latest′ told.
+      summary = λ p lends whole nos latest a nos′ latest′ told.
           let d = given-by h in
           let laid-length : length (laid h) ≡ d = ap length (i .bytes) ∙ length-verdicts fs L d in
           rw (laid-length, i .bytes)
-          (own-summary rule L d p (i .fine) (stands-lent rule (i .fine) L d point p size lends whole (i .stands)) nos latest r nos′ latest′ told);
+          (own-summary rule L d p (i .fine) (stands-lent rule (i .fine) L d point p size lends whole (i .stands)) nos latest a nos′ latest′ told);
       status = λ p lends whole r is.
           let d = given-by h in
           is ∙ own-status rule L d p (i .fine) (stands-lent rule (i .fine) L d point p size lends whole (i .stands)) ∙
@@ -513,10 +491,10 @@ demand-3 rule log untouched h point calls =
 
 -- the bytes of every list are the first bytes of one run
 pub bytes-of-one-run : (rule log : List ℕ) → Untouched log → (h : List Call) (point : List ℕ) → Calls rule log h point →
-    (r : Resumed) (sheet′ : List ℕ) → OneRun (closed-by h) rule log (brought-by h) r sheet′ → laid h ≡ take (length (laid h)) sheet′
-bytes-of-one-run rule log untouched h point calls r sheet′ run =
+    (a : Answer) (sheet′ : List ℕ) → OneRun (closed-by h) rule log (brought-by h) a sheet′ → laid h ≡ take (length (laid h)) sheet′
+bytes-of-one-run rule log untouched h point calls a sheet′ run =
     let claim = demand-3 rule log untouched h point calls in
-    rw (claim .one-run (closed-by h) (brought-by h) r sheet′ run .1) (claim .first)
+    rw (claim .one-run (closed-by h) (brought-by h) a sheet′ run .1) (claim .first)
 
 -- "a point that this library left never meets" refusal 11, nor 10 with its rule: in no words that hold it whole
 pub own-checkpoint : (rule log : List ℕ) → Untouched log → (h : List Call) (point : List ℕ) → Calls rule log h point →

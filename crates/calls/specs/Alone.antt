@@ -14,7 +14,7 @@ use Rattle.rule.specs.Postfix.{size, formula, start}
 use Rattle.rule.specs.Encoding.{rule-of}
 use Rattle.rule.specs.Refusal.{refusal}
 use Rattle.emit.specs.Verdicts.{formulas-of, verdict, answered}
-use Rattle.calls.specs.Calls.{Untouched, Call, brought-by, laid, Calls}
+use Rattle.calls.specs.Calls.{Untouched, Call, brought-by, closed-by, laid, Calls}
 
 -- OVER THE DEFINITIONS, for any list of formulas and any log: bit k of the verdict at each position is the verdict of formula k as the only
 -- one, which has answered no fewer positions
@@ -32,6 +32,12 @@ rule-alone rule k = rule-of (formula (formulas-of rule) k)
 abbrev pub SameVerdict : (k : ℕ) (h h′ : List Call) (i : ℕ) → Type 0
 SameVerdict k h h′ i = number (bit (getD (laid h) i 0) k) ≡ getD (laid h′) i 0
 
+-- Every list of calls of the rule, and every list of formula k's own rule, over one untouched log: where both brought the same records,
+-- both closed or both open, each verdict that both have given.
+abbrev pub SameVerdicts : (k : ℕ) (h h′ : List Call) → Type 0
+SameVerdicts k h h′ =
+    brought-by h ≡ brought-by h′ → closed-by h ≡ closed-by h′ → (i : ℕ) → i < length (laid h) → i < length (laid h′) → SameVerdict k h h′ i
+
 -- Whether the first n records of a log, closed or open, and its first n′ records, closed or open, are two states of one log. "A closing's
 -- verdicts are compared with that log alone": what is settled only because a log ends is compared with no longer one.
 abbrev pub Comparable : (closed closed′ : Bool) (n n′ : ℕ) → Type 0
@@ -40,10 +46,10 @@ Comparable false true n n′ = n ≤ n′
 Comparable true false n n′ = n′ ≤ n
 Comparable true true n n′ = n ≡ n′
 
--- Every list of calls of the rule, and every list of formula k's own rule, over one untouched log: each verdict that both have given,
--- where what the formula has answered can be compared. What it answers without the closing counts as open, also where the closing gave it.
-abbrev pub SameVerdicts : (rule log : List ℕ) (k : ℕ) (h h′ : List Call) → Type 0
-SameVerdicts rule log k h h′ =
+-- Two such lists in general: each verdict that both have given, where what the formula has answered can be compared. What it answers
+-- without the closing counts as open, also where the closing gave it.
+abbrev pub SameWhereComparable : (rule log : List ℕ) (k : ℕ) (h h′ : List Call) → Type 0
+SameWhereComparable rule log k h h′ =
     (closed closed′ : Bool) → Comparable closed closed′ (brought-by h) (brought-by h′) →
     (i : ℕ) → i < answered closed (rule-alone rule k) log (brought-by h) → i < answered closed′ (rule-alone rule k) log (brought-by h′) →
     i < length (laid h) → i < length (laid h′) → SameVerdict k h h′ i
@@ -59,4 +65,7 @@ pub record Alone (rule : List ℕ) (k : ℕ) : Type 0 where
   pub no-fewer : (closed : Bool) (log : List ℕ) (n : ℕ) → answered closed rule log n ≤ answered closed (rule-alone rule k) log n
   -- with the same verdict
   pub same : (log : List ℕ) → Untouched log → (h : List Call) (point : List ℕ) → Calls rule log h point →
-      (h′ : List Call) (point′ : List ℕ) → Calls (rule-alone rule k) log h′ point′ → SameVerdicts rule log k h h′
+      (h′ : List Call) (point′ : List ℕ) → Calls (rule-alone rule k) log h′ point′ → SameVerdicts k h h′
+  -- also where the lists brought different records, or one closed and one did not
+  pub same-comparable : (log : List ℕ) → Untouched log → (h : List Call) (point : List ℕ) → Calls rule log h point →
+      (h′ : List Call) (point′ : List ℕ) → Calls (rule-alone rule k) log h′ point′ → SameWhereComparable rule log k h h′

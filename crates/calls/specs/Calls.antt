@@ -19,17 +19,13 @@ use Rattle.rule.specs.Entries.{version, count, decoded}
 use Rattle.rule.specs.Postfix.{formulas}
 use Rattle.rule.specs.Measure.{measured}
 use Rattle.emit.specs.Verdicts.{formulas-of, columns, first-records, answered, all-verdicts}
-use Rattle.monitor.specs.Open.{Opens}
-use Rattle.monitor.specs.Resume.{resumed-number, Resumes}
-use Rattle.monitor.specs.Summary.{Told, Summarizes}
+use Rattle.monitor.specs.Open.{done, Opens}
+use Rattle.monitor.specs.Open.{Answer as OpenAnswer}
+use Rattle.monitor.specs.Resume.{Answer, gave, refused-with, Resumes}
+use Rattle.monitor.specs.Summary.{counted, Told, Summarizes}
+use Rattle.monitor.specs.Summary.{Answer as SummaryAnswer}
 use Rattle.monitor.specs.Status.{facts, known}
 use Rattle.monitor.specs.Status.{told as known-told, answer as standing-of}
-use Rattle.monitor.specs.declared.Opened.{Opened}
-use Rattle.monitor.specs.declared.Opened.the-variants.{Done}
-use Rattle.monitor.specs.declared.Resumed.{Resumed}
-use Rattle.monitor.specs.declared.Resumed.the-variants.{Given, Refused}
-use Rattle.monitor.specs.declared.Summarized.{Summarized}
-use Rattle.monitor.specs.declared.Summarized.the-variants.{Counted}
 use Rattle.monitor.specs.declared.Standing.{Standing}
 
 -- "One untouched log belongs to the list: a header without fault, then at most 1,000,000 records whose times never fall"
@@ -108,16 +104,16 @@ point-after point p = take (length point) p ++ drop (length p) point
 pub data OneCall (rule log : List ℕ) (h : List Call) (p : List ℕ) : List Call → List ℕ → Type 0 where
   -- "refused, whatever rule, log and sheet it brought"
   refused : (closing : Bool) (rule′ log′ sheet : List ℕ) (n : ℕ) (p′ sheet′ : List ℕ) →
-      Resumes closing rule′ log′ p sheet (Refused n) p′ sheet′ → OneCall rule log h p h p′
+      Resumes closing rule′ log′ p sheet (refused-with n) p′ sheet′ → OneCall rule log h p h p′
   -- "or it brings the rule, this header and the records"
   accepted : (closing : Bool) (n : ℕ) (log′ sheet : List ℕ) (c : ℕ) (more : Bool) (p′ sheet′ : List ℕ) →
-      BringsAfter rule log h n log′ → Resumes closing rule log′ p sheet (Given c more) p′ sheet′ →
+      BringsAfter rule log h n log′ → Resumes closing rule log′ p sheet (gave c more) p′ sheet′ →
       OneCall rule log h p (the-call closing n sheet c more sheet′ ∷ h) p′
 
 -- a list of calls: its accepted calls, the latest first, and the point, as many words as weigh gave, as its last call left it
 pub data Calls (rule log : List ℕ) : List Call → List ℕ → Type 0 where
   -- "The list starts from the point as open left it for the rule"
-  opened : (lent p : List ℕ) → Opens rule lent Done p → Calls rule log [] (take (measured rule .words) p)
+  opened : (lent p : List ℕ) → Opens rule lent done p → Calls rule log [] (take (measured rule .words) p)
   -- "any number of them", each on words of any number
   and-then : {h h′ : List Call} {point : List ℕ} → Calls rule log h point →
       (p p′ : List ℕ) → Lends point p → OneCall rule log h p h′ p′ → Calls rule log h′ (point-after point p′)
@@ -140,16 +136,16 @@ AllWhenCaughtUp rule log (c ∷ older) = (laid (c ∷ older) ≡ all-verdicts (c
 
 -- "One run is a carry on from a fresh point with a sheet of A bytes", or "a closing where the last accepted call is one": its answer
 -- and its sheet, for the first n records
-pub record OneRun (closing : Bool) (rule log : List ℕ) (n : ℕ) (r : Resumed) (sheet′ : List ℕ) : Type 0 where
+pub record OneRun (closing : Bool) (rule log : List ℕ) (n : ℕ) (a : Answer) (sheet′ : List ℕ) : Type 0 where
   pub lent : List ℕ
   pub fresh : List ℕ
-  pub opens : Opens rule lent Done fresh
+  pub opens : Opens rule lent done fresh
   pub brought : List ℕ
   pub brings : Brings log 0 n brought
   pub sheet : List ℕ
   pub room : length sheet ≡ answered closing rule log n
   pub left : List ℕ
-  pub resumes : Resumes closing rule brought fresh sheet r left sheet′
+  pub resumes : Resumes closing rule brought fresh sheet a left sheet′
 
 -- What a verdict byte says, where Holds says which formulas hold. Of an empty rule, "every position is yes"; of several formulas, "bit k
 -- of the verdict byte is formula k's answer, in rule order from 0" (document 02, paper 8): the lowest bit is the first formula's, and the
@@ -201,26 +197,26 @@ pub record Demand3 (rule log : List ℕ) (h : List Call) (point : List ℕ) : Ty
   -- 4. "A call that brings rule and log in this way is not refused." but with 20 or 21, the point being whole in the words that it lends
   pub not-refused : (p : List ℕ) → Lends point p → length point ≤ length p →
       (closing : Bool) (n : ℕ) (log′ sheet : List ℕ) → BringsAfter rule log h n log′ →
-      (r : Resumed) (p′ sheet′ : List ℕ) → Resumes closing rule log′ p sheet r p′ sheet′ →
-      resumed-number r ≡ expected-refusal closing (closed-by h) (closed-at h) n
+      (a : Answer) (p′ sheet′ : List ℕ) → Resumes closing rule log′ p sheet a p′ sheet′ →
+      a .number ≡ expected-refusal closing (closed-by h) (closed-at h) n
   -- with fewer words it meets 9, whatever they, the log and the sheet hold
   pub too-few : (p : List ℕ) → length p < length point →
-      (closing : Bool) (log′ sheet : List ℕ) (r : Resumed) (p′ sheet′ : List ℕ) → Resumes closing rule log′ p sheet r p′ sheet′ → r ≡ Refused 9
+      (closing : Bool) (log′ sheet : List ℕ) (a : Answer) (p′ sheet′ : List ℕ) → Resumes closing rule log′ p sheet a p′ sheet′ → a ≡ refused-with 9
   -- 5. "A point of exactly the words that weigh gave is enough for every list": the point has that many, and open takes them;
   pub size : length point ≡ measured rule .words
-  pub enough : (words : List ℕ) (r : Opened) (fresh : List ℕ) → length words ≡ measured rule .words → Opens rule words r fresh → r ≡ Done
+  pub enough : (words : List ℕ) (a : OpenAnswer) (fresh : List ℕ) → length words ≡ measured rule .words → Opens rule words a fresh → a ≡ done
   -- "and any words behind them are kept", by open and by each call of a list, accepted or refused
-  pub open-keeps : (words : List ℕ) (r : Opened) (fresh : List ℕ) → Opens rule words r fresh → Keeps rule words fresh
+  pub open-keeps : (words : List ℕ) (a : OpenAnswer) (fresh : List ℕ) → Opens rule words a fresh → Keeps rule words fresh
   pub call-keeps : (p p′ : List ℕ) (h′ : List Call) → OneCall rule log h p h′ p′ → Keeps rule p p′
   -- 6. one run "writes just these", and so the bytes of 1 are its first bytes
-  pub one-run : (closing : Bool) (n : ℕ) (r : Resumed) (sheet′ : List ℕ) → OneRun closing rule log n r sheet′ →
-      (r ≡ Given (answered closing rule log n) false) × (sheet′ ≡ all-verdicts closing rule log n)
+  pub one-run : (closing : Bool) (n : ℕ) (a : Answer) (sheet′ : List ℕ) → OneRun closing rule log n a sheet′ →
+      (a ≡ gave (answered closing rule log n) false) × (sheet′ ≡ all-verdicts closing rule log n)
   -- 7. of document 02, papers 7 and 8: `summary` of the point, whole in the words lent, is not refused, and gives of each formula "what
   -- tally and a scan give over all verdict bytes written from that point, laid end to end"
   pub summary : (p : List ℕ) → Lends point p → length point ≤ length p →
-      (nos latest : List ℕ) (r : Summarized) (nos′ latest′ : List ℕ) → Summarizes rule p nos latest r nos′ latest′ →
-      (r ≡ Counted (columns (formulas-of rule))) ×
-      Told (columns (formulas-of rule)) (λ k. noes-in k (laid h) (length (laid h))) nos latest nos′ latest′
+      (nos latest : List ℕ) (a : SummaryAnswer) (nos′ latest′ : List ℕ) → Summarizes rule p nos latest a nos′ latest′ →
+      (a ≡ counted (columns (formulas-of rule))) ×
+      Told 0 (columns (formulas-of rule)) (λ k. noes-in k (laid h) (length (laid h))) nos latest nos′ latest′
   -- 8. `status` of the point, whole in the words lent, is not refused: given is the sum of c, seen and closed are those of the last
   -- accepted call, and wanted is the record from which `BringsAfter` asks the log to stand
   pub status : (p : List ℕ) → Lends point p → length point ≤ length p →

@@ -2,12 +2,12 @@
 use Prim.Native.Nat.{ℕ, _<_}
 use mathlib.Core.Bool.{Bool, true, false, cond, true≢false}
 use mathlib.Core.Path.{_≡_, refl, sym, _∙_, ap, subst}
-use mathlib.Core.List.{List, _++_}
+use mathlib.Core.List.{List}
 use native.Mathlib.Omega.{arith}
-use borrow.Author.Tests.{eqb-false, ne-eqb}
+use borrow.Author.Tests.{eqb-true, eqb-false, ne-eqb}
 use mir.Val.{boolByte}
-use lib.Dec.{eqb}
-use lib.ListN.{length, drop}
+use lib.Dec.{eqb, ltb}
+use lib.ListN.{length}
 use Rattle.rule.specs.Entries.{version}
 use Rattle.rule.specs.Postfix.{most}
 use Rattle.rule.specs.Refusal.{refusal}
@@ -18,18 +18,17 @@ use Rattle.rule.specs.Measure.{measured}
 use Rattle.rule.specs.Measure.{Answer as Measure, answer as measure-of}
 use Rattle.rule.proofs.Outcome.{stops-with}
 use Rattle.checkpoint.specs.Checkpoint.{stored-noes}
-use Rattle.checkpoint.specs.Refusal.{summary-refusal}
-use Rattle.monitor.specs.declared.Opened.{Opened}
-use Rattle.verdicts.specs.declared.Tallied.{Tallied}
-use Rattle.verdicts.specs.declared.Tallied.the-variants.{Counted}
-use Rattle.verdicts.specs.declared.Tallied.the-variants.{Refused as Untallied}
-use Rattle.verdicts.specs.Counts.{Noes, counts}
-use Rattle.verdicts.specs.Tally.{tallied-number, Tallies}
+use Rattle.checkpoint.specs.Refusal.{resume-refusal, summary-refusal}
+use Rattle.verdicts.specs.Tally.{Tallies}
+use Rattle.verdicts.specs.Tally.{Answer as TallyAnswer}
 use Rattle.emit.specs.Verdicts.{formulas-of, columns}
-use Rattle.monitor.specs.Open.{Opens, opened-number}
-use Rattle.monitor.specs.declared.Summarized.{Summarized}
-use Rattle.monitor.specs.declared.Summarized.the-variants.{Counted as Counted-of, Refused as Unsummarized}
-use Rattle.monitor.specs.Summary.{counts-of, latest-words, Told, summarized-number, Summarizes}
+use Rattle.monitor.specs.Open.{Opening, Opens}
+use Rattle.monitor.specs.Open.{Answer as OpenAnswer}
+use Rattle.monitor.specs.Resume.{gave, Resumes}
+use Rattle.monitor.specs.Resume.{Answer as ResumeAnswer, refused-with as resume-refused}
+use Rattle.monitor.specs.Summary.{Told, counted, refused-with, Summarizes}
+use Rattle.monitor.specs.Summary.{Answer as SummaryAnswer}
+use Rattle.monitor.proofs.Answers.{open-number, resume-number}
 use Rattle.monitor.specs.declared.FormulaCount.{FormulaCount}
 use Rattle.monitor.specs.declared.FormulaCount.the-variants.{Formulas}
 use Rattle.monitor.specs.declared.FormulaCount.the-variants.{Refused as Uncounted}
@@ -52,15 +51,11 @@ use Rattle.worst.specs.declared.Made.the-variants.{Refused as Unmade}
 use Rattle.worst.specs.Call.{answered, Writes}
 use Rattle.worst.specs.Call.{Answer as Making, answer as made-of}
 use Rattle.worst.proofs.Outcome.{not-zero}
-use Rattle.havdrims.specs.Interface.{or-kept, flag, MeasureCall, OpenCall, TallyCall, SummaryCall, FormulasCall, StatusCall, ParseCall, WorstLogCall}
+use Rattle.havdrims.specs.Interface.{or-kept, flag, MeasureCall, OpenCall, HandsOver, ResumeCall, TallyCall, SummaryCall, FormulasCall, StatusCall, ParseCall, WorstLogCall}
 
 -- a number that is not 0 keeps what stood behind the pointer
 pub kept : {A : Type 0} → (n : ℕ) (old new : A) → (n ≡ 0 → ⊥) → old ≡ or-kept n old new
 kept n old new h = rw (ne-eqb n 0 h)
-
--- and 0 takes the new value
-taken : {A : Type 0} → (n : ℕ) (old new : A) → n ≡ 0 → or-kept n old new ≡ new
-taken n old new h = rw h
 
 byte-is : (b : Bool) → boolByte b ≡ flag b
 byte-is true = refl
@@ -87,62 +82,62 @@ module _ (s : List ℕ) (words reach : ℕ) (o : Measured) (e : measure-of o ≡
         reach = ap (λ (a : Measure). a .reach) q;
       }
 
-pub opening : (s p : List ℕ) (o : Opened) (p′ : List ℕ) → Opens s p o p′ → (n : ℕ) → n ≡ opened-number o → OpenCall s p n p′
-opening s p o p′ h n is = record { outcome = o; opens = h; number = is }
+pub opening : (s p : List ℕ) (a : OpenAnswer) (p′ : List ℕ) → Opens s p a p′ → (r : ℕ) → r ≡ a .number → OpenCall s p r p′
+opening s p a p′ h r is =
+    let number = is ∙ open-number h in
+    let refused : a .refused ≡ ltb 0 r = ap (λ (x : OpenAnswer). x .refused) (h .outcome) ∙ ap (ltb 0) (sym number) in
+    record { number = number; length = h .length; words = subst (λ (b : Bool). Opening b s p p′) refused (h .words) }
+
+-- an answer is refused where its number is not 0
+by-number : {A : Type 0} (b : Bool) (n : ℕ) (a : ResumeAnswer) (old new : A) → a ≡ cond b (gave (a .count) (a .more)) (resume-refused n) →
+    cond (a .refused) old new ≡ cond b new old
+by-number true n a old new e = rw (ap (λ (x : ResumeAnswer). x .refused) e)
+by-number false n a old new e = rw (ap (λ (x : ResumeAnswer). x .refused) e)
+
+pub resuming : (closing : Bool) (rule log p sheet : List ℕ) (c m : ℕ) (a : ResumeAnswer) (p′ sheet′ : List ℕ) → Resumes closing rule log p sheet a p′ sheet′ →
+    (r c′ m′ : ℕ) → HandsOver a c m r c′ m′ → ResumeCall closing rule log p sheet c m r p′ sheet′ c′ m′
+resuming closing rule log p sheet c m a p′ sheet′ h r c′ m′ handed =
+    let n = resume-refusal closing rule log p in
+    let number : r ≡ n = handed .number ∙ resume-number h in
+    record {
+      number = number;
+      answer = a;
+      resumes = h;
+      given = handed .given ∙ by-number (eqb n 0) n a c (a .count) (h .outcome) ∙ ap (λ (k : ℕ). or-kept k c (a .count)) (sym number);
+      more = handed .more ∙ by-number (eqb n 0) n a m (flag (a .more)) (h .outcome) ∙ ap (λ (k : ℕ). or-kept k m (flag (a .more))) (sym number);
+    }
 
 -- the counts stand in the first words where the number is 0, and all words are kept where it is not
-pub tallying : (formulas : ℕ) (s nos yeses : List ℕ) (o : Tallied) (nos′ yeses′ : List ℕ) → Tallies formulas s nos yeses o nos′ yeses′ → (r : ℕ) →
-    r ≡ tallied-number o →
-    TallyCall formulas s nos yeses r nos′ yeses′
-tallying formulas s nos yeses Counted nos′ yeses′ h r is =
+pub tallying : (formulas : ℕ) (s nos yeses : List ℕ) (a : TallyAnswer) (nos′ yeses′ : List ℕ) → Tallies formulas s nos yeses a nos′ yeses′ → (r : ℕ) →
+    r ≡ a .number → TallyCall formulas s nos yeses r nos′ yeses′
+tallying formulas s nos yeses a nos′ yeses′ h r is =
     record {
-      number = is ∙ h .number;
-      no-counts = h .words .0 ∙ sym (taken r nos (counts false formulas s ++ drop formulas nos) is);
-      yes-counts = h .words .1 ∙ sym (taken r yeses (counts true formulas s ++ drop formulas yeses) is);
-    }
-tallying formulas s nos yeses (Untallied n) nos′ yeses′ h r is =
-    let some : 0 < n = h .words .0 in
-    let z : r ≡ 0 → ⊥ = λ e. omega arith in
-    record {
-      number = is ∙ h .number;
-      no-counts = h .words .1 ∙ kept r nos (counts false formulas s ++ drop formulas nos) z;
-      yes-counts = h .words .2 ∙ kept r yeses (counts true formulas s ++ drop formulas yeses) z;
+      number = is ∙ ap (λ (x : TallyAnswer). x .number) (h .outcome);
+      no-counts = rw is (h .no-counts);
+      yes-counts = rw is (h .yes-counts);
     }
 
-module _ (s p nos latest : List ℕ) where
+module _ (s p nos latest nos′ latest′ : List ℕ) where
   abbrev formulas : ℕ
   formulas = columns (formulas-of s)
 
-  abbrev noes : ℕ → Noes
-  noes = stored-noes (most (version s)) p
+  abbrev TellsOf : (number n : ℕ) → Type 0
+  TellsOf number n = Told number n (stored-noes (most (version s)) p) nos latest nos′ latest′
 
-  abbrev no-words : List ℕ
-  no-words = counts-of noes formulas ++ drop formulas nos
+  -- so many formulas are those of the rule; where the call is refused, their number plays no part
+  told-by : (b : Bool) (n : ℕ) (a : SummaryAnswer) → eqb n 0 ≡ b → a ≡ cond b (counted formulas) (refused-with n) → TellsOf (a .number) (a .formulas) →
+      (a .number ≡ n) × TellsOf n formulas
+  told-by true n a e is words =
+      let z : n ≡ 0 = eqb-true n 0 e in
+      (ap (λ (x : SummaryAnswer). x .number) is ∙ sym z, rw z (subst (λ (x : SummaryAnswer). TellsOf (x .number) (x .formulas)) is words))
+  told-by false n a e is words =
+      let kept-all = subst (λ (x : SummaryAnswer). TellsOf (x .number) (x .formulas)) is words in
+      (ap (λ (x : SummaryAnswer). x .number) is, rw e (rw e at kept-all))
 
-  abbrev late-words : List ℕ
-  late-words = latest-words noes formulas ++ drop formulas latest
-
-  -- so many formulas are those of the rule
-  told-words : (n : ℕ) → n ≡ formulas → (nos′ latest′ : List ℕ) → Told n noes nos latest nos′ latest′ → (nos′ ≡ no-words) × (latest′ ≡ late-words)
-  told-words n is nos′ latest′ h = subst (λ (k : ℕ). Told k noes nos latest nos′ latest′) is h
-
-  pub summarizing : (o : Summarized) (nos′ latest′ : List ℕ) → Summarizes s p nos latest o nos′ latest′ → (r : ℕ) → r ≡ summarized-number o →
-      SummaryCall s p nos latest r nos′ latest′
-  summarizing (Counted-of n) nos′ latest′ h r is =
-      let w = told-words n (h .words .0) nos′ latest′ (h .words .1) in
-      record {
-        number = is ∙ h .number;
-        no-counts = w .0 ∙ sym (taken r nos no-words is);
-        latest = w .1 ∙ sym (taken r latest late-words is);
-      }
-  summarizing (Unsummarized n) nos′ latest′ h r is =
-      let some : 0 < n = h .words .0 in
-      let z : r ≡ 0 → ⊥ = λ e. omega arith in
-      record {
-        number = is ∙ h .number;
-        no-counts = h .words .1 ∙ kept r nos no-words z;
-        latest = h .words .2 ∙ kept r latest late-words z;
-      }
+  pub summarizing : (a : SummaryAnswer) → Summarizes s p nos latest a nos′ latest′ → (r : ℕ) → r ≡ a .number → SummaryCall s p nos latest r nos′ latest′
+  summarizing a h r is =
+      let (number, words) = told-by (eqb (summary-refusal s p) 0) (summary-refusal s p) a refl (h .outcome) (h .words) in
+      record { number = is ∙ number; words = rw (is ∙ number) words }
 
 -- a refused rule has another number than 0: an accepted one has some formula
 not-counted-by : (b : Bool) (k n m : ℕ) → eqb k 0 ≡ b → 0 < m →

@@ -3,26 +3,24 @@
 use Prim.Native.Nat.{ℕ}
 use mathlib.Core.Bool.{Bool, true, false, cond}
 use mathlib.Core.Path.{_≡_}
-use mathlib.Core.List.{List, _++_}
-use lib.Dec.{eqb}
-use lib.ListN.{length, drop}
+use mathlib.Core.List.{List}
+use lib.Dec.{eqb, ltb}
+use lib.ListN.{length}
 use Rattle.bits.specs.Packed.{number}
 use Rattle.rule.specs.Entries.{version}
 use Rattle.rule.specs.Postfix.{most}
 use Rattle.rule.specs.Measure.{measured}
 use Rattle.verdicts.specs.Counts.{counts}
-use Rattle.verdicts.specs.Tally.{tally-refusal}
+use Rattle.verdicts.specs.Tally.{tally-refusal, first-or-kept}
 use Rattle.checkpoint.specs.Checkpoint.{stored-noes}
-use Rattle.checkpoint.specs.Refusal.{summary-refusal}
+use Rattle.checkpoint.specs.Refusal.{open-refusal, resume-refusal, summary-refusal}
 use Rattle.emit.specs.Verdicts.{formulas-of, columns}
-use Rattle.monitor.specs.Open.{Opens, opened-number}
-use Rattle.monitor.specs.Resume.{Resumes, resumed-number}
-use Rattle.monitor.specs.Summary.{counts-of, latest-words}
+use Rattle.monitor.specs.Open.{Opening}
+use Rattle.monitor.specs.Resume.{Resumes}
+use Rattle.monitor.specs.Resume.{Answer as ResumeAnswer}
+use Rattle.monitor.specs.Summary.{Told}
 use Rattle.monitor.specs.Formulas.{formula-count}
 use Rattle.monitor.specs.Status.{known}
-use Rattle.monitor.specs.declared.Opened.{Opened}
-use Rattle.monitor.specs.declared.Resumed.{Resumed}
-use Rattle.monitor.specs.declared.Resumed.the-variants.{Given, Refused}
 use Rattle.text.specs.declared.Parsed.{Parsed}
 use Rattle.text.specs.Parse.{answer, Parses}
 use Rattle.worst.specs.Call.{answered, buffer-after}
@@ -33,22 +31,9 @@ use Rattle.simulation.specs.declared.Settings.{Settings}
 abbrev pub or-kept : {A : Type 0} → (number : ℕ) (old new : A) → A
 or-kept number old new = cond (eqb number 0) new old
 
--- the values for the first n formulas, and the others of the lent words as they were; where the call was refused, all of them
-abbrev pub first-or-kept : (number n : ℕ) (old first : List ℕ) → List ℕ
-first-or-kept number n old first = or-kept number old (first ++ drop n old)
-
 -- 1 for more, 0 for caught up; 1 for closed, 0 for open
 abbrev pub flag : Bool → ℕ
 flag more = number more
-
--- the verdicts that a call gave and whether there are more, or, where it was refused, the old numbers
-abbrev pub count-or-kept : Resumed → ℕ → ℕ
-count-or-kept (Given c more) old = c
-count-or-kept (Refused n) old = old
-
-abbrev pub more-or-kept : Resumed → ℕ → ℕ
-more-or-kept (Given c more) old = flag more
-more-or-kept (Refused n) old = old
 
 pub record MeasureCall (rule : List ℕ) (w far r w′ far′ : ℕ) : Type 0 where
   pub number : r ≡ measured rule .number
@@ -56,21 +41,23 @@ pub record MeasureCall (rule : List ℕ) (w far r w′ far′ : ℕ) : Type 0 wh
   pub reach : far′ ≡ or-kept r far (measured rule .reach)
 
 pub record OpenCall (rule p : List ℕ) (r : ℕ) (p′ : List ℕ) : Type 0 where
-  pub outcome : Opened
-  pub opens : Opens rule p outcome p′
-  pub number : r ≡ opened-number outcome
+  pub number : r ≡ open-refusal rule (length p)
+  pub length : length p′ ≡ length p
+  pub words : Opening (ltb 0 r) rule p p′
 
--- what a resume or a closing makes of the numbers behind the last pointers
-pub record HandsOver (outcome : Resumed) (c m r c′ m′ : ℕ) : Type 0 where
-  pub number : r ≡ resumed-number outcome
-  pub given : c′ ≡ count-or-kept outcome c
-  pub more : m′ ≡ more-or-kept outcome m
+-- what a resume or a closing that answers a makes of the numbers behind the last pointers
+pub record HandsOver (a : ResumeAnswer) (c m r c′ m′ : ℕ) : Type 0 where
+  pub number : r ≡ a .number
+  pub given : c′ ≡ cond (a .refused) c (a .count)
+  pub more : m′ ≡ cond (a .refused) m (flag (a .more))
 
--- a resume, or a closing
+-- a resume, or a closing: its count and its "more" are what `Resumes` says of them
 pub record ResumeCall (closing : Bool) (rule log p sheet : List ℕ) (c m r : ℕ) (p′ sheet′ : List ℕ) (c′ m′ : ℕ) : Type 0 where
-  pub outcome : Resumed
-  pub resumes : Resumes closing rule log p sheet outcome p′ sheet′
-  pub numbers : HandsOver outcome c m r c′ m′
+  pub number : r ≡ resume-refusal closing rule log p
+  pub answer : ResumeAnswer
+  pub resumes : Resumes closing rule log p sheet answer p′ sheet′
+  pub given : c′ ≡ or-kept r c (answer .count)
+  pub more : m′ ≡ or-kept r m (flag (answer .more))
 
 -- for formula k the count of no stands in word k of the one buffer, and that of yes in word k of the other
 pub record TallyCall (formulas : ℕ) (sheet nos yeses : List ℕ) (r : ℕ) (nos′ yeses′ : List ℕ) : Type 0 where
@@ -81,9 +68,7 @@ pub record TallyCall (formulas : ℕ) (sheet nos yeses : List ℕ) (r : ℕ) (no
 -- for formula k the count of no stands in word k of the one buffer, and the position of the latest no in word k of the other
 pub record SummaryCall (rule p nos places : List ℕ) (r : ℕ) (nos′ places′ : List ℕ) : Type 0 where
   pub number : r ≡ summary-refusal rule p
-  pub no-counts : nos′ ≡ first-or-kept r (columns (formulas-of rule)) nos (counts-of (stored-noes (most (version rule)) p) (columns (formulas-of rule)))
-  pub latest : places′ ≡
-      first-or-kept r (columns (formulas-of rule)) places (latest-words (stored-noes (most (version rule)) p) (columns (formulas-of rule)))
+  pub words : Told r (columns (formulas-of rule)) (stored-noes (most (version rule)) p) nos places nos′ places′
 
 -- how many answers a verdict of the rule has
 pub record FormulasCall (rule : List ℕ) (n r n′ : ℕ) : Type 0 where

@@ -1,15 +1,18 @@
 // The C interface: the library's calls under plain names. Each answers 0, or the refusal's number, and then every number
 // behind a pointer is as it was. include/havdrims.h says what a C programmer needs to know.
 ghost use mathlib.Core.Bool.{true, false};
+ghost use Rattle.monitor.specs.Resume.{answer as resumed-of};
 ghost use Rattle.havdrims.specs.Interface.{MeasureCall, OpenCall, HandsOver, ResumeCall, TallyCall, SummaryCall, FormulasCall, StatusCall, ParseCall, WorstLogCall, settings, SimulateCall};
 use monitor::FormulaCount;
 use monitor::Opened;
 use monitor::Resumed;
 use monitor::Standing;
+use monitor::Summarized;
 use rule::Measured;
 use simulation::Settings;
 use simulation::Simulated;
 use text::Parsed;
+use verdicts::Tallied;
 use worst::Made;
 
 // Document 01's weigh.
@@ -44,7 +47,7 @@ pub extern "C" fn havdrims_open(rule: &[u8], point: &mut [u64]) -> u32
 
 // Hands over how many verdicts a call gave, and 1 or 0 for whether more are settled; or its refusal's number alone.
 fn hand_over(resumed: Resumed, given: &mut u64, more: &mut u64) -> u32
-    ensures { λ r. ⌜ HandsOver resumed (now (given .entry)) (now (more .entry)) r (now (given .exit)) (now (more .exit)) ⌝ }
+    ensures { λ r. ⌜ HandsOver (resumed-of resumed) (now (given .entry)) (now (more .entry)) r (now (given .exit)) (now (more .exit)) ⌝ }
 {
     let Resumed::Given { count, more: left } = resumed else {
         return resumed.number();
@@ -97,7 +100,10 @@ pub extern "C" fn havdrims_tally(
     ensures { λ r. ⌜ TallyCall formulas (now (sheet .entry)) (now («no» .entry)) (now («yes» .entry)) r (now («no» .exit)) (now («yes» .exit)) ⌝ }
 {
     let tallied = verdicts::tally(sheet, formulas, no, yes);
-    tallied.number()
+    let Tallied::Counted = tallied else {
+        return tallied.number();
+    };
+    0
 }
 
 // For each formula the count of no among the verdicts given from a checkpoint (point), and the position of the latest: `u64::MAX` for
@@ -112,7 +118,10 @@ pub extern "C" fn havdrims_summary(
     ensures { λ r. ⌜ SummaryCall (now (rule .entry)) (now (point .entry)) (now («no» .entry)) (now (latest .entry)) r (now («no» .exit)) (now (latest .exit)) ⌝ }
 {
     let summarized = monitor::summary(rule, point, no, latest);
-    summarized.number()
+    let Summarized::Counted { formulas: _ } = summarized else {
+        return summarized.number();
+    };
+    0
 }
 
 // How many formulas a rule has: 1 for an empty rule too, which gives one answer at each position.

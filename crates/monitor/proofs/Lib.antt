@@ -1,6 +1,7 @@
 -- The laws behind the proofs of the monitor's functions, and those that the theorems about lists of calls rely on.
 -- Meaning: the formulas of an accepted rule. Starts: a fresh checkpoint. Resuming: the verdicts of a call. Summarizing: what a checkpoint
--- tells. VerdictBytes, OwnCheckpoint: what lists of calls and the layer above rely on.
+-- tells. Answers, VerdictBytes, OwnCheckpoint: what lists of calls and the layers above rely on.
+pub mod Answers
 pub mod Meaning
 pub mod VerdictBytes
 pub mod OwnCheckpoint

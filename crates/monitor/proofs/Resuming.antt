@@ -50,16 +50,20 @@ use Rattle.emit.specs.Code.{Giving, Emits, Emission, Ready}
 use Rattle.emit.specs.declared.Emitted.{Emitted}
 use Rattle.emit.proofs.Meaning.{joint-least}
 use Rattle.monitor.specs.Stands.{last-of, Stands}
-use Rattle.monitor.specs.Resume.{block-of, Resumes}
-use Rattle.monitor.specs.declared.Resumed.the-variants.{Given, Refused}
+use Rattle.monitor.specs.Resume.{block-of, gave, refused-with, Resumes}
 use Rattle.monitor.proofs.Meaning.{most-few, rule-whole, few-formulas, few-columns, rule-ended, part-is}
 use Rattle.monitor.proofs.VerdictBytes.{noes-more, verdicts-stay}
 
 -- where a refusal is met nothing is written
 pub resume-refused : (closing : Bool) (rule log p sheet : List ℕ) (n : ℕ) →
-    Met rule p (point-refusal closing (version rule) (decoded rule) (count rule) log p) n → Resumes closing rule log p sheet (Refused n) p sheet
+    Met rule p (point-refusal closing (version rule) (decoded rule) (count rule) log p) n → Resumes closing rule log p sheet (refused-with n) p sheet
 resume-refused closing rule log p sheet n met =
-    record { number = met .number; point-length = refl; sheet-length = refl; words = (met .some, refl, refl) }
+    record {
+      outcome = rw (← met .number, ne-eqb n 0 (λ e. omega (arith, met .some)));
+      point-length = refl;
+      sheet-length = refl;
+      words = (refl, refl);
+    }
 
 -- what is held and the states survive a longer log
 waiting-longer : (φ : Formula) (K L : Log) (d : ℕ) (ws : List ℕ) → Continues K L → NeverFalls L → Waiting φ K d ws → Waiting φ L d ws
@@ -256,13 +260,13 @@ module _ (closing : Bool) (rule log p sheet : List ℕ) (ok : refusal rule ≡ 0
         spare = λ j h. ⊎-elim (λ is. inl is) (λ zero. spare-now j h zero) (stands .spare j h);
       }
 
-  pub resumed : Resumes closing rule log p sheet (Given (r .count) (r .more)) after sheet′
+  pub resumed : Resumes closing rule log p sheet (gave (r .count) (r .more)) after sheet′
   resumed =
       let one = own-header 1 (omega arith) in
       let two = own-header 2 (omega arith) in
       let three = own-header 3 (omega arith) in
       record {
-        number = rw (ok, le-ltb (length p) (need rule) room) (sym none);
+        outcome = rw (ok, le-ltb (length p) (need rule) room, none);
         point-length = length-now;
         sheet-length = done .sheet-length;
         words =
@@ -325,7 +329,7 @@ module _ (closing : Bool) (rule log p : List ℕ) (v : ℕ) (t : List Entry) (n 
   -- the words as they came back
   pub resume-given : (sheet records : List ℕ) (r : Emitted) (ws′ sheet′ : List ℕ) → records ≡ records-of log →
       Emission closing t n (ends .at) (ends .number) (most v) (header-words v) records (part 0 w p) sheet r ws′ sheet′ →
-      Resumes closing rule log p sheet (Given (r .count) (r .more)) (put-back 0 w ws′ p) sheet′
+      Resumes closing rule log p sheet (gave (r .count) (r .more)) (put-back 0 w ws′ p) sheet′
   resume-given sheet records r ws′ sheet′ handed done =
       let e = enough rule (length p) w sized in
       let own-ends : EndsOf (decoded rule) (count rule) ends = rw (d .entries-are, d .count-is) at ended in

@@ -3,11 +3,11 @@ use Prim.Native.Nat.{ℕ, _+_, _≤_, _<_, zero-le}
 use native.Mathlib.Omega.{arith}
 use mathlib.Core.Bool.{false}
 use mathlib.Core.Logic.{inr}
-use mathlib.Core.Path.{_≡_, sym, ap, subst, _∙_}
+use mathlib.Core.Path.{_≡_, refl, sym, ap, subst, _∙_}
 use mathlib.Core.List.{List, _++_}
 use lib.ListN.{length, take, drop, length-drop}
 use lib.Seq.{getD-take, take-at, drop-at, length-front, length-take-le}
-use borrow.Author.Tests.{eq-eqb}
+use borrow.Author.Tests.{lt-ltb, eq-eqb}
 use Rattle.mtl.specs.Formula.{Formula}
 use Rattle.mtl.specs.Log.{Log}
 use Rattle.verdicts.specs.Counts.{count-of, latest-no}
@@ -23,15 +23,15 @@ use Rattle.engine.specs.State.{State}
 use Rattle.engine.proofs.Formulas.{last-entry, last-below, fresh-rule}
 use Rattle.checkpoint.specs.Checkpoint.{need, block-at}
 use Rattle.checkpoint.specs.Code.{Fresh, sized-of, sized-number}
+use Rattle.checkpoint.specs.Refusal.{open-refusal}
 use Rattle.checkpoint.specs.declared.check.Sized.the-variants.{Words}
 use Rattle.checkpoint.proofs.Offsets.{in-block, block-fits, noes-within}
 use Rattle.checkpoint.proofs.Copies.{fresh-own, foreign-within}
 use Rattle.checkpoint.proofs.Sizes.{enough, sized-refusal}
 use Rattle.emit.specs.Verdicts.{formulas-of}
 use Rattle.emit.specs.Top.{held-count, held-bits, part-of, Waiting, Top}
-use Rattle.monitor.specs.Open.{Opens}
+use Rattle.monitor.specs.Open.{done, refused-with, Opens}
 use Rattle.monitor.specs.Stands.{Stands}
-use Rattle.monitor.specs.declared.Opened.the-variants.{Done}
 use Rattle.monitor.proofs.Meaning.{rule-whole, few-columns, part-is, held-word}
 
 module _ (rule ws : List ℕ) (fine : refusal rule ≡ 0) (size : length ws ≡ need rule) (f : Fresh (version rule) (decoded rule) (count rule) ws) (L : Log) where
@@ -101,15 +101,20 @@ fresh-stands rule p ok room f L none is-open =
           inr (at (block-at (header-words v) t j + 12) (omega arith) ∙ f .blocks j h 12 (omega arith));
     }
 
--- `open`, once a fresh checkpoint stands in the first k words
+-- `open`, where a refusal is met
+pub opens-refused : (rule p : List ℕ) (n : ℕ) → n ≡ open-refusal rule (length p) → 0 < n → Opens rule p (refused-with n) p
+opens-refused rule p n number some =
+    record { outcome = rw (lt-ltb 0 (open-refusal rule (length p)) (omega arith)) (ap refused-with number); length = refl; words = refl }
+
+-- and once a fresh checkpoint stands in the first k words
 pub opens-done : (rule p ws : List ℕ) (w k : ℕ) → Words w ≡ sized-of rule (length p) → k ≡ w → length ws ≡ length (take k p) →
-    Fresh (version rule) (decoded rule) (count rule) ws → Opens rule p Done (ws ++ drop k p)
+    Fresh (version rule) (decoded rule) (count rule) ws → Opens rule p done (ws ++ drop k p)
 opens-done rule p ws w k e same l f =
     let n = enough rule (length p) w e in
     let m = length-take-le k p (omega arith) in
     let size : length ws ≡ need rule = omega arith in
     record {
-      number = ap sized-number e ∙ sized-refusal rule (length p);
+      outcome = rw (sym (sized-refusal rule (length p)) ∙ ap sized-number (sym e));
       length = length-front p ws k l;
       words = (
         drop-at ws (drop k p) (need rule) size ∙ ap (λ (i : ℕ). drop i p) (same ∙ n .words-are),

@@ -1,6 +1,6 @@
 -- What `summary`, `status` and `formulas` promise, by the outcome of their checks.
 use Prim.Native.Nat.{ℕ, _+_, _≤_, _<_, max}
-use mathlib.Core.Path.{_≡_, refl, sym, ap, _∙_}
+use mathlib.Core.Path.{_≡_, ap, _∙_}
 use mathlib.Core.List.{List, _++_}
 use native.Mathlib.Omega.{arith}
 use lib.Dec.{ltb}
@@ -21,11 +21,10 @@ use Rattle.checkpoint.specs.Refusal.{summary-refusal}
 use Rattle.checkpoint.proofs.Checks.{is-accepted, has-room}
 use Rattle.checkpoint.proofs.Offsets.{noes-within}
 use Rattle.emit.specs.Verdicts.{formulas-of, columns}
-use Rattle.monitor.specs.Summary.{position-or, no-position, counts-of, latest-words, Told, Summarizes}
+use Rattle.monitor.specs.Summary.{position-or, no-position, counts-of, latest-words, Told, counted, refused-with, Summarizes}
 use Rattle.monitor.specs.Status.{known}
 use Rattle.monitor.specs.Status.{answer as standing-of, told as known-told, refused-with as known-refused}
 use Rattle.monitor.specs.Formulas.{Answer, answer, formula-count}
-use Rattle.monitor.specs.declared.Summarized.the-variants.{Counted, Refused}
 use Rattle.monitor.specs.declared.Standing.the-variants.{Known}
 use Rattle.monitor.specs.declared.Standing.the-variants.{Refused as Unknown}
 use Rattle.monitor.specs.declared.FormulaCount.the-variants.{Formulas}
@@ -33,8 +32,8 @@ use Rattle.monitor.specs.declared.FormulaCount.the-variants.{Refused as 
 use Rattle.monitor.proofs.Meaning.{most-few, few-columns, rule-ended}
 
 -- what is told of counts is told of the same counts
-pub told-same : (n : ℕ) (x y : ℕ → Noes) (nos latest nos′ latest′ : List ℕ) → ((k : ℕ) → k < n → x k ≡ y k) → Told n x nos latest nos′ latest′ →
-    Told n y nos latest nos′ latest′
+pub told-same : (n : ℕ) (x y : ℕ → Noes) (nos latest nos′ latest′ : List ℕ) → ((k : ℕ) → k < n → x k ≡ y k) → Told 0 n x nos latest nos′ latest′ →
+    Told 0 n y nos latest nos′ latest′
 told-same n x y nos latest nos′ latest′ same (counts, ends) =
     let counts-are : counts-of x n ≡ counts-of y n =
     listed-same (λ k. x k .count) (λ k. y k .count) n (λ k h. ap (λ (z : Noes). z .count) (same k h)) in
@@ -60,8 +59,10 @@ module _ (rule : List ℕ) where
   formulas-told fine m is = rw (eq-eqb (refusal rule) 0 fine) (ap (λ (k : ℕ). answer (Formulas k)) is)
 
 module _ (rule p : List ℕ) where
-  pub summary-refused : (nos latest : List ℕ) (n : ℕ) → (n ≡ summary-refusal rule p) × (0 < n) → Summarizes rule p nos latest (Refused n) nos latest
-  summary-refused nos latest n (number, some) = record { number = number; words = (some, refl, refl) }
+  pub summary-refused : (nos latest : List ℕ) (n : ℕ) → (n ≡ summary-refusal rule p) × (0 < n) → Summarizes rule p nos latest (refused-with n) nos latest
+  summary-refused nos latest n (number, some) =
+      let not-zero = ne-eqb n 0 (λ e. omega arith) in
+      record { outcome = rw (← number, not-zero); words = (rw not-zero, rw not-zero) }
 
   pub status-refused : (n : ℕ) → (n ≡ summary-refusal rule p) × (0 < n) → standing-of (Unknown n) ≡ known rule p
   status-refused n (number, some) = rw (ne-eqb (summary-refusal rule p) 0 (omega arith)) (ap known-refused number)
@@ -78,8 +79,8 @@ module _ (rule p : List ℕ) where
         rw is (omega (arith, few-columns rule fine, most-few (version rule)))
 
     pub summary-told : (nos latest nos′ latest′ : List ℕ) (v : ℕ) → v ≡ version rule → (m : ℕ) → m ≡ columns (formulas-of rule) →
-        Told m (stored-noes (most v) p) nos latest nos′ latest′ → Summarizes rule p nos latest (Counted m) nos′ latest′
-    summary-told nos latest nos′ latest′ v is m e told = record { number = sym none; words = (e, rw is at told) }
+        Told 0 m (stored-noes (most v) p) nos latest nos′ latest′ → Summarizes rule p nos latest (counted m) nos′ latest′
+    summary-told nos latest nos′ latest′ v is m e told = record { outcome = rw none (ap counted e); words = rw is at told }
 
     -- first is the first record wanted by the entries decoded, which are the rule's
     pub status-told : (v : ℕ) → v ≡ version rule → (t : List Entry) (n : ℕ) → Decoded rule t n → (first : ℕ) →

@@ -1,6 +1,6 @@
 -- Document 01's "Worked by hand", and cases of document 02's requests: one table, from the bytes of rules and logs to numbers, verdicts and refusals, proved by computation;
 -- the counts of no after calls of that table, what a card has to know of a checkpoint, and how many formulas a rule has.
-use Prim.Native.Nat.{ℕ, suc, _+_, _/_, _%_, _^_}
+use Prim.Native.Nat.{ℕ, suc, _+_, _-_, _*_, _/_, _%_, _^_}
 use mathlib.Core.Bool.{Bool, true, false, cond, _&&_}
 use mathlib.Core.Bool.{not as negate}
 use mathlib.Core.List.{List, [], _∷_, _++_}
@@ -12,15 +12,17 @@ use Rattle.mtl.specs.Formula.{has-next, reach}
 use Rattle.mtl.specs.Satisfaction.{any, all, sat}
 use Rattle.mtl.specs.Progress.{run, progress, settled-to, joint-progress}
 use Rattle.mtl.specs.Wanted.{depth, deepest, wanted}
-use Rattle.rule.specs.Entries.{first-entries}
-use Rattle.rule.specs.Words.{offset}
+use Rattle.rule.specs.declared.Entry.{Entry}
+use Rattle.rule.specs.Entries.{count, first-entries, entries}
+use Rattle.rule.specs.Entries.{version as version-of}
+use Rattle.rule.specs.Words.{own, offset, header-words}
 use Rattle.rule.specs.Postfix.{push-kind, read}
-use Rattle.rule.specs.Refusal.{before, refusal, header-refusal, entries-refusal}
+use Rattle.rule.specs.Refusal.{header-refusal, entries-refusal}
 use Rattle.rule.specs.Measure.{farthest, measured}
 use Rattle.trace.specs.Format.{record-count, records-of}
 use Rattle.trace.specs.Order.{last-time}
-use Rattle.checkpoint.specs.Refusal.{log-refusal, resume-refusal}
-use Rattle.checkpoint.specs.Checkpoint.{format, copy-start, stored-noes}
+use Rattle.checkpoint.specs.Refusal.{resume-refusal}
+use Rattle.checkpoint.specs.Checkpoint.{format, copy-start, copy-head, copy-ends, stored-noes}
 use Rattle.verdicts.specs.Bytes.{byte-of}
 use Rattle.verdicts.specs.Counts.{count-of, latest-no, Noes, noes-in, laid-behind, listed}
 use Rattle.emit.specs.Verdicts.{formulas-of, verdicts, answered, all-verdicts}
@@ -76,6 +78,27 @@ at time letters = word time ++ word (event-set letters)
 -- "A log opens with KLG (4B 4C 47), a 16-bit version, 1, and three zero bytes."
 abbrev log : List ℕ → List ℕ
 log records = 0x4B ∷ 0x4C ∷ 0x47 ∷ 0 ∷ 1 ∷ 0 ∷ 0 ∷ 0 ∷ records
+
+-- a checkpoint's own words up to word 7: of d verdicts given, n records seen, the last time seen, the rule's version and number of entries,
+-- and the word of the first closing
+abbrev first-words : (d n last version entries closed-with : ℕ) → List ℕ
+first-words d n last version entries closed-with =
+    format ∷ d ∷ n ∷ last ∷ copy-start version entries ∷ closed-with ∷ 0 ∷ 0 ∷ []
+
+-- a block with its copy, and 0 in its other words
+abbrev block : (head ends : ℕ) → List ℕ
+block head ends = replicate 14 0 ++ (head ∷ ends ∷ [])
+
+-- the blocks of entries, each with the words behind its first 16
+unfoldable pub blocks : List Entry → List ℕ
+blocks [] = []
+blocks (e ∷ es) = block (copy-head e) (copy-ends e) ++ (replicate (own e - 16) 0 ++ blocks es)
+
+-- a checkpoint of the rule; its counts of no and its operators' own words are 0: a refusal asks of both only that they are in range
+abbrev point-of : (rule : List ℕ) (d n last closed-with : ℕ) → List ℕ
+point-of rule d n last closed-with =
+    first-words d n last (version-of rule) (count rule) closed-with
+    ++ (replicate (header-words (version-of rule) - 8) 0 ++ blocks (entries rule))
 
 -- THE TABLE
 
@@ -204,13 +227,20 @@ same [] (y ∷ ys) = false
 same (x ∷ xs) [] = false
 same (x ∷ xs) (y ∷ ys) = eqb x y && same xs ys
 
--- the number with which the call stops, a resume or a closing, on a checkpoint with this word of its first closing, 14 from the first
--- record still wanted on, and what weighing gives
+-- the number with which the call stops, a resume or a closing, on a checkpoint with this word of its first closing, and what weighing
+-- gives
 unfoldable pub computes-refusal : (closing : Bool) (closed-with : ℕ) → Row → Bool
 computes-refusal closing closed-with r =
-    let from = wanted (formulas-of (r .rule)) (r .given) in
-    eqb (before (refusal (r .rule)) (log-refusal closing (r .brought) from (r .seen) (r .last) closed-with)) (r .number)
+    let point = point-of (r .rule) (r .given) (r .seen) (r .last) closed-with in
+    eqb (resume-refusal closing (r .rule) (r .brought) point) (r .number)
     && (eqb (measured (r .rule) .words) (r .words) && eqb (measured (r .rule) .reach) (r .reach))
+
+-- what is brought is the untouched log: its header, and its records from the first still wanted on
+unfoldable pub brings-untouched : Row → Bool
+brings-untouched r =
+    let from = 8 + 8 * wanted (formulas-of (r .rule)) (r .given) in
+    eqb (length (r .brought)) (length (r .untouched))
+    && (same (take 8 (r .brought)) (take 8 (r .untouched)) && same (drop from (r .brought)) (drop from (r .untouched)))
 
 -- two answers are the same
 abbrev agree : Bool → Bool → Bool
@@ -226,7 +256,8 @@ computes-verdicts closing r =
 
 unfoldable pub computes : (closing : Bool) (closed-with : ℕ) → Row → Bool
 computes closing closed-with r =
-    computes-refusal closing closed-with r && cond (eqb (r .number) 0) (computes-verdicts closing r) true
+    computes-refusal closing closed-with r
+    && cond (eqb (r .number) 0) (brings-untouched r && computes-verdicts closing r) true
 
 -- 0, or the number n of a row that does not compute
 unfoldable pub wrong : ℕ → Row → ℕ
@@ -416,7 +447,7 @@ rows =
 
 -- every row computes; an edit of the definitions that breaks a row has its number in an error
 pub every-row : Right 1 rows
-unfolding Right wrong rows computes computes-refusal computes-verdicts same event-set first-entries offset push-kind read header-refusal entries-refusal has-next reach any all sat run progress settled-to farthest depth deepest joint-progress byte-of verdicts
+unfolding Right wrong rows computes computes-refusal brings-untouched computes-verdicts same blocks event-set first-entries offset push-kind read header-refusal entries-refusal has-next reach any all sat run progress settled-to farthest depth deepest joint-progress byte-of verdicts
 every-row = (refl, (refl, (refl, (refl, (refl, (refl, (refl, (refl, (refl, (refl, (refl, (refl, (refl, (refl, (refl, (refl, (refl, (refl, (refl, (refl, (refl, (refl, (refl, (refl, (refl, (refl, (refl, (refl, (refl, (refl, (refl, (refl, (refl, (refl, (refl, (refl, (refl, (refl, (refl, (refl, tt))))))))))))))))))))))))))))))))))))))))
 
 -- CLOSINGS: document 02, paper 9
@@ -486,7 +517,7 @@ closing-rows =
     ∷ []
 
 pub every-closing : AllClose 1 closing-rows
-unfolding AllClose closing-rows computes computes-refusal computes-verdicts same event-set first-entries offset push-kind read header-refusal entries-refusal has-next reach any all sat run progress settled-to farthest depth deepest joint-progress byte-of verdicts
+unfolding AllClose closing-rows computes computes-refusal brings-untouched computes-verdicts same blocks event-set first-entries offset push-kind read header-refusal entries-refusal has-next reach any all sat run progress settled-to farthest depth deepest joint-progress byte-of verdicts
 every-closing = (refl, (refl, (refl, (refl, (refl, (refl, (refl, (refl, (refl, (refl, (refl, (refl, (refl, tt)))))))))))))
 
 -- THE COUNTS OF NO
@@ -536,20 +567,10 @@ every-summary = ((refl, refl), ((refl, refl), ((refl, refl), ((refl, refl), ((re
 
 -- WHAT A CARD HAS TO KNOW
 
--- the checkpoint's own words up to word 7, of d verdicts given, n records seen, the rule's version and entries, and the word of the first
--- closing
-abbrev first-words : (d n version entries closed-with : ℕ) → List ℕ
-first-words d n version entries closed-with =
-    format ∷ d ∷ n ∷ 0 ∷ copy-start version entries ∷ closed-with ∷ 0 ∷ 0 ∷ []
-
--- of version 1, with the count of no and one more than the position of the latest
+-- the checkpoint's own words, of version 1, with the count of no and one more than the position of the latest
 abbrev own-words : (d n entries closed-with count after : ℕ) → List ℕ
 own-words d n entries closed-with count after =
-    first-words d n 1 entries closed-with ++ (count ∷ after ∷ replicate 6 0)
-
--- a block with its copy, and 0 in its other words
-abbrev block : (head ends : ℕ) → List ℕ
-block head ends = replicate 14 0 ++ (head ∷ ends ∷ [])
+    first-words d n 0 1 entries closed-with ++ (count ∷ after ∷ replicate 6 0)
 
 -- P1's rule and P4's, without a no where none is named
 abbrev blocks-1 : List ℕ
@@ -567,7 +588,7 @@ point-4 d n = own-words d n 2 0 0 0 ++ block 0 0 ++ block 768 0
 -- P1's until and its not, with the count of each formula and one more than the position of the latest of each
 abbrev point-28 : (d n count after count′ after′ : ℕ) → List ℕ
 point-28 d n count after count′ after′ =
-    first-words d n 2 7 0 ++ (count ∷ count′ ∷ replicate 6 0) ++ (after ∷ after′ ∷ replicate 6 0) ++ blocks-1 ++ blocks-1 ++ block 256 0
+    first-words d n 0 2 7 0 ++ (count ∷ count′ ∷ replicate 6 0) ++ (after ∷ after′ ∷ replicate 6 0) ++ blocks-1 ++ blocks-1 ++ block 256 0
 
 pub record StatusRow : Type 0 where
   pub rule : List ℕ

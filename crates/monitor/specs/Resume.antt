@@ -1,10 +1,10 @@
 -- What `resume` (document 01's carry on) and `close` (document 02, paper 9) promise, for every rule, log, checkpoint and verdict buffer (sheet).
 use Prim.Native.Nat.{ℕ, suc, _+_, _-_, _≤_, _<_, min}
-use mathlib.Core.Bool.{Bool, false, cond}
+use mathlib.Core.Bool.{Bool, true, false, cond}
 use mathlib.Core.Path.{_≡_}
 use mathlib.Core.List.{List}
 use lib.ListN.{length, getD, drop}
-use lib.Dec.{ltb}
+use lib.Dec.{ltb, eqb}
 use Rattle.mtl.specs.Log.{Log, NeverFalls, Continues}
 use Rattle.mtl.specs.Progress.{joint-progress}
 use Rattle.mtl.specs.Wanted.{wanted}
@@ -24,18 +24,27 @@ use Rattle.monitor.specs.Stands.{Stands}
 use Rattle.monitor.specs.declared.Resumed.{Resumed}
 use Rattle.monitor.specs.declared.Resumed.the-variants.{Given, Refused}
 
--- the paper's number and values for each case: 0, or the refusal's; c; whether there is "more"
-abbrev pub resumed-number : Resumed → ℕ
-resumed-number (Given c more) = 0
-resumed-number (Refused n) = n
+-- the paper's number and values for each case: 0 or the refusal's; c; whether there is "more". `refused` tells the cases apart.
+pub record Answer : Type 0 where
+  pub refused : Bool
+  pub number : ℕ
+  pub count : ℕ
+  pub more : Bool
 
-abbrev pub resumed-count : Resumed → ℕ
-resumed-count (Given c more) = c
-resumed-count (Refused n) = 0
+abbrev pub gave : (c : ℕ) (more : Bool) → Answer
+gave c more = record { refused = false; number = 0; count = c; more = more }
 
-abbrev pub resumed-more : Resumed → Bool
-resumed-more (Given c more) = more
-resumed-more (Refused n) = false
+-- "Every refusal returns its number only"
+abbrev pub refused-with : ℕ → Answer
+refused-with n = record { refused = true; number = n; count = 0; more = false }
+
+abbrev pub answer : Resumed → Answer
+answer (Given c more) = gave c more
+answer (Refused n) = refused-with n
+
+-- "Each call yields either its result or one refusal": by the refusal's number, or 0
+abbrev pub result-or-refusal : (number c : ℕ) (more : Bool) → Answer
+result-or-refusal number c more = cond (eqb number 0) (gave c more) (refused-with number)
 
 -- "Carry on writes c verdicts, c the smaller of A - d and the sheet's length .. It gives c and 'more' if A > d + c"
 pub record Gives (rule : List ℕ) (L : Log) (d : ℕ) (sheet : List ℕ) (c : ℕ) (m : Bool) (p′ sheet′ : List ℕ) : Type 0 where
@@ -72,13 +81,13 @@ pub record Accepted (closing : Bool) (rule log p sheet : List ℕ) (c : ℕ) (mo
   pub meaning : (K L : Log) (d : ℕ) → Stands rule K d p → Continues K L → NeverFalls L → Agrees closing (records-of log) L (wanted (formulas-of rule) d) →
       Gives rule L d sheet c more p′ sheet′
 
-abbrev pub Resuming : (closing : Bool) (rule log p sheet : List ℕ) → Resumed → (p′ sheet′ : List ℕ) → Type 0
-Resuming closing rule log p sheet (Given c more) p′ sheet′ = Accepted closing rule log p sheet c more p′ sheet′
+abbrev pub Resuming : (refused closing : Bool) (rule log p sheet : List ℕ) (c : ℕ) (more : Bool) (p′ sheet′ : List ℕ) → Type 0
+Resuming false closing rule log p sheet c more p′ sheet′ = Accepted closing rule log p sheet c more p′ sheet′
 -- "rule, log, point and sheet keep their bytes"
-Resuming closing rule log p sheet (Refused n) p′ sheet′ = (0 < n) × (p′ ≡ p) × (sheet′ ≡ sheet)
+Resuming true closing rule log p sheet c more p′ sheet′ = (p′ ≡ p) × (sheet′ ≡ sheet)
 
-pub record Resumes (closing : Bool) (rule log p sheet : List ℕ) (r : Resumed) (p′ sheet′ : List ℕ) : Type 0 where
-  pub number : resumed-number r ≡ resume-refusal closing rule log p
+pub record Resumes (closing : Bool) (rule log p sheet : List ℕ) (a : Answer) (p′ sheet′ : List ℕ) : Type 0 where
+  pub outcome : a ≡ result-or-refusal (resume-refusal closing rule log p) (a .count) (a .more)
   pub point-length : length p′ ≡ length p
   pub sheet-length : length sheet′ ≡ length sheet
-  pub words : Resuming closing rule log p sheet r p′ sheet′
+  pub words : Resuming (a .refused) closing rule log p sheet (a .count) (a .more) p′ sheet′

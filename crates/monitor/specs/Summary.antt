@@ -1,11 +1,13 @@
 -- What `summary` promises (document 02, papers 7 and 8): for each formula the count of no among the verdicts given from a checkpoint, and
 -- the position of the latest of them, or none.
-use Prim.Native.Nat.{ℕ, zero, suc, _-_, _<_, _^_}
+use Prim.Native.Nat.{ℕ, _-_, _^_}
+use mathlib.Core.Bool.{cond}
 use mathlib.Core.Path.{_≡_}
-use mathlib.Core.List.{List, [], _∷_, _++_}
+use mathlib.Core.List.{List}
 use mathlib.Core.Option.{Option, none, some}
-use lib.ListN.{drop}
+use lib.Dec.{eqb}
 use Rattle.verdicts.specs.Counts.{Noes, listed}
+use Rattle.verdicts.specs.Tally.{first-or-kept}
 use Rattle.rule.specs.Entries.{version}
 use Rattle.rule.specs.Postfix.{most}
 use Rattle.checkpoint.specs.Checkpoint.{stored-noes}
@@ -35,22 +37,32 @@ counts-of noes n = listed (λ k. noes k .count) n
 abbrev pub latest-words : (noes : ℕ → Noes) (n : ℕ) → List ℕ
 latest-words noes n = listed (λ k. position-or (noes k .latest) no-position) n
 
--- "The stored .. counts, the latest positions .. become one per formula": those of n formulas stand in the first lent words, and the
--- others are kept
-abbrev pub Told : (n : ℕ) (noes : ℕ → Noes) (nos latest nos′ latest′ : List ℕ) → Type 0
-Told n noes nos latest nos′ latest′ = (nos′ ≡ counts-of noes n ++ drop n nos) × (latest′ ≡ latest-words noes n ++ drop n latest)
+-- "The stored .. counts, the latest positions .. become one per formula": those of n formulas stand in the first lent words and the
+-- others are kept, or all of them where the call has a refusal's number
+abbrev pub Told : (number n : ℕ) (noes : ℕ → Noes) (nos latest nos′ latest′ : List ℕ) → Type 0
+Told number n noes nos latest nos′ latest′ =
+    (nos′ ≡ first-or-kept number n nos (counts-of noes n)) × (latest′ ≡ first-or-kept number n latest (latest-words noes n))
 
--- the paper's number for each case: 0, or the refusal's
-abbrev pub summarized-number : Summarized → ℕ
-summarized-number (Counted n) = 0
-summarized-number (Refused n) = n
+-- the paper's number and the value for each case: how many formulas there are counts of
+pub record Answer : Type 0 where
+  pub number : ℕ
+  pub formulas : ℕ
 
--- "A call with checks 1 to 11 gives both."; "Every refusal returns its number only"
-abbrev pub Summarizing : (rule p nos latest : List ℕ) → Summarized → (nos′ latest′ : List ℕ) → Type 0
-Summarizing rule p nos latest (Counted n) nos′ latest′ =
-    (n ≡ columns (formulas-of rule)) × Told n (stored-noes (most (version rule)) p) nos latest nos′ latest′
-Summarizing rule p nos latest (Refused n) nos′ latest′ = (0 < n) × (nos′ ≡ nos) × (latest′ ≡ latest)
+abbrev pub counted : ℕ → Answer
+counted n = record { number = 0; formulas = n }
 
-pub record Summarizes (rule p nos latest : List ℕ) (r : Summarized) (nos′ latest′ : List ℕ) : Type 0 where
-  pub number : summarized-number r ≡ summary-refusal rule p
-  pub words : Summarizing rule p nos latest r nos′ latest′
+-- "Every refusal returns its number only"
+abbrev pub refused-with : ℕ → Answer
+refused-with n = record { number = n; formulas = 0 }
+
+abbrev pub answer : Summarized → Answer
+answer (Counted n) = counted n
+answer (Refused n) = refused-with n
+
+-- "A call with checks 1 to 11 gives both."
+abbrev pub summarized : (rule p : List ℕ) → Answer
+summarized rule p = cond (eqb (summary-refusal rule p) 0) (counted (columns (formulas-of rule))) (refused-with (summary-refusal rule p))
+
+pub record Summarizes (rule p nos latest : List ℕ) (a : Answer) (nos′ latest′ : List ℕ) : Type 0 where
+  pub outcome : a ≡ summarized rule p
+  pub words : Told (a .number) (a .formulas) (stored-noes (most (version rule)) p) nos latest nos′ latest′

@@ -7,9 +7,12 @@ ghost use Prim.Native.Nat.{_+_, _≤_};
 ghost use lib.ListN.{length, drop};
 ghost use Rattle.checkpoint.specs.Checkpoint.{stored-noes};
 ghost use Rattle.verdicts.specs.Counts.{latest-of};
-ghost use Rattle.monitor.specs.Open.{Opens, opened-number};
-ghost use Rattle.monitor.specs.Resume.{Resumes, resumed-number};
-ghost use Rattle.monitor.specs.Summary.{position, position-or, counts-of, latest-words, summarized-number, Summarizes};
+ghost use Rattle.monitor.specs.Open.{Opens};
+ghost use Rattle.monitor.specs.Open.{answer as opened-of};
+ghost use Rattle.monitor.specs.Resume.{Resumes};
+ghost use Rattle.monitor.specs.Resume.{answer as resumed-of};
+ghost use Rattle.monitor.specs.Summary.{position, position-or, counts-of, latest-words, Summarizes};
+ghost use Rattle.monitor.specs.Summary.{answer as summarized-of};
 ghost use Rattle.monitor.specs.Formulas.{answer, formula-count};
 ghost use Rattle.monitor.specs.Status.{known};
 ghost use Rattle.monitor.specs.Status.{answer as standing-of};
@@ -29,7 +32,7 @@ pub enum Opened {
 
 impl Opened {
     pub fn number(self) -> u32
-        ensures { λ r. ⌜ r ≡ opened-number self ⌝ }
+        ensures { λ r. ⌜ r ≡ opened-of self .number ⌝ }
     {
         match self {
             Opened::Done => 0,
@@ -46,7 +49,7 @@ pub enum Resumed {
 
 impl Resumed {
     pub fn number(self) -> u32
-        ensures { λ r. ⌜ r ≡ resumed-number self ⌝ }
+        ensures { λ r. ⌜ r ≡ resumed-of self .number ⌝ }
     {
         match self {
             Resumed::Given { count: _, more: _ } => 0,
@@ -81,7 +84,7 @@ pub enum Summarized {
 
 impl Summarized {
     pub fn number(self) -> u32
-        ensures { λ r. ⌜ r ≡ summarized-number self ⌝ }
+        ensures { λ r. ⌜ r ≡ summarized-of self .number ⌝ }
     {
         match self {
             Summarized::Counted { formulas: _ } => 0,
@@ -136,7 +139,7 @@ impl Standing {
 
 // Writes a fresh checkpoint for the rule into the first words of those lent.
 pub fn open(rule: &[u8], point: &mut [u64]) -> Opened
-    ensures { λ r. ⌜ Opens (now (rule .entry)) (now (point .entry)) r (now (point .exit)) ⌝ }
+    ensures { λ r. ⌜ Opens (now (rule .entry)) (now (point .entry)) (opened-of r) (now (point .exit)) ⌝ }
 {
     let header = rule::check_header(rule);
     let version = header.version();
@@ -158,7 +161,7 @@ fn resume_or_close(
     point: &mut [u64],
     sheet: &mut [u8],
 ) -> Resumed
-    ensures { λ r. ⌜ Resumes closing (now (rule .entry)) (now (log .entry)) (now (point .entry)) (now (sheet .entry)) r (now (point .exit)) (now (sheet .exit)) ⌝ }
+    ensures { λ r. ⌜ Resumes closing (now (rule .entry)) (now (log .entry)) (now (point .entry)) (now (sheet .entry)) (resumed-of r) (now (point .exit)) (now (sheet .exit)) ⌝ }
 {
     let header = rule::check_header(rule);
     let version = header.version();
@@ -194,14 +197,14 @@ fn resume_or_close(
 
 // Carry on: writes the verdicts that are settled and not yet given.
 pub fn resume(rule: &[u8], log: &[u8], point: &mut [u64], sheet: &mut [u8]) -> Resumed
-    ensures { λ r. ⌜ Resumes false (now (rule .entry)) (now (log .entry)) (now (point .entry)) (now (sheet .entry)) r (now (point .exit)) (now (sheet .exit)) ⌝ }
+    ensures { λ r. ⌜ Resumes false (now (rule .entry)) (now (log .entry)) (now (point .entry)) (now (sheet .entry)) (resumed-of r) (now (point .exit)) (now (sheet .exit)) ⌝ }
 {
     resume_or_close(rule, log, false, point, sheet)
 }
 
 // Says that no record will follow: writes the verdicts that are not yet given, on the log as it ends.
 pub fn close(rule: &[u8], log: &[u8], point: &mut [u64], sheet: &mut [u8]) -> Resumed
-    ensures { λ r. ⌜ Resumes true (now (rule .entry)) (now (log .entry)) (now (point .entry)) (now (sheet .entry)) r (now (point .exit)) (now (sheet .exit)) ⌝ }
+    ensures { λ r. ⌜ Resumes true (now (rule .entry)) (now (log .entry)) (now (point .entry)) (now (sheet .entry)) (resumed-of r) (now (point .exit)) (now (sheet .exit)) ⌝ }
 {
     resume_or_close(rule, log, true, point, sheet)
 }
@@ -233,7 +236,7 @@ fn write_noes(point: &[u64], most: usize, formulas: usize, no: &mut [u64], lates
 
 // For each formula the count of no among the verdicts given, and the latest of them, as the checkpoint has them.
 pub fn summary(rule: &[u8], point: &[u64], no: &mut [u64; 8], latest: &mut [u64; 8]) -> Summarized
-    ensures { λ r. ⌜ Summarizes (now (rule .entry)) (now (point .entry)) (now («no» .entry)) (now (latest .entry)) r (now («no» .exit)) (now (latest .exit)) ⌝ }
+    ensures { λ r. ⌜ Summarizes (now (rule .entry)) (now (point .entry)) (now («no» .entry)) (now (latest .entry)) (summarized-of r) (now («no» .exit)) (now (latest .exit)) ⌝ }
 {
     let header = rule::check_header(rule);
     let version = header.version();

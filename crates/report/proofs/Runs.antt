@@ -25,8 +25,10 @@ use Rattle.checkpoint.specs.Checkpoint.{need}
 use Rattle.checkpoint.specs.Refusal.{open-refusal, log-refusal, resume-refusal}
 use Rattle.emit.specs.Verdicts.{formulas-of, columns, verdicts, first-records, all-verdicts}
 use Rattle.monitor.specs.Stands.{Stands}
-use Rattle.monitor.specs.Open.{Opens, opened-number}
-use Rattle.monitor.specs.Resume.{Gives, Resumes, resumed-number}
+use Rattle.monitor.specs.Open.{done, Opens}
+use Rattle.monitor.specs.Open.{answer as opened-of}
+use Rattle.monitor.specs.Resume.{gave, Gives, Resumes}
+use Rattle.monitor.specs.Resume.{answer as resumed-of}
 use Rattle.monitor.specs.Formulas.{Answer, answer, formula-count}
 use Rattle.monitor.specs.declared.Opened.{Opened}
 use Rattle.monitor.specs.declared.Opened.the-variants.{Done}
@@ -37,6 +39,7 @@ use Rattle.monitor.specs.declared.Resumed.the-variants.{Refused as NotResumed}
 use Rattle.monitor.specs.declared.FormulaCount.{FormulaCount}
 use Rattle.monitor.specs.declared.FormulaCount.the-variants.{Formulas}
 use Rattle.monitor.specs.declared.FormulaCount.the-variants.{Refused as NotCounted}
+use Rattle.monitor.proofs.Answers.{open-number, open-unrefused, open-refused, resume-number, resume-unrefused, resume-refused}
 use Rattle.monitor.proofs.Meaning.{few-columns, most-few}
 use Rattle.monitor.proofs.OwnCheckpoint.{own-given, not-outside}
 use Rattle.monitor.proofs.VerdictBytes.{verdicts-more}
@@ -91,23 +94,21 @@ module _ (rule log : List ℕ) (short : too-long rule log ≡ false) where
       go false p = refl
 
   -- `open` refuses
-  pub not-opened : (lent : List ℕ) (o : Opened) (p : List ℕ) (n r : ℕ) → length lent ≡ 8192 → Opens rule lent o p → o ≡ NotOpened n →
-      r ≡ opened-number o → report rule log ≡ refused-text r
+  pub not-opened : (lent : List ℕ) (o : Opened) (p : List ℕ) (n r : ℕ) → length lent ≡ 8192 → Opens rule lent (opened-of o) p → o ≡ NotOpened n →
+      r ≡ opened-of o .number → report rule log ≡ refused-text r
   not-opened lent o p n r size opens is number =
-      let q : Opens rule lent (NotOpened n) p = subst (λ a. Opens rule lent a p) is opens in
-      let some = q .words .0 in
-      let same : r ≡ n = number ∙ ap opened-number is in
-      let by : refusal rule ≡ r = sym opens-by ∙ ap (open-refusal rule) (sym size) ∙ sym (opens .number) ∙ sym number in
-      let nonzero : refusal rule ≡ 0 → ⊥ = λ e. omega arith in
-      refused-with r (rw (ne-eqb (refusal rule) 0 nonzero) by) (λ e. omega arith)
+      let some = open-refused (subst (λ a. Opens rule lent (opened-of a) p) is opens) in
+      let same : r ≡ n = number ∙ ap (λ a. opened-of a .number) is in
+      let by : refusal rule ≡ r = sym opens-by ∙ ap (open-refusal rule) (sym size) ∙ sym (open-number opens) ∙ sym number in
+      refused-with r (rw (ne-eqb (refusal rule) 0 (λ e. some (sym same ∙ sym by ∙ e))) by) (λ e. some (sym same ∙ e))
 
   -- the fresh checkpoint
-  module _ (lent : List ℕ) (o : Opened) (p : List ℕ) (size : length lent ≡ 8192) (opened : Opens rule lent o p) (done : o ≡ Done) where
-    opens : Opens rule lent Done p
-    opens = subst (λ a. Opens rule lent a p) done opened
+  module _ (lent : List ℕ) (o : Opened) (p : List ℕ) (size : length lent ≡ 8192) (opened : Opens rule lent (opened-of o) p) (is-done : o ≡ Done) where
+    opens : Opens rule lent done p
+    opens = subst (λ a. Opens rule lent (opened-of a) p) is-done opened
 
     fine : refusal rule ≡ 0
-    fine = sym opens-by ∙ ap (open-refusal rule) (sym size) ∙ sym (opens .number)
+    fine = sym opens-by ∙ ap (open-refusal rule) (sym size) ∙ open-unrefused opens
 
     stands : Stands rule none-yet 0 p
     stands = opens .words .1 none-yet refl refl
@@ -128,22 +129,21 @@ module _ (rule log : List ℕ) (short : too-long rule log ≡ false) where
           stands .closed,
         )
 
-    module _ (sheet : List ℕ) (r : Resumed) (p′ sheet′ : List ℕ) (resumes : Resumes false rule log p sheet r p′ sheet′) where
+    module _ (sheet : List ℕ) (r : Resumed) (p′ sheet′ : List ℕ) (resumes : Resumes false rule log p sheet (resumed-of r) p′ sheet′) where
       -- `resume` refuses
-      pub not-resumed : (n number : ℕ) → r ≡ NotResumed n → number ≡ resumed-number r → report rule log ≡ refused-text number
+      pub not-resumed : (n number : ℕ) → r ≡ NotResumed n → number ≡ resumed-of r .number → report rule log ≡ refused-text number
       not-resumed n number is same =
-          let q : Resumes false rule log p sheet (NotResumed n) p′ sheet′ = subst (λ a. Resumes false rule log p sheet a p′ sheet′) is resumes in
-          let some = q .words .0 in
-          let e : number ≡ n = same ∙ ap resumed-number is in
-          refused-with number (sym resumes-by ∙ sym (resumes .number) ∙ sym same) (λ z. omega arith)
+          let some = resume-refused (subst (λ a. Resumes false rule log p sheet (resumed-of a) p′ sheet′) is resumes) in
+          let e : number ≡ n = same ∙ ap (λ a. resumed-of a .number) is in
+          refused-with number (sym resumes-by ∙ sym (resume-number resumes) ∙ sym same) (λ z. some (sym e ∙ z))
 
       -- `resume` gives verdicts
       module _ (c : ℕ) (more : Bool) (is : r ≡ Given c more) (room : length sheet ≡ 8191) where
-        gave : Resumes false rule log p sheet (Given c more) p′ sheet′
-        gave = subst (λ a. Resumes false rule log p sheet a p′ sheet′) is resumes
+        given : Resumes false rule log p sheet (gave c more) p′ sheet′
+        given = subst (λ a. Resumes false rule log p sheet (resumed-of a) p′ sheet′) is resumes
 
         unrefused : run-refusal rule log ≡ 0
-        unrefused = sym resumes-by ∙ sym (gave .number)
+        unrefused = sym resumes-by ∙ resume-unrefused given
 
         -- 12 and 14 are not met
         log-fine : log-refusal false log 0 0 0 0 ≡ 0
@@ -173,7 +173,7 @@ module _ (rule log : List ℕ) (short : too-long rule log ≡ false) where
 
         gives : Gives rule L 0 sheet c more p′ sheet′
         gives =
-            gave .words .meaning none-yet L 0 stands
+            given .words .meaning none-yet L 0 stands
             (record { longer = omega arith; same = λ i lo hi. absurd (omega arith); ended = λ e. absurd (false≢true e) })
             never-falls
             (record { ends = refl; size = refl; same = λ i lo hi. record { time = refl; letters = λ k. refl } })
@@ -194,7 +194,7 @@ module _ (rule log : List ℕ) (short : too-long rule log ≡ false) where
             omega arith
 
         given-fits : c ≤ length sheet′
-        given-fits = omega (arith, gave .words .room, gave .sheet-length)
+        given-fits = omega (arith, given .words .room, given .sheet-length)
 
         bytes : take c sheet′ ≡ verdicts (formulas-of rule) L c
         unfolding verdicts
@@ -215,4 +215,4 @@ module _ (rule log : List ℕ) (short : too-long rule log ≡ false) where
             ap (λ k. first-line k (L .size) ++ lines (columns (formulas-of rule)) (take c sheet′) (length (take c sheet′))) count)
 
         pub resumed : Ran rule log c sheet′
-        resumed = record { few-records = few-records; few = omega (arith, gave .words .room); fits = given-fits; accepts = fine; text = text }
+        resumed = record { few-records = few-records; few = omega (arith, given .words .room); fits = given-fits; accepts = fine; text = text }

@@ -12,11 +12,12 @@ use Rattle.trace.specs.Order.{disordered}
 use Rattle.trace.proofs.Making.{time-back, events-back, made-well, made-ordered}
 use Rattle.simulation.specs.Generator.{xorshift, state-after}
 use Rattle.simulation.specs.Kiosk.{is-warm, is-printing, letter, events-of, run-after, kiosk-after}
-use Rattle.simulation.specs.Simulate.{time-of, events-in, log-of, given}
-use Rattle.simulation.specs.Arrivals.{arrivals, customers}
+use Rattle.simulation.specs.Simulate.{out-of-range, time-of, events-in, log-of, given}
+use Rattle.simulation.specs.Arrivals.{arrivals, customers, NobodyLost}
 use Rattle.simulation.specs.declared.Settings.{Settings}
 use Rattle.simulation.specs.declared.kiosk.Kiosk.{Kiosk}
 use Rattle.simulation.proofs.Kept.{second-customers}
+use Rattle.simulation.proofs.Outcome.{in-range}
 use Rattle.simulation.proofs.Xor.{state-in-range}
 
 -- the letters of an event set
@@ -75,17 +76,18 @@ module _ (s : Settings) (seed n : ℕ) (few : n ≤ 3600) where
     pub says : Letters (events-at written t) (is-warm (kiosk-after s seed (suc t) .head)) (kiosk-after s seed (suc t) .began) (kiosk-after s seed (suc t) .joined) (kiosk-after s seed (suc t) .ended)
     says = rw events-are (kiosk-letters (kiosk-after s seed (suc t)))
 
-  -- "After every second the three sum to the arrivals counted from the log."
-  pub nobody-lost : (m : ℕ) → m ≤ n → customers (kiosk-after s seed m) ≡ arrivals written m
+  all-counted : (m : ℕ) → m ≤ n → customers (kiosk-after s seed m) ≡ arrivals written m
   unfolding run-after arrivals
-  nobody-lost zero le = refl
-  nobody-lost (suc m) le =
+  all-counted zero le = refl
+  all-counted (suc m) le =
       second-customers s m (xorshift (run-after s seed m .state)) (kiosk-after s seed m) ∙
-      ap₂ (λ (x y : ℕ). x + y) (nobody-lost m (omega arith)) (ap number (sym (says m (omega arith) .joined)))
+      ap₂ (λ (x y : ℕ). x + y) (all-counted m (omega arith)) (ap number (sym (says m (omega arith) .joined)))
 
-  -- the numbers that the call gives
-  pub given-sum : given s n seed .finished + given s n seed .printing + given s n seed .waiting ≡ arrivals written n
-  given-sum = nobody-lost n (omega arith)
+-- THEOREM. "After every second the three sum to the arrivals counted from the log."
+pub nobody-lost : (s : Settings) (seconds seed room : ℕ) → out-of-range s seconds seed room ≡ false → NobodyLost s seconds seed
+nobody-lost s seconds seed room accepted =
+    let few = in-range s seconds seed room accepted .few in
+    record { every-second = all-counted s seed seconds few; given-sum = all-counted s seed seconds few seconds (omega arith) }
 
 pub printing-one : (s : Settings) (seed n : ℕ) → given s n seed .printing ≤ 1
 printing-one s seed n = omega (arith, number-lt (is-printing (kiosk-after s seed n .head)))

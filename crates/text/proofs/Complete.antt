@@ -9,7 +9,7 @@ use lib.Dec.{eqb}
 use lib.ListN.{length, length-append}
 use Rattle.mtl.specs.Formula.{Formula}
 use Rattle.text.specs.Tokens.{Token}
-use Rattle.text.specs.Grammar.{Level, End, Prefix, Infix, Tree, interval, spell-prefix, spell-infix, spell, meaning, Derives, Derived}
+use Rattle.text.specs.Grammar.{Level, End, Prefix, Infix, Tree, interval, spell-prefix, spell-infix, spell, meaning, Derives, Derived, InOneWay}
 use Rattle.text.specs.Grammar.Level.{ors, timed, prefixed, atom}
 use Rattle.text.specs.Grammar.Tree.{letter, brackets, tight, one, untimed, two, sole, or}
 use Rattle.text.specs.Reader.{first, tail, Timing, timing, prefix-of, infix-of, before-operand, between-operands, Phrase, then, closed, phrase}
@@ -181,13 +181,12 @@ abbrev tree-of : Tree ors → Option (Phrase ors) → Tree ors
 tree-of t none = t
 tree-of t (some p) = p .tree
 
--- "in one way only"
-pub unique : (t u : Tree ors) → spell t ≡ spell u → t ≡ u
+unique : (t u : Tree ors) → spell t ≡ spell u → t ≡ u
 unique t u e =
     let f : ℕ = 4 * length (spell t) + 4 * length (spell u) in
     ap (tree-of t) (sym (whole t f (omega arith)) ∙ ap (phrase f ors none) e ∙ whole u f (omega arith))
 
-pub one-formula : (ts : List Token) (φ ψ : Formula) → Derives ors ts φ → Derives ors ts ψ → φ ≡ ψ
+one-formula : (ts : List Token) (φ ψ : Formula) → Derives ors ts φ → Derives ors ts ψ → φ ≡ ψ
 one-formula ts φ ψ d e = sym (d .means) ∙ ap meaning (unique (d .tree) (e .tree) (d .spells ∙ sym (e .spells))) ∙ e .means
 
 -- what the tokens are found to derive
@@ -219,9 +218,17 @@ module _ (ts : List Token) (f : ℕ) (h : 4 * length ts ≤ f) where
       go (x ∷ xs) r =
           λ φ d. absurd (nil≢cons (sym (ap (λ (q : Phrase ors). q .rest) (same (sym e ∙ reached φ d))) ∙ r))
 
--- one outcome only
-pub one-outcome : (ts : List Token) (o p : Option Formula) → Derived ts o → Derived ts p → o ≡ p
+one-outcome : (ts : List Token) (o p : Option Formula) → Derived ts o → Derived ts p → o ≡ p
 one-outcome ts none none d e = refl
 one-outcome ts none (some ψ) d e = absurd (d ψ e)
 one-outcome ts (some φ) none d e = absurd (e φ d)
 one-outcome ts (some φ) (some ψ) d e = ap some (one-formula ts φ ψ d e)
+
+-- THEOREM. "in one way only"
+pub in-one-way : (ts : List Token) → InOneWay ts
+in-one-way ts =
+    record {
+      one-derivation = λ t u t-spells u-spells. unique t u (t-spells ∙ sym u-spells);
+      one-formula = one-formula ts;
+      one-outcome = one-outcome ts;
+    }

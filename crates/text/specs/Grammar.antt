@@ -100,3 +100,11 @@ pub record Derives (l : Level) (ts : List Token) (φ : Formula) : Type 0 where
 abbrev pub Derived : List Token → Option Formula → Type 0
 Derived ts none = (φ : Formula) → Derives ors ts φ → ⊥
 Derived ts (some φ) = Derives ors ts φ
+
+-- "in one way only": what is proved of the tokens of every text (proofs/Complete)
+pub record InOneWay (ts : List Token) : Type 0 where
+  -- they have no two derivations,
+  pub one-derivation : (t u : Tree ors) → spell t ≡ ts → spell u ≡ ts → t ≡ u
+  -- so they stand for no two formulas, and not for one and for none
+  pub one-formula : (φ ψ : Formula) → Derives ors ts φ → Derives ors ts ψ → φ ≡ ψ
+  pub one-outcome : (o p : Option Formula) → Derived ts o → Derived ts p → o ≡ p

@@ -1,9 +1,9 @@
 -- What `tally` promises: "reads a sheet and gives the count of no and of yes", one of each a formula.
-use Prim.Native.Nat.{ℕ, _/_, _<_, _^_}
+use Prim.Native.Nat.{ℕ, _/_, _^_}
 use mathlib.Core.Bool.{Bool, true, false, cond, _||_}
 use mathlib.Core.Path.{_≡_}
 use mathlib.Core.List.{List, _++_}
-use lib.Dec.{ltb}
+use lib.Dec.{ltb, eqb}
 use lib.ListN.{length, getD, drop}
 use Rattle.mtl.specs.Satisfaction.{any}
 use Rattle.verdicts.specs.Counts.{counts}
@@ -22,17 +22,24 @@ beyond formulas s i = ltb 0 (getD s i 0 / 2 ^ formulas)
 abbrev pub tally-refusal : (formulas : ℕ) → List ℕ → ℕ
 tally-refusal formulas s = cond (outside formulas || any (length s) (beyond formulas s)) 15 0
 
--- the paper's number for each case: 0, or the refusal's
-abbrev pub tallied-number : Tallied → ℕ
-tallied-number Counted = 0
-tallied-number (Refused n) = n
+-- the paper's number for each case, 0 or the refusal's; `refused` tells the cases apart
+pub record Answer : Type 0 where
+  pub refused : Bool
+  pub number : ℕ
 
--- the counts stand in the first lent words, and the others are kept; "Every refusal returns its number only"
-abbrev pub Tallying : (formulas : ℕ) (s nos yeses : List ℕ) → Tallied → (nos′ yeses′ : List ℕ) → Type 0
-Tallying formulas s nos yeses Counted nos′ yeses′ =
-    (nos′ ≡ counts false formulas s ++ drop formulas nos) × (yeses′ ≡ counts true formulas s ++ drop formulas yeses)
-Tallying formulas s nos yeses (Refused n) nos′ yeses′ = (0 < n) × (nos′ ≡ nos) × (yeses′ ≡ yeses)
+abbrev pub answer : Tallied → Answer
+answer Counted = record { refused = false; number = 0 }
+answer (Refused n) = record { refused = true; number = n }
 
-pub record Tallies (formulas : ℕ) (s nos yeses : List ℕ) (r : Tallied) (nos′ yeses′ : List ℕ) : Type 0 where
-  pub number : tallied-number r ≡ tally-refusal formulas s
-  pub words : Tallying formulas s nos yeses r nos′ yeses′
+abbrev pub tallied : (formulas : ℕ) → List ℕ → Answer
+tallied formulas s = record { refused = ltb 0 (tally-refusal formulas s); number = tally-refusal formulas s }
+
+-- lent words after a call with this number: the first n are those written and the others are kept, or all of them where it was refused
+abbrev pub first-or-kept : (number n : ℕ) (old first : List ℕ) → List ℕ
+first-or-kept number n old first = cond (eqb number 0) (first ++ drop n old) old
+
+-- for formula k the count of no stands in word k of the one buffer, and that of yes in word k of the other
+pub record Tallies (formulas : ℕ) (s nos yeses : List ℕ) (a : Answer) (nos′ yeses′ : List ℕ) : Type 0 where
+  pub outcome : a ≡ tallied formulas s
+  pub no-counts : nos′ ≡ first-or-kept (a .number) formulas nos (counts false formulas s)
+  pub yes-counts : yeses′ ≡ first-or-kept (a .number) formulas yeses (counts true formulas s)

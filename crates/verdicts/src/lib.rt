@@ -5,7 +5,7 @@ ghost use mathlib.Core.List.{_++_};
 ghost use Prim.Native.Nat.{_+_, _≤_};
 ghost use lib.ListN.{length, take, drop};
 ghost use Rattle.verdicts.specs.Bytes.{bytes-of};
-ghost use Rattle.verdicts.specs.Tally.{tallied-number, Tallies};
+ghost use Rattle.verdicts.specs.Tally.{answer, Tallies};
 
 mod counting;
 mod eight;
@@ -18,7 +18,7 @@ pub enum Tallied {
 
 impl Tallied {
     pub fn number(self) -> u32
-        ensures { λ r. ⌜ r ≡ tallied-number self ⌝ }
+        ensures { λ r. ⌜ r ≡ answer self .number ⌝ }
     {
         match self {
             Tallied::Counted => 0,
@@ -52,7 +52,7 @@ pub fn write_answers(sheet: &mut [u8], from: usize, n: usize, answers: &[u64; 8]
 
 // Writes the counts of no and of yes into the first words, one of each a formula; or refusal 15.
 pub fn tally(sheet: &[u8], formulas: u64, no: &mut [u64; 8], yes: &mut [u64; 8]) -> Tallied
-    ensures { λ r. ⌜ Tallies formulas (now (sheet .entry)) (now («no» .entry)) (now («yes» .entry)) r (now («no» .exit)) (now («yes» .exit)) ⌝ }
+    ensures { λ r. ⌜ Tallies formulas (now (sheet .entry)) (now («no» .entry)) (now («yes» .entry)) (answer r) (now («no» .exit)) (now («yes» .exit)) ⌝ }
 {
     if (formulas < 1) | (8 < formulas) {
         return Tallied::Refused(15);

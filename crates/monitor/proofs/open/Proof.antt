@@ -1,7 +1,7 @@
 -- `open` meets its contract: a refusal is that of `size_of`, and what `fresh::write` leaves stands for the rule on a log with no record.
 use Prim.Native.Nat.{_-_}
 use native.Mathlib.Omega.{arith}
-use mathlib.Core.Path.{_≡_, refl, sym, ap, _∙_}
+use mathlib.Core.Path.{_≡_, sym, ap, _∙_}
 use lib.Seq.{length-take-le}
 use lib.ListN.{length}
 use borrow.Author.Needs.{needs}
@@ -12,7 +12,7 @@ use Rattle.rule.proofs.Headers.{Decoded, few-to-decode, measured-once}
 use Rattle.checkpoint.specs.Code.{sized-of, sized-number}
 use Rattle.checkpoint.specs.declared.check.Sized.the-variants.{Words}
 use Rattle.checkpoint.proofs.Sizes.{Enough, enough, stops, sized-refusal, sized-is, is-decoded, is-version, version-most}
-use Rattle.monitor.proofs.Starts.{opens-done}
+use Rattle.monitor.proofs.Starts.{opens-refused, opens-done}
 use Rattle.monitor.proofs.open.Statement.{statement}
 use Rattle.monitor.proofs.open.Tie as tie
 
@@ -63,11 +63,9 @@ returns c =
     let a = c .before .before .before .before .before .before .before .before .before .before .before .args in
     let told = c .before .enum-told .given in
     let sized = sized-for (c .before .before .before) in
-    record {
-      number = c .number .ensures ∙ ap sized-number sized ∙ sized-refusal (a .rule .now) (length (a .point .now));
-      length = refl;
-      words = (rw (c .number .ensures, told .1) (stops (a .rule .now) (length (a .point .now)) _ (sym (told .1) ∙ sized)), refl);
-    }
+    opens-refused (a .rule .now) (a .point .now) (c .number .result)
+    (c .number .ensures ∙ ap sized-number sized ∙ sized-refusal (a .rule .now) (length (a .point .now)))
+    (rw (c .number .ensures, told .1) (stops (a .rule .now) (length (a .point .now)) _ (sym (told .1) ∙ sized)))
 
 part-write-end : tie.Need-part-write-end
 part-write-end c = let e = fit (c .before) in omega arith
