@@ -52,8 +52,9 @@ enum havdrims_refusal {
     HAVDRIMS_TOO_MANY_WORDS = 8,  /* the need is above 8,192 words */
     HAVDRIMS_SHORT_POINT = 9,     /* the lent point is shorter than the need */
     HAVDRIMS_FOREIGN_POINT = 10,  /* the point does not begin as a point of this library with a copy of this rule */
-    HAVDRIMS_POINT_RANGE = 11,    /* a word of the point is outside its range; a point that this library left never
-                                     meets this */
+    HAVDRIMS_POINT_RANGE = 11,    /* a word of the point is outside its range (docs/CHECKPOINT.md); a point that this
+                                     library left never meets this where no record from the first still wanted on was
+                                     altered */
     HAVDRIMS_LOG_FORMAT = 12,     /* the log is shorter than 8 bytes, its mark, version or spare bytes are wrong, its
                                      length less 8 is no multiple of 8, or it has more than 1,000,000 records */
     HAVDRIMS_FEWER_RECORDS = 13,  /* the log has fewer records than the point has seen */

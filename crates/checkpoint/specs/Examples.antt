@@ -45,6 +45,15 @@ other-count : refused 2 (set (fresh 2) 4 (copy-start 2 2)) ≡ 10
 unfolding any offset
 other-count = refl
 
+-- 10: one of the two words of the entry's copy is another entry's: that of letter 1, and of a high of 1
+other-head : refused 1 (set (fresh 1) 30 1) ≡ 10
+unfolding any offset
+other-head = refl
+
+other-ends : refused 1 (set (fresh 1) 31 1) ≡ 10
+unfolding any offset
+other-ends = refl
+
 -- 11: word 15, a count of no that is above the verdicts given, is formula 7's; a rule of version 1 does not use it
 count-of-formula-7 : refused 2 (set (fresh 2) 15 1) ≡ 11
 unfolding any offset

@@ -1,4 +1,4 @@
--- Worked examples, proved by computation: draws, a run in which everything happens that paper 12 lists, and refusal 26.
+-- Worked examples, proved by computation: draws, two runs in which everything happens that paper 12 lists, and refusal 26.
 use Prim.Native.Nat.{ℕ, suc}
 use mathlib.Core.Bool.{Bool, cond, _&&_, not}
 use mathlib.Core.List.{List, [], _∷_}
@@ -67,9 +67,13 @@ run =
     ∷ second 5 2 1 2
     ∷ []
 
-pub run-computes : wrong 0 (follows small 6 0 run) ≡ []
+-- another: in second 4 the head goes off and nobody comes, so that the second ends with a cold head
+abbrev pub one-customer : List Second
+one-customer = second 4 0 0 1 ∷ second 3 0 1 0 ∷ second 1 0 1 0 ∷ second 9 1 0 0 ∷ second 0 1 0 0 ∷ []
+
+pub run-computes : (wrong 0 (follows small 6 0 run) ≡ []) × (wrong 0 (follows small 13 0 one-customer) ≡ [])
 unfolding wrong follows run-after second-of end-print join end-warming switch-off begin-print begin-warming events-of xor
-run-computes = refl
+run-computes = (refl, refl)
 
 -- the bytes of its first two seconds
 pub log-computes : log-of small 6 2 ≡

@@ -1,7 +1,8 @@
 -- What the crate's own functions answer. The reader of the grammar, as a function of tokens: proofs/Grammar shows that it finds
 -- what the grammar derives. Nothing that `parse` promises speaks of it.
--- (Derivations is named first so that the worked derivations are checked before any proof.)
+-- (Derivations and Examples are named first so that the worked rows are checked before any proof.)
 use Rattle.text.specs.Derivations
+use Rattle.text.specs.Examples
 use Prim.Native.Nat.{ℕ, zero, suc, _+_, _-_, _*_, _≤_, _<_, min}
 use mathlib.Core.Bool.{Bool, true, false, cond, _&&_, _||_}
 use mathlib.Core.Path.{_≡_}

@@ -120,7 +120,7 @@ pub fn letter_bits(records: &[u8], from: usize, n: usize, letter: u64) -> u64
     answers
 }
 
-// Whether some record after position `after` has a time below that of the record before it.
+// Whether some record after record `after` has a time below that of the record before it.
 pub fn times_fall(records: &[u8], after: usize) -> bool
     ensures { λ r. ⌜ r ≡ falls (now (records .entry)) after ⌝ }
 {
@@ -156,11 +156,11 @@ fn begins_below(records: &[u8], seen: usize, last: u64) -> bool
     }
 }
 
-// Check 14, where `given` positions have verdicts.
-pub fn is_disordered(records: &[u8], given: usize, seen: usize, last: u64) -> bool
-    ensures { λ r. ⌜ r ≡ disordered (now (records .entry)) given seen last ⌝ }
+// Check 14, where record `from` is the first still wanted.
+pub fn is_disordered(records: &[u8], from: usize, seen: usize, last: u64) -> bool
+    ensures { λ r. ⌜ r ≡ disordered (now (records .entry)) from seen last ⌝ }
 {
-    times_fall(records, given) | begins_below(records, seen, last)
+    times_fall(records, from) | begins_below(records, seen, last)
 }
 
 // The last time seen after a call that brought these records, `seen` and `last` being what was seen before it.
