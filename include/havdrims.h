@@ -1,0 +1,265 @@
+/* Havdrims: a checker of metric temporal rules over kiosk logs. The C interface of libhavdrims.a. */
+#ifndef HAVDRIMS_H
+#define HAVDRIMS_H
+
+#include <stddef.h>
+#include <stdint.h>
+
+#ifdef __cplusplus
+extern "C" {
+#endif
+
+/*
+ * For all calls:
+ *
+ * The result is 0 if the call was accepted, otherwise the number of its refusal, the first of the list below that
+ * applies. A refused call changes nothing: every buffer keeps its bytes and words, and so do the numbers behind
+ * the last pointers.
+ *
+ * The caller owns every buffer, before, during and after the call. The library allocates nothing, keeps no pointer
+ * and has no state of its own: all that it knows between two calls is in the point. Calls on different points may
+ * run at the same time. A thread with a stack of HAVDRIMS_MOST_STACK bytes can make every call but havdrims_parse,
+ * whatever the rule, and one with HAVDRIMS_PARSE_STACK bytes that one too.
+ *
+ * A length counts the elements of its buffer: bytes, or 64-bit words for a point. A buffer of length 0 is not
+ * touched, and its pointer may be null. Words are aligned as uint64_t is.
+ *
+ * The last two pointers of measure, resume and close, the last of formulas, parse and worst_log, and the last four of status
+ * and of simulate each point to a number of the caller's and are never null. Nor are the last two of summary and of tally,
+ * each of which points to HAVDRIMS_MOST_FORMULAS numbers: the first of them, as many as there are formulas, are written,
+ * number k for formula k, and the others are kept.
+ *
+ * What a call writes (point, sheet, a rule or log that it makes, the numbers behind its last pointers) shares no byte with
+ * anything else that the call is given. What it only reads may overlap.
+ *
+ * In a log of version 1 every record is a position. In one of version 2 a record with letter 31 is a service record: no
+ * position, skipped by every operator, without a verdict. Positions are numbered from 0 over the other records.
+ *
+ * The formats of rule, log and sheet are those of docs/FORMATS.md. A point's words are the library's own, in the
+ * byte order of the machine: save them and hand them back as they are.
+ * A point of another format, as a library of another version may have written, is refused with 10.
+ */
+
+/* Why a call is refused. */
+enum havdrims_refusal {
+    HAVDRIMS_RULE_MARK = 1,       /* the rule is shorter than 8 bytes or lacks its mark */
+    HAVDRIMS_RULE_VERSION = 2,    /* the rule's version is not 1 or 2 */
+                                  /* 3 no longer occurs: a rule without entries says yes at every position */
+    HAVDRIMS_RULE_LENGTH = 4,     /* the count is above 128, a spare byte is not zero, or the length is not
+                                     8 + 10 * count */
+    HAVDRIMS_ENTRY_FIELD = 5,     /* some kind is above 6, some letter above 31, or some unused field not zero */
+    HAVDRIMS_INTERVAL = 6,        /* some low or finite high is above 3,600, some low is above its high, or until has
+                                     no upper end */
+    HAVDRIMS_SHAPE = 7,           /* some entry lacks an operand, or the whole leaves other than one formula (version 1,
+                                     unless the count is 0) or other than one to eight formulas (version 2) */
+    HAVDRIMS_TOO_MANY_WORDS = 8,  /* the need is above 8,192 words */
+    HAVDRIMS_SHORT_POINT = 9,     /* the lent point is shorter than the need */
+    HAVDRIMS_FOREIGN_POINT = 10,  /* the point does not begin as a point of this library with a copy of this rule */
+    HAVDRIMS_POINT_RANGE = 11,    /* a word of the point is outside its range (docs/CHECKPOINT.md); a point that this
+                                     library left never meets this where no record from the first still wanted on was
+                                     altered */
+    HAVDRIMS_LOG_FORMAT = 12,     /* the log is shorter than 8 bytes, its mark or spare bytes are wrong, its version is
+                                     not 1 or 2, its length less 8 is no multiple of 8, or it has more than 1,000,000
+                                     records, service records included */
+    HAVDRIMS_FEWER_RECORDS = 13,  /* the log has fewer records than the point has seen, service records included */
+    HAVDRIMS_TIME_FALLS = 14,     /* some record after the first still wanted has a time below that of the record
+                                     before it, or the first new record's time is below the last time seen; service
+                                     records are records here too */
+    HAVDRIMS_SHEET_BYTE = 15,     /* a sheet given to tally has a byte with a bit beyond the number of formulas, or that
+                                     number is outside 1 to 8 */
+    HAVDRIMS_UNKNOWN_WORD = 16,   /* a word, sign or form of number of a text is unknown, or it has more than 1,024
+                                     bytes */
+    HAVDRIMS_NOT_DERIVED = 17,    /* the grammar does not derive the text */
+    HAVDRIMS_SHORT_RULE = 18,     /* the lent rule buffer is short */
+    HAVDRIMS_LOG_ROOM = 19,       /* the number of records is above 1,000,000, or the lent log buffer is under
+                                     8 + 8 * records bytes */
+    HAVDRIMS_POINT_CLOSED = 20,   /* resume is given a closed point */
+    HAVDRIMS_MORE_RECORDS = 21,   /* closing is repeated with more records than at its first call that was not
+                                     refused, service records included */
+    HAVDRIMS_OTHER_VERSION = 22,  /* the log's version differs from that of the last resume or close with this point that
+                                     was not refused */
+    HAVDRIMS_SETTINGS = 26        /* a setting, the seconds or the seed given to simulate is outside its range, or the
+                                     lent log buffer is short */
+};
+
+/* No position of the rule is sure to be answered after any time: the reach of a rule with next. */
+#define HAVDRIMS_NO_REACH UINT64_C(4294967295)
+
+/* No position: what havdrims_summary gives as the latest no where there is none. */
+#define HAVDRIMS_NONE UINT64_MAX
+
+/* The most formulas of a rule, and the numbers to which the last two pointers of havdrims_summary and havdrims_tally point. */
+#define HAVDRIMS_MOST_FORMULAS 8
+
+/* The most words that a point can need. */
+#define HAVDRIMS_MOST_WORDS 8192
+
+/* The most bytes of stack that a call other than havdrims_parse needs: measured and tested on x86-64 Linux, not proved. */
+#define HAVDRIMS_MOST_STACK 65536
+
+/* The most bytes of stack that havdrims_parse needs, for 1,024 open brackets: measured and tested in the same way. */
+#define HAVDRIMS_PARSE_STACK 1048576
+
+/* The most bytes of a text and of a rule. */
+#define HAVDRIMS_MOST_TEXT 1024
+#define HAVDRIMS_MOST_RULE 1288
+
+/*
+ * Weighs a rule of rule_len bytes.
+ *
+ * *words becomes the number of words that a point of this rule needs, 16 to 8,192. *reach becomes the rule's reach
+ * in seconds: a position has its verdict, at the latest, once the log has one more than that much later; or
+ * HAVDRIMS_NO_REACH. Of several formulas it is the largest.
+ *
+ * Refusals: 1 to 8.
+ */
+uint32_t havdrims_measure(const uint8_t *rule, size_t rule_len, uint64_t *words, uint64_t *reach);
+
+/*
+ * Counts the formulas of a rule: *formulas becomes 1 to 8. A rule of version 1 has one, also where it has no entries.
+ *
+ * Refusals: 1 to 8.
+ */
+uint32_t havdrims_formulas(const uint8_t *rule, size_t rule_len, uint64_t *formulas);
+
+/*
+ * Writes a fresh point for a rule into the first words of `point`, as many as havdrims_measure gives for the rule.
+ * The words behind them are kept. What the words held before does not matter.
+ *
+ * Refusals: 1 to 8, and 9 if point_len is below the need.
+ */
+uint32_t havdrims_open(const uint8_t *rule, size_t rule_len, uint64_t *point, size_t point_len);
+
+/*
+ * Carries on from a point: judges the log as far as it goes and writes the verdicts that are new since the last
+ * accepted call with this point, one byte for each position in turn, 1 for yes and 0 for no. Where the rule has several
+ * formulas, bit k of the byte, the bit worth 2 to the k, is the answer of formula k, counted from 0 in the rule's order. A
+ * position has its verdict when every formula has answered it. A service record is no position: no byte is written for it.
+ *
+ * rule    the rule that the point was opened for, byte for byte.
+ * log     the whole log from its header on, with the records of the accepted calls before and any number of new
+ *         ones behind them. The records before the first still wanted are not read again: they may hold any bytes.
+ *         The others must be as they were; if they are not, or if the point was not left by this library, the call
+ *         still returns and writes only point, sheet, *given and *more, but its verdicts mean nothing.
+ * point   as open or the last accepted call left it. It becomes the point to carry on from. Words behind the need
+ *         are kept.
+ * sheet   takes the verdicts. Its bytes behind them are kept. It may be of any length, 0 included.
+ *
+ * The first position still wanted is the number of verdicts given with this point so far, less k, or 0 where it is below
+ * k: k is the largest number of previous entries on a path from a formula's last entry to a letter. So a rule without
+ * previous wants the positions that have no verdict yet, and no others. The first record still wanted is the one that holds
+ * this position, or the record after all seen where none of them holds it. havdrims_status gives it.
+ *
+ * *given becomes the number of verdicts written. *more becomes 1 if the log settles further positions, for which the
+ * sheet had no room, and 0 if the point has caught up.
+ *
+ * Refusals: 1 to 11, then 20, 12, 22, 13, 14. An accepted call fixes the log's version for those that follow (22), also one
+ * that brings no record.
+ */
+uint32_t havdrims_resume(const uint8_t *rule, size_t rule_len, const uint8_t *log, size_t log_len,
+                         uint64_t *point, size_t point_len, uint8_t *sheet, size_t sheet_len,
+                         uint64_t *given, uint64_t *more);
+
+/*
+ * Closes the month: says that no record will follow the log. Every remaining position gets its verdict on the log as it
+ * ends: an until whose end never came is no, and so is next at the last position.
+ *
+ * It writes and answers as havdrims_resume does, and is called again where the sheet had no room for all; records before
+ * the first still wanted may be overwritten between. The first closing that is not refused closes the point, whatever
+ * the length of its sheet: from then on havdrims_resume is refused with 20, and a closing with more records with 21.
+ *
+ * Refusals: 1 to 12, then 22, 13, 21, 14.
+ */
+uint32_t havdrims_close(const uint8_t *rule, size_t rule_len, const uint8_t *log, size_t log_len,
+                        uint64_t *point, size_t point_len, uint8_t *sheet, size_t sheet_len,
+                        uint64_t *given, uint64_t *more);
+
+/*
+ * What the point itself knows of the verdicts given with it, all calls together: for each formula k of the rule no[k] becomes
+ * the count of its no among them, and latest[k] the position of its latest no, or HAVDRIMS_NONE. They are what
+ * havdrims_tally and a scan would give over the verdicts of all calls laid end to end: a position is not the number of its
+ * record where service records stand before it. The point is not changed.
+ *
+ * Refusals: 1 to 11.
+ */
+uint32_t havdrims_summary(const uint8_t *rule, size_t rule_len, const uint64_t *point, size_t point_len,
+                          uint64_t *no, uint64_t *latest);
+
+/*
+ * How far a point has come: *given becomes the number of verdicts given with it, all calls together, *seen the number of
+ * records that the last accepted call brought, service records included, *wanted the first record still wanted, as above, a
+ * record's number and not a position's: all records before it may be overwritten. *closed becomes 1 if the point is closed
+ * and else 0. The point is not changed.
+ *
+ * Refusals: 1 to 11.
+ */
+uint32_t havdrims_status(const uint8_t *rule, size_t rule_len, const uint64_t *point, size_t point_len,
+                         uint64_t *given, uint64_t *seen, uint64_t *wanted, uint64_t *closed);
+
+/*
+ * Counts the verdicts of a sheet of sheet_len bytes, for a rule with so many formulas, 1 to 8: for each formula k no[k]
+ * becomes the number of bytes in which bit k is 0, yes[k] that of bytes in which it is 1. Give it the verdicts alone, not the
+ * rest of the sheet.
+ *
+ * Refusal: 15.
+ */
+uint32_t havdrims_tally(const uint8_t *sheet, size_t sheet_len, uint64_t formulas, uint64_t *no, uint64_t *yes);
+
+/*
+ * Writes the rule that a text of text_len bytes says, of version 1, into the first bytes of `rule`. The bytes behind them are
+ * kept. HAVDRIMS_MOST_RULE bytes are enough for every text.
+ *
+ * A text is a formula, as in "not e2 or e0 until[0,90] e1". Letters are e0 to e31. not, prev and next bind tightest,
+ * then since and until, grouping to the right, then or, grouping to the left; round brackets override. prev, next,
+ * since and until carry [low,high] in seconds, inf as high meaning no upper end. docs/FORMATS.md has the grammar.
+ *
+ * *written becomes the number of bytes written.
+ *
+ * Refusals, in this order: 16, 17, then 4 (more than 128 entries), 6, 8, and 18.
+ */
+uint32_t havdrims_parse(const uint8_t *text, size_t text_len, uint8_t *rule, size_t rule_len, uint64_t *written);
+
+/*
+ * Writes the log that keeps most seconds waiting: for the rule "letter 0 until letter 1, within low to high seconds",
+ * a log of exactly `records` records none of which is settled, and among whose times are as many distinct ones as the
+ * open records of any log of `records` records can have: the smaller of `records` and high + 1. Record i has letter 0
+ * alone, and as its time the smaller of i and high.
+ *
+ * log      takes the log, header included. Its bytes behind the log are kept.
+ *
+ * *written becomes the log's length, 8 + 8 * records bytes.
+ *
+ * Refusals: 6 for the interval, as of an until in a rule; then 19.
+ */
+uint32_t havdrims_worst_log(uint32_t low, uint32_t high, uint64_t records, uint8_t *log, size_t log_len,
+                            uint64_t *written);
+
+/*
+ * A kiosk to try settings on: simulates so many seconds of it, from time 0, with the head off and nobody there, and
+ * writes its log, a record for each second, into the first 8 + 8 * seconds bytes of `log`. The bytes behind are kept.
+ *
+ * seconds      0 to 3,600
+ * warm_up      how long the head takes to warm up, 1 to 600 seconds
+ * print_time   how long a print takes, 1 to 600 seconds
+ * switch_off   how long a warm head is idle before it goes off, 1 to 3,600 seconds
+ * mean_gap     1 to 3,600: a customer joins in a second whose draw is divisible by it
+ * seed         the generator's first state, not 0; the same seed gives the same customers
+ *
+ * In the log letter 0 stands in a second that ends with a warm head, letter 1 where a print begins, letter 2 where a
+ * customer joins, and letter 3 where a print ends.
+ *
+ * *written becomes the log's length in bytes, *finished the number of prints that ended, *printing 1 if a print goes
+ * on at the end and else 0, *waiting the number of customers whose print has not begun. The last three sum to the
+ * customers who joined.
+ *
+ * Refusal: 26.
+ */
+uint32_t havdrims_simulate(uint32_t seconds, uint32_t warm_up, uint32_t print_time, uint32_t switch_off,
+                           uint32_t mean_gap, uint32_t seed, uint8_t *log, size_t log_len,
+                           uint64_t *written, uint64_t *finished, uint64_t *printing, uint64_t *waiting);
+
+#ifdef __cplusplus
+}
+#endif
+
+#endif

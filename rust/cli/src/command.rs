@@ -1,0 +1,366 @@
+//! The commands: their words, their help, and what each prints.
+
+use crate::card::{self, Card, Evening, Fault, SoFar};
+use crate::convert;
+use crate::disk::Folder;
+use havdrims::Refusal;
+use std::fmt::{Display, Write};
+use std::hash::{BuildHasher, RandomState};
+use std::path::Path;
+
+/// Why a command printed nothing of what it was asked for.
+#[derive(Debug, PartialEq, Eq)]
+pub enum Failure {
+    /// Wrong use: exit status 2.
+    Use(String),
+    /// A refusal or a fault: exit status 1.
+    Fault(String),
+}
+
+impl Failure {
+    /// What is wrong with the thing of this name.
+    pub fn fault(name: &str, fault: impl Display) -> Failure {
+        Failure::Fault(format!("{name}: {fault}"))
+    }
+}
+
+type Answer = Result<String, Failure>;
+
+struct Command {
+    name: &'static str,
+    /// The words behind the name.
+    words: &'static str,
+    /// What it does, in a line.
+    does: &'static str,
+    /// What else there is to say.
+    more: &'static str,
+    run: fn(&[&str]) -> Option<Answer>,
+}
+
+const COMMANDS: [Command; 11] = [
+    Command {
+        name: "new",
+        words: "CARD RULE..",
+        does: "make the folder CARD for one kiosk",
+        more: "\
+RULE is a .krl file, or a text such as 'not e2 or e0 until[0,90] e1'. Several of them, with up to eight formulas, are
+judged together: a position has its verdicts when every formula has answered it. The folder must not be there yet, or be
+empty; if making it was cut short, it can be made again.",
+        run: |words| match words {
+            [folder, rules @ ..] if !rules.is_empty() => Some(new(folder, rules)),
+            _ => None,
+        },
+    },
+    Command {
+        name: "evening",
+        words: "CARD LOG",
+        does: "carry on with the log as far as it goes",
+        more: "\
+LOG is the kiosk's whole log, a .klg file. Its records before the one that the last evening named may be overwritten,
+the others not. The new verdicts go into the card's sheet. Once this command has said so, and not before, the records
+that it names may be overwritten. A run that was cut, for whatever reason, is simply repeated.
+In a log of version 2 service records are passed over: they are no positions and get no verdict. It is said how many
+there were, the verdicts are then counted in positions, and what may be overwritten in records all the same.",
+        run: |words| match words {
+            [folder, log] => Some(carry_on(false, folder, log)),
+            _ => None,
+        },
+    },
+    Command {
+        name: "close",
+        words: "CARD LOG",
+        does: "the month's end: no record will follow",
+        more: "\
+LOG is as for evening. Every remaining position gets its verdict on the log as it ends. From then on the card is closed:
+it can be closed again with the same log, but takes no further records.",
+        run: |words| match words {
+            [folder, log] => Some(carry_on(true, folder, log)),
+            _ => None,
+        },
+    },
+    Command {
+        name: "summary",
+        words: "CARD",
+        does: "print how many verdicts were given, how many no, and the latest",
+        more: "\
+A card with several formulas has a line for each of them. Where service records were passed over it is said how many,
+and the latest no is a position. The card is not changed. Commands that only read it may run beside each other.",
+        run: |words| match words {
+            [folder] => Some(summarized(folder)),
+            _ => None,
+        },
+    },
+    Command {
+        name: "sheet",
+        words: "CARD [--csv] [--from N]",
+        does: "print the verdicts, a line for each position",
+        more: "\
+A line has the position's number and then a word, yes or no, for each formula of the rule. Positions are numbered from 0
+over the records that are no service records: where the log has none, a position is the record of the same number.
+--csv prints them for a spreadsheet, under the line `position,verdict`; where there are several formulas each has its
+column, as in `position,formula 0,formula 1`. --from N begins with position N. The card is not changed.",
+        run: sheet,
+    },
+    Command {
+        name: "rule",
+        words: "FORMULA.. RULE",
+        does: "write the rule file that the formula says, or several",
+        more: "\
+FORMULA is one argument, as in 'not e2 or e0 until[0,90] e1'. Several of them, up to eight, make a rule of version 2:
+they are judged together. RULE is the .krl file to be written.",
+        run: |words| match words {
+            [formulas @ .., rule] if !formulas.is_empty() => Some(convert::rule(formulas, rule)),
+            _ => None,
+        },
+    },
+    Command {
+        name: "formula",
+        words: "RULE",
+        does: "print a rule file as a formula, its words and its reach",
+        more: "RULE is a .krl file. Each of several formulas has its line.",
+        run: |words| match words {
+            [rule] => Some(convert::formula(rule)),
+            _ => None,
+        },
+    },
+    Command {
+        name: "to-log",
+        words: "TEXT LOG",
+        does: "write the log file that a text describes",
+        more: "\
+TEXT is a file with a line for each record, the seconds and then the letters, as in `12 e0 e3` or `12 none`.
+What follows a # is passed over. The line `version 2` before the first record says that the log is of version 2: then
+`12 service` is a service record, which is no position.",
+        run: |words| match words {
+            [text, log] => Some(convert::to_log(text, log)),
+            _ => None,
+        },
+    },
+    Command {
+        name: "to-text",
+        words: "LOG",
+        does: "print a log file as text",
+        more: "LOG is a .klg file. A log of version 2 begins with the line `version 2`.",
+        run: |words| match words {
+            [log] => Some(convert::to_text(log)),
+            _ => None,
+        },
+    },
+    Command {
+        name: "worst",
+        words: "LOW HIGH N LOG",
+        does: "write the log of N records that keeps most seconds waiting",
+        more: "It does so for the rule e0 until[LOW,HIGH] e1.",
+        run: |words| match words {
+            [low, high, records, log] => Some(convert::worst(low, high, records, log)),
+            _ => None,
+        },
+    },
+    Command {
+        name: "simulate",
+        words: "LOG OPTIONS",
+        does: "write the log of a simulated kiosk, a record for each second",
+        more: "\
+All options, in any order, each with its number: --seconds (0 to 3600), --warm-up and --print-time (1 to 600),
+--switch-off and --mean-gap (1 to 3600), --seed (1 to 4294967295).",
+        run: |words| match words {
+            [log, options @ ..] => Some(convert::simulated(log, options)),
+            _ => None,
+        },
+    },
+];
+
+impl Command {
+    fn usage(&self) -> String {
+        format!("havdrims {} {}", self.name, self.words)
+    }
+
+    fn help(&self) -> String {
+        format!("{}\n\n{}.\n{}\n", self.usage(), capital(self.does), self.more)
+    }
+}
+
+fn capital(text: &str) -> String {
+    let mut letters = text.chars();
+    letters.next().map_or(String::new(), |first| first.to_uppercase().chain(letters).collect())
+}
+
+/// All commands, a line each.
+fn overview() -> String {
+    let mut text = "Checks the log of a kiosk against its rule, evening by evening.\n\n".to_string();
+    let width = COMMANDS.iter().map(|command| command.usage().len()).max().unwrap_or(0);
+    for command in &COMMANDS {
+        let _ = writeln!(text, "{:width$}   {}", command.usage(), command.does);
+    }
+    text.push_str("\n`havdrims COMMAND --help` says more of a command.\n");
+    text
+}
+
+/// What the words of a command line come to.
+pub fn run(words: &[&str]) -> Answer {
+    let Some((&name, rest)) = words.split_first() else { return Err(Failure::Use(overview())) };
+    if ["--help", "-h", "help"].contains(&name) {
+        return Ok(overview());
+    }
+    let Some(command) = COMMANDS.iter().find(|command| command.name == name) else {
+        return Err(Failure::Use(format!("`{name}` is no command\n\n{}", overview())));
+    };
+    if rest.contains(&"--help") {
+        return Ok(command.help());
+    }
+    let expected = |what: &str| Failure::Use(format!("{what}expected: {}\n", command.usage()));
+    match (command.run)(rest) {
+        None => Err(expected("")),
+        Some(Err(Failure::Use(what))) => Err(expected(&format!("{what}\n"))),
+        Some(answer) => answer,
+    }
+}
+
+/// A number that no other card has: the standard library draws it at random for its hash tables.
+fn card_number() -> u64 {
+    RandomState::new().hash_one(std::process::id())
+}
+
+fn new(folder: &str, rules: &[&str]) -> Answer {
+    let bytes = convert::rule_said(rules)?;
+    let (formulas, needs) = convert::described(rules[0], &bytes)?;
+    card::new(&mut Folder::new(Path::new(folder)), card_number(), &bytes)
+        .map_err(|fault| Failure::fault(folder, fault))?;
+    let made = match formulas.len() {
+        1 => folder.to_string(),
+        number => format!("{folder}: {number} formulas"),
+    };
+    Ok(format!("{}{needs}", by_formula(&made, ": ", formulas)))
+}
+
+fn carry_on(closing: bool, folder: &str, path: &str) -> Answer {
+    let log = convert::log(path).map_err(|fault| Failure::fault(path, format!("{fault}\n{UNCHANGED}")))?;
+    let mut disk = Folder::new(Path::new(folder));
+    let evening = Card::open(&mut disk, true).and_then(|mut card| card.carry_on(closing, &log));
+    evening.map(|evening| told(&evening)).map_err(|fault| unchanged(folder, path, &fault))
+}
+
+const UNCHANGED: &str = "Nothing was changed.";
+
+/// What is wrong with the card or with the log, and that nothing came of the command.
+fn unchanged(folder: &str, log: &str, fault: &Fault) -> Failure {
+    let (name, hint) = match fault {
+        Fault::Unsure { .. } => return Failure::fault(folder, fault),
+        Fault::Disk { .. } => {
+            let said = format!("{fault}\nNo verdict was counted; repeat the command.");
+            return Failure::fault(folder, said);
+        }
+        Fault::Refused(Refusal::PointClosed) => (folder, "The month is closed: the card takes no further records. "),
+        Fault::Refused(Refusal::FewerRecords) => (log, "Is this the whole log? "),
+        Fault::Refused(Refusal::TimeFalls) => (log, "Is this the log of another kiosk? "),
+        Fault::Refused(Refusal::OtherVersion) => {
+            (log, "A card keeps to the version of its first log; a log of another version needs a card of its own. ")
+        }
+        Fault::Refused(_) | Fault::LogAltered => (log, ""),
+        _ => (folder, ""),
+    };
+    Failure::fault(name, format!("{fault}\n{hint}{UNCHANGED}"))
+}
+
+/// An evening in plain words.
+fn told(evening: &Evening) -> String {
+    let Evening { first, new, counts, passed_over, so_far } = evening;
+    let which = match new {
+        0 => "no new verdict".to_string(),
+        1 => format!("{} {first}", position(so_far)),
+        _ => format!("{}s {first} to {}", position(so_far), first + new - 1),
+    };
+    let counts = counts.yes().iter().zip(counts.no()).map(|(yes, no)| format!("{yes} yes, {no} no"));
+    let given = if *new == 0 { format!("{which}\n") } else { by_formula(&which, ": ", counts.collect()) };
+    let passed_over = match passed_over {
+        0 => String::new(),
+        1 => "1 service record passed over\n".to_string(),
+        _ => format!("{passed_over} service records passed over\n"),
+    };
+    let released = match so_far.status.wanted {
+        0 => "no record may be overwritten yet".to_string(),
+        1 => "record 0 may be overwritten".to_string(),
+        wanted => format!("records 0 to {} may be overwritten", wanted - 1),
+    };
+    format!("{given}{passed_over}{}{released}\n", all(so_far))
+}
+
+/// What has a verdict: where no service record was seen every record is a position, and has its number.
+fn position(so_far: &SoFar) -> &'static str {
+    if so_far.services == 0 {
+        "record"
+    } else {
+        "position"
+    }
+}
+
+/// What there is to say of each formula: of one alone, behind what stands first; of several, a line each below it.
+fn by_formula(first: &str, between: &str, said: Vec<String>) -> String {
+    if let [only] = said.as_slice() {
+        return format!("{first}{between}{only}\n");
+    }
+    let line = |(formula, said): (usize, &String)| format!("  formula {formula}: {said}\n");
+    format!("{first}\n{}", said.iter().enumerate().map(line).collect::<String>())
+}
+
+/// All evenings together.
+fn all(so_far: &SoFar) -> String {
+    let SoFar { summary, status, services } = so_far;
+    let position = position(so_far);
+    let latest = |at: &Option<u64>| at.map_or(String::new(), |at| format!(", the latest at {position} {at}"));
+    let counts = summary.no().iter().zip(summary.latest()).map(|(no, at)| format!("{no} no{}", latest(at)));
+    let counts = by_formula(&format!("so far: {} verdicts", status.given), ", ", counts.collect());
+    let ended = if status.closed { ", and the card is closed" } else { "" };
+    let open = format!("open: {} of {} {position}s{ended}\n", so_far.open(), so_far.positions());
+    let service = match services {
+        0 => String::new(),
+        _ => format!("service: {services} of {} records\n", status.seen),
+    };
+    format!("{counts}{open}{service}")
+}
+
+fn summarized(folder: &str) -> Answer {
+    let mut disk = Folder::new(Path::new(folder));
+    let card = Card::open(&mut disk, false).map_err(|fault| Failure::fault(folder, fault))?;
+    Ok(all(&card.so_far))
+}
+
+/// The words of `sheet`.
+fn sheet(words: &[&str]) -> Option<Answer> {
+    let (mut folder, mut csv, mut from) = (None, false, None);
+    let mut words = words.iter();
+    while let Some(&word) = words.next() {
+        match word {
+            "--csv" if !csv => csv = true,
+            "--from" if from.is_none() => from = Some(words.next()?),
+            _ if !word.starts_with("--") && folder.is_none() => folder = Some(word),
+            _ => return None,
+        }
+    }
+    let folder = folder?;
+    let from = from.map_or(Ok(0), |word| convert::number(word));
+    Some(from.and_then(|from| lines(folder, csv, from)))
+}
+
+fn lines(folder: &str, csv: bool, from: usize) -> Answer {
+    let mut disk = Folder::new(Path::new(folder));
+    let card = Card::open(&mut disk, false).map_err(|fault| Failure::fault(folder, fault))?;
+    let between = if csv { "," } else { " " };
+    let mut text = if csv { heading(card.formulas()) } else { String::new() };
+    for (position, &verdict) in card.verdicts().iter().enumerate().skip(from) {
+        let _ = write!(text, "{position}");
+        for formula in 0..card.formulas() {
+            let _ = write!(text, "{between}{}", if verdict >> formula & 1 == 1 { "yes" } else { "no" });
+        }
+        text.push('\n');
+    }
+    Ok(text)
+}
+
+/// The first line for a spreadsheet.
+fn heading(formulas: usize) -> String {
+    match formulas {
+        1 => "position,verdict\n".to_string(),
+        _ => format!("position{}\n", (0..formulas).map(|k| format!(",formula {k}")).collect::<String>()),
+    }
+}

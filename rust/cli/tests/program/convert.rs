@@ -1,0 +1,142 @@
+//! Rules and logs as text and back, and logs to try a kiosk with.
+
+use crate::Place;
+use evaluator::{cases, log, rule};
+use havdrims::Refusal;
+use std::fs;
+
+const P1: &str = "10 e0\n11 e0\n11 none\n12 e0\n13 e1\n20 e0\n";
+
+#[test]
+fn logs_as_text() {
+    let place = Place::new();
+    fs::write(place.path("day.txt"), P1).unwrap();
+    assert_eq!(place.ok(&["to-log", "day.txt", "day.klg"]), "day.klg: 6 records\n");
+    assert_eq!(fs::read(place.path("day.klg")).unwrap(), log::encode(&cases::p1_records()));
+    assert_eq!(place.ok(&["to-text", "day.klg"]), P1);
+
+    fs::write(place.path("bad.txt"), "1\n0\n").unwrap();
+    let said = place.fails(1, &["to-log", "bad.txt", "bad.klg"]);
+    assert_eq!(said, "bad.txt, line 2: second 0 comes after second 1\n");
+    assert!(!place.path("bad.klg").exists());
+    fs::write(place.path("bad.txt"), [0xff, 0xfe]).unwrap();
+    assert_eq!(place.fails(1, &["to-log", "bad.txt", "bad.klg"]), "bad.txt: not a text\n");
+    assert!(place.fails(1, &["to-text", "none.klg"]).starts_with("none.klg: "));
+    assert_eq!(place.fails(1, &["to-text", "day.txt"]), format!("day.txt: {}\n", Refusal::LogFormat));
+}
+
+#[test]
+fn logs_of_version_2_as_text() {
+    let place = Place::new();
+    let text = "version 2\n10 e0\n11 service\n11 e1 service\n12 none\n";
+    fs::write(place.path("day.txt"), text).unwrap();
+    assert_eq!(place.ok(&["to-log", "day.txt", "day.klg"]), "day.klg: 4 records, 2 of them service\n");
+    assert_eq!(place.ok(&["to-text", "day.klg"]), text);
+    fs::write(place.path("none.txt"), "version 2\n10 e0\n").unwrap();
+    assert_eq!(place.ok(&["to-log", "none.txt", "none.klg"]), "none.klg: 1 records\n");
+    assert_eq!(place.ok(&["to-text", "none.klg"]), "version 2\n10 e0\n");
+    // the same records as version 1: letter 31 is a letter
+    let mut bytes = fs::read(place.path("day.klg")).unwrap();
+    bytes[4] = 1;
+    fs::write(place.path("first.klg"), bytes).unwrap();
+    assert_eq!(place.ok(&["to-text", "first.klg"]), "10 e0\n11 e31\n11 e1 e31\n12 none\n");
+    fs::write(place.path("bad.txt"), "10 e0\n11 service\n").unwrap();
+    let said = place.fails(1, &["to-log", "bad.txt", "bad.klg"]);
+    assert_eq!(said, "bad.txt, line 2: `service` needs the line `version 2` before the first record\n");
+    assert!(!place.path("bad.klg").exists());
+    fs::write(place.path("third.klg"), b"KLG\x00\x03\x00\x00\x00").unwrap();
+    assert_eq!(place.fails(1, &["to-text", "third.klg"]), format!("third.klg: {}\n", Refusal::LogFormat));
+}
+
+#[test]
+fn rules_as_formulas() {
+    let place = Place::new();
+    assert_eq!(place.ok(&["rule", "e0 until[0,2] e1", "typed.krl"]), "typed.krl: 3 entries\n");
+    assert_eq!(fs::read(place.path("typed.krl")).unwrap(), rule::encode(&cases::p1_entries()));
+    assert_eq!(place.ok(&["formula", "typed.krl"]), "e0 until[0,2] e1\nwords 70, reach 2 seconds\n");
+    fs::write(place.path("empty.krl"), rule::encode(&[])).unwrap();
+    assert_eq!(place.ok(&["formula", "empty.krl"]), "empty: every position is yes\nwords 16, reach 0 seconds\n");
+    assert_eq!(place.ok(&["rule", "next[0,inf] e0", "next.krl"]), "next.krl: 2 entries\n");
+    assert_eq!(place.ok(&["formula", "next.krl"]), "next[0,inf] e0\nwords 48, reach none\n");
+
+    let said = place.fails(1, &["rule", "e0 until e1", "none.krl"]);
+    assert_eq!(said, "`e0 until e1`: refused 17: The grammar does not derive the text.\n");
+    // a formula alone, not the name of a rule file
+    let said = place.fails(1, &["rule", "typed.krl", "none.krl"]);
+    assert_eq!(said, format!("`typed.krl`: {}\n", Refusal::UnknownWord));
+    assert!(!place.path("none.krl").exists());
+    fs::write(place.path("long.krl"), [0; 100_000]).unwrap();
+    assert_eq!(place.fails(1, &["formula", "long.krl"]), format!("long.krl: {}\n", Refusal::RuleMark));
+}
+
+#[test]
+fn several_formulas_in_one_rule() {
+    let place = Place::new();
+    let said = place.ok(&["rule", "e0 until[0,2] e1", "not (e0 until[0,2] e1)", "both.krl"]);
+    assert_eq!(said, "both.krl: 2 formulas, 7 entries\n");
+    let until = cases::p1_entries();
+    let not_until = [until.as_slice(), &[rule::Entry::not()]].concat();
+    assert_eq!(fs::read(place.path("both.krl")).unwrap(), rule::encode_several(&[until, not_until]));
+    let shown = "e0 until[0,2] e1\nnot (e0 until[0,2] e1)\nwords 148, reach 2 seconds\n";
+    assert_eq!(place.ok(&["formula", "both.krl"]), shown);
+    // one formula as version 2
+    fs::write(place.path("one.krl"), rule::encode_as(2, &cases::p1_entries())).unwrap();
+    assert_eq!(place.ok(&["formula", "one.krl"]), "e0 until[0,2] e1\nwords 78, reach 2 seconds\n");
+
+    let eight = ["rule", "e0", "e1", "e2", "e3", "e4", "e5", "e6", "e7", "eight.krl"];
+    assert_eq!(place.ok(&eight), "eight.krl: 8 formulas, 8 entries\n");
+    assert_eq!(place.ok(&["formula", "eight.krl"]), "e0\ne1\ne2\ne3\ne4\ne5\ne6\ne7\nwords 152, reach 0 seconds\n");
+    let nine = [&eight[..1], &["e8"], &eight[1..9], &["none.krl"]].concat();
+    let too_many = "These are 9 formulas; at most 8 can be judged together.";
+    assert_eq!(place.fails(1, &nine), format!("all together: {}\n{too_many}\n", Refusal::Shape));
+    // a rule file with several of them, and others beside it
+    let said = place.fails(1, &["new", "none", "eight.krl", "e0", "one.krl"]);
+    assert_eq!(said, format!("all together: {}\n{}\n", Refusal::Shape, too_many.replace('9', "10")));
+    assert!(!place.path("none").exists());
+    // the file's name is forgotten
+    let said = place.fails(2, &["rule", "e0", "e1"]);
+    let expected = "expected: havdrims rule FORMULA.. RULE\n";
+    assert_eq!(said, format!("`e1` is no name of a rule file: that ends in .krl\n{expected}"));
+    assert!(!place.path("e1").exists());
+    let said = place.fails(1, &["rule", "e0", "e1 or", "none.krl"]);
+    assert_eq!(said, format!("`e1 or`: {}\n", Refusal::NotDerived));
+    let many = "not ".repeat(64) + "e0";
+    let said = place.fails(1, &["rule", &many, &many, "none.krl"]);
+    assert_eq!(said, format!("all together: {}\n", Refusal::RuleLength));
+    let long = "e0 until[0,3600] e1";
+    let said = place.fails(1, &["rule", long, long, "none.krl"]);
+    assert_eq!(said, format!("all together: {}\n", Refusal::TooManyWords));
+    assert!(!place.path("none.krl").exists());
+}
+
+#[test]
+fn logs_to_try_a_kiosk_with() {
+    let place = Place::new();
+    assert_eq!(place.ok(&["worst", "0", "2", "5", "worst.klg"]), "worst.klg: 5 records, 3 seconds waiting\n");
+    assert_eq!(place.ok(&["to-text", "worst.klg"]), "0 e0\n1 e0\n2 e0\n2 e0\n2 e0\n");
+    assert_eq!(place.fails(1, &["worst", "3", "2", "5", "bad.klg"]), format!("{}\n", Refusal::Interval));
+    assert_eq!(place.fails(1, &["worst", "0", "2", "1000001", "bad.klg"]), format!("{}\n", Refusal::LogRoom));
+    let said = place.fails(2, &["worst", "0", "2", "-1", "bad.klg"]);
+    assert_eq!(said, "`-1` is no number, or too large a one\nexpected: havdrims worst LOW HIGH N LOG\n");
+    assert!(!place.path("bad.klg").exists());
+
+    let options = "simulate run.klg --seed 6 --seconds 9 --warm-up 1 --print-time 2 --switch-off 1 --mean-gap 3";
+    let options: Vec<&str> = options.split(' ').collect();
+    assert_eq!(place.ok(&options), "run.klg: 9 records, finished 2, printing 1, waiting 2\n");
+    let shown = place.ok(&["to-text", "run.klg"]);
+    assert_eq!(shown, "0 e2\n1 e0 e1\n2 e0\n3 e0 e1 e2 e3\n4 e0\n5 e0 e3\n6 e2\n7 e0 e1 e2\n8 e0 e2\n");
+    let with = |status: i32, at: usize, word: &'static str| {
+        let mut words = options.clone();
+        words[at] = word;
+        place.fails(status, &words)
+    };
+    let refused = format!("{}\n", Refusal::Settings);
+    assert_eq!(with(1, 3, "0"), refused);
+    assert_eq!(with(1, 5, "3601"), refused);
+    let expected = "expected: havdrims simulate LOG OPTIONS\n";
+    assert_eq!(with(2, 3, "x"), format!("--seed: `x` is no number\n{expected}"));
+    assert_eq!(with(2, 4, "--seed"), format!("--seed is there twice\n{expected}"));
+    assert_eq!(with(2, 4, "--second"), format!("`--second` is no option of simulate\n{expected}"));
+    assert_eq!(place.fails(2, &options[..12]), format!("--mean-gap is missing\n{expected}"));
+    assert_eq!(place.fails(2, &options[..13]), format!("--mean-gap needs a number\n{expected}"));
+}

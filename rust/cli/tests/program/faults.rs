@@ -1,0 +1,434 @@
+//! What can go wrong, each with its words, exit status 1, and the card unchanged.
+
+use crate::{contents, ended, Place, RULE};
+use cli::saved::{checksum, Saved};
+use havdrims::Refusal;
+use std::fs::{self, File, Permissions};
+use std::io::{self, ErrorKind};
+use std::os::unix::fs::PermissionsExt;
+use std::os::unix::process::CommandExt;
+use std::path::Path;
+use std::process::{Child, Command, Output, Stdio};
+use std::time::Duration;
+use std::{env, thread};
+
+const IN_USE: &str = "card: another command is at work on this card; try again when it has ended\n";
+
+/// The command fails with this text, and leaves the card as it is.
+fn refuses(place: &Place, words: &[&str], text: &str) {
+    let before = place.card();
+    assert_eq!(place.fails(1, words), text, "{words:?}");
+    assert_eq!(place.card(), before, "{words:?}");
+}
+
+#[test]
+fn logs_that_are_refused() {
+    let place = Place::with_card(1);
+    let whole = fs::read(place.path("day.klg")).unwrap();
+    let evening = |bytes: &[u8], refusal: Refusal, hint: &str| {
+        fs::write(place.path("other.klg"), bytes).unwrap();
+        let text = format!("other.klg: {refusal}\n{hint}Nothing was changed.\n");
+        refuses(&place, &["evening", "card", "other.klg"], &text);
+        refuses(&place, &["close", "card", "other.klg"], &text);
+    };
+    // a log that shrank
+    evening(&whole[..whole.len() - 8], Refusal::FewerRecords, "Is this the whole log? ");
+    // the log of another kiosk: its times fall
+    let mut other = whole.clone();
+    other[8 + 8 * 13..].fill(0);
+    evening(&other, Refusal::TimeFalls, "Is this the log of another kiosk? ");
+    // a log of the other version
+    let mut second = whole.clone();
+    second[4] = 2;
+    let hint = "A card keeps to the version of its first log; a log of another version needs a card of its own. ";
+    evening(&second, Refusal::OtherVersion, hint);
+    // no log
+    evening(&whole[..whole.len() - 1], Refusal::LogFormat, "");
+    evening(b"", Refusal::LogFormat, "");
+    // one record too many
+    let mut long = whole.clone();
+    long.resize(8 + 8 * 1_000_001, 0xFF);
+    evening(&long, Refusal::LogFormat, "");
+    let none = "none.klg: No such file or directory (os error 2)\nNothing was changed.\n";
+    refuses(&place, &["evening", "card", "none.klg"], none);
+}
+
+#[test]
+fn a_closed_card() {
+    let place = Place::with_card(1);
+    place.ok(&["close", "card", "day.klg"]);
+    let closed = format!(
+        "card: {}\nThe month is closed: the card takes no further records. Nothing was changed.\n",
+        Refusal::PointClosed
+    );
+    refuses(&place, &["evening", "card", "day.klg"], &closed);
+    refuses(&place, &["evening", "card", "tuesday.klg"], &closed);
+    let more = format!("tuesday.klg: {}\nNothing was changed.\n", Refusal::MoreRecords);
+    refuses(&place, &["close", "card", "tuesday.klg"], &more);
+    assert!(place.ok(&["close", "card", "day.klg"]).starts_with("no new verdict\n"));
+    assert!(place.ok(&["summary", "card"]).ends_with("open: 0 of 14 records, and the card is closed\n"));
+}
+
+#[test]
+fn rules_that_are_refused() {
+    let place = Place::new();
+    let said = place.fails(1, &["new", "card", "e0 until e1"]);
+    assert_eq!(said, format!("`e0 until e1`: {}\n", Refusal::NotDerived));
+    fs::write(place.path("bad.krl"), b"KRL").unwrap();
+    assert_eq!(place.fails(1, &["new", "card", "bad.krl"]), format!("bad.krl: {}\n", Refusal::RuleMark));
+    assert!(!place.path("card").exists());
+}
+
+#[test]
+fn folders_that_are_no_card_and_cards_that_are_there() {
+    let place = Place::with_card(1);
+    refuses(&place, &["new", "card", RULE], "card: a card is here already\n");
+    let none = "no card is here; `havdrims new` makes one\n";
+    for folder in ["none", "."] {
+        assert_eq!(place.fails(1, &["summary", folder]), format!("{folder}: {none}"));
+        let said = place.fails(1, &["evening", folder, "day.klg"]);
+        assert_eq!(said, format!("{folder}: {}\nNothing was changed.\n", none.trim_end()));
+    }
+    assert_eq!(place.fails(1, &["new", ".", RULE]), ".: this folder holds other files\n");
+    assert!(place.fails(1, &["new", "day.klg", RULE]).starts_with("day.klg: cannot read the folder: "));
+    assert!(place.fails(1, &["new", "none/card", RULE]).starts_with("none/card: cannot make the folder: "));
+    // what a `new` that was cut leaves, and an empty folder, are made again
+    place.ok(&["new", "cut", RULE]);
+    fs::remove_file(place.path("cut/point")).unwrap();
+    let cut = "cut: making this card was cut short; make it again with `havdrims new`\n";
+    assert_eq!(place.fails(1, &["summary", "cut"]), cut);
+    place.ok(&["new", "cut", RULE]);
+    assert!(place.ok(&["summary", "cut"]).starts_with("so far: 0 verdicts"));
+    fs::create_dir(place.path("empty")).unwrap();
+    place.ok(&["new", "empty", RULE]);
+}
+
+/// A card without its point is not made again: its verdicts would be gone.
+#[test]
+fn files_that_are_missing() {
+    let place = Place::with_card(1);
+    let missing = |text: &str| {
+        refuses(&place, &["summary", "card"], &format!("card: {text}\n"));
+        refuses(&place, &["sheet", "card"], &format!("card: {text}\n"));
+        refuses(&place, &["evening", "card", "tuesday.klg"], &format!("card: {text}\nNothing was changed.\n"));
+    };
+    let point = fs::read(place.path("card/point")).unwrap();
+    fs::remove_file(place.path("card/point")).unwrap();
+    let text = "the file `point` is missing, but the sheet has 12 verdicts";
+    missing(text);
+    refuses(&place, &["new", "card", RULE], &format!("card: {text}\n"));
+    fs::write(place.path("card/point"), point).unwrap();
+    fs::remove_file(place.path("card/card.txt")).unwrap();
+    missing("the file `card.txt` is missing");
+    refuses(&place, &["new", "card", RULE], "card: a card is here already\n");
+}
+
+/// A reader that closes the pipe has seen enough; a disk that is full has not.
+#[test]
+fn an_output_that_cannot_be_written() {
+    let place = Place::with_card(0);
+    place.ok(&["worst", "0", "1", "60000", "long.klg"]);
+    let mut child = place.program().args(["to-text", "long.klg"]).stdout(Stdio::piped()).spawn().unwrap();
+    drop(child.stdout.take());
+    assert!(child.wait().unwrap().success());
+    let full = File::options().write(true).open("/dev/full").unwrap();
+    let output = place.program().args(["evening", "card", "day.klg"]).stdout(full).output().unwrap();
+    let text = "the command is done, but its output cannot be written: No space left on device (os error 28)\n";
+    assert_eq!(ended(output), (1, String::new(), text.to_string()));
+    assert!(place.ok(&["evening", "card", "day.klg"]).starts_with("no new verdict\nso far: 12 verdicts"));
+}
+
+#[test]
+fn damaged_cards() {
+    let damage = |file: &str, change: &dyn Fn(&mut Vec<u8>), text: &str| {
+        let place = Place::with_card(1);
+        let path = place.path("card").join(file);
+        let mut bytes = fs::read(&path).unwrap();
+        change(&mut bytes);
+        fs::write(&path, bytes).unwrap();
+        refuses(&place, &["evening", "card", "tuesday.klg"], &format!("card: {text}\nNothing was changed.\n"));
+        refuses(&place, &["close", "card", "tuesday.klg"], &format!("card: {text}\nNothing was changed.\n"));
+        refuses(&place, &["summary", "card"], &format!("card: {text}\n"));
+        refuses(&place, &["sheet", "card"], &format!("card: {text}\n"));
+    };
+    let point = "the file `point` is damaged: its checksum does not fit";
+    damage("point", &|bytes| bytes[100] ^= 1, point);
+    damage("point", &|bytes| bytes.truncate(1_000), point);
+    damage("point", &|bytes| bytes.extend([0; 8]), point);
+    damage("point", &|bytes| bytes.clear(), "the file `point` is not that of a card");
+    damage("point", &|bytes| bytes[4] = 1, "the file `point` is of another version of this program");
+    let digit = |bytes: &mut Vec<u8>| bytes[14] = if bytes[14] == b'0' { b'1' } else { b'0' };
+    damage("card.txt", &digit, "the file `point` belongs to another card");
+    let card = "the file `card.txt` is damaged: it does not hold the card's number";
+    damage("card.txt", &|bytes| bytes[0] ^= 1, card);
+    damage("card.txt", &|bytes| bytes.clear(), card);
+    damage("rule.krl", &|bytes| bytes[9] ^= 1, "the file `rule.krl` is not the rule that this card was made for");
+    damage("sheet", &|bytes| bytes.truncate(11), "the file `sheet` has 11 verdicts, but 12 were given");
+    damage("sheet", &|bytes| bytes[3] ^= 1, "the file `sheet` is damaged: its checksum does not fit");
+    // a checkpoint of another library's format, one whose words are out of range, and one that counts other verdicts
+    let saved = |change: fn(&mut Saved)| {
+        move |bytes: &mut Vec<u8>| {
+            let mut saved = Saved::decode(bytes).unwrap();
+            change(&mut saved);
+            *bytes = saved.encode();
+        }
+    };
+    let format = format!("the file `point` is of another library's format: {}", Refusal::ForeignPoint);
+    damage("point", &saved(|saved| saved.words[0] -= 1), &format);
+    let range = format!("the file `point` holds what this library never writes: {}", Refusal::PointRange);
+    damage("point", &saved(|saved| saved.words[2] = 0), &range);
+    let fewer = |saved: &mut Saved| (saved.given, saved.sheet) = (4, checksum(&[1; 4]));
+    damage("point", &saved(fewer), "the file `point` is damaged: it says 4 verdicts, its words 12");
+    let services = "the file `point` is damaged: it says 3 service records where 2 records have no verdict";
+    damage("point", &saved(|saved| saved.services = 3), services);
+}
+
+/// A point that was copied from another card with the same rule and the same log.
+#[test]
+fn a_point_of_another_card() {
+    let place = Place::with_card(1);
+    place.ok(&["new", "other", RULE]);
+    place.ok(&["evening", "other", "day.klg"]);
+    fs::copy(place.path("other/point"), place.path("card/point")).unwrap();
+    let text = "card: the file `point` belongs to another card\nNothing was changed.\n";
+    refuses(&place, &["evening", "card", "tuesday.klg"], text);
+}
+
+/// What a run that was cut has left behind does not count.
+#[test]
+fn what_a_cut_run_left_is_passed_over() {
+    let place = Place::with_card(1);
+    let sheet = place.path("card/sheet");
+    let before = fs::read(&sheet).unwrap();
+    fs::write(&sheet, [before.as_slice(), &[1, 0, 7, 7]].concat()).unwrap();
+    fs::write(place.path("card/point.new"), b"half").unwrap();
+    assert_eq!(place.ok(&["sheet", "card"]).lines().count(), before.len());
+    place.ok(&["evening", "card", "day.klg"]);
+    assert_eq!(fs::read(&sheet).unwrap(), before);
+    assert!(!place.path("card/point.new").exists());
+}
+
+#[test]
+fn a_card_in_use() {
+    let place = Place::with_card(1);
+    let lock = File::open(place.path("card/card.txt")).unwrap();
+    lock.lock().unwrap();
+    refuses(&place, &["evening", "card", "tuesday.klg"], &format!("{IN_USE}Nothing was changed.\n"));
+    refuses(&place, &["summary", "card"], IN_USE);
+    lock.unlock().unwrap();
+    // those that only read do not exclude each other
+    lock.lock_shared().unwrap();
+    refuses(&place, &["evening", "card", "tuesday.klg"], &format!("{IN_USE}Nothing was changed.\n"));
+    place.ok(&["summary", "card"]);
+    // A process that another test has just started may for a moment hold this file too: closing it is not enough.
+    lock.unlock().unwrap();
+    place.ok(&["evening", "card", "tuesday.klg"]);
+}
+
+/// While a `new` is at work its card is in use, at each of its steps.
+#[test]
+fn a_card_that_is_being_made() {
+    let place = Place::with_card(0);
+    fs::rename(place.path("card"), place.path("made")).unwrap();
+    fs::create_dir(place.path("card")).unwrap();
+    fs::write(place.path("card/card.txt"), b"").unwrap();
+    let lock = File::open(place.path("card/card.txt")).unwrap();
+    // made, but not yet locked
+    refuses(&place, &["summary", "card"], "card: no card is here; `havdrims new` makes one\n");
+    lock.lock().unwrap();
+    for file in ["card.txt", "rule.krl", "sheet", "point"] {
+        let bytes = fs::read(place.path("made").join(file)).unwrap();
+        fs::write(place.path("card").join(file), bytes).unwrap();
+        refuses(&place, &["summary", "card"], IN_USE);
+        refuses(&place, &["evening", "card", "day.klg"], &format!("{IN_USE}Nothing was changed.\n"));
+        let again = if file == "point" { "card: a card is here already\n" } else { IN_USE };
+        refuses(&place, &["new", "card", RULE], again);
+    }
+    lock.unlock().unwrap();
+    place.ok(&["evening", "card", "day.klg"]);
+}
+
+/// The commands, all at once.
+fn at_once(place: &Place, commands: &[&[&str]]) -> Vec<(i32, String, String)> {
+    let start =
+        |words: &&[&str]| place.program().args(*words).stdout(Stdio::piped()).stderr(Stdio::piped()).spawn().unwrap();
+    let all: Vec<Child> = commands.iter().map(start).collect();
+    all.into_iter().map(|child| ended(child.wait_with_output().unwrap())).collect()
+}
+
+/// Many commands at once: each ends well or finds the card in use; all do while another holds it.
+#[test]
+fn two_commands_at_once() {
+    let place = Place::with_card(0);
+    let lock = File::open(place.path("card/card.txt")).unwrap();
+    for log in ["day.klg", "tuesday.klg"] {
+        let evening: &[&str] = &["evening", "card", log];
+        let in_use = (1, String::new(), format!("{IN_USE}Nothing was changed.\n"));
+        lock.lock_shared().unwrap();
+        assert_eq!(at_once(&place, &[evening; 12]), vec![in_use.clone(); 12]);
+        lock.unlock().unwrap();
+        let busy = at_once(&place, &[evening; 12]).into_iter().filter(|ended| {
+            assert!(ended.0 == 0 || *ended == in_use, "{ended:?}");
+            ended.0 != 0
+        });
+        // One has the card whenever another finds it in use.
+        assert!(busy.count() < 12);
+        place.ok(evening);
+    }
+    assert_eq!(fs::read(place.path("card/sheet")).unwrap(), [1, 1, 1, 1, 1, 0, 1, 1, 0, 1, 1, 1, 1, 1, 1, 0, 1, 1]);
+}
+
+/// Of many that make one card, one does; it is found whole.
+#[test]
+fn two_cards_made_at_once() {
+    let place = Place::with_card(0);
+    fs::remove_dir_all(place.path("card")).unwrap();
+    for round in 0..8 {
+        let all = at_once(&place, &[&["new", "card", RULE][..]; 8]);
+        let made = all.iter().filter(|(status, _, err)| {
+            assert!(*status == 0 || err == IN_USE || err == "card: a card is here already\n", "{err}");
+            *status == 0
+        });
+        assert_eq!(made.count(), 1, "round {round}");
+        assert!(place.ok(&["evening", "card", "day.klg"]).starts_with("records 0 to 11: "));
+        fs::remove_dir_all(place.path("card")).unwrap();
+    }
+}
+
+/// One that reads beside one that writes sees the card before or after, or finds it in use.
+#[test]
+fn reading_beside_writing() {
+    let place = Place::with_card(0);
+    let before = place.ok(&["summary", "card"]);
+    let (read, write): (&[&str], &[&str]) = (&["summary", "card"], &["evening", "card", "day.klg"]);
+    let all = at_once(&place, &[read, read, read, write, read, read, read, write, read, read, read]);
+    place.ok(write);
+    let after = place.ok(read);
+    for (at, (status, out, err)) in all.into_iter().enumerate() {
+        match status {
+            0 if at % 4 == 3 => assert!(out.contains(&after), "{out}"),
+            0 => assert!(out == before || out == after, "{out}"),
+            _ => assert!(err.starts_with(IN_USE), "{err}"),
+        }
+    }
+}
+
+extern "C" {
+    fn geteuid() -> u32;
+}
+
+/// Runs a copy of the program that permissions stop: they do not stop the superuser, who runs it as nobody.
+fn run_stopped(place: &Place, words: &[&str]) -> io::Result<Output> {
+    let mut command = Command::new(place.path("program"));
+    command.current_dir(&place.0).args(words);
+    // SAFETY: it has no arguments and cannot fail.
+    if unsafe { geteuid() } == 0 {
+        command.uid(65_534).gid(65_534);
+    }
+    loop {
+        match command.output() {
+            // Another test has just started a process, which for a moment still has the copy open for writing.
+            Err(fault) if fault.kind() == ErrorKind::ExecutableFileBusy => thread::sleep(Duration::from_millis(5)),
+            output => return output,
+        }
+    }
+}
+
+/// A card, one evening on, in a folder where permissions can stop the program, if there is one: the user nobody may not
+/// be known here, not reach the folder, or run no program there.
+fn place_for_nobody() -> Option<Place> {
+    [Path::new(env!("CARGO_TARGET_TMPDIR")), &env::temp_dir()].into_iter().find_map(|folder| {
+        let place = Place::with_card_in(folder, 1);
+        fs::copy(env!("CARGO_BIN_EXE_havdrims"), place.path("program")).unwrap();
+        for (file, mode) in [(".", 0o755), ("program", 0o755), ("day.klg", 0o644), ("tuesday.klg", 0o644)] {
+            fs::set_permissions(place.path(file), Permissions::from_mode(mode)).unwrap();
+        }
+        match run_stopped(&place, &["help"]) {
+            Ok(output) if output.status.success() => Some(place),
+            other => {
+                println!("{}: the user nobody cannot run the program: {other:?}", folder.display());
+                None
+            }
+        }
+    })
+}
+
+/// A folder that may not be written. Where permissions cannot stop the program, the next test has to be enough.
+#[test]
+fn a_folder_that_is_only_read() {
+    let Some(place) = place_for_nobody() else { return };
+    let run = |words: &[&str]| ended(run_stopped(&place, words).unwrap());
+    let modes = |mode: u32, files: &[&str]| {
+        for file in files {
+            fs::set_permissions(place.path(file), Permissions::from_mode(mode)).unwrap();
+        }
+    };
+    modes(0o444, &["card/card.txt", "card/rule.krl", "card/point", "card/sheet"]);
+    modes(0o555, &["card", "."]);
+    let before = place.card();
+    let refused = |doing: &str| {
+        let (status, _, err) = run(&["evening", "card", "tuesday.klg"]);
+        let text = "Permission denied (os error 13)\nNo verdict was counted; repeat the command.\n";
+        assert_eq!((status, err), (1, format!("card: cannot {doing}: {text}")));
+        assert_eq!(place.card(), before);
+    };
+    refused("lock the card");
+    // the files may be written, but the folder not
+    modes(0o666, &["card/card.txt", "card/sheet"]);
+    refused("write the point");
+    let (status, out, _) = run(&["summary", "card"]);
+    assert_eq!((status, out.lines().count()), (0, 2));
+    let (status, _, err) = run(&["new", "more", RULE]);
+    assert_eq!(status, 1);
+    assert!(err.starts_with("more: cannot make the folder: Permission denied"), "{err}");
+    modes(0o755, &["card", "."]);
+    place.ok(&["evening", "card", "tuesday.klg"]);
+}
+
+/// Files that not even the superuser can write: folders stand in their place.
+#[test]
+fn folders_in_place_of_files() {
+    let place = Place::with_card(1);
+    let text = "Is a directory (os error 21)\nNo verdict was counted; repeat the command.\n";
+    let refused = |doing: &str| {
+        let said = place.fails(1, &["evening", "card", "tuesday.klg"]);
+        assert_eq!(said, format!("card: cannot {doing}: {text}"));
+    };
+    let before = place.card();
+    fs::create_dir(place.path("card/point.new")).unwrap();
+    refused("write the point");
+    fs::remove_dir(place.path("card/point.new")).unwrap();
+    assert_eq!(place.card(), before);
+    fs::rename(place.path("card/card.txt"), place.path("kept")).unwrap();
+    fs::create_dir(place.path("card/card.txt")).unwrap();
+    refused("lock the card");
+    fs::remove_dir(place.path("card/card.txt")).unwrap();
+    fs::rename(place.path("kept"), place.path("card/card.txt")).unwrap();
+    assert_eq!(place.card(), before);
+    place.ok(&["evening", "card", "tuesday.klg"]);
+}
+
+/// A write that fails half way: no file may grow beyond a limit, which stands for a disk that is full.
+#[test]
+fn a_full_disk() {
+    let place = Place::with_card(0);
+    place.ok(&["worst", "0", "1", "6000", "long.klg"]);
+    place.ok(&["new", "small", "e0"]);
+    let limited = |folder: &str, log: &str| {
+        let before = contents(&place.path(folder));
+        let shell = "trap '' XFSZ; ulimit -f 2; exec \"$0\" \"$@\"";
+        let mut command = Command::new("sh");
+        command.args(["-c", shell, env!("CARGO_BIN_EXE_havdrims"), "evening", folder, log]).current_dir(&place.0);
+        let (status, out, err) = ended(command.output().unwrap());
+        assert_eq!((status, out.as_str()), (1, ""), "{err}");
+        assert_eq!(contents(&place.path(folder)), before, "{err}");
+        err
+    };
+    // the checkpoint of the ninety-second rule has 2,400 bytes, the sheet of the long log 6,000
+    let too_large = "File too large (os error 27)\nNo verdict was counted; repeat the command.\n";
+    assert_eq!(limited("card", "day.klg"), format!("card: cannot write the point: {too_large}"));
+    assert_eq!(limited("small", "long.klg"), format!("small: cannot write the sheet: {too_large}"));
+    place.ok(&["evening", "card", "day.klg"]);
+    let said = place.ok(&["evening", "small", "long.klg"]);
+    assert!(said.starts_with("records 0 to 5999: 6000 yes, 0 no\n"), "{said}");
+}

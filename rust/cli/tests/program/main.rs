@@ -1,0 +1,113 @@
+//! The program `havdrims` on real folders: what it prints, its exit status, its faults, and runs that are killed.
+
+mod convert;
+mod faults;
+mod killed;
+mod service;
+mod week;
+
+use std::collections::BTreeMap;
+use std::io::ErrorKind;
+use std::path::{Path, PathBuf};
+use std::process::{Command, Output};
+use std::sync::atomic::{AtomicUsize, Ordering};
+use std::{fs, process};
+
+/// The rule of examples/day.
+const RULE: &str = "not e2 or e0 until[0,90] e1";
+
+/// A folder for one test, removed with it.
+struct Place(PathBuf);
+
+impl Place {
+    fn new() -> Place {
+        Place::new_in(Path::new(env!("CARGO_TARGET_TMPDIR")))
+    }
+
+    /// In this folder, under the next number that is free: one that was killed may have left some.
+    fn new_in(folder: &Path) -> Place {
+        static COUNT: AtomicUsize = AtomicUsize::new(0);
+        loop {
+            let path = folder.join(format!("havdrims-{}-{}", process::id(), COUNT.fetch_add(1, Ordering::Relaxed)));
+            match fs::create_dir(&path) {
+                Err(fault) if fault.kind() == ErrorKind::AlreadyExists => {}
+                made => {
+                    made.unwrap();
+                    return Place(path);
+                }
+            }
+        }
+    }
+
+    /// With a card for the rule of examples/day and its logs, as many evenings on.
+    fn with_card(evenings: usize) -> Place {
+        Place::with_card_in(Path::new(env!("CARGO_TARGET_TMPDIR")), evenings)
+    }
+
+    fn with_card_in(folder: &Path, evenings: usize) -> Place {
+        let place = Place::new_in(folder);
+        for name in ["day.klg", "tuesday.klg"] {
+            fs::copy(example(name), place.path(name)).unwrap();
+        }
+        place.ok(&["new", "card", RULE]);
+        for log in &["day.klg", "tuesday.klg"][..evenings] {
+            place.ok(&["evening", "card", log]);
+        }
+        place
+    }
+
+    fn path(&self, name: &str) -> PathBuf {
+        self.0.join(name)
+    }
+
+    fn program(&self) -> Command {
+        let mut command = Command::new(env!("CARGO_BIN_EXE_havdrims"));
+        command.current_dir(&self.0);
+        command
+    }
+
+    /// The exit status, and what was printed to standard output and standard error.
+    fn run(&self, words: &[&str]) -> (i32, String, String) {
+        ended(self.program().args(words).output().unwrap())
+    }
+
+    /// What a command prints that ends well.
+    fn ok(&self, words: &[&str]) -> String {
+        let (status, out, err) = self.run(words);
+        assert_eq!((status, err.as_str()), (0, ""), "{words:?}");
+        out
+    }
+
+    /// What a command says that ends with this exit status.
+    fn fails(&self, status: i32, words: &[&str]) -> String {
+        let (ended, out, err) = self.run(words);
+        assert_eq!((ended, out.as_str()), (status, ""), "{words:?}: {err}");
+        err
+    }
+
+    /// Every file of the card.
+    fn card(&self) -> BTreeMap<String, Vec<u8>> {
+        contents(&self.path("card"))
+    }
+}
+
+impl Drop for Place {
+    fn drop(&mut self) {
+        let _ = fs::remove_dir_all(&self.0);
+    }
+}
+
+fn ended(output: Output) -> (i32, String, String) {
+    let text = |bytes: Vec<u8>| String::from_utf8(bytes).unwrap();
+    (output.status.code().unwrap_or(-1), text(output.stdout), text(output.stderr))
+}
+
+fn contents(folder: &Path) -> BTreeMap<String, Vec<u8>> {
+    let file = |entry: fs::DirEntry| (entry.file_name().into_string().unwrap(), fs::read(entry.path()).unwrap());
+    fs::read_dir(folder).unwrap().map(|entry| file(entry.unwrap())).collect()
+}
+
+/// A file of examples/day.
+fn example(name: &str) -> PathBuf {
+    Path::new(env!("CARGO_MANIFEST_DIR")).join("../../examples/day").join(name)
+}

@@ -1,0 +1,446 @@
+//! A checker of rules over kiosk logs that carries on, evening by evening, from a saved point.
+//!
+//! A rule says what ought to hold around each record of a log, in metric temporal logic: "the head stays warm
+//! until the print starts, within ninety seconds". The checker gives a verdict, yes or no, for each record in
+//! turn, as soon as the log decides it. What it knows between two evenings is a checkpoint (a saved point): some
+//! words that the caller lends and keeps. A record that has its verdict is not read again, but for the last few where
+//! the rule looks back with previous, so the kiosk may overwrite it.
+//!
+//! In a version 2 log a record with letter 31 is a service record: it is no position and gets no verdict, and every
+//! operator skips it. Positions are numbered from 0 over the other records. In a version 1 log every record is a position.
+//!
+//! A version 2 rule has up to eight formulas, which are judged in one run: a verdict is then a byte with an answer, a bit,
+//! for each of them.
+//!
+//! The calls: [`measure`] (weigh), [`open`], [`resume`] (carry on), [`close`] at the month's end, [`summary`],
+//! [`status`] and [`tally`]; [`formulas`], which counts those of a rule; [`parse`], which writes a rule that is typed as
+//! text; and [`worst_log`] and [`simulate`], which write logs to try a kiosk or its settings with. Each yields its result
+//! or one [`Refusal`], and a refused call changes nothing. The checker is proved; this crate only hands slices on to it.
+//! None of them allocates, and a thread with [`MOST_STACK`] bytes of stack can make every call but `parse`, which takes
+//! [`PARSE_STACK`].
+//!
+//! # Example
+//!
+//! Letter 0 until letter 1, within two seconds, over a log that grows:
+//!
+//! ```
+//! use havdrims::{measure, open, parse, resume, summary, tally, Refusal, MOST_RULE};
+//!
+//! # fn main() -> Result<(), Refusal> {
+//! let mut buffer = [0; MOST_RULE];
+//! let size = parse(b"e0 until[0,2] e1", &mut buffer)?;
+//! let rule = &buffer[..size];
+//!
+//! let needs = measure(rule)?;
+//! assert_eq!((needs.words, needs.reach), (70, Some(2)));
+//! let mut checkpoint = vec![0; needs.words];
+//! open(rule, &mut checkpoint)?;
+//!
+//! let mut log = b"KLG\x00\x01\x00\x00\x00".to_vec();
+//! log.extend([0, 0, 0, 10, 0, 0, 0, 1]); // second 10: letter 0
+//! log.extend([0, 0, 0, 12, 0, 0, 0, 1]); // second 12: letter 0
+//! let mut sheet = [0; 16];
+//! let first = resume(rule, &log, &mut checkpoint, &mut sheet)?;
+//! assert_eq!((first.verdicts, first.more), (0, false)); // both still open
+//!
+//! log.extend([0, 0, 0, 13, 0, 0, 0, 2]); // second 13: letter 1
+//! let second = resume(rule, &log, &mut checkpoint, &mut sheet)?;
+//! assert_eq!(sheet[..second.verdicts], [0, 1, 1]); // no, yes, yes
+//!
+//! let counts = tally(&sheet[..second.verdicts], 1)?; // of a rule with one formula
+//! assert_eq!((counts.no(), counts.yes()), (&[1][..], &[2][..]));
+//! let so_far = summary(rule, &checkpoint)?;
+//! assert_eq!(so_far.no(), [1]); // the same without any sheet: one no,
+//! assert_eq!(so_far.latest(), [Some(0)]); // at position 0
+//! # Ok(())
+//! # }
+//! ```
+
+pub mod ffi;
+mod refusal;
+pub mod text;
+
+pub use refusal::Refusal;
+
+/// The most bytes of stack that a call other than [`parse`] needs, whatever the rule: measured and tested on x86-64
+/// Linux, not proved.
+pub const MOST_STACK: usize = 65_536;
+
+/// The most bytes of stack that [`parse`] needs, whatever the text: measured and tested on x86-64 Linux, not proved.
+pub const PARSE_STACK: usize = 1_048_576;
+
+/// The most bytes of a rule: a header and 128 entries.
+pub const MOST_RULE: usize = 1_288;
+
+/// The most formulas of a rule.
+pub const MOST_FORMULAS: usize = 8;
+
+/// What a rule needs.
+#[derive(Clone, Copy, Debug, PartialEq, Eq)]
+pub struct Needs {
+    /// The 64-bit words that a checkpoint of the rule takes: 16 to 8,192, and 16 for a rule without entries alone.
+    pub words: usize,
+    /// A position is answered once the last one lies more than so many seconds after it; none for a rule with
+    /// next. Of several formulas it is the largest.
+    pub reach: Option<u32>,
+}
+
+/// What an accepted [`resume`] or [`close`] gave.
+#[derive(Clone, Copy, Debug, PartialEq, Eq)]
+pub struct Resumed {
+    /// The verdicts written, from the sheet's first byte on.
+    pub verdicts: usize,
+    /// The log settles further positions, which the sheet had no room for. Otherwise the checkpoint has caught up.
+    pub more: bool,
+}
+
+/// The no among all verdicts given with a checkpoint, formula by formula.
+#[derive(Clone, Copy, Debug, PartialEq, Eq)]
+pub struct Summary {
+    formulas: usize,
+    no: [u64; MOST_FORMULAS],
+    latest: [Option<u64>; MOST_FORMULAS],
+}
+
+impl Summary {
+    /// The count of no, one for each formula of the rule.
+    pub fn no(&self) -> &[u64] {
+        &self.no[..self.formulas]
+    }
+
+    /// The position of the latest no, one for each formula.
+    pub fn latest(&self) -> &[Option<u64>] {
+        &self.latest[..self.formulas]
+    }
+}
+
+/// How far a checkpoint has come.
+#[derive(Clone, Copy, Debug, PartialEq, Eq)]
+pub struct Status {
+    /// The verdicts given with it, all calls together.
+    pub given: u64,
+    /// The records that the last accepted call brought, service records included.
+    pub seen: u64,
+    /// The first record still wanted: the one that holds the first position still wanted, or the record after all seen
+    /// where none of them holds it. All records before it may be overwritten.
+    pub wanted: u64,
+    /// A closing was accepted.
+    pub closed: bool,
+}
+
+/// The counts of a sheet, formula by formula.
+#[derive(Clone, Copy, Debug, PartialEq, Eq)]
+pub struct Tally {
+    formulas: usize,
+    no: [u64; MOST_FORMULAS],
+    yes: [u64; MOST_FORMULAS],
+}
+
+impl Tally {
+    /// The count of no, one for each formula.
+    pub fn no(&self) -> &[u64] {
+        &self.no[..self.formulas]
+    }
+
+    /// The count of yes, one for each formula.
+    pub fn yes(&self) -> &[u64] {
+        &self.yes[..self.formulas]
+    }
+}
+
+/// Reads a rule and gives the words that its checkpoint needs, and its reach. Refusals: 1 to 8.
+pub fn measure(rule: &[u8]) -> Result<Needs, Refusal> {
+    let (mut words, mut reach) = (0, 0);
+    // SAFETY: the pointers and lengths are those of a slice and of two numbers, none of which overlap.
+    let number = unsafe { ffi::havdrims_measure(rule.as_ptr(), rule.len(), &mut words, &mut reach) };
+    refusal::checked(number)?;
+    let reach = u32::try_from(reach).ok().filter(|&r| r != u32::MAX);
+    Ok(Needs { words: words as usize, reach })
+}
+
+/// The number of formulas of a rule: 1 to 8, and 1 for version 1, a rule without entries included. Refusals: 1 to 8.
+pub fn formulas(rule: &[u8]) -> Result<usize, Refusal> {
+    let mut number = 0;
+    // SAFETY: the pointers and the length are those of a slice and of a number, which do not overlap.
+    let refused = unsafe { ffi::havdrims_formulas(rule.as_ptr(), rule.len(), &mut number) };
+    refusal::checked(refused)?;
+    Ok(number as usize)
+}
+
+/// Writes a fresh checkpoint for a rule. Words beyond the need are kept. Refusals: 1 to 9.
+pub fn open(rule: &[u8], checkpoint: &mut [u64]) -> Result<(), Refusal> {
+    // SAFETY: the pointers and lengths are those of two slices, the second of them borrowed for this call alone.
+    let number = unsafe { ffi::havdrims_open(rule.as_ptr(), rule.len(), checkpoint.as_mut_ptr(), checkpoint.len()) };
+    refusal::checked(number)
+}
+
+/// Carries on: writes the verdicts that the log settles beyond those already given, as many as the sheet takes,
+/// each byte 1 for yes or 0 for no. The rest of the sheet keeps its bytes. For a rule with several formulas bit k of a byte
+/// is the answer of formula k, counted from 0, and a position has its verdict once all of them have answered it.
+///
+/// The log is the whole log from its header on; records before the first still wanted, which [`status`] gives, may have
+/// been overwritten with any bytes. The first position still wanted is the number of verdicts given with this checkpoint so
+/// far, less k, or 0 where it is below k, k being the largest number of previous entries on a path from a formula's last
+/// entry to a letter; the first record still wanted is the one that holds it, or the record after all seen where none of
+/// them does. A service record gets no verdict: its time matters to refusal 14 alone.
+///
+/// Refusals: 1 to 11, then 20 if the checkpoint is closed, then 12, 22 if the log is of another version than that of the
+/// last accepted call with this checkpoint, 13 and 14.
+///
+/// ```
+/// use havdrims::{measure, open, parse, resume, status, text, Refusal, MOST_RULE};
+///
+/// # fn main() -> Result<(), Refusal> {
+/// let mut buffer = [0; MOST_RULE];
+/// let size = parse(b"prev[0,5] e0", &mut buffer)?;
+/// let rule = &buffer[..size];
+/// let mut checkpoint = vec![0; measure(rule)?.words];
+/// open(rule, &mut checkpoint)?;
+///
+/// let log = text::log_from_text("version 2\n10 e0\n11 service\n12 none\n13 service\n").unwrap();
+/// let mut sheet = [7; 4];
+/// assert_eq!(resume(rule, &log, &mut checkpoint, &mut sheet)?.verdicts, 2); // records 0 and 2 are positions 0 and 1
+/// assert_eq!(sheet, [0, 1, 7, 7]);
+/// assert_eq!(status(rule, &checkpoint)?.wanted, 2); // position 1 is still looked back at
+/// let first = text::log_from_text("10 e0\n11 e31\n12 none\n13 e31\n").unwrap();
+/// assert_eq!(resume(rule, &first, &mut checkpoint, &mut sheet), Err(Refusal::OtherVersion));
+/// # Ok(())
+/// # }
+/// ```
+pub fn resume(rule: &[u8], log: &[u8], checkpoint: &mut [u64], sheet: &mut [u8]) -> Result<Resumed, Refusal> {
+    carry_on(ffi::havdrims_resume, rule, log, checkpoint, sheet)
+}
+
+/// Says that no record will follow: every remaining position gets its verdict on the log as it ends. It writes and
+/// answers as [`resume`] does, and is called again where the sheet had no room for all; records before the first still
+/// wanted may be overwritten between. From the first accepted call on, an empty sheet included, the checkpoint is closed:
+/// `resume` is refused with 20, and a closing that brings further records with 21.
+///
+/// ```
+/// use havdrims::{close, measure, open, parse, resume, Refusal, MOST_RULE};
+///
+/// # fn main() -> Result<(), Refusal> {
+/// let mut buffer = [0; MOST_RULE];
+/// let size = parse(b"e0 until[0,2] e1", &mut buffer)?;
+/// let rule = &buffer[..size];
+/// let mut checkpoint = vec![0; measure(rule)?.words];
+/// open(rule, &mut checkpoint)?;
+///
+/// let log = b"KLG\x00\x01\x00\x00\x00\x00\x00\x00\x0A\x00\x00\x00\x01"; // second 10: letter 0
+/// let mut sheet = [7; 4];
+/// assert_eq!(resume(rule, log, &mut checkpoint, &mut sheet)?.verdicts, 0); // open: letter 1 may still come
+/// assert_eq!(close(rule, log, &mut checkpoint, &mut sheet)?.verdicts, 1);
+/// assert_eq!(sheet, [0, 7, 7, 7]); // no: it never came
+/// assert_eq!(resume(rule, log, &mut checkpoint, &mut sheet), Err(Refusal::PointClosed));
+/// # Ok(())
+/// # }
+/// ```
+///
+/// Refusals: 1 to 12, then 22, 13, 21 and 14; 13 and 21 count service records too.
+pub fn close(rule: &[u8], log: &[u8], checkpoint: &mut [u64], sheet: &mut [u8]) -> Result<Resumed, Refusal> {
+    carry_on(ffi::havdrims_close, rule, log, checkpoint, sheet)
+}
+
+/// The parameters that resume and close share.
+type CarryOn = unsafe extern "C" fn(
+    *const u8,
+    usize,
+    *const u8,
+    usize,
+    *mut u64,
+    usize,
+    *mut u8,
+    usize,
+    *mut u64,
+    *mut u64,
+) -> u32;
+
+fn carry_on(
+    call: CarryOn,
+    rule: &[u8],
+    log: &[u8],
+    checkpoint: &mut [u64],
+    sheet: &mut [u8],
+) -> Result<Resumed, Refusal> {
+    let (mut given, mut more) = (0, 0);
+    // SAFETY: the pointers and lengths are those of four slices and of two numbers. What is written to is borrowed
+    // for this call alone, so nothing overlaps.
+    let number = unsafe {
+        call(
+            rule.as_ptr(),
+            rule.len(),
+            log.as_ptr(),
+            log.len(),
+            checkpoint.as_mut_ptr(),
+            checkpoint.len(),
+            sheet.as_mut_ptr(),
+            sheet.len(),
+            &mut given,
+            &mut more,
+        )
+    };
+    refusal::checked(number)?;
+    Ok(Resumed { verdicts: given as usize, more: more == 1 })
+}
+
+/// For each formula, the count of no among all verdicts given with a checkpoint, and the position of the latest (not its
+/// record, where service records stand before it): what [`tally`] and a scan would give over all of them, laid end to end,
+/// without the sheets. Refusals: 1 to 11.
+pub fn summary(rule: &[u8], checkpoint: &[u64]) -> Result<Summary, Refusal> {
+    // No count is so large: what is written, one number for each formula, is told from what is not.
+    let (mut no, mut latest) = ([u64::MAX; MOST_FORMULAS], [u64::MAX; MOST_FORMULAS]);
+    // SAFETY: the pointers and lengths are those of two slices and of two arrays. The arrays overlap nothing.
+    let number = unsafe {
+        ffi::havdrims_summary(rule.as_ptr(), rule.len(), checkpoint.as_ptr(), checkpoint.len(), &mut no, &mut latest)
+    };
+    refusal::checked(number)?;
+    let formulas = no.iter().take_while(|&&count| count != u64::MAX).count();
+    no[formulas..].fill(0);
+    let latest = latest.map(|position| Some(position).filter(|&position| position != u64::MAX));
+    Ok(Summary { formulas, no, latest })
+}
+
+/// How far a checkpoint has come, and from which record on it still wants the log. Refusals: 1 to 11.
+pub fn status(rule: &[u8], checkpoint: &[u64]) -> Result<Status, Refusal> {
+    let (mut given, mut seen, mut wanted, mut closed) = (0, 0, 0, 0);
+    // SAFETY: the pointers and lengths are those of two slices and of four numbers. The numbers overlap nothing.
+    let number = unsafe {
+        ffi::havdrims_status(
+            rule.as_ptr(),
+            rule.len(),
+            checkpoint.as_ptr(),
+            checkpoint.len(),
+            &mut given,
+            &mut seen,
+            &mut wanted,
+            &mut closed,
+        )
+    };
+    refusal::checked(number)?;
+    Ok(Status { given, seen, wanted, closed: closed == 1 })
+}
+
+/// Counts the no and the yes of each of so many formulas in a sheet. Refusal: 15, for a byte with a bit beyond their
+/// number, and for a number of formulas outside 1 to 8.
+///
+/// ```
+/// use havdrims::{tally, Refusal};
+///
+/// let sheet = [2, 2, 2, 1, 1]; // of two formulas: no and yes three times, then yes and no twice
+/// let counts = tally(&sheet, 2)?;
+/// assert_eq!(counts.no(), [3, 2]);
+/// assert_eq!(counts.yes(), [2, 3]);
+/// assert_eq!(tally(&sheet, 1), Err(Refusal::SheetByte));
+/// # Ok::<(), Refusal>(())
+/// ```
+pub fn tally(sheet: &[u8], formulas: usize) -> Result<Tally, Refusal> {
+    let (mut no, mut yes) = ([0; MOST_FORMULAS], [0; MOST_FORMULAS]);
+    // SAFETY: the pointers and the length are those of a slice and of two arrays, none of which overlap.
+    let number = unsafe { ffi::havdrims_tally(sheet.as_ptr(), sheet.len(), formulas as u64, &mut no, &mut yes) };
+    refusal::checked(number)?;
+    Ok(Tally { formulas, no, yes })
+}
+
+/// Writes the rule that a text says, of version 1, and gives the number of its bytes. The rest of the buffer keeps its
+/// bytes. [`text::joined`] makes one rule of several.
+///
+/// Letters are e0 to e31. not, prev and next bind tightest, then since and until, grouping to the right, then or,
+/// grouping to the left; round brackets override. prev, next, since and until carry `[low,high]` in seconds, with inf
+/// for no upper end. Refusals: 16, 17, 4, 6, 8, 18, the first of them in this order that applies.
+///
+/// ```
+/// use havdrims::{parse, text, Refusal, MOST_RULE};
+///
+/// let mut rule = [0; MOST_RULE];
+/// let size = parse(b"not e2 or e0 until[0,90] e1", &mut rule).unwrap();
+/// assert_eq!(size, 68);
+/// assert_eq!(text::formula(&rule[..size]).unwrap(), "not e2 or e0 until[0,90] e1");
+/// assert_eq!(parse(b"e0 until e1", &mut rule), Err(Refusal::NotDerived));
+/// ```
+pub fn parse(text: &[u8], rule: &mut [u8]) -> Result<usize, Refusal> {
+    let mut written = 0;
+    // SAFETY: the pointers and lengths are those of two slices, the second of them borrowed for this call alone, and of
+    // a number.
+    let number = unsafe { ffi::havdrims_parse(text.as_ptr(), text.len(), rule.as_mut_ptr(), rule.len(), &mut written) };
+    refusal::checked(number)?;
+    Ok(written as usize)
+}
+
+/// Writes a log of exactly `records` records that keeps most seconds waiting, for the rule "letter 0 until letter 1,
+/// within `low` to `high` seconds": none of them is settled, and they have as many distinct times as the open records
+/// of such a log can have, the smaller of `records` and `high` + 1. Gives the log's length, 8 + 8 × `records` bytes;
+/// the bytes behind are kept. Refusals: 6 for the interval, and 19.
+pub fn worst_log(low: u32, high: u32, records: u64, log: &mut [u8]) -> Result<usize, Refusal> {
+    let mut written = 0;
+    // SAFETY: the pointers and the length are those of a slice and of a number, which do not overlap.
+    let number = unsafe { ffi::havdrims_worst_log(low, high, records, log.as_mut_ptr(), log.len(), &mut written) };
+    refusal::checked(number)?;
+    Ok(written as usize)
+}
+
+/// The settings of a simulated kiosk, in seconds.
+#[derive(Clone, Copy, Debug, PartialEq, Eq)]
+pub struct Settings {
+    /// How long the head takes to warm up: 1 to 600.
+    pub warm_up: u32,
+    /// How long a print takes: 1 to 600.
+    pub print_time: u32,
+    /// How long a warm head is idle before it goes off: 1 to 3,600.
+    pub switch_off: u32,
+    /// A customer joins in a second whose draw is divisible by this: 1 to 3,600.
+    pub mean_gap: u32,
+}
+
+/// What a [`simulate`] gave: the log's length, and how many customers are where at the end.
+#[derive(Clone, Copy, Debug, PartialEq, Eq)]
+pub struct Simulated {
+    /// The bytes of the log, from the buffer's first on.
+    pub written: usize,
+    /// The prints that ended.
+    pub finished: u64,
+    /// 1 if a print goes on, else 0.
+    pub printing: u64,
+    /// The customers whose print has not begun.
+    pub waiting: u64,
+}
+
+/// Simulates up to 3,600 seconds of a kiosk, from time 0, with the head off and nobody there, and writes its log, a
+/// record for each second: 8 + 8 × seconds bytes. The rest of the buffer keeps its bytes. The seed is not 0.
+///
+/// Letter 0 stands in a second that ends with a warm head, letter 1 where a print begins, letter 2 where a customer
+/// joins, letter 3 where a print ends. Refusal: 26.
+///
+/// ```
+/// use havdrims::{simulate, Refusal, Settings};
+///
+/// let settings = Settings { warm_up: 1, print_time: 2, switch_off: 1, mean_gap: 3 };
+/// let mut log = [0; 24];
+/// let first = simulate(&settings, 2, 6, &mut log)?;
+/// assert_eq!((first.written, first.finished, first.printing, first.waiting), (24, 0, 1, 0));
+/// assert_eq!(log[8..16], [0, 0, 0, 0, 0, 0, 0, 4]); // second 0: a customer joins, and the head begins to warm up
+/// assert_eq!(log[16..24], [0, 0, 0, 1, 0, 0, 0, 3]); // second 1: the head is warm, and a print begins
+/// assert_eq!(simulate(&settings, 3, 6, &mut log), Err(Refusal::Settings)); // no room for three records
+/// # Ok::<(), Refusal>(())
+/// ```
+pub fn simulate(settings: &Settings, seconds: u32, seed: u32, log: &mut [u8]) -> Result<Simulated, Refusal> {
+    let (mut written, mut finished, mut printing, mut waiting) = (0, 0, 0, 0);
+    // SAFETY: the pointers and lengths are those of a slice and of four numbers, none of which overlap.
+    let number = unsafe {
+        ffi::havdrims_simulate(
+            seconds,
+            settings.warm_up,
+            settings.print_time,
+            settings.switch_off,
+            settings.mean_gap,
+            seed,
+            log.as_mut_ptr(),
+            log.len(),
+            &mut written,
+            &mut finished,
+            &mut printing,
+            &mut waiting,
+        )
+    };
+    refusal::checked(number)?;
+    Ok(Simulated { written: written as usize, finished, printing, waiting })
+}

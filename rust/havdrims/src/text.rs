@@ -1,0 +1,251 @@
+//! Logs as text, for people who have theirs so, and rules shown as formulas.
+//!
+//! A log as text has a line for each record, the seconds and then the letters:
+//!
+//! ```text
+//! # second, letters
+//! 10 e0
+//! 11 none
+//! 12 e0 e3
+//! ```
+//!
+//! A letter is `e0` to `e31`, or its number alone. `none`, or nothing behind the seconds, is a record without
+//! letters. Empty lines, and what follows a `#`, are passed over.
+//!
+//! A line `version 2` before the first record says that the log is of version 2, which knows service records. The word
+//! `service` makes a record one: it is letter 31, and is shown so.
+//!
+//! ```text
+//! version 2
+//! 10 e0
+//! 11 service
+//! ```
+
+use crate::{measure, Refusal};
+use std::fmt::Write;
+
+/// The header of a log, by its version less 1.
+const LOG_HEADERS: [[u8; 8]; 2] = [*b"KLG\x00\x01\x00\x00\x00", *b"KLG\x00\x02\x00\x00\x00"];
+/// The header of a version 2 rule, but for its number of entries.
+const RULE_HEADER: [u8; 8] = *b"KRL\x00\x02\x00\x00\x00";
+const MOST_RECORDS: usize = 1_000_000;
+const NO_END: u32 = u32::MAX;
+/// The letter of a service record, from version 2 on.
+const SERVICE: u32 = 31;
+
+/// What [`formula`] shows of a rule without entries.
+pub const EMPTY: &str = "empty: every position is yes";
+
+/// The bytes of the log that the text describes, or what is wrong and in which line.
+///
+/// ```
+/// let log = havdrims::text::log_from_text("10 e0\n11 none\n").unwrap();
+/// assert_eq!(log, *b"KLG\x00\x01\x00\x00\x00\x00\x00\x00\x0A\x00\x00\x00\x01\x00\x00\x00\x0B\x00\x00\x00\x00");
+/// ```
+pub fn log_from_text(text: &str) -> Result<Vec<u8>, String> {
+    let mut log = LOG_HEADERS[0].to_vec();
+    let (mut before, mut versions) = (0, 0);
+    for (at, line) in text.lines().enumerate() {
+        let words: Vec<&str> = line.split('#').next().unwrap_or("").split_whitespace().collect();
+        let Some((&first, words)) = words.split_first() else { continue };
+        let faulty = |fault: String| format!("line {}: {fault}", at + 1);
+        if first == "version" {
+            if log.len() > 8 || versions > 0 {
+                return Err(faulty("the version stands once, before the first record".to_string()));
+            }
+            versions += 1;
+            log = header(words).ok_or_else(|| faulty("a log's version is 1 or 2".to_string()))?.to_vec();
+            continue;
+        }
+        let services = log.starts_with(&LOG_HEADERS[1]);
+        let (time, letters) = record(first, words, services).map_err(faulty)?;
+        if time < before {
+            return Err(faulty(format!("second {time} comes after second {before}")));
+        }
+        before = time;
+        if log.len() == 8 + 8 * MOST_RECORDS {
+            return Err(faulty("a log has at most 1,000,000 records".to_string()));
+        }
+        log.extend(time.to_be_bytes());
+        log.extend(letters.to_be_bytes());
+    }
+    Ok(log)
+}
+
+/// The header of the version that these words say.
+fn header(words: &[&str]) -> Option<[u8; 8]> {
+    match words {
+        ["1"] => Some(LOG_HEADERS[0]),
+        ["2"] => Some(LOG_HEADERS[1]),
+        _ => None,
+    }
+}
+
+/// A record's time and event set, in a log that has service records or not.
+fn record(seconds: &str, words: &[&str], services: bool) -> Result<(u32, u32), String> {
+    let time = seconds.parse().map_err(|_| format!("`{seconds}` is no number of seconds up to 4294967295"))?;
+    let mut letters = 0;
+    for &word in words.iter().filter(|&&word| word != "none") {
+        let number: u32 = match word {
+            "service" if services => SERVICE,
+            "service" => return Err("`service` needs the line `version 2` before the first record".to_string()),
+            _ => word.strip_prefix('e').unwrap_or(word).parse().unwrap_or(32),
+        };
+        if number > 31 {
+            return Err(format!("`{word}` is no letter: letters are e0 to e31"));
+        }
+        letters |= 1 << number;
+    }
+    Ok((time, letters))
+}
+
+/// A log as text, or refusal 12.
+pub fn log_to_text(log: &[u8]) -> Result<String, Refusal> {
+    let version = LOG_HEADERS.iter().position(|header| log.starts_with(header)).ok_or(Refusal::LogFormat)?;
+    let (services, records) = (version == 1, &log[8..]);
+    if records.len() % 8 != 0 || records.len() > 8 * MOST_RECORDS {
+        return Err(Refusal::LogFormat);
+    }
+    let mut text = String::from(if services { "version 2\n" } else { "" });
+    for record in records.chunks_exact(8) {
+        let (time, letters) = (be32(record), be32(&record[4..]));
+        let _ = write!(text, "{time}");
+        for letter in (0..32).filter(|letter| letters >> letter & 1 == 1) {
+            let _ = match letter {
+                SERVICE if services => write!(text, " service"),
+                _ => write!(text, " e{letter}"),
+            };
+        }
+        text.push_str(if letters == 0 { " none\n" } else { "\n" });
+    }
+    Ok(text)
+}
+
+/// How many of a log's records from this one on are service records: none in a log of version 1.
+///
+/// ```
+/// use havdrims::text::{log_from_text, services};
+///
+/// let log = log_from_text("version 2\n10 service\n11 e0\n12 e0 service\n").unwrap();
+/// assert_eq!((services(&log, 0), services(&log, 1)), (2, 1));
+/// let log = log_from_text("10 e31\n").unwrap();
+/// assert_eq!(services(&log, 0), 0);
+/// ```
+pub fn services(log: &[u8], from: usize) -> usize {
+    let records = log.strip_prefix(&LOG_HEADERS[1]).unwrap_or_default().chunks_exact(8);
+    records.skip(from).filter(|record| be32(&record[4..]) >> SERVICE & 1 == 1).count()
+}
+
+fn be32(bytes: &[u8]) -> u32 {
+    u32::from_be_bytes([bytes[0], bytes[1], bytes[2], bytes[3]])
+}
+
+/// How tightly a formula binds: or, then since and until, then the words with one operand, then a letter.
+#[derive(Clone, Copy, PartialEq, PartialOrd)]
+enum Binding {
+    Or,
+    Binary,
+    Unary,
+    Letter,
+}
+
+/// A part of a formula, and how tightly it binds.
+struct Part {
+    text: String,
+    binding: Binding,
+}
+
+impl Part {
+    /// The part's text where at least this binding is wanted, in brackets if it binds less.
+    fn at(self, wanted: Binding) -> String {
+        if self.binding < wanted {
+            format!("({})", self.text)
+        } else {
+            self.text
+        }
+    }
+}
+
+/// A rule as a formula, or the refusal that it meets: the text that [`crate::parse`] reads, with the fewest brackets. A
+/// rule without entries has no formula: [`EMPTY`] says what it means. A rule with several has a line for each, in the order
+/// of their numbers, from 0 on.
+///
+/// ```
+/// let rule = *b"KRL\x00\x01\x03\x00\x00\
+///     \x00\x00\x00\x00\x00\x00\x00\x00\x00\x00\
+///     \x00\x01\x00\x00\x00\x00\x00\x00\x00\x00\
+///     \x06\x00\x00\x00\x00\x00\x00\x00\x00\x5A";
+/// assert_eq!(havdrims::text::formula(&rule).unwrap(), "e0 until[0,90] e1");
+/// ```
+pub fn formula(rule: &[u8]) -> Result<String, Refusal> {
+    measure(rule)?;
+    // The rule has no fault, so every entry finds its operands and a part is left for each formula: none of an empty rule.
+    let mut parts: Vec<Part> = Vec::new();
+    for entry in rule[8..].chunks_exact(10) {
+        let part = match entry[0] {
+            0 => Part { text: format!("e{}", entry[1]), binding: Binding::Letter },
+            1 | 3 | 4 => {
+                let operand = operand(&mut parts).at(Binding::Unary);
+                Part { text: format!("{} {operand}", word(entry)), binding: Binding::Unary }
+            }
+            2 => {
+                let right = operand(&mut parts).at(Binding::Binary);
+                let left = operand(&mut parts).at(Binding::Or);
+                Part { text: format!("{left} or {right}"), binding: Binding::Or }
+            }
+            _ => {
+                let right = operand(&mut parts).at(Binding::Binary);
+                let left = operand(&mut parts).at(Binding::Unary);
+                Part { text: format!("{left} {} {right}", word(entry)), binding: Binding::Binary }
+            }
+        };
+        parts.push(part);
+    }
+    if parts.is_empty() {
+        return Ok(EMPTY.to_string());
+    }
+    Ok(parts.into_iter().map(|part| part.text).collect::<Vec<_>>().join("\n"))
+}
+
+/// The version 2 rule with all formulas of these rules, in their order, or the first refusal of 1 to 8 that one of them or
+/// the whole meets: 4 for more than 128 entries, 7 for more than eight formulas or none. A rule without entries has no
+/// formula.
+///
+/// ```
+/// use havdrims::{formulas, parse, text, Refusal, MOST_RULE};
+///
+/// let [mut one, mut two] = [[0; MOST_RULE]; 2];
+/// let sizes = [parse(b"e0 until[0,2] e1", &mut one)?, parse(b"not e1", &mut two)?];
+/// let rule = text::joined(&[&one[..sizes[0]], &two[..sizes[1]]])?;
+/// assert_eq!(formulas(&rule), Ok(2));
+/// assert_eq!(text::formula(&rule)?, "e0 until[0,2] e1\nnot e1");
+/// # Ok::<(), Refusal>(())
+/// ```
+pub fn joined(rules: &[&[u8]]) -> Result<Vec<u8>, Refusal> {
+    let mut all = RULE_HEADER.to_vec();
+    for rule in rules {
+        measure(rule)?;
+        all.extend(&rule[8..]);
+    }
+    all[5] = u8::try_from((all.len() - 8) / 10).map_err(|_| Refusal::RuleLength)?;
+    measure(&all)?;
+    Ok(all)
+}
+
+fn operand(parts: &mut Vec<Part>) -> Part {
+    parts.pop().expect("measure found each entry's operands")
+}
+
+/// An operator's word, with its interval if it has one.
+fn word(entry: &[u8]) -> String {
+    let (low, high) = (be32(&entry[2..]), be32(&entry[6..]));
+    let name = match entry[0] {
+        1 => return "not".to_string(),
+        3 => "prev",
+        4 => "next",
+        5 => "since",
+        _ => "until",
+    };
+    let high = if high == NO_END { "inf".to_string() } else { high.to_string() };
+    format!("{name}[{low},{high}]")
+}

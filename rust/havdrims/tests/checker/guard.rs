@@ -1,0 +1,157 @@
+//! Lent buffers between pages that may not be touched.
+
+use std::cell::RefCell;
+use std::ffi::{c_int, c_long, c_void};
+use std::ptr;
+use std::slice;
+
+extern "C" {
+    fn mmap(
+        at: *mut c_void,
+        length: usize,
+        protection: c_int,
+        flags: c_int,
+        file: c_int,
+        offset: c_long,
+    ) -> *mut c_void;
+    fn mprotect(at: *mut c_void, length: usize, protection: c_int) -> c_int;
+    fn munmap(at: *mut c_void, length: usize) -> c_int;
+}
+
+const PAGE: usize = 4096;
+const NONE: c_int = 0;
+const READ: c_int = 1;
+const READ_WRITE: c_int = 3;
+const PRIVATE_ANONYMOUS: c_int = 0x22;
+/// What stands in the pages around a buffer that does not fill them.
+const SLACK: u8 = 0xA5;
+
+/// Which guard page the buffer touches.
+#[derive(Clone, Copy, Debug, PartialEq)]
+pub enum Side {
+    Left,
+    Right,
+}
+
+/// Mappings of up to so many bytes are kept for the next buffer of their size.
+const POOLED: usize = 16 * PAGE;
+
+thread_local! {
+    static POOL: RefCell<Vec<Vec<*mut u8>>> = const { RefCell::new(Vec::new()) };
+}
+
+/// Pages for one buffer, between two that may not be touched.
+pub struct Lent {
+    pages: *mut u8,
+    size: usize,
+    start: usize,
+    length: usize,
+    read_only: bool,
+}
+
+/// A fresh mapping of so many bytes between two guard pages.
+fn map(size: usize) -> *mut u8 {
+    // SAFETY: a private mapping; its two outer pages are taken out of use before anything is lent.
+    unsafe {
+        let map = mmap(ptr::null_mut(), size + 2 * PAGE, READ_WRITE, PRIVATE_ANONYMOUS, -1, 0);
+        assert!(map as isize != -1, "no memory for a guarded buffer");
+        assert_eq!(mprotect(map, PAGE, NONE), 0);
+        assert_eq!(mprotect(map.byte_add(PAGE + size), PAGE, NONE), 0);
+        map.cast::<u8>().add(PAGE)
+    }
+}
+
+impl Lent {
+    /// Room for so many bytes.
+    pub fn new(capacity: usize) -> Lent {
+        let size = capacity.max(1).div_ceil(PAGE) * PAGE;
+        let pooled = POOL.with_borrow_mut(|pool| pool.get_mut(size / PAGE).and_then(Vec::pop));
+        let pages = pooled.unwrap_or_else(|| map(size));
+        Lent { pages, size, start: 0, length: 0, read_only: false }
+    }
+
+    /// Places a buffer with these bytes at one of the guard pages.
+    pub fn place(&mut self, content: &[u8], side: Side) {
+        assert!(content.len() <= self.size);
+        self.length = content.len();
+        self.start = if side == Side::Left { 0 } else { self.size - self.length };
+        // SAFETY: the pages between the guards are this buffer's own.
+        let all = unsafe { slice::from_raw_parts_mut(self.pages, self.size) };
+        all[..self.start].fill(SLACK);
+        all[self.start..self.start + self.length].copy_from_slice(content);
+        all[self.start + self.length..].fill(SLACK);
+    }
+
+    /// The same for words.
+    pub fn place_words(&mut self, content: &[u64], side: Side) {
+        let bytes: Vec<u8> = content.iter().flat_map(|w| w.to_ne_bytes()).collect();
+        self.place(&bytes, side);
+    }
+
+    /// Allows reading alone, or writing again.
+    pub fn read_only_if(&mut self, on: bool) {
+        if self.read_only == on {
+            return;
+        }
+        self.read_only = on;
+        let protection = if on { READ } else { READ_WRITE };
+        // SAFETY: the pages between the guards are this buffer's own.
+        assert_eq!(unsafe { mprotect(self.pages.cast(), self.size, protection) }, 0);
+    }
+
+    /// Lends the first so many bytes alone.
+    pub fn shorten(&mut self, length: usize) {
+        assert!(self.start + length <= self.size);
+        self.length = length;
+    }
+
+    pub fn bytes_mut(&mut self) -> &mut [u8] {
+        assert!(!self.read_only);
+        // SAFETY: place has set start and length within the pages.
+        unsafe { slice::from_raw_parts_mut(self.pages.add(self.start), self.length) }
+    }
+
+    pub fn bytes(&self) -> &[u8] {
+        // SAFETY: place has set start and length within the pages.
+        unsafe { slice::from_raw_parts(self.pages.add(self.start), self.length) }
+    }
+
+    pub fn words(&self) -> &[u64] {
+        assert_eq!(self.length % 8, 0);
+        // SAFETY: as for bytes; pages and words have the same alignment at both sides.
+        unsafe { slice::from_raw_parts(self.pages.add(self.start).cast(), self.length / 8) }
+    }
+
+    pub fn pointer(&mut self) -> *mut u8 {
+        // SAFETY: place has set start within the pages.
+        unsafe { self.pages.add(self.start) }
+    }
+
+    pub fn length(&self) -> usize {
+        self.length
+    }
+
+    /// The rest of the pages is as place left it.
+    pub fn surroundings_kept(&self) -> bool {
+        // SAFETY: the pages between the guards are this buffer's own.
+        let all = unsafe { slice::from_raw_parts(self.pages, self.size) };
+        let outside = [&all[..self.start], &all[self.start + self.length..]];
+        outside.iter().all(|part| part.iter().all(|&b| b == SLACK))
+    }
+}
+
+impl Drop for Lent {
+    fn drop(&mut self) {
+        self.read_only_if(false);
+        let (pages, size) = (self.pages, self.size);
+        if size > POOLED {
+            // SAFETY: the mapping that map made, guard pages included.
+            unsafe { munmap(pages.sub(PAGE).cast(), size + 2 * PAGE) };
+            return;
+        }
+        POOL.with_borrow_mut(|pool| {
+            pool.resize_with(POOLED / PAGE + 1, Vec::new);
+            pool[size / PAGE].push(pages);
+        });
+    }
+}

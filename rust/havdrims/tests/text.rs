@@ -1,0 +1,169 @@
+//! Logs as text and rules as formulas.
+
+use evaluator::random::{self, LogShape, Random, RuleShape};
+use evaluator::rule::{self, Entry, NEXT, NO_END, PREVIOUS, SINCE, UNTIL};
+use evaluator::{cases, log};
+use havdrims::text::{formula, joined, log_from_text, log_to_text, services, EMPTY};
+use havdrims::{parse, Refusal, MOST_RULE};
+
+const P1: &str = "10 e0\n11 e0\n11 none\n12 e0\n13 e1\n20 e0\n";
+
+#[test]
+fn p1_log_both_ways() {
+    let file = log::encode(&cases::p1_records());
+    assert_eq!(log_to_text(&file).unwrap(), P1);
+    assert_eq!(log_from_text(P1).unwrap(), file);
+}
+
+#[test]
+fn other_ways_to_type_a_log() {
+    let typed = "# the morning\n\n10 0   # warm\n 11 e0\r\n11\n12 0 none 0\n13\te1\n20 e0";
+    assert_eq!(log_to_text(&log_from_text(typed).unwrap()).unwrap(), P1);
+    assert_eq!(log_from_text("").unwrap(), log::HEADER);
+    assert_eq!(log_from_text("4294967295 e31 0").unwrap()[8..], [255, 255, 255, 255, 128, 0, 0, 1]);
+}
+
+#[test]
+fn faults_name_their_line() {
+    let fault = |text: &str| log_from_text(text).unwrap_err();
+    assert_eq!(fault("1 e0\nx e0\n"), "line 2: `x` is no number of seconds up to 4294967295");
+    assert!(fault("4294967296 e0").starts_with("line 1: `4294967296`"));
+    assert!(fault("-1 e0").starts_with("line 1: `-1`"));
+    assert_eq!(fault("1 e32"), "line 1: `e32` is no letter: letters are e0 to e31");
+    assert_eq!(fault("1 warm"), "line 1: `warm` is no letter: letters are e0 to e31");
+    assert_eq!(fault("5\n\n4\n"), "line 3: second 4 comes after second 5");
+    assert_eq!(fault(&"1\n".repeat(1_000_001)), "line 1000001: a log has at most 1,000,000 records");
+}
+
+#[test]
+fn damaged_logs_are_refused() {
+    for file in
+        [&b""[..], b"KLG", b"KLG\x00\x03\x00\x00\x00", b"KLG\x00\x01\x00\x00\x01", b"KLG\x00\x01\x00\x00\x00\x07"]
+    {
+        assert_eq!(log_to_text(file), Err(Refusal::LogFormat));
+    }
+    assert_eq!(log_to_text(&log::HEADER).unwrap(), "");
+}
+
+const SERVED: &str = "version 2\n10 e0\n10 service\n11 e0 e3 service\n12 none\n";
+
+#[test]
+fn logs_of_version_2() {
+    let file = log_from_text(SERVED).unwrap();
+    assert_eq!(file[..8], *b"KLG\x00\x02\x00\x00\x00");
+    assert_eq!(file[16..32], [0, 0, 0, 10, 128, 0, 0, 0, 0, 0, 0, 11, 128, 0, 0, 9]);
+    assert_eq!(log_to_text(&file).unwrap(), SERVED);
+    assert_eq!((services(&file, 0), services(&file, 2), services(&file, 3), services(&file, 9)), (2, 1, 0, 0));
+    // other ways to type it; letter 31 by its name too
+    let typed = "\n# the visit\n version  2 # of the log\n10 0\n10 31\n11 service 3 service e0\n12\n";
+    assert_eq!(log_from_text(typed).unwrap(), file);
+    // the same records as version 1, where letter 31 is a letter
+    let plain = SERVED.replace("version 2", "version 1").replace("service", "e31");
+    let first = log_from_text(&plain).unwrap();
+    assert_eq!((&first[..5], &first[8..]), (&b"KLG\x00\x01"[..], &file[8..]));
+    assert_eq!(log_to_text(&first).unwrap(), plain.replace("version 1\n", ""));
+    assert_eq!(services(&first, 0), 0);
+    assert_eq!(log_to_text(&log_from_text("version 2").unwrap()).unwrap(), "version 2\n");
+}
+
+#[test]
+fn faults_of_a_version() {
+    let fault = |text: &str| log_from_text(text).unwrap_err();
+    assert_eq!(fault("1 e0\n2 service\n"), "line 2: `service` needs the line `version 2` before the first record");
+    assert!(fault("version 1\n2 service\n").starts_with("line 2: `service` needs"));
+    for text in ["1 e0\nversion 2\n", "version 2\nversion 2\n"] {
+        assert_eq!(fault(text), "line 2: the version stands once, before the first record");
+    }
+    for text in ["version", "version 3", "version 0", "version two", "version 2 2", "version e2"] {
+        assert_eq!(fault(text), "line 1: a log's version is 1 or 2", "{text}");
+    }
+    assert_eq!(fault("version 2\n5 service\n4 e0\n"), "line 3: second 4 comes after second 5");
+}
+
+#[test]
+fn random_logs_come_back() {
+    let mut r = Random::new(5);
+    for _ in 0..500 {
+        let shape = LogShape { records: r.below(60), letters: 32, hold: 1, step: 1 << 28, start: r.draw() as u32 };
+        let file = log::encode(&random::log(&mut r, shape));
+        assert_eq!(log_from_text(&log_to_text(&file).unwrap()).unwrap(), file);
+        let mut second = file;
+        second[4] = 2;
+        assert_eq!(log_from_text(&log_to_text(&second).unwrap()).unwrap(), second);
+    }
+}
+
+#[test]
+fn formulas() {
+    let shown = |entries: &[Entry]| formula(&rule::encode(entries)).unwrap();
+    let [a, b, c] = [0, 1, 31].map(Entry::letter);
+    let until = Entry::timed(UNTIL, 0, 2);
+    let since = Entry::timed(SINCE, 1, NO_END);
+    assert_eq!(shown(&[a, b, until]), "e0 until[0,2] e1");
+    assert_eq!(shown(&[a, b, until, Entry::not()]), "not (e0 until[0,2] e1)");
+    assert_eq!(shown(&[a, Entry::not(), b, until]), "not e0 until[0,2] e1");
+    assert_eq!(shown(&[a, b, c, since, until]), "e0 until[0,2] e1 since[1,inf] e31");
+    assert_eq!(shown(&[a, b, until, c, since]), "(e0 until[0,2] e1) since[1,inf] e31");
+    assert_eq!(shown(&[a, b, Entry::or(), c, Entry::or()]), "e0 or e1 or e31");
+    assert_eq!(shown(&[a, b, c, Entry::or(), Entry::or()]), "e0 or (e1 or e31)");
+    assert_eq!(shown(&[a, b, Entry::or(), c, until]), "(e0 or e1) until[0,2] e31");
+    let both = [a, Entry::timed(NEXT, 1, 1), Entry::timed(PREVIOUS, 0, 3600)];
+    assert_eq!(shown(&both), "prev[0,3600] next[1,1] e0");
+    assert_eq!(shown(&[a, Entry::timed(NEXT, 1, NO_END)]), "next[1,inf] e0");
+    assert_eq!(shown(&[]), EMPTY);
+    assert_eq!(formula(b"KRL"), Err(Refusal::RuleMark));
+}
+
+/// A rule of several formulas, shown, typed again line by line and joined, is the same rule.
+#[test]
+fn several_formulas_come_back() {
+    let mut r = Random::new(8);
+    let mut several = 0;
+    for _ in 0..5_000 {
+        let shape = RuleShape { entries: 12, letters: 32, high: r.pick(&[2, 90, 300]) };
+        let number = r.from_to(1, 8);
+        let file = rule::encode_several(&random::formulas(&mut r, shape, number));
+        let Ok(shown) = formula(&file) else { continue };
+        let typed: Vec<Vec<u8>> = shown.lines().map(|line| parsed(line).unwrap()).collect();
+        assert_eq!(typed.len(), number, "{shown}");
+        let typed: Vec<&[u8]> = typed.iter().map(Vec::as_slice).collect();
+        assert_eq!(joined(&typed), Ok(file), "{shown}");
+        several += usize::from(number > 1);
+    }
+    assert!(several > 1_000, "{several}");
+}
+
+fn parsed(line: &str) -> Result<Vec<u8>, Refusal> {
+    let mut bytes = vec![0; MOST_RULE];
+    let size = parse(line.as_bytes(), &mut bytes)?;
+    bytes.truncate(size);
+    Ok(bytes)
+}
+
+#[test]
+fn several_formulas() {
+    let [e0, e1, p1] = [vec![Entry::letter(0)], vec![Entry::letter(1), Entry::not()], cases::p1_entries()];
+    let rules = [&e0, &e1, &p1].map(|entries| rule::encode(entries));
+    let rules = rules.each_ref().map(Vec::as_slice);
+    let all = joined(&rules).unwrap();
+    assert_eq!(all, rule::encode_several(&[e0.clone(), e1.clone(), p1.clone()]));
+    assert_eq!(formula(&all).unwrap(), "e0\nnot e1\ne0 until[0,2] e1");
+    // one alone, of version 2, and one of version 2 among others
+    let one = joined(&rules[..1]).unwrap();
+    assert_eq!((one.as_slice(), formula(&one).unwrap().as_str()), (&rule::encode_as(2, &e0)[..], "e0"));
+    assert_eq!(joined(&[&all, &one]), Ok(rule::encode_several(&[e0.clone(), e1, p1, e0.clone()])));
+    // eight are the most, and there is at least one
+    assert_eq!(joined(&[rules[0]; 8]).unwrap(), rule::encode_several(&vec![e0; 8]));
+    assert_eq!(joined(&[rules[0]; 9]), Err(Refusal::Shape));
+    assert_eq!(joined(&[]), Err(Refusal::Shape));
+    assert_eq!(joined(&[&rule::encode(&[])]), Err(Refusal::Shape));
+    // 128 entries, one more, and so many that their number has no byte
+    let many = |entries: usize| {
+        let nots = [vec![Entry::letter(0)], vec![Entry::not(); entries - 1]].concat();
+        rule::encode(&nots)
+    };
+    assert_eq!(joined(&[&many(64), &many(64)]).map(|rule| rule.len()), Ok(8 + 10 * 128));
+    assert_eq!(joined(&[&many(64), &many(65)]), Err(Refusal::RuleLength));
+    assert_eq!(joined(&[&many(128), &many(128)]), Err(Refusal::RuleLength));
+    assert_eq!(joined(&[rules[0], b"KRL"]), Err(Refusal::RuleMark));
+}
