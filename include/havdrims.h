@@ -32,6 +32,9 @@ extern "C" {
  * What a call writes (point, sheet, a rule or log that it makes, the numbers behind its last pointers) shares no byte with
  * anything else that the call is given. What it only reads may overlap.
  *
+ * In a log of version 1 every record is a position. In one of version 2 a record with letter 31 is a service record: no
+ * position, skipped by every operator, without a verdict. Positions are numbered from 0 over the other records.
+ *
  * The formats of rule, log and sheet are those of docs/FORMATS.md. A point's words are the library's own, in the
  * byte order of the machine: save them and hand them back as they are.
  * A point of another format, as a library of another version may have written, is refused with 10.
@@ -55,11 +58,13 @@ enum havdrims_refusal {
     HAVDRIMS_POINT_RANGE = 11,    /* a word of the point is outside its range (docs/CHECKPOINT.md); a point that this
                                      library left never meets this where no record from the first still wanted on was
                                      altered */
-    HAVDRIMS_LOG_FORMAT = 12,     /* the log is shorter than 8 bytes, its mark, version or spare bytes are wrong, its
-                                     length less 8 is no multiple of 8, or it has more than 1,000,000 records */
-    HAVDRIMS_FEWER_RECORDS = 13,  /* the log has fewer records than the point has seen */
+    HAVDRIMS_LOG_FORMAT = 12,     /* the log is shorter than 8 bytes, its mark or spare bytes are wrong, its version is
+                                     not 1 or 2, its length less 8 is no multiple of 8, or it has more than 1,000,000
+                                     records, service records included */
+    HAVDRIMS_FEWER_RECORDS = 13,  /* the log has fewer records than the point has seen, service records included */
     HAVDRIMS_TIME_FALLS = 14,     /* some record after the first still wanted has a time below that of the record
-                                     before it, or the first new record's time is below the last time seen */
+                                     before it, or the first new record's time is below the last time seen; service
+                                     records are records here too */
     HAVDRIMS_SHEET_BYTE = 15,     /* a sheet given to tally has a byte with a bit beyond the number of formulas, or that
                                      number is outside 1 to 8 */
     HAVDRIMS_UNKNOWN_WORD = 16,   /* a word, sign or form of number of a text is unknown, or it has more than 1,024
@@ -70,7 +75,9 @@ enum havdrims_refusal {
                                      8 + 8 * records bytes */
     HAVDRIMS_POINT_CLOSED = 20,   /* resume is given a closed point */
     HAVDRIMS_MORE_RECORDS = 21,   /* closing is repeated with more records than at its first call that was not
-                                     refused */
+                                     refused, service records included */
+    HAVDRIMS_OTHER_VERSION = 22,  /* the log's version differs from that of the last resume or close with this point that
+                                     was not refused */
     HAVDRIMS_SETTINGS = 26        /* a setting, the seconds or the seed given to simulate is outside its range, or the
                                      lent log buffer is short */
 };
@@ -101,7 +108,7 @@ enum havdrims_refusal {
  * Weighs a rule of rule_len bytes.
  *
  * *words becomes the number of words that a point of this rule needs, 16 to 8,192. *reach becomes the rule's reach
- * in seconds: a record has its verdict, at the latest, once the log has a record more than that much later; or
+ * in seconds: a position has its verdict, at the latest, once the log has one more than that much later; or
  * HAVDRIMS_NO_REACH. Of several formulas it is the largest.
  *
  * Refusals: 1 to 8.
@@ -125,9 +132,9 @@ uint32_t havdrims_open(const uint8_t *rule, size_t rule_len, uint64_t *point, si
 
 /*
  * Carries on from a point: judges the log as far as it goes and writes the verdicts that are new since the last
- * accepted call with this point, one byte for each record in turn, 1 for yes and 0 for no. Where the rule has several
+ * accepted call with this point, one byte for each position in turn, 1 for yes and 0 for no. Where the rule has several
  * formulas, bit k of the byte, the bit worth 2 to the k, is the answer of formula k, counted from 0 in the rule's order. A
- * record has its verdict when every formula has answered it.
+ * position has its verdict when every formula has answered it. A service record is no position: no byte is written for it.
  *
  * rule    the rule that the point was opened for, byte for byte.
  * log     the whole log from its header on, with the records of the accepted calls before and any number of new
@@ -138,28 +145,30 @@ uint32_t havdrims_open(const uint8_t *rule, size_t rule_len, uint64_t *point, si
  *         are kept.
  * sheet   takes the verdicts. Its bytes behind them are kept. It may be of any length, 0 included.
  *
- * The first record still wanted is the number of verdicts given with this point so far, less k, or 0 where it is below
+ * The first position still wanted is the number of verdicts given with this point so far, less k, or 0 where it is below
  * k: k is the largest number of previous entries on a path from a formula's last entry to a letter. So a rule without
- * previous wants the records that have no verdict yet, and no others. havdrims_status gives it.
+ * previous wants the positions that have no verdict yet, and no others. The first record still wanted is the one that holds
+ * this position, or the record after all seen where none of them holds it. havdrims_status gives it.
  *
- * *given becomes the number of verdicts written. *more becomes 1 if the log settles further records, for which the
+ * *given becomes the number of verdicts written. *more becomes 1 if the log settles further positions, for which the
  * sheet had no room, and 0 if the point has caught up.
  *
- * Refusals: 1 to 11, then 20, then 12 to 14.
+ * Refusals: 1 to 11, then 20, 12, 22, 13, 14. An accepted call fixes the log's version for those that follow (22), also one
+ * that brings no record.
  */
 uint32_t havdrims_resume(const uint8_t *rule, size_t rule_len, const uint8_t *log, size_t log_len,
                          uint64_t *point, size_t point_len, uint8_t *sheet, size_t sheet_len,
                          uint64_t *given, uint64_t *more);
 
 /*
- * Closes the month: says that no record will follow the log. Every remaining record gets its verdict on the log as it
- * ends: an until whose end never came is no, and so is next at the last record.
+ * Closes the month: says that no record will follow the log. Every remaining position gets its verdict on the log as it
+ * ends: an until whose end never came is no, and so is next at the last position.
  *
  * It writes and answers as havdrims_resume does, and is called again where the sheet had no room for all; records before
  * the first still wanted may be overwritten between. The first closing that is not refused closes the point, whatever
  * the length of its sheet: from then on havdrims_resume is refused with 20, and a closing with more records with 21.
  *
- * Refusals: 1 to 13, then 21, then 14.
+ * Refusals: 1 to 12, then 22, 13, 21, 14.
  */
 uint32_t havdrims_close(const uint8_t *rule, size_t rule_len, const uint8_t *log, size_t log_len,
                         uint64_t *point, size_t point_len, uint8_t *sheet, size_t sheet_len,
@@ -168,7 +177,8 @@ uint32_t havdrims_close(const uint8_t *rule, size_t rule_len, const uint8_t *log
 /*
  * What the point itself knows of the verdicts given with it, all calls together: for each formula k of the rule no[k] becomes
  * the count of its no among them, and latest[k] the position of its latest no, or HAVDRIMS_NONE. They are what
- * havdrims_tally and a scan would give over the verdicts of all calls laid end to end. The point is not changed.
+ * havdrims_tally and a scan would give over the verdicts of all calls laid end to end: a position is not the number of its
+ * record where service records stand before it. The point is not changed.
  *
  * Refusals: 1 to 11.
  */
@@ -177,8 +187,9 @@ uint32_t havdrims_summary(const uint8_t *rule, size_t rule_len, const uint64_t *
 
 /*
  * How far a point has come: *given becomes the number of verdicts given with it, all calls together, *seen the number of
- * records that the last accepted call brought, *wanted the first record still wanted, before which all records may be
- * overwritten, and *closed 1 if the point is closed and else 0. The point is not changed.
+ * records that the last accepted call brought, service records included, *wanted the first record still wanted, as above, a
+ * record's number and not a position's: all records before it may be overwritten. *closed becomes 1 if the point is closed
+ * and else 0. The point is not changed.
  *
  * Refusals: 1 to 11.
  */

@@ -1,6 +1,6 @@
 /*
  * A week of one kiosk in C: a log that grows, a point that carries on, a card that is overwritten, and the month's end.
- * Then two rules on one sheet.
+ * Then two rules on one sheet, and a log with a service visit.
  *
  *     cc -Wall -Wextra -Iinclude examples/c/week.c target/staticlib/libhavdrims.a -o week && ./week
  *
@@ -51,7 +51,7 @@ static void check(int holds, const char *what) {
     }
 }
 
-/* Prints the verdicts of one evening, the first of them for the record at `from`. */
+/* Prints the verdicts of one evening, the first of them for position `from`. */
 static void print(const char *evening, const uint8_t *sheet, uint64_t from, uint64_t given, uint64_t more) {
     printf("%s: %u verdicts, %s\n", evening, (unsigned)given, more ? "more" : "caught up");
     for (uint64_t i = 0; i < given; i++) {
@@ -60,6 +60,9 @@ static void print(const char *evening, const uint8_t *sheet, uint64_t from, uint
 }
 
 enum { WARM = 1, PRINTS = 2 };
+
+/* Letter 31. */
+#define SERVICE (UINT32_C(1) << 31)
 
 /* A rule of version 2: the head stays warm until the print starts, within ninety seconds; and no print starts. */
 static const uint8_t both[58] = {
@@ -100,6 +103,34 @@ static void two_rules(void) {
         printf("formula %u: %u no, the latest at record %u\n", (unsigned)k, (unsigned)no[k], (unsigned)latest[k]);
     }
     check(no[0] == 1 && latest[0] == 2 && no[1] == 1 && latest[1] == 1, "the summary for both");
+}
+
+/* A service visit: in a log of version 2 a record with letter 31 is no position, and gets no verdict. */
+static void service_visit(void) {
+    uint64_t point[HAVDRIMS_MOST_WORDS], given, more, seen, wanted, closed;
+    uint8_t sheet[16];
+
+    accepted("open", havdrims_open(rule, sizeof rule, point, HAVDRIMS_MOST_WORDS));
+    log_file[4] = 2;
+    log_length = 8;
+    record(100, WARM);
+    record(110, SERVICE | PRINTS);
+    record(120, SERVICE);
+    record(200, WARM);
+    accepted("resume", havdrims_resume(rule, sizeof rule, log_file, log_length, point, HAVDRIMS_MOST_WORDS, sheet,
+                                       sizeof sheet, &given, &more));
+    print("With a visit", sheet, 0, given, more);
+    check(given == 1 && sheet[0] == 0, "the technician's print is no customer's");
+    accepted("status", havdrims_status(rule, sizeof rule, point, HAVDRIMS_MOST_WORDS, &given, &seen, &wanted, &closed));
+    printf("%u of %u records may be overwritten\n", (unsigned)wanted, (unsigned)seen);
+    check(given == 1 && seen == 4 && wanted == 3 && closed == 0, "position 1 is record 3");
+
+    /* The point goes on with logs of this version alone. */
+    log_file[4] = 1;
+    uint32_t number = havdrims_resume(rule, sizeof rule, log_file, log_length, point, HAVDRIMS_MOST_WORDS, sheet,
+                                      sizeof sheet, &given, &more);
+    printf("as version 1: refused %u\n", (unsigned)number);
+    check(number == HAVDRIMS_OTHER_VERSION, "the refusal of another version");
 }
 
 int main(void) {
@@ -170,5 +201,6 @@ int main(void) {
 
     free(point);
     two_rules();
+    service_visit();
     return 0;
 }

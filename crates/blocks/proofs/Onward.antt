@@ -3,22 +3,23 @@ use Prim.Native.Nat.{ℕ, _≤_, _<_}
 use native.Mathlib.Omega.{arith}
 use mathlib.Core.List.{List}
 use mathlib.Core.Path.{_≡_, refl, sym, _∙_}
-use Rattle.blocks.specs.Block.{word, taken, answered, Onward}
+use Rattle.blocks.specs.Block.{word, taken, answered, head, Onward}
 
 -- the heads stay where they are
-pub still : {first : ℕ} (b b′ : List ℕ) → taken b′ ≡ taken b → answered b′ ≡ answered b →
+pub still : {first : ℕ} (b b′ : List ℕ) → taken b′ ≡ taken b → answered b′ ≡ answered b → head b′ ≡ head b →
     ((i : ℕ) → first ≤ i → i < 16 → word b′ i ≡ word b i) → Onward first b b′
-still b b′ at answer same = record { heads = record { taken = omega arith; answered = omega arith }; kept = same }
+still b b′ at answer read same =
+    record { heads = record { taken = omega arith; answered = omega arith; head = omega arith }; kept = same }
 
 pub onward-refl : {first : ℕ} (b : List ℕ) → Onward first b b
-onward-refl b = still b b refl refl (λ i h l. refl)
+onward-refl b = still b b refl refl refl (λ i h l. refl)
 
 pub onward-trans : {first : ℕ} {b b′ b″ : List ℕ} → Onward first b b′ → Onward first b′ b″ → Onward first b b″
 onward-trans x y =
     let h = x .heads in
     let k = y .heads in
     record {
-      heads = record { taken = omega arith; answered = omega arith };
+      heads = record { taken = omega arith; answered = omega arith; head = omega arith };
       kept = λ i l m. y .kept i l m ∙ x .kept i l m;
     }
 
@@ -35,6 +36,7 @@ onward-same b c b′ c′ same same′ x =
       heads = record {
         taken = omega (arith, same 0 (omega arith), same′ 0 (omega arith));
         answered = omega (arith, same 5 (omega arith), same′ 5 (omega arith));
+        head = omega (arith, same 11 (omega arith), same′ 11 (omega arith));
       };
       kept = λ i l m. sym (same′ i m) ∙ x .kept i l m ∙ same i m;
     }

@@ -1,18 +1,18 @@
 -- An operator's block after positions were taken out of its buffers, whatever else its operator stored. Assumes nothing.
 use Prim.Native.Nat.{ℕ, _+_, _-_, _/_, _≤_, _<_, _^_, min}
 use native.Mathlib.Omega.{arith}
-use lib.ListN.{length}
-use mathlib.Core.Bool.{Bool, false, false≢true}
+use mathlib.Core.Bool.{false, false≢true}
 use mathlib.Core.List.{List, [], _∷_}
 use mathlib.Core.Path.{_≡_, sym, _∙_}
+use lib.ListN.{length}
 use Rattle.mtl.specs.Formula.{Formula}
 use Rattle.mtl.specs.Log.{Log}
 use Rattle.mtl.specs.Satisfaction.{sat}
 use Rattle.mtl.specs.Progress.{settled-to}
 use Rattle.bits.specs.Packed.{Packed}
 use Rattle.bits.proofs.Laws.{packed-first}
-use Rattle.trace.specs.Format.{record-count}
-use Rattle.blocks.specs.Block.{taken, left-count, left-bits, right-count, right-bits, kind-of, high-of, cells-of, Onward, InRange, Own, Buffer, LeftBuffer, RightBuffer, Buffers, Ready, took-right, took-both}
+use Rattle.trace.specs.View.{total}
+use Rattle.blocks.specs.Block.{taken, left-count, left-bits, right-count, right-bits, kind-of, high-of, cells-of, Onward, InRange, Own, Heads, Buffer, LeftBuffer, RightBuffer, Buffers, Ready, took-right, took-both}
 use Rattle.blocks.specs.Step.{Agrees, Moved, has-left}
 use Rattle.blocks.proofs.Words.{Store, put, stores-onward, available, later, fits}
 
@@ -24,14 +24,14 @@ abbrev pub both-stores : ℕ → List ℕ → List Store → List Store
 both-stores n b more = right-stores n b (put 1 (left-count b - n) ∷ put 2 (left-bits b / 2 ^ n) ∷ more)
 
 pub right-onward : (n : ℕ) (b : List ℕ) → 16 ≤ length b → Onward 12 b (took-right n b)
-right-onward n b room = stores-onward (right-stores n b []) b room (omega arith) (omega arith) (omega arith)
+right-onward n b room = stores-onward (right-stores n b []) b (omega arith) (omega arith) (omega arith)
 
 pub both-onward : (n : ℕ) (b : List ℕ) → 16 ≤ length b → Onward 12 b (took-both n b)
-both-onward n b room = stores-onward (both-stores n b []) b room (omega arith) (omega arith) (omega arith)
+both-onward n b room = stores-onward (both-stores n b []) b (omega arith) (omega arith) (omega arith)
 
 -- `available` gives all of a buffer
-pub all-of : {closed : Bool} {s : List ℕ} {φ : Formula} {L : Log} {g p count bits : ℕ} → Agrees closed s L g → Buffer φ L p count bits →
-    (n : ℕ) → n ≡ min (min count (record-count s - p)) 64 → n ≡ count
+pub all-of : {v s : List ℕ} {φ : Formula} {L : Log} {g p count bits : ℕ} → Agrees v s L g → Buffer φ L p count bits →
+    (n : ℕ) → n ≡ min (min count (total v - p)) 64 → n ≡ count
 all-of agrees buffer n e =
     let size = agrees .size in
     let few = buffer .packed .few in
@@ -68,13 +68,13 @@ pub record TookBoth (n : ℕ) (b b′ : List ℕ) : Type 0 where
 
 -- φ stands at g′ then, if what is its own says so
 module _ (φ : Formula) {L : Log} (b : List ℕ) (n g′ : ℕ) (b′ : List ℕ) (reached : g′ ≤ settled-to φ L)
-    (range : InRange (L .size) (cells-of (kind-of φ) (high-of φ)) b′) (own : Own φ L g′ b′) where
+    (range : InRange (L .size) (cells-of (kind-of φ) (high-of φ)) b′) (own : Own φ L g′ b′) (heads : Heads φ L g′ b′) where
   -- ψ is the only operand
   pub taken-right : {ψ : Formula} → has-left φ ≡ false → (RightBuffer ψ L b′ → Buffers φ L b′) → n ≤ right-count b → TookRight n b b′ → RightBuffer ψ L b →
       Ready φ L g′ b′ × Moved φ b b′
   taken-right single whole h took right = (
     record {
-      core = record { reached = reached; range = range; own = own };
+      core = record { reached = reached; range = range; own = own; heads = heads };
       buffers = whole (later n h (took .at) (took .count) (took .bits) right);
     },
     record { left = λ e. absurd (false≢true (sym single ∙ e)); right = λ e. omega arith },
@@ -86,7 +86,7 @@ module _ (φ : Formula) {L : Log} (b : List ℕ) (n g′ : ℕ) (b′ : List ℕ
   taken-both whole l r took left right =
       let both = took .right in (
         record {
-          core = record { reached = reached; range = range; own = own };
+          core = record { reached = reached; range = range; own = own; heads = heads };
           buffers = whole (
             later n l (both .at) (took .count) (took .bits) left,
             later n r (both .at) (both .count) (both .bits) right,

@@ -14,8 +14,8 @@ use Rattle.mtl.specs.Satisfaction.{sat}
 use Rattle.mtl.specs.Progress.{settled-to}
 use Rattle.mtl.proofs.Closing.{settled-le-size}
 use Rattle.bits.proofs.Laws.{packed-none, packed-rest}
-use Rattle.trace.specs.Format.{record-count}
-use Rattle.blocks.specs.Block.{word, taken, left-count, right-count, answered, Onward, Buffer}
+use Rattle.trace.specs.View.{total}
+use Rattle.blocks.specs.Block.{word, taken, left-count, right-count, answered, head, Onward, Buffer}
 use Rattle.blocks.specs.Step.{empty, left-to-do}
 
 -- a store: an index and the word put there
@@ -36,10 +36,10 @@ abbrev pub after : List Store → (ℕ → ℕ) → ℕ → ℕ
 after [] f k = f k
 after (w ∷ ws) f k = after ws (λ j. cond (eqb j (w .index)) (w .value) (f j)) k
 
--- every index lies in a block's first 16 words
-abbrev pub Inside : List Store → Type 0
-Inside [] = Unit {0}
-Inside (w ∷ ws) = (w .index < 16) × Inside ws
+-- every index lies in a block of so many words
+abbrev pub Inside : (size : ℕ) → List Store → Type 0
+Inside size [] = Unit {0}
+Inside size (w ∷ ws) = (w .index < size) × Inside size ws
 
 word-set : (b : List ℕ) (i v k : ℕ) → i < length b → word (set b i v) k ≡ cond (eqb k i) v (word b k)
 word-set b i v k h = at (eqb k i) refl
@@ -52,36 +52,33 @@ after-same : (ws : List Store) (f g : ℕ → ℕ) → ((k : ℕ) → f k ≡ g 
 after-same [] f g e k = e k
 after-same (w ∷ ws) f g e k = after-same ws _ _ (λ j. ap (cond (eqb j (w .index)) (w .value)) (e j)) k
 
-pub word-stores : (ws : List Store) (b : List ℕ) → Inside ws → 16 ≤ length b → (k : ℕ) → word (stores ws b) k ≡ after ws (word b) k
-word-stores [] b i l k = refl
-word-stores (w ∷ ws) b i l k =
-    word-stores ws (set b (w .index) (w .value)) (i .1) (simp length-set l) k ∙
-    after-same ws _ _ (λ j. word-set b (w .index) (w .value) j (omega (arith, i .0))) k
+pub word-stores : (ws : List Store) (b : List ℕ) → Inside (length b) ws → (k : ℕ) → word (stores ws b) k ≡ after ws (word b) k
+word-stores [] b i k = refl
+word-stores (w ∷ ws) b i k =
+    word-stores ws (set b (w .index) (w .value)) (rw length-set (i .1)) k ∙
+    after-same ws _ _ (λ j. word-set b (w .index) (w .value) j (i .0)) k
 
--- every index lies before word 12
-abbrev Low : List Store → Type 0
-Low [] = Unit {0}
-Low (w ∷ ws) = (w .index < 12) × Low ws
+-- no index is that of a word from 12 to 15
+abbrev Own : List Store → Type 0
+Own [] = Unit {0}
+Own (w ∷ ws) = ((i : ℕ) → 12 ≤ i → i < 16 → i ≡ w .index → ⊥) × Own ws
 
--- such stores keep the words from there on
-stores-keep : (ws : List Store) (b : List ℕ) → Low ws → (i : ℕ) → 12 ≤ i → word (stores ws b) i ≡ word b i
-stores-keep [] b low i h = refl
-stores-keep (w ∷ ws) b low i h =
-    stores-keep ws (set b (w .index) (w .value)) (low .1) i h ∙
-    getD-set-other b (w .index) i (w .value) 0 (λ e. omega (arith, low .0))
+stores-keep : (ws : List Store) (b : List ℕ) → Own ws → (i : ℕ) → 12 ≤ i → i < 16 → word (stores ws b) i ≡ word b i
+stores-keep [] b own i h l = refl
+stores-keep (w ∷ ws) b own i h l =
+    stores-keep ws (set b (w .index) (w .value)) (own .1) i h l ∙
+    getD-set-other b (w .index) i (w .value) 0 (own .0 i h l)
 
-low-inside : (ws : List Store) → Low ws → Inside ws
-low-inside [] low = tt
-low-inside (w ∷ ws) low = (omega (arith, low .0), low-inside ws (low .1))
+-- nothing goes back
+abbrev Rising : List Store → List ℕ → Type 0
+Rising ws b = (taken b ≤ after ws (word b) 0) × (answered b ≤ after ws (word b) 5) × (head b ≤ after ws (word b) 11)
 
--- and go on, if they put no head back
-pub stores-onward : (ws : List Store) (b : List ℕ) → 16 ≤ length b → Low ws → taken b ≤ after ws (word b) 0 → answered b ≤ after ws (word b) 5 →
-    Onward 12 b (stores ws b)
-stores-onward ws b room low head answer =
-    let at = word-stores ws b (low-inside ws low) room in
+pub stores-onward : (ws : List Store) (b : List ℕ) → Inside (length b) ws → Own ws → Rising ws b → Onward 12 b (stores ws b)
+stores-onward ws b inside own rising =
+    let at = word-stores ws b inside in
     record {
-      heads = record { taken = omega (arith, at 0); answered = omega (arith, at 5) };
-      kept = λ i h l. stores-keep ws b low i h;
+      heads = record { taken = rw (at 0) (rising .0); answered = rw (at 5) (rising .1); head = rw (at 11) (rising .2) };
+      kept = stores-keep ws b own;
     }
 
 -- what is left of a buffer after n of its positions are taken
@@ -104,8 +101,8 @@ empty-most zero = omega arith
 empty-most (suc n) = omega arith
 
 -- positions taken leave less to do
-pub less-to-do : (s b b′ : List ℕ) (n : ℕ) → 0 < n → taken b + n ≤ record-count s → taken b′ ≡ taken b + n → left-to-do s b′ < left-to-do s b
-less-to-do s b b′ n some h e = omega (arith, empty-most (left-count b′), empty-most (right-count b′))
+pub less-to-do : (v b b′ : List ℕ) (n : ℕ) → 0 < n → taken b + n ≤ total v → taken b′ ≡ taken b + n → left-to-do v b′ < left-to-do v b
+less-to-do v b b′ n some h e = omega (arith, empty-most (left-count b′), empty-most (right-count b′))
 
 -- what `available` gives: as many of count positions as there is room for, in the log and in one word
 pub record Available (at count total n : ℕ) : Type 0 where

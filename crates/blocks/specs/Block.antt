@@ -8,7 +8,7 @@ use lib.ListN.{getD, set}
 use lib.Dec.{eqb}
 use Rattle.mtl.specs.Formula.{Formula}
 use Rattle.mtl.specs.Formula.Formula.{letter, not, or, previous, next, since, until}
-use Rattle.mtl.specs.Log.{Log}
+use Rattle.mtl.specs.Log.{Log, head-of}
 use Rattle.mtl.specs.Satisfaction.{sat}
 use Rattle.mtl.specs.Progress.{settled-to}
 use Rattle.bits.specs.Packed.{Packed}
@@ -19,7 +19,7 @@ abbrev pub word : List ℕ → ℕ → ℕ
 word b i = getD b i 0
 
 -- the words of a block by name
--- taken: the next position to take from the operands (of a letter: the reading head)
+-- taken: the next position to take from the operands, or, of a letter, from the log
 abbrev pub taken : List ℕ → ℕ
 taken b = word b 0
 
@@ -49,6 +49,15 @@ last-right b = word b 7
 
 abbrev pub last-time : List ℕ → ℕ
 last-time b = word b 8
+
+-- the reading head, as a record: it stands behind the record of the last position that it has passed. Of letter, previous, since and until
+-- it is that of `taken`; of next, whose operand is one ahead, that of the position before; not and or read no record.
+abbrev pub head : List ℕ → ℕ
+head b = word b 11
+
+-- until's other head, that of `answered`, in the first of the words behind its block's 16
+abbrev pub waiting-head : List ℕ → ℕ
+waiting-head b = word b 16
 
 -- the numbers of the paper's table of kinds, and the fields that an entry of the formula's last operator has
 abbrev pub kind-of : Formula → ℕ
@@ -87,9 +96,10 @@ high-of (next low high φ) = high
 high-of (since low high φ ψ) = high
 high-of (until low high φ ψ) = high
 
--- the block of an entry that has taken nothing yet
-abbrev pub FreshBlock : List ℕ → Type 0
-FreshBlock b = (i : ℕ) → i < 12 → word b i ≡ 0
+-- the block of an entry of this kind that has taken nothing yet
+pub record FreshBlock (kind : ℕ) (b : List ℕ) : Type 0 where
+  pub own : (i : ℕ) → i < 12 → word b i ≡ 0
+  pub waiting : kind ≡ 6 → waiting-head b ≡ 0
 
 -- words 12 and 13 of the block of a formula's last entry: for how many positions the formula has answered and was not given yet, and
 -- the word of those answers
@@ -99,10 +109,11 @@ held-count b = word b 12
 abbrev pub held-bits : List ℕ → ℕ
 held-bits b = word b 13
 
--- no head goes back
+-- no head goes back. An until's second head, word 16, is the record of `answered`: `Heads` says where it stands.
 pub record Forward (b b′ : List ℕ) : Type 0 where
   pub taken : taken b ≤ taken b′
   pub answered : answered b ≤ answered b′
+  pub head : head b ≤ head b′
 
 -- what is done to a block, whatever its words hold: no head goes back, and the words from `first` to 15 are as they were. Words 12 to 15
 -- are no operator's; words 12 and 13 of a formula's last entry are written where its answers are held and given.
@@ -114,7 +125,7 @@ pub record Onward (first : ℕ) (b b′ : List ℕ) : Type 0 where
 abbrev pub cells-of : (kind high : ℕ) → ℕ
 cells-of kind high = cond (eqb kind 5) (ring-words high) 0
 
--- the ranges of a block's words, for a log of so many records and a ring of so many cells (refusal 11)
+-- the ranges of a block's words, for a log of so many positions and a ring of so many cells (refusal 11)
 pub record InRange (size cells : ℕ) (b : List ℕ) : Type 0 where
   pub at : taken b ≤ size
   pub left-count : left-count b ≤ 64
@@ -147,6 +158,16 @@ pub record Until (low high : ℕ) (time : ℕ → ℕ) (left right : ℕ → Boo
   pub right-early : (k : ℕ) → g ≤ k → k + 1 < p → right k ≡ true → time k - time g < low
   pub not-over : g < p → time (p - 1) - time g ≤ high
 
+-- where an operator's reading heads stand, as records, when the next position that it answers is g
+abbrev pub Heads : Formula → Log → ℕ → List ℕ → Type 0
+Heads (letter k) L g b = head b ≡ head-of L (taken b)
+Heads (not φ) L g b = head b ≡ 0
+Heads (or φ ψ) L g b = head b ≡ 0
+Heads (previous low high φ) L g b = head b ≡ head-of L (taken b)
+Heads (next low high φ) L g b = head b ≡ head-of L (taken b - 1)
+Heads (since low high φ ψ) L g b = head b ≡ head-of L (taken b)
+Heads (until low high φ ψ) L g b = (head b ≡ head-of L (taken b)) × (waiting-head b ≡ head-of L g)
+
 -- what the words of an operator's own block say, when the next position that it answers is g; position 0 of a previous is answered
 -- without its operand
 abbrev pub Own : Formula → Log → ℕ → List ℕ → Type 0
@@ -165,6 +186,7 @@ pub record Core (φ : Formula) (L : Log) (g : ℕ) (b : List ℕ) : Type 0 where
   pub reached : g ≤ settled-to φ L
   pub range : InRange (L .size) (cells-of (kind-of φ) (high-of φ)) b
   pub own : Own φ L g b
+  pub heads : Heads φ L g b
 
 -- a buffered operand: the word has its answers at the count positions from p on, and it has answered that far
 pub record Buffer (φ : Formula) (L : Log) (p count bits : ℕ) : Type 0 where

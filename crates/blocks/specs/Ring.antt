@@ -7,8 +7,9 @@ use mathlib.Core.List.{List, [], _∷_, _++_}
 use mathlib.Core.Logic.{_⊎_}
 use lib.ListN.{getD, length}
 use lib.Dec.{ltb, leb, eqb}
-use Rattle.bits.specs.Packed.{bit}
+use Rattle.bits.specs.Packed.{bit, Packed}
 use Rattle.mtl.specs.Formula.{unbounded}
+use Rattle.rule.specs.Words.{ring-words}
 
 -- the cell that is `at` cells behind the first, in a ring of `cells`: past the last comes the first again
 abbrev pub wrap : (cells at : ℕ) → ℕ
@@ -76,3 +77,8 @@ reached low cells high at left right qs i = reaches low (at i) (turns cells high
 pub record Rings (cells : ℕ) (f : List ℕ → List ℕ) (b b′ : List ℕ) : Type 0 where
   pub others : (i : ℕ) → i < 16 → (i ≡ 9 → ⊥) → (i ≡ 10 → ⊥) → getD b′ i 0 ≡ getD b i 0
   pub ring : (qs : List ℕ) → Ring cells b qs → Ring cells b′ (f qs)
+
+-- the turns of n positions on the block of a since: its ring, and the word of what they answer
+pub record Turns (low high : ℕ) (at : ℕ → ℕ) (left right n : ℕ) (b : List ℕ) (answers : ℕ) (b′ : List ℕ) : Type 0 where
+  pub rings : Rings (ring-words high) (turns (ring-words high) high at left right n) b b′
+  pub packed : (qs : List ℕ) → Ring (ring-words high) b qs → Packed (reached low (ring-words high) high at left right qs) 0 n answers

@@ -5,20 +5,18 @@ use mathlib.Core.Path.{_≡_}
 use mathlib.Core.List.{List}
 use Rattle.mtl.specs.Formula.{Formula}
 use Rattle.mtl.specs.Formula.Formula.{letter, not, or, previous, next, since, until}
-use Rattle.mtl.specs.Log.{Log, NeverFalls, Agree}
+use Rattle.mtl.specs.Log.{Log, NeverFalls}
 use Rattle.mtl.specs.Progress.{settled-to}
-use Rattle.trace.specs.Format.{record-count}
-use Rattle.trace.specs.Log.{log-of}
+use Rattle.trace.specs.View.{first, total, skips, closed, Shows}
 use Rattle.blocks.specs.Block.{taken, left-count, right-count, Onward, Buffer, Ready}
 use Rattle.blocks.specs.declared.Step.{Step}
 use Rattle.blocks.specs.declared.Step.the-variants.{Batch, Left, Right, Again, Open}
 
--- the lent records are those of the log from position g on: earlier ones may hold any bytes; and the log is closed if the call
--- says so
-pub record Agrees (closed : Bool) (s : List ℕ) (L : Log) (g : ℕ) : Type 0 where
-  pub ends : L .closed ≡ closed
-  pub size : record-count s ≡ L .size
-  pub same : Agree (log-of s) L g (L .size)
+-- what the view and the slice of records tell is the log, from position g on: earlier records may hold any bytes
+pub record Agrees (v s : List ℕ) (L : Log) (g : ℕ) : Type 0 where
+  pub ends : L .closed ≡ closed v
+  pub size : total v ≡ L .size
+  pub shows : (i : ℕ) → g ≤ i → i < L .size → Shows (skips v) s (first v) L i
 
 -- an operator's operands; a letter has none, and what stands here for a missing one is used by nothing
 abbrev pub has-left : Formula → Bool
@@ -77,7 +75,7 @@ Stepped φ L g b Left b′ = (has-left φ ≡ true) × (settled-to (left-of φ) 
 Stepped φ L g b Right b′ = (has-right φ ≡ true) × (settled-to (right-of φ) L ≡ taken b → settled-to φ L ≡ g)
 Stepped φ L g b Open b′ = settled-to φ L ≡ g
 
--- the first record that a step at g may read: previous looks at the time of the position before
+-- the first position that a step at g may read: previous looks at the time of the position before
 abbrev pub reads-from : Formula → ℕ → ℕ
 reads-from (letter k) g = g
 reads-from (not φ) g = g
@@ -88,9 +86,9 @@ reads-from (since low high φ ψ) g = g
 reads-from (until low high φ ψ) g = g
 
 -- what a step promises where its block stands for the formula on some log
-abbrev pub Steps : Bool → Formula → List ℕ → List ℕ → Step → List ℕ → Type 0
-Steps closed φ s b r b′ =
-    (L : Log) (g : ℕ) → NeverFalls L → Agrees closed s L (reads-from φ g) → Ready φ L g b → Stepped φ L g b r b′
+abbrev pub Steps : Formula → (v s b : List ℕ) → Step → List ℕ → Type 0
+Steps φ v s b r b′ =
+    (L : Log) (g : ℕ) → NeverFalls L → Agrees v s L (reads-from φ g) → Ready φ L g b → Stepped φ L g b r b′
 
 -- 1 for an empty buffer
 abbrev pub empty : ℕ → ℕ
@@ -98,14 +96,14 @@ empty zero = 1
 empty (suc n) = 0
 
 -- what is left to take, and to fill: it falls with every turn, whatever the words hold
-abbrev pub left-to-do : List ℕ → List ℕ → ℕ
-left-to-do s b = 3 * (record-count s - taken b) + empty (left-count b) + empty (right-count b)
+abbrev pub left-to-do : (v b : List ℕ) → ℕ
+left-to-do v b = 3 * (total v - taken b) + empty (left-count b) + empty (right-count b)
 
 -- what a step promises on any words, for an operator that has a left operand and a right one, or not: where it writes, no head goes
 -- back, and words 12 to 15 are kept
-abbrev pub Ends : (left right : Bool) → List ℕ → List ℕ → Step → List ℕ → Type 0
-Ends left right s b (Batch bits count) b′ = Onward 12 b b′
-Ends left right s b Again b′ = (left-to-do s b′ < left-to-do s b) × Onward 12 b b′
-Ends left right s b Left b′ = (left ≡ true) × (b′ ≡ b) × (left-count b ≡ 0)
-Ends left right s b Right b′ = (right ≡ true) × (b′ ≡ b) × (right-count b ≡ 0)
-Ends left right s b Open b′ = b′ ≡ b
+abbrev pub Ends : (left right : Bool) → (v b : List ℕ) → Step → List ℕ → Type 0
+Ends left right v b (Batch bits count) b′ = Onward 12 b b′
+Ends left right v b Again b′ = (left-to-do v b′ < left-to-do v b) × Onward 12 b b′
+Ends left right v b Left b′ = (left ≡ true) × (b′ ≡ b) × (left-count b ≡ 0)
+Ends left right v b Right b′ = (right ≡ true) × (b′ ≡ b) × (right-count b ≡ 0)
+Ends left right v b Open b′ = b′ ≡ b

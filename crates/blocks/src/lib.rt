@@ -29,9 +29,9 @@ pub fn smaller(left: u64, right: u64) -> u64
     if left <= right { left } else { right }
 }
 
-// How many of count positions from `at` on lie within a log of so many records, and in one word.
+// How many of count positions from `at` on lie within a log of so many positions, and in one word.
 pub fn available(at: u64, count: u64, total: u64) -> u64
-    ensures { λ r. ⌜ r ≡ min (min count (total - at)) 64 ⌝ }
+    ensures { λ r. ⌜ (r ≡ min (min count (total - at)) 64) × (at + r < 2 ^ 64) ⌝ }
 {
     smaller(smaller(count, time::gap(at, total)), 64)
 }

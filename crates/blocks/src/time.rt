@@ -4,7 +4,7 @@ ghost use Prim.Native.Nat.{_+_, _-_, _≤_, _<_, _^_};
 ghost use Rattle.mtl.specs.Satisfaction.{within as within-spec};
 ghost use Rattle.bits.specs.Packed.{Packed};
 ghost use Rattle.trace.specs.Format.{record-count, time-at};
-ghost use Rattle.blocks.specs.Near.{near-at};
+ghost use Rattle.blocks.specs.Near.{near-after};
 
 // A later time minus an earlier one.
 pub fn gap(earlier: u64, later: u64) -> u64
@@ -22,17 +22,16 @@ pub fn within(low: u64, high: u64, earlier: u64, later: u64) -> bool
     (low <= g) & (g <= high)
 }
 
-// Which of n positions from `from` on, none of them the first, lie in the interval after the position before them, as a
-// word of answers.
-pub fn near(low: u64, high: u64, records: &[u8], from: usize, n: usize) -> u64
-    requires { ⌜ (0 < from) × (from + n ≤ record-count (now records)) × (n ≤ 64) ⌝ }
-    ensures { λ r. ⌜ Packed (near-at low high (time-at (now (records .entry)))) from n r ⌝ }
+// Behind which of a window's first n positions the next one lies in the interval, as a word of answers.
+pub fn near(low: u64, high: u64, window: &[u8], n: usize) -> u64
+    requires { ⌜ (n < record-count (now window)) × (n ≤ 64) ⌝ }
+    ensures { λ r. ⌜ Packed (near-after low high (time-at (now (window .entry)))) 0 n r ⌝ }
 {
     let mut answers: u64 = 0;
-    let mut last = trace::time(records, from - 1);
+    let mut last = trace::time(window, 0);
     let mut i: usize = 0;
     while i < n {
-        let now = trace::time(records, from + i);
+        let now = trace::time(window, i + 1);
         answers = bits::push(answers, i as u64, within(low, high, last, now));
         last = now;
         i += 1;

@@ -21,6 +21,8 @@ pub const RING_START: usize = 9;
 
 pub const RING_COUNT: usize = 10;
 
+pub const HEAD: usize = 11;
+
 pub const HELD_COUNT: usize = 12;
 
 pub const HELD_BITS: usize = 13;
@@ -28,3 +30,5 @@ pub const HELD_BITS: usize = 13;
 pub const COPY_HEAD: usize = 14;
 
 pub const COPY_ENDS: usize = 15;
+
+pub const WAITING_HEAD: usize = 16;

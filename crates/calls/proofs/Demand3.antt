@@ -1,17 +1,17 @@
 -- The theorem of demand 3, stated in specs/Calls.antt, by induction on the list of calls. Assumes nothing.
-use Prim.Native.Nat.{ℕ, zero, suc, _+_, _*_, _-_, _≤_, _<_}
+use Prim.Native.Nat.{ℕ, suc, _+_, _*_, _-_, _≤_, _<_}
 use mathlib.Core.Bool.{Bool, true, false, cond, false≢true}
-use mathlib.Core.Logic.{⊎-elim}
+use mathlib.Core.Logic.{_⊎_, inl, inr, ⊎-elim, ⊎-map}
 use mathlib.Core.Path.{_≡_, refl, sym, _∙_, ap, ap₂, subst}
 use mathlib.Core.List.{List, [], _∷_, _++_}
-use native.Mathlib.Nat.{le-of-eq}
+use native.Mathlib.Nat.{le-of-eq, zero-add}
 use native.Mathlib.Omega.{arith}
 use lib.ListN.{length, getD, take, drop, length-drop, take-append-drop}
 use lib.Seq.{getD-take, getD-drop, length-take-le, take-take, take-all}
 use lib.Dec.{leb, ltb}
-use borrow.Author.Tests.{le-leb, leb-true, le-ltb, lt-ltb, ltb-true, ltb-false, eq-eqb, ne-eqb}
-use Rattle.mtl.specs.Log.{Log, closing, NeverFalls, Agree, Continues}
-use Rattle.mtl.specs.Wanted.{wanted}
+use borrow.Author.Tests.{le-leb, leb-true, le-ltb, lt-ltb, ltb-true, ltb-false, eq-eqb}
+use Rattle.mtl.specs.Log.{Log, closing, Placed, NeverFalls, Agree, Continues}
+use Rattle.mtl.specs.Wanted.{wanted, wanted-record}
 use Rattle.mtl.proofs.Bounded.{same-test, le-or-lt}
 use Rattle.verdicts.specs.Counts.{noes-in}
 use Rattle.rule.specs.Entries.{version, count, decoded}
@@ -19,31 +19,36 @@ use Rattle.rule.specs.Postfix.{most}
 use Rattle.rule.specs.Refusal.{first, refusal}
 use Rattle.rule.specs.Measure.{measured}
 use Rattle.rule.proofs.Headers.{before-none}
-use Rattle.trace.specs.Format.{record-count, time-at, records-of, malformed}
+use Rattle.trace.specs.Format.{record-count, time-at, records-of, skips-of, malformed}
+use Rattle.trace.specs.Positions.{place, before}
 use Rattle.trace.specs.Log.{log-of}
-use Rattle.trace.specs.Order.{disordered}
-use Rattle.trace.proofs.Laws.{well-formed-iff, well-formed-records, ordered-iff, agree, keeps-agreed, prefix-continues, count-prefix}
+use Rattle.trace.specs.Order.{disordered, last-time}
+use Rattle.trace.specs.View.{view-of, Shows}
+use Rattle.trace.proofs.Laws.{well-formed-iff, well-formed-records, Keeps, ordered-iff, same-time, count-prefix}
+use Rattle.trace.proofs.Positions.{before-few, log-placed, positions-keep, wanted-place, wanted-counts}
+use Rattle.trace.proofs.Slices.{Part, Cut, prefix-part, cut-from, time-part, keeps-part, before-cut, slice-shows, closing-shows, flag-told}
+use Rattle.trace.proofs.Growing.{before-stays, grown-continues}
 use Rattle.blocks.specs.Step.{Agrees}
-use Rattle.checkpoint.specs.Checkpoint.{given, seen, last, closed-with, stored-noes, need, foreign, outside}
-use Rattle.checkpoint.specs.Refusal.{open-refusal, resumes-closed, closes-more, resume-refusal, summary-refusal}
+use Rattle.checkpoint.specs.Checkpoint.{seen, last, closed-with, log-kind, kind-of-log, first-wanted, stored-noes, need, foreign, outside}
+use Rattle.checkpoint.specs.Refusal.{open-refusal, resumes-closed, closes-more, other-version, resume-refusal, summary-refusal}
 use Rattle.checkpoint.proofs.Sizes.{enough-words}
-use Rattle.emit.specs.Verdicts.{formulas-of, columns, verdicts, first-records, answered, all-verdicts}
+use Rattle.emit.specs.Verdicts.{formulas-of, columns, verdicts, first-records, wanted-after, answered, all-verdicts}
 use Rattle.monitor.specs.Stands.{Stands}
 use Rattle.monitor.specs.Open.{done, Opening, Opens}
 use Rattle.monitor.specs.Open.{Answer as OpenAnswer}
-use Rattle.monitor.specs.Resume.{Answer, gave, refused-with, Gives, Resumes}
+use Rattle.monitor.specs.Resume.{Answer, gave, refused-with, wanted-records, Gives, Resumes}
 use Rattle.monitor.specs.Summary.{counted, Told, Summarizes}
 use Rattle.monitor.specs.Summary.{Answer as SummaryAnswer}
-use Rattle.monitor.specs.Status.{facts, known}
+use Rattle.monitor.specs.Status.{known}
 use Rattle.monitor.specs.Status.{told as known-told}
 use Rattle.monitor.proofs.Answers.{open-unrefused, resume-number, resume-unrefused}
 use Rattle.monitor.proofs.Summarizing.{told-same}
 use Rattle.monitor.proofs.OwnCheckpoint.{own-given, own-within, not-outside}
 use Rattle.monitor.proofs.VerdictBytes.{length-verdicts, verdicts-more, take-verdicts, verdicts-stay}
-use Rattle.calls.specs.Calls.{Untouched, Call, given-by, brought-by, closed-by, closed-at, laid, the-call, Brings, BringsAfter, Lends, point-after, OneCall, Calls, Each, AllWhenCaughtUp, OneRun, Keeps, expected-refusal, Demand3}
+use Rattle.calls.specs.Calls.{Untouched, Call, given-by, brought-by, closed-by, closed-at, laid, the-call, Brings, BringsAfter, Lends, point-after, OneCall, Calls, Each, AllWhenCaughtUp, OneRun, Keeps as KeepsBehind, expected-refusal, Demand3}
 use Rattle.calls.specs.Calls.OneCall.{refused, accepted}
 use Rattle.calls.specs.Calls.Calls.{opened, and-then}
-use Rattle.calls.proofs.Lending.{after-unchanged, after-whole, given-settled, stands-alone, stands-lent}
+use Rattle.calls.proofs.Lending.{after-unchanged, after-whole, same-header, same-lent, same-alone, given-settled, stands-on}
 
 -- REFUSALS
 
@@ -94,7 +99,12 @@ expected-at true false a m n same = refl
 
 -- logs of the same records, closed or open
 closings-agree : {K L : Log} {a b : ℕ} (was closed : Bool) → Agree K L a b → Agree (closing was K) (closing closed L) a b
-closings-agree was closed same i lo hi = let at = same i lo hi in record { time = at .time; letters = at .letters }
+closings-agree was closed same i lo hi = let at = same i lo hi in record { time = at .time; letters = at .letters; place = at .place }
+
+-- the version noted is this log's
+kind-same : (log : List ℕ) (skips : Bool) → skips-of log ≡ skips → other-version log (kind-of-log skips) ≡ false
+kind-same log true e = rw e
+kind-same log false e = rw e
 
 -- THE UNTOUCHED LOG
 
@@ -102,59 +112,98 @@ module _ (rule log : List ℕ) (untouched : Untouched log) where
   abbrev records : List ℕ
   records = records-of log
 
-  -- the number of bytes as the laws of trace have it
-  eight : (n : ℕ) → 8 * n ≡ n * 8
-  eight n = omega arith
+  -- whether service records are among them
+  abbrev skips : Bool
+  skips = skips-of log
 
-  first-size : (n : ℕ) → n ≤ record-count records → first-records false log n .size ≡ n
-  first-size n h = ap (λ k. record-count (take k records)) (eight n) ∙ count-prefix records n h
+  -- the first of them
+  abbrev first-bytes : ℕ → List ℕ
+  first-bytes n = take (8 * n) records
+
+  first-count : (n : ℕ) → n ≤ record-count records → record-count (first-bytes n) ≡ n
+  first-count n h = let eight : 8 * n ≡ n * 8 = omega arith in ap (λ k. record-count (take k records)) eight ∙ count-prefix records n h
+
+  first-part : (m n : ℕ) → m ≤ n → Part (first-bytes n) (first-bytes m) 0
+  first-part m n h = subst (λ s. Part (first-bytes n) s 0) (take-take (8 * m) (8 * n) records (omega arith)) (prefix-part (first-bytes n) (8 * m))
+
+  first-time : (n i : ℕ) → n ≤ record-count records → i < n → time-at (first-bytes n) i ≡ time-at records i
+  first-time n i h l =
+      time-part records (first-bytes n) 0 (prefix-part records (8 * n)) i (omega (arith, first-count n h)) ∙ ap (time-at records) (zero-add i)
 
   pub first-longer : (was closed : Bool) (m n : ℕ) → m ≤ n → (was ≡ true → (closed ≡ true) × (m ≡ n)) →
       Continues (first-records was log m) (first-records closed log n)
   first-longer was closed m n h allowed =
-      let grown =
-      subst (λ s. Continues (log-of s) (first-records false log n)) (take-take (8 * m) (8 * n) records (omega arith))
-      (prefix-continues (take (8 * n) records) (8 * m)) in
+      let grown = grown-continues (first-bytes n) (first-bytes m) (first-part m n h) skips in
       record {
         longer = grown .longer;
         same = closings-agree was closed (grown .same);
         ended = λ e. let only = allowed e in (only .0, ap (λ k. first-records false log k .size) (sym (only .1)));
       }
 
-  pub first-falls : (closed : Bool) (n : ℕ) → NeverFalls (first-records closed log n)
-  first-falls closed n i j le h =
-      let c = prefix-continues records (8 * n) in
-      let l = c .longer in
-      let kept = untouched .never-falls i j le (omega arith) in
-      let first = c .same i (omega arith) (omega arith) .time in
-      let second = c .same j (omega arith) h .time in
-      omega arith
+  -- no record's time lies below that of a record before it
+  all-keep : Keeps records
+  all-keep i j le h =
+      let at : (k : ℕ) → time-at records (0 + k) ≡ time-at records k = λ k. ap (time-at records) (zero-add k) in
+      let kept : time-at records (0 + i) ≤ time-at records (0 + j) = untouched .never-falls i j le h in
+      omega (arith, at i, at j)
 
-  -- a call's log, where d verdicts were given
-  module _ (closed : Bool) (d n : ℕ) (log′ : List ℕ) (brings : Brings log (wanted (formulas-of rule) d) n log′) where
+  first-keep : (n : ℕ) → Keeps (first-bytes n)
+  first-keep n = keeps-part records (first-bytes n) 0 (prefix-part records (8 * n)) all-keep
+
+  pub first-falls : (closed : Bool) (n : ℕ) → NeverFalls (first-records closed log n)
+  first-falls closed n = positions-keep skips (first-bytes n) (first-keep n)
+
+  -- WHAT A CHECKPOINT HAS REACHED
+
+  -- it was brought the first m records, closed or open, and has given d verdicts: what it stands for, the time of the last of them, and the
+  -- version noted
+  pub record Reached (was : Bool) (m d : ℕ) (p : List ℕ) : Type 0 where
+    pub stands : Stands rule (first-records was log m) m d p
+    pub time : last p ≡ cond (ltb 0 m) (time-at records (m - 1)) 0
+    pub kind : (log-kind p ≡ 0) ⊎ (log-kind p ≡ kind-of-log skips)
+
+  -- by the words that the rule needs
+  module _ (fine : refusal rule ≡ 0) (was : Bool) (m d : ℕ) where
+    reached-on : (p q : List ℕ) → take (need rule) p ≡ take (need rule) q → need rule ≤ length q → Reached was m d p → Reached was m d q
+    reached-on p q e enough r =
+        record {
+          stands = stands-on rule fine (first-records was log m) m d p q e enough (r .stands);
+          time = same-header rule p q e 3 (omega arith) ∙ r .time;
+          kind = ⊎-map (λ zero. same-header rule p q e 6 (omega arith) ∙ zero) (λ own. same-header rule p q e 6 (omega arith) ∙ own) (r .kind);
+        }
+
+    reached-alone : (p : List ℕ) → Reached was m d p → Reached was m d (take (need rule) p)
+    reached-alone p r =
+        let enough = r .stands .enough in
+        reached-on p (take (need rule) p) (same-alone rule p enough) (omega (arith, length-take-le (need rule) p enough)) r
+
+    pub reached-lent : (point p : List ℕ) → length point ≡ need rule → Lends point p → length point ≤ length p → Reached was m d point → Reached was m d p
+    reached-lent point p size lends enough r = reached-on point p (same-lent rule point p size lends enough) (omega arith) r
+
+  -- A CALL'S LOG, where the first m records were brought and d verdicts given before it
+  module _ (closed : Bool) (d m n : ℕ) (log′ : List ℕ) (more : m ≤ n) (brings : Brings log (wanted-after rule log d m) n log′) where
     -- the first record still wanted
     abbrev from : ℕ
-    from = wanted (formulas-of rule) d
+    from = wanted-after rule log d m
 
-    brought-size : length (records-of log′) ≡ 8 * n
-    brought-size = let size = brings .size in length-drop 8 log′ ∙ omega arith
+    all-size : record-count (first-bytes n) ≡ n
+    all-size = first-count n (brings .within)
 
-    same-byte : (k : ℕ) → from * 8 ≤ k → k < n * 8 → getD (records-of log′) k 0 ≡ getD (take (8 * n) records) k 0
-    same-byte k lo hi =
-        getD-drop 8 log′ k 0 ∙ brings .same (8 + k) (omega arith) (omega arith) ∙ sym (getD-drop 8 log k 0) ∙
-        sym (getD-take (8 * n) records k 0 (omega arith))
+    brought-size : record-count (records-of log′) ≡ n
+    brought-size = let size = brings .size in let rest = length-drop 8 log′ in omega arith
 
-    brought-agrees : Agrees closed (records-of log′) (first-records closed log n) from
-    brought-agrees =
-        let size = brought-size in
-        let first = first-size n (brings .within) in
-        record {
-          ends = refl;
-          size = omega arith;
-          same =
-              closings-agree false closed
-              (agree (records-of log′) (take (8 * n) records) from (first-records closed log n .size) (λ k lo hi. same-byte k lo (omega arith)));
-        }
+    same-byte : (k : ℕ) → from * 8 ≤ k → k < n * 8 → getD (records-of log′) k 0 ≡ getD records k 0
+    same-byte k lo hi = getD-drop 8 log′ k 0 ∙ brings .same (8 + k) (omega arith) (omega arith) ∙ sym (getD-drop 8 log k 0)
+
+    header-byte : (i : ℕ) → i < 8 → getD log′ i 0 ≡ getD log i 0
+    header-byte i h = sym (getD-take 8 log′ i 0 h) ∙ ap (λ s. getD s i 0) (brings .header) ∙ getD-take 8 log i 0 h
+
+    -- it is of the same version
+    brought-kind : skips-of log′ ≡ skips
+    brought-kind =
+        let long = well-formed-records log (untouched .well-formed) .0 in
+        let size = brings .size in
+        rw (le-leb 8 (length log′) (omega arith), le-leb 8 (length log) long, header-byte 3 (omega arith), header-byte 4 (omega arith))
 
     -- refusal 12 is not met
     brought-well-formed : malformed log′ ≡ false
@@ -163,7 +212,7 @@ module _ (rule log : List ℕ) (untouched : Untouched log) where
         let few = long .1 .few in
         let within = brings .within in
         let size = brings .size in
-        let size′ = brought-size in
+        let size′ = length-drop 8 log′ in
         let header = well-formed-iff (take 8 log) records (length-take-le 8 log (long .0)) .0 (rw (take-append-drop 8 log) (untouched .well-formed)) .0 in
         rw (take-append-drop 8 log′) at
         (well-formed-iff (take 8 log′) (records-of log′) (length-take-le 8 log′ (omega arith)) .1 (
@@ -171,84 +220,160 @@ module _ (rule log : List ℕ) (untouched : Untouched log) where
           record { whole = omega arith; few = omega arith },
         ))
 
-    -- a checkpoint that stands for fewer records, or as many
-    module _ (was : Bool) (m : ℕ) (p : List ℕ) (more : m ≤ n) (fine : refusal rule ≡ 0) (stands : Stands rule (first-records was log m) d p) where
+    -- a checkpoint that has reached the first m records
+    module _ (was : Bool) (p : List ℕ) (fine : refusal rule ≡ 0) (reached : Reached was m d p) where
       abbrev old : Log
       old = first-records was log m
 
       abbrev new : Log
       new = first-records closed log n
 
-      -- the records alone
-      grown : Continues (first-records false log m) (first-records false log n)
-      grown = first-longer false false m n more (λ e. absurd (false≢true e))
+      stands : Stands rule old m d p
+      stands = reached .stands
+
+      -- the first position still wanted, and the records from its own on
+      abbrev first-position : ℕ
+      first-position = wanted (formulas-of rule) d
+
+      abbrev slice : List ℕ
+      slice = wanted-records log′ p
+
+      first-is : first-wanted p ≡ from
+      first-is = stands .wanted
+
+      -- the positions before it are passed
+      begins : (first-wanted p ≤ m) × (before skips (first-bytes n) (first-wanted p) ≡ first-position)
+      begins =
+          let within = own-within rule old m d p fine stands .0 in
+          let seen = first-count m (omega (arith, brings .within)) in
+          let passed : first-position ≤ before skips (first-bytes m) (record-count (first-bytes m)) = omega arith in
+          let at : first-wanted p ≡ place skips (first-bytes m) 0 first-position =
+          first-is ∙ ap (λ k. wanted-record (log-of skips (first-bytes m)) k first-position) (sym seen) ∙ wanted-place skips (first-bytes m) first-position passed in
+          let (inside, counts) = wanted-counts skips (first-bytes m) first-position passed in
+          let low : first-wanted p ≤ record-count (first-bytes m) = omega arith in (
+            omega arith,
+            sym (before-stays (first-bytes n) (first-bytes m) (first-part m n more) skips (first-wanted p) low) ∙
+                ap (before skips (first-bytes m)) at ∙ counts,
+          )
+
+      cut : Cut (first-bytes n) slice (first-wanted p)
+      cut =
+          let all = all-size in
+          let low = begins .0 in
+          let is = first-is in
+          cut-from (first-bytes n) (records-of log′) (first-wanted p) (brought-size ∙ sym all-size) (omega arith)
+          (λ k lo hi. same-byte k (omega arith) (omega arith) ∙ sym (getD-take (8 * n) records k 0 (omega arith)))
+
+      brought-agrees : Agrees (view-of (first-wanted p) first-position (skips-of log′) closed slice) slice new first-position
+      brought-agrees =
+          let counts = begins .1 in
+          record {
+            ends = sym (flag-told closed);
+            size =
+                ap (λ b. first-position + before b slice (record-count slice)) brought-kind ∙
+                ap (λ k. k + before skips slice (record-count slice)) (sym counts) ∙
+                sym (before-cut (first-bytes n) slice (first-wanted p) cut skips);
+            shows = λ i lo hi.
+                subst (λ b. Shows b slice (first-wanted p) new i) (sym (flag-told (skips-of log′) ∙ brought-kind))
+                (closing-shows closed skips slice (first-wanted p) (log-of skips (first-bytes n)) i
+                (slice-shows skips (first-bytes n) slice (first-wanted p) cut i (omega arith) hi));
+          }
+
+      new-placed : Placed new (record-count (records-of log′))
+      new-placed =
+          let placed = log-placed skips (first-bytes n) in
+          let same : record-count (first-bytes n) ≡ record-count (records-of log′) = all-size ∙ sym brought-size in
+          record { rising = placed .rising; below = λ i h. omega (arith, placed .below i h) }
 
       -- "the first new record's time" is not below "the last time seen"
-      last-not-above : seen p < record-count (records-of log′) → last p ≤ time-at (records-of log′) (seen p)
+      last-not-above : seen p - first-wanted p < record-count slice → last p ≤ time-at slice (seen p - first-wanted p)
       last-not-above h =
-          let agrees = brought-agrees in
-          let counts = agrees .size in
           let size = stands .size in
-          let time = stands .time in
-          let d-within = own-within rule old d p fine stands in
+          let whole = cut .whole in
+          let all = all-size in
+          let low = begins .0 in
+          let within = brings .within in
+          let fresh : m < n = omega arith in
+          let at : first-wanted p + (seen p - first-wanted p) ≡ m = omega arith in
+          let here : time-at slice (seen p - first-wanted p) ≡ time-at records m =
+          time-part (first-bytes n) slice (first-wanted p) (cut .part) (seen p - first-wanted p) h ∙ ap (time-at (first-bytes n)) at ∙
+          first-time n m within fresh in
           ⊎-elim
-          (λ (some : 1 ≤ old .size).
-          let last-is : last p ≡ old .time (old .size - 1) = rw (ne-eqb (old .size) 0 (λ e. omega arith)) at time in
-          let kept = grown .same (old .size - 1) (omega arith) (omega arith) .time in
-          let grows = first-falls closed n (old .size - 1) (seen p) (omega arith) (omega arith) in
-          let lent = agrees .same (seen p) (omega arith) (omega arith) .time in
+          (λ (some : 1 ≤ m).
+          let last-is : last p ≡ time-at records (m - 1) = rw (lt-ltb 0 m some) at (reached .time) in
+          let kept = all-keep (m - 1) m (omega arith) (omega arith) in
           omega arith)
-          (λ (none : old .size < 1).
-          let last-is : last p ≡ 0 = rw (eq-eqb (old .size) 0 (omega arith)) at time in
+          (λ (none : m < 1).
+          let last-is : last p ≡ 0 = rw (le-ltb 0 m (omega arith)) at (reached .time) in
           omega arith)
-          (le-or-lt 1 (old .size))
+          (le-or-lt 1 m)
 
       -- refusal 14 is not met
-      brought-ordered : disordered (records-of log′) (wanted (formulas-of rule) (given p)) (seen p) (last p) ≡ false
+      brought-ordered : disordered slice (seen p - first-wanted p) (last p) ≡ false
       brought-ordered =
-          let agrees = brought-agrees in
-          let counts = agrees .size in
-          let same = own-given rule old d p fine stands in
-          let start = wanted (formulas-of rule) (given p) in
-          ordered-iff (records-of log′) start (seen p) (last p) .1 (
-            keeps-agreed (records-of log′) (take (8 * n) records) start (first-falls false n) (le-of-eq counts)
-                (λ i lo hi. let at = agrees .same i (omega arith) (omega arith) in record { time = at .time; letters = at .letters }),
-            last-not-above,
-          )
+          ordered-iff slice (seen p - first-wanted p) (last p) .1
+          (keeps-part (first-bytes n) slice (first-wanted p) (cut .part) (first-keep n), last-not-above)
+
+      -- nor 22
+      same-version : other-version log′ (log-kind p) ≡ false
+      same-version =
+          ⊎-elim (λ none. ap (other-version log′) none) (λ own. ap (other-version log′) own ∙ kind-same log′ skips brought-kind) (reached .kind)
 
       -- no refusal is met but 20 and 21
       number-met : resume-refusal closed rule log′ p ≡ expected-refusal closed was m n
       number-met =
-          let counts = brought-agrees .size in
+          let counts = brought-size in
           let size = stands .size in
-          let longer = grown .longer in
-          let few = brings .within in
-          let first = first-size m (omega arith) in
           rw (
             open-enough rule (length p) fine (stands .enough),
             stands .own,
-            not-outside rule old d p fine stands,
+            not-outside rule old m d p fine stands,
             brought-well-formed,
+            same-version,
             le-ltb (record-count (records-of log′)) (seen p) (omega arith),
             brought-ordered,
           )
-          (number-by closed was m n (closed-with p) (record-count (records-of log′))
-          (stands .closed ∙ ap (λ k. cond was (suc k) 0) first)
-          (counts ∙ first-size n few))
+          (number-by closed was m n (closed-with p) (record-count (records-of log′)) (stands .closed) brought-size)
 
       allowed : resume-refusal closed rule log′ p ≡ 0 → was ≡ true → (closed ≡ true) × (m ≡ n)
       allowed none = allowed-by closed was m n more (sym number-met ∙ none)
 
       gives : (sheet : List ℕ) (c : ℕ) (b : Bool) (p′ sheet′ : List ℕ) → Resumes closed rule log′ p sheet (gave c b) p′ sheet′ →
-          Gives rule new d sheet c b p′ sheet′
+          Gives rule new n d sheet c b p′ sheet′
       gives sheet c b p′ sheet′ resumes =
-          resumes .words .meaning old new d stands (first-longer was closed m n more (allowed (resume-unrefused resumes))) (first-falls closed n) brought-agrees
+          subst (λ k. Gives rule new k d sheet c b p′ sheet′) brought-size
+          (resumes .words .meaning old new m d stands (first-longer was closed m n more (allowed (resume-unrefused resumes))) (first-falls closed n) new-placed
+          brought-agrees)
+
+      -- what the checkpoint has reached then
+      reaches : (sheet : List ℕ) (c : ℕ) (b : Bool) (p′ sheet′ : List ℕ) → Resumes closed rule log′ p sheet (gave c b) p′ sheet′ → Reached closed n (d + c) p′
+      reaches sheet c b p′ sheet′ resumes =
+          record {
+            stands = gives sheet c b p′ sheet′ resumes .stands;
+            time = resumes .words .time ∙ ap (λ k. last-time (records-of log′) k (last p)) (stands .size) ∙ last-brought;
+            kind = inr (resumes .words .kind ∙ ap kind-of-log brought-kind);
+          }
+        where
+          last-brought : last-time (records-of log′) m (last p) ≡ cond (ltb 0 n) (time-at records (n - 1)) 0
+          last-brought =
+              let size = brought-size in
+              let low = begins .0 in
+              let is = first-is in
+              ⊎-elim
+              (λ (old-ones : n ≤ m).
+              let same : m ≡ n = omega arith in
+              rw (le-ltb m (record-count (records-of log′)) (omega arith)) (reached .time ∙ ap (λ k. cond (ltb 0 k) (time-at records (k - 1)) 0) same))
+              (λ (new-ones : m < n).
+              let inside : m < record-count (records-of log′) = omega arith in
+              rw (lt-ltb m (record-count (records-of log′)) inside, brought-size, lt-ltb 0 n (omega arith))
+              (same-time (records-of log′) records (n - 1) (n - 1) (λ b few. same-byte ((n - 1) * 8 + b) (omega arith) (omega arith))))
+              (le-or-lt n m)
 
       -- the bytes of an accepted call, behind those of the verdicts before it
       gives-bytes : (sheet : List ℕ) (c : ℕ) (b : Bool) (p′ sheet′ : List ℕ) → Resumes closed rule log′ p sheet (gave c b) p′ sheet′ →
           verdicts (formulas-of rule) old d ++ take c sheet′ ≡ verdicts (formulas-of rule) new (d + c)
       gives-bytes sheet c b p′ sheet′ resumes =
-          let settled = given-settled rule fine old d p stands in
+          let settled = given-settled rule fine old m d p stands in
           let room = resumes .words .room in
           let kept = resumes .sheet-length in
           let bytes = gives sheet c b p′ sheet′ resumes .bytes in
@@ -260,7 +385,7 @@ module _ (rule log : List ℕ) (untouched : Untouched log) where
     pub fine : refusal rule ≡ 0
     pub size : length point ≡ need rule
     pub within : brought-by h ≤ record-count (records-of log)
-    pub stands : Stands rule (first-records (closed-by h) log (brought-by h)) (given-by h) point
+    pub reached : Reached (closed-by h) (brought-by h) (given-by h) point
     pub bytes : laid h ≡ verdicts (formulas-of rule) (first-records (closed-by h) log (brought-by h)) (given-by h)
     pub at-first : closed-by h ≡ true → closed-at h ≡ brought-by h
     pub all : AllWhenCaughtUp rule log h
@@ -271,8 +396,12 @@ module _ (rule log : List ℕ) (untouched : Untouched log) where
     opened-fine : refusal rule ≡ 0
     opened-fine = before-none (refusal rule) _ (open-unrefused opens) .0
 
-    opened-stands : Stands rule (first-records false log 0) 0 p
-    opened-stands = opens .words .1 (first-records false log 0) (first-size 0 (omega arith)) refl
+    opened-reached : Reached false 0 0 p
+    opened-reached =
+        let few = before-few skips (first-bytes 0) (record-count (first-bytes 0)) in
+        let none = first-count 0 (omega arith) in
+        let (beyond, time, kind, stands) = opens .words in
+        record { stands = stands (first-records false log 0) (omega arith) refl; time = time; kind = inl kind }
 
     after-open : Invariant [] (take (measured rule .words) p)
     unfolding given-by brought-by closed-by closed-at laid Each AllWhenCaughtUp verdicts
@@ -280,9 +409,9 @@ module _ (rule log : List ℕ) (untouched : Untouched log) where
         rw (exactly-enough rule opened-fine .1)
         (record {
           fine = opened-fine;
-          size = length-take-le (need rule) p (opened-stands .enough);
+          size = length-take-le (need rule) p (opened-reached .stands .enough);
           within = omega arith;
-          stands = stands-alone rule opened-fine (first-records false log 0) 0 p opened-stands;
+          reached = reached-alone opened-fine false 0 0 p opened-reached;
           bytes = refl;
           at-first = λ e. absurd (false≢true e);
           all = refl;
@@ -299,9 +428,9 @@ module _ (rule log : List ℕ) (untouched : Untouched log) where
         let enough = enough-words rule (length p) (before-none (open-refusal rule (length p)) _ (resume-unrefused resumes) .0) in
         omega arith
 
-    accepted-stands : Stands rule (first-records (closed-by h) log (brought-by h)) (given-by h) p
-    accepted-stands =
-        stands-lent rule (before .fine) (first-records (closed-by h) log (brought-by h)) (given-by h) point p (before .size) lends accepted-whole (before .stands)
+    accepted-reached : Reached (closed-by h) (brought-by h) (given-by h) p
+    accepted-reached =
+        reached-lent (before .fine) (closed-by h) (brought-by h) (given-by h) point p (before .size) lends accepted-whole (before .reached)
 
     -- the first closing brought as many records
     accepted-at : cond (closed-by h) (closed-at h) n ≡ n
@@ -312,7 +441,7 @@ module _ (rule log : List ℕ) (untouched : Untouched log) where
         by false e = refl
         by true e =
             before .at-first e ∙
-            allowed closed (given-by h) n log′ (brought .brings) (closed-by h) (brought-by h) p (brought .no-fewer) (before .fine) accepted-stands
+            allowed closed (given-by h) (brought-by h) n log′ (brought .no-fewer) (brought .brings) (closed-by h) p (before .fine) accepted-reached
             (resume-unrefused resumes) e .1
 
     after-accepted : Invariant (the-call closed n sheet c more sheet′ ∷ h) (point-after point p′)
@@ -323,11 +452,12 @@ module _ (rule log : List ℕ) (untouched : Untouched log) where
         let fs = formulas-of rule in
         let all = answered closed rule log n in
         let new = first-records closed log n in
-        let step = gives closed d n log′ (brought .brings) (closed-by h) old p (brought .no-fewer) (before .fine) accepted-stands sheet c more p′ sheet′ resumes in
+        let step = gives closed d old n log′ (brought .no-fewer) (brought .brings) (closed-by h) p (before .fine) accepted-reached sheet c more p′ sheet′ resumes in
+        let reached = reaches closed d old n log′ (brought .no-fewer) (brought .brings) (closed-by h) p (before .fine) accepted-reached sheet c more p′ sheet′ resumes in
         let bytes : laid h ++ take c sheet′ ≡ verdicts fs new (d + c) =
         ap (λ vs. vs ++ take c sheet′) (before .bytes) ∙
-        gives-bytes closed d n log′ (brought .brings) (closed-by h) old p (brought .no-fewer) (before .fine) accepted-stands sheet c more p′ sheet′ resumes in
-        let settled = given-settled rule (before .fine) new (d + c) p′ (step .stands) in
+        gives-bytes closed d old n log′ (brought .no-fewer) (brought .brings) (closed-by h) p (before .fine) accepted-reached sheet c more p′ sheet′ resumes in
+        let settled = given-settled rule (before .fine) new n (d + c) p′ (step .stands) in
         let same-length = resumes .sheet-length in
         let whole = accepted-whole in
         let kept = resumes .point-length in
@@ -338,7 +468,7 @@ module _ (rule log : List ℕ) (untouched : Untouched log) where
           fine = before .fine;
           size = length-take-le (need rule) p′ (step .stands .enough);
           within = brought .brings .within;
-          stands = stands-alone rule (before .fine) new (d + c) p′ (step .stands);
+          reached = reached-alone (before .fine) closed n (d + c) p′ reached;
           bytes = bytes;
           at-first = λ e. accepted-at;
           all = (
@@ -370,8 +500,8 @@ module _ (rule log : List ℕ) (untouched : Untouched log) where
   invariant (and-then {point = point} calls p p′ lends call) = after-call point p (invariant calls) lends call
 
   -- a log of which no record is overwritten
-  brings-whole : (d n : ℕ) (log′ : List ℕ) → Brings log 0 n log′ → Brings log (wanted (formulas-of rule) d) n log′
-  brings-whole d n log′ brings =
+  brings-whole : (first n : ℕ) (log′ : List ℕ) → Brings log 0 n log′ → Brings log first n log′
+  brings-whole first n log′ brings =
       record { size = brings .size; within = brings .within; header = brings .header; same = λ i lo hi. brings .same i (omega arith) hi }
 
   -- "One run is a carry on from a fresh point with a sheet of A bytes, and it writes just these."
@@ -380,18 +510,19 @@ module _ (rule log : List ℕ) (untouched : Untouched log) where
   unfolding verdicts
   one-run-writes closed n a sheet′ run =
       let fine = opened-fine (run .lent) (run .fresh) (run .opens) in
-      let stands = opened-stands (run .lent) (run .fresh) (run .opens) in
+      let reached = opened-reached (run .lent) (run .fresh) (run .opens) in
       let fs = formulas-of rule in
       let all = answered closed rule log n in
       let c = a .count in
       let more = a .more in
-      let brings = brings-whole 0 n (run .brought) (run .brings) in
-      let none = number-met closed 0 n (run .brought) brings false 0 (run .fresh) (omega arith) fine stands ∙ fresh-allowed closed 0 n in
+      let some : 0 ≤ n = omega arith in
+      let brings = brings-whole (wanted-after rule log 0 0) n (run .brought) (run .brings) in
+      let none = number-met closed 0 0 n (run .brought) some brings false (run .fresh) fine reached ∙ fresh-allowed closed 0 n in
       let is : a ≡ gave c more = rw none at (run .resumes .outcome) in
       let resumes = subst (λ (x : Answer). Resumes closed rule (run .brought) (run .fresh) (run .sheet) x (run .left) sheet′) is (run .resumes) in
-      let step = gives closed 0 n (run .brought) brings false 0 (run .fresh) (omega arith) fine stands (run .sheet) c more (run .left) sheet′ resumes in
+      let step = gives closed 0 0 n (run .brought) some brings false (run .fresh) fine reached (run .sheet) c more (run .left) sheet′ resumes in
       let bytes =
-      gives-bytes closed 0 n (run .brought) brings false 0 (run .fresh) (omega arith) fine stands (run .sheet) c more (run .left) sheet′ resumes in
+      gives-bytes closed 0 0 n (run .brought) some brings false (run .fresh) fine reached (run .sheet) c more (run .left) sheet′ resumes in
       let count = step .count in
       let room = run .room in
       let kept = run .resumes .sheet-length in
@@ -403,21 +534,21 @@ module _ (rule log : List ℕ) (untouched : Untouched log) where
       )
 
 -- a checkpoint that stands for its rule meets none of refusals 1 to 11
-none-met : (rule : List ℕ) (K : Log) (d : ℕ) (p : List ℕ) → refusal rule ≡ 0 → Stands rule K d p → summary-refusal rule p ≡ 0
-none-met rule K d p fine stands =
+none-met : (rule : List ℕ) (K : Log) (n d : ℕ) (p : List ℕ) → refusal rule ≡ 0 → Stands rule K n d p → summary-refusal rule p ≡ 0
+none-met rule K n d p fine stands =
     rw (
       open-enough rule (length p) fine (stands .enough),
       stands .own,
-      not-outside rule K d p fine stands,
+      not-outside rule K n d p fine stands,
     )
 
 -- of each formula the count of no and the latest of them, as a checkpoint has them
-own-summary : (rule : List ℕ) (K : Log) (d : ℕ) (p : List ℕ) → refusal rule ≡ 0 → Stands rule K d p →
+own-summary : (rule : List ℕ) (K : Log) (n d : ℕ) (p : List ℕ) → refusal rule ≡ 0 → Stands rule K n d p →
     (nos latest : List ℕ) (a : SummaryAnswer) (nos′ latest′ : List ℕ) → Summarizes rule p nos latest a nos′ latest′ →
     (a ≡ counted (columns (formulas-of rule))) ×
     Told 0 (columns (formulas-of rule)) (λ k. noes-in k (verdicts (formulas-of rule) K d) d) nos latest nos′ latest′
-own-summary rule K d p fine stands nos latest a nos′ latest′ told =
-    let is : a ≡ counted (columns (formulas-of rule)) = rw (none-met rule K d p fine stands) at (told .outcome) in (
+own-summary rule K n d p fine stands nos latest a nos′ latest′ told =
+    let is : a ≡ counted (columns (formulas-of rule)) = rw (none-met rule K n d p fine stands) at (told .outcome) in (
       is,
       told-same (columns (formulas-of rule)) (stored-noes (most (version rule)) p) _ nos latest nos′ latest′ (stands .noes)
           (subst (λ (x : SummaryAnswer). Told (x .number) (x .formulas) (stored-noes (most (version rule)) p) nos latest nos′ latest′) is (told .words)),
@@ -429,26 +560,27 @@ closed-told true n w e = lt-ltb 0 w (omega arith)
 closed-told false n w e = le-ltb 0 w (omega arith)
 
 -- what it tells of the log that it stands for
-own-status : (rule : List ℕ) (K : Log) (d : ℕ) (p : List ℕ) → refusal rule ≡ 0 → Stands rule K d p →
-    known rule p ≡ known-told (facts rule d (K .size) (K .closed))
-own-status rule K d p fine stands =
+own-status : (rule : List ℕ) (K : Log) (n d : ℕ) (p : List ℕ) → refusal rule ≡ 0 → Stands rule K n d p →
+    known rule p ≡ known-told (record { given = d; seen = n; wanted = wanted-record K n (wanted (formulas-of rule) d); closed = K .closed })
+own-status rule K n d p fine stands =
     rw (
-      eq-eqb (summary-refusal rule p) 0 (none-met rule K d p fine stands),
-      own-given rule K d p fine stands,
+      eq-eqb (summary-refusal rule p) 0 (none-met rule K n d p fine stands),
+      own-given rule K n d p fine stands,
       stands .size,
-      closed-told (K .closed) (K .size) (closed-with p) (stands .closed),
+      stands .wanted,
+      closed-told (K .closed) n (closed-with p) (stands .closed),
     )
 
 -- WORDS BEHIND THE POINT
 
-open-keeps : (rule words : List ℕ) (a : OpenAnswer) (fresh : List ℕ) → refusal rule ≡ 0 → Opens rule words a fresh → Keeps rule words fresh
+open-keeps : (rule words : List ℕ) (a : OpenAnswer) (fresh : List ℕ) → refusal rule ≡ 0 → Opens rule words a fresh → KeepsBehind rule words fresh
 open-keeps rule words a fresh fine opens = record { behind = by (a .refused) (opens .words); number = opens .length }
   where
     by : (refused : Bool) → Opening refused rule words fresh → drop (measured rule .words) fresh ≡ drop (measured rule .words) words
-    by false (beyond, stands) = rw (exactly-enough rule fine .1) beyond
+    by false (beyond, time, kind, stands) = rw (exactly-enough rule fine .1) beyond
     by true kept = ap (drop (measured rule .words)) kept
 
-call-keeps : (rule log : List ℕ) {h h′ : List Call} (p : List ℕ) {p′ : List ℕ} → refusal rule ≡ 0 → OneCall rule log h p h′ p′ → Keeps rule p p′
+call-keeps : (rule log : List ℕ) {h h′ : List Call} (p : List ℕ) {p′ : List ℕ} → refusal rule ≡ 0 → OneCall rule log h p h′ p′ → KeepsBehind rule p p′
 call-keeps rule log p fine (refused closed rule′ log′ sheet number p′ sheet′ resumes) =
     record { behind = ap (drop (measured rule .words)) (resumes .words .0); number = resumes .point-length }
 call-keeps rule log p fine (accepted closed n log′ sheet c more p′ sheet′ brought resumes) =
@@ -460,17 +592,20 @@ demand-3 rule log untouched h point calls =
     let i = invariant rule log untouched calls in
     let fs = formulas-of rule in
     let L = first-records (closed-by h) log (brought-by h) in
-    let settled = given-settled rule (i .fine) L (given-by h) point (i .stands) in
+    let n = brought-by h in
+    let d = given-by h in
+    let settled = given-settled rule (i .fine) L n d point (i .reached .stands) in
     let size = i .size in
+    let lent : (p : List ℕ) → Lends point p → length point ≤ length p → Reached rule log untouched (closed-by h) n d p =
+    λ p lends whole. reached-lent rule log untouched (i .fine) (closed-by h) n d point p size lends whole (i .reached) in
     record {
       first = rw (i .bytes, length-verdicts fs L (given-by h)) (sym (take-verdicts fs L (given-by h) (answered (closed-by h) rule log (brought-by h)) (omega arith)));
       all = i .all;
       each = i .each;
-      not-refused = λ p lends whole closed n log′ sheet brought a p′ sheet′ resumes.
+      not-refused = λ p lends whole closed m log′ sheet brought a p′ sheet′ resumes.
           resume-number resumes ∙
-          number-met rule log untouched closed (given-by h) n log′ (brought .brings) (closed-by h) (brought-by h) p (brought .no-fewer) (i .fine)
-          (stands-lent rule (i .fine) L (given-by h) point p size lends whole (i .stands)) ∙
-          expected-at closed (closed-by h) (closed-at h) (brought-by h) n (i .at-first);
+          number-met rule log untouched closed d n m log′ (brought .no-fewer) (brought .brings) (closed-by h) p (i .fine) (lent p lends whole) ∙
+          expected-at closed (closed-by h) (closed-at h) n m (i .at-first);
       too-few = λ p short closed log′ sheet a p′ sheet′. nine closed rule log′ p sheet a p′ sheet′ (i .fine) (omega arith);
       size = size ∙ sym (exactly-enough rule (i .fine) .1);
       enough = λ words a fresh size opens.
@@ -479,14 +614,9 @@ demand-3 rule log untouched h point calls =
       call-keeps = λ p p′ h′. call-keeps rule log p (i .fine);
       one-run = one-run-writes rule log untouched;
       summary = λ p lends whole nos latest a nos′ latest′ told.
-          let d = given-by h in
           let laid-length : length (laid h) ≡ d = ap length (i .bytes) ∙ length-verdicts fs L d in
-          rw (laid-length, i .bytes)
-          (own-summary rule L d p (i .fine) (stands-lent rule (i .fine) L d point p size lends whole (i .stands)) nos latest a nos′ latest′ told);
-      status = λ p lends whole r is.
-          let d = given-by h in
-          is ∙ own-status rule L d p (i .fine) (stands-lent rule (i .fine) L d point p size lends whole (i .stands)) ∙
-          ap (λ n. known-told (facts rule d n (closed-by h))) (first-size rule log untouched (brought-by h) (i .within));
+          rw (laid-length, i .bytes) (own-summary rule L n d p (i .fine) (lent p lends whole .stands) nos latest a nos′ latest′ told);
+      status = λ p lends whole r is. is ∙ own-status rule L n d p (i .fine) (lent p lends whole .stands);
     }
 
 -- the bytes of every list are the first bytes of one run
@@ -503,5 +633,5 @@ pub own-checkpoint : (rule log : List ℕ) → Untouched log → (h : List Call)
 own-checkpoint rule log untouched h point calls p lends whole =
     let i = invariant rule log untouched calls in
     let L = first-records (closed-by h) log (brought-by h) in
-    let stands = stands-lent rule (i .fine) L (given-by h) point p (i .size) lends whole (i .stands) in
-    (stands .own, not-outside rule L (given-by h) p (i .fine) stands)
+    let reached = reached-lent rule log untouched (i .fine) (closed-by h) (brought-by h) (given-by h) point p (i .size) lends whole (i .reached) in
+    (reached .stands .own, not-outside rule L (brought-by h) (given-by h) p (i .fine) (reached .stands))

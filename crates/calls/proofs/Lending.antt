@@ -38,23 +38,43 @@ pub after-whole : (point p : List ℕ) → length point ≤ length p → point-a
 after-whole point p enough =
     ap (λ ws. take (length point) p ++ ws) (drop-of-length-le point enough) ∙ append-nil (take (length point) p)
 
-module _ (rule : List ℕ) (fine : refusal rule ≡ 0) (K : Log) (d : ℕ) where
+-- the first words of two lists
+same-word : (m : ℕ) (p q : List ℕ) → take m p ≡ take m q → (i : ℕ) → i < m → word q i ≡ word p i
+same-word m p q e i l = sym (getD-take m q i 0 l) ∙ ap (λ ws. getD ws i 0) (sym e) ∙ getD-take m p i 0 l
+
+-- the header's words are among those that a rule needs
+pub same-header : (rule p q : List ℕ) → take (need rule) p ≡ take (need rule) q → (i : ℕ) → i < 16 → word q i ≡ word p i
+same-header rule p q e i l = same-word (need rule) p q e i (omega (arith, header-least (version rule)))
+
+-- the point's words are the first of those lent, and of those that it was taken out of
+pub same-lent : (rule point p : List ℕ) → length point ≡ need rule → Lends point p → length point ≤ length p → take (need rule) point ≡ take (need rule) p
+same-lent rule point p size lends enough =
+    take-all (need rule) point (omega arith) ∙ sym (lent-whole point p lends enough) ∙ ap (λ k. take k p) size
+
+pub same-alone : (rule p : List ℕ) → need rule ≤ length p → take (need rule) p ≡ take (need rule) (take (need rule) p)
+same-alone rule p enough =
+    let size = length-take-le (need rule) p enough in
+    sym (take-all (need rule) (take (need rule) p) (omega arith))
+
+module _ (rule : List ℕ) (fine : refusal rule ≡ 0) (K : Log) (n d : ℕ) where
   -- every verdict given is settled
-  pub given-settled : (p : List ℕ) → Stands rule K d p → d ≤ joint-progress (formulas-of rule) K
+  pub given-settled : (p : List ℕ) → Stands rule K n d p → d ≤ joint-progress (formulas-of rule) K
   given-settled p stands =
       joint-least (formulas-of rule) K d (stands .top .within) (λ k h. omega (arith, stands .top .each k h .buffer .within))
 
   -- a checkpoint stands for what its need's words say
-  pub stands-on : (p q : List ℕ) → take (need rule) p ≡ take (need rule) q → need rule ≤ length q → Stands rule K d p → Stands rule K d q
+  pub stands-on : (p q : List ℕ) → take (need rule) p ≡ take (need rule) q → need rule ≤ length q → Stands rule K n d p → Stands rule K n d q
   stands-on p q e enough stands =
       record {
         enough = enough;
         own = foreign-within (version rule) (decoded rule) (count rule) q p same ∙ stands .own;
         size = header 2 (omega arith) ∙ stands .size;
         few = stands .few;
-        time = header 3 (omega arith) ∙ stands .time;
+        placed = stands .placed;
         fits = omega (arith, header 3 (omega arith), stands .fits);
         closed = header 5 (omega arith) ∙ stands .closed;
+        kind = rw (header 5 (omega arith), header 6 (omega arith)) (stands .kind);
+        wanted = header 7 (omega arith) ∙ stands .wanted;
         top = subst (Top (header-words (version rule)) (formulas-of rule) K d) e (stands .top);
         noes = λ k l. ap₂ (λ c a. record { count = c; latest = latest-of a }) (counted k (omega (arith, few-columns rule fine))) (latest k (omega (arith, few-columns rule fine))) ∙ stands .noes k l;
         unused = λ k lo hi. let (count, after) = stands .unused k lo hi in (counted k hi ∙ count, latest k hi ∙ after);
@@ -62,10 +82,10 @@ module _ (rule : List ℕ) (fine : refusal rule ≡ 0) (K : Log) (d : ℕ) where
       }
     where
       same : (i : ℕ) → i < need rule → word q i ≡ word p i
-      same i l = sym (getD-take (need rule) q i 0 l) ∙ ap (λ ws. getD ws i 0) (sym e) ∙ getD-take (need rule) p i 0 l
+      same i l = same-word (need rule) p q e i l
 
       header : (i : ℕ) → i < 16 → word q i ≡ word p i
-      header i l = same i (omega (arith, header-least (version rule)))
+      header = same-header rule p q e
 
       counted : (k : ℕ) → k < most (version rule) → no-count q k ≡ no-count p k
       counted k l = same (8 + k) (omega (arith, noes-within (version rule)))
@@ -77,17 +97,3 @@ module _ (rule : List ℕ) (fine : refusal rule ≡ 0) (K : Log) (d : ℕ) where
       in-block j l =
           same (block-at (header-words (version rule)) (decoded rule) j + 12)
           (omega (arith, block-fits (header-words (version rule)) (decoded rule) (count rule) j l))
-
-  -- the point alone, out of the words that it stands in
-  pub stands-alone : (p : List ℕ) → Stands rule K d p → Stands rule K d (take (need rule) p)
-  stands-alone p stands =
-      let size = length-take-le (need rule) p (stands .enough) in
-      stands-on p (take (need rule) p) (sym (take-all (need rule) (take (need rule) p) (omega arith))) (omega arith) stands
-
-  -- the point in the words lent
-  pub stands-lent : (point p : List ℕ) → length point ≡ need rule → Lends point p → length point ≤ length p → Stands rule K d point →
-      Stands rule K d p
-  stands-lent point p size lends enough stands =
-      stands-on point p
-      (take-all (need rule) point (omega arith) ∙ sym (lent-whole point p lends enough) ∙ ap (λ n. take n p) size)
-      (omega arith) stands

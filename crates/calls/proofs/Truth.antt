@@ -1,6 +1,6 @@
 -- The theorem of demand 2 for lists of calls, stated in specs/Calls.antt: each byte written says which of the rule's formulas hold.
 -- Assumes nothing.
-use Prim.Native.Nat.{ℕ, zero, suc, _+_, _*_, _/_, _%_, _<_, _^_}
+use Prim.Native.Nat.{ℕ, _+_, _*_, _/_, _%_, _<_, _^_}
 use mathlib.Core.Bool.{Bool, true, false, cond}
 use mathlib.Core.Logic.{_↔_, Iff·trans}
 use mathlib.Core.Path.{_≡_, refl, sym, _∙_, ap, subst}
@@ -76,7 +76,7 @@ module _ (rule log : List ℕ) (untouched : Untouched log) (h : List Call) (poin
       let inv = invariant rule log untouched calls in
       let fs = formulas-of rule in
       let L = first-records (closed-by h) log (brought-by h) in
-      let settled = given-settled rule (inv .fine) L (given-by h) point (inv .stands) in
+      let settled = given-settled rule (inv .fine) L (brought-by h) (given-by h) point (inv .reached .stands) in
       let size = ap length (inv .bytes) ∙ length-verdicts fs L (given-by h) in
       (omega arith, ap (λ s. getD s i 0) (inv .bytes) ∙ verdict-at fs L (given-by h) i (omega arith))
 

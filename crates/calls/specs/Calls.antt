@@ -10,7 +10,6 @@ use lib.ListN.{length, getD, take, drop}
 use lib.Dec.{ltb}
 use Rattle.mtl.specs.Formula.{Formula}
 use Rattle.mtl.specs.Log.{Log, Stream, NeverFalls, StreamNeverFalls, Continues, Begins}
-use Rattle.mtl.specs.Wanted.{wanted}
 use Rattle.mtl.specs.Reading.{HoldsIn, HoldsOn}
 use Rattle.trace.specs.Format.{record-count, records-of, malformed}
 use Rattle.trace.specs.Log.{log-of}
@@ -18,20 +17,21 @@ use Rattle.verdicts.specs.Counts.{noes-in}
 use Rattle.rule.specs.Entries.{version, count, decoded}
 use Rattle.rule.specs.Postfix.{formulas}
 use Rattle.rule.specs.Measure.{measured}
-use Rattle.emit.specs.Verdicts.{formulas-of, columns, first-records, answered, all-verdicts}
+use Rattle.emit.specs.Verdicts.{formulas-of, columns, first-records, wanted-after, answered, all-verdicts}
 use Rattle.monitor.specs.Open.{done, Opens}
 use Rattle.monitor.specs.Open.{Answer as OpenAnswer}
 use Rattle.monitor.specs.Resume.{Answer, gave, refused-with, Resumes}
 use Rattle.monitor.specs.Summary.{counted, Told, Summarizes}
 use Rattle.monitor.specs.Summary.{Answer as SummaryAnswer}
-use Rattle.monitor.specs.Status.{facts, known}
+use Rattle.monitor.specs.Status.{Facts, known}
 use Rattle.monitor.specs.Status.{told as known-told, answer as standing-of}
 use Rattle.monitor.specs.declared.Standing.{Standing}
 
--- "One untouched log belongs to the list: a header without fault, then at most 1,000,000 records whose times never fall"
+-- "One untouched log belongs to the list: a header without fault, then at most 1,000,000 records whose times never fall": the times of
+-- all records, service records too
 pub record Untouched (log : List ℕ) : Type 0 where
   pub well-formed : malformed log ≡ false
-  pub never-falls : NeverFalls (log-of (records-of log))
+  pub never-falls : NeverFalls (log-of false (records-of log))
 
 -- an accepted call, as far as the claim speaks of it: whether it is a closing, the records that it brought, the sheet's length, c,
 -- "more", and the first c bytes of the sheet as the call left it
@@ -78,8 +78,9 @@ unfoldable pub laid : List Call → List ℕ
 laid [] = []
 laid (c ∷ older) = laid older ++ c .bytes
 
--- "it brings .. this header and the records from the first on"; "Overwriting is .. allowed only for records before the first still
--- wanted" (document 02, paper 2). "Such a record may hold any bytes; the others stand as in the untouched log."
+-- "it brings .. this header and the records from the first on"; "The first record wanted is the one that holds the first position still
+-- wanted ..; overwriting stops before it" (document 02, paper 10). "Such a record may hold any bytes; the others stand as in the untouched
+-- log."
 pub record Brings (log : List ℕ) (first n : ℕ) (log′ : List ℕ) : Type 0 where
   pub size : length log′ ≡ 8 + 8 * n
   pub within : n ≤ record-count (records-of log)
@@ -89,7 +90,7 @@ pub record Brings (log : List ℕ) (first n : ℕ) (log′ : List ℕ) : Type 0 
 -- after the accepted calls h, "no fewer than the accepted call before it brought"
 pub record BringsAfter (rule log : List ℕ) (h : List Call) (n : ℕ) (log′ : List ℕ) : Type 0 where
   pub no-fewer : brought-by h ≤ n
-  pub brings : Brings log (wanted (formulas-of rule) (given-by h)) n log′
+  pub brings : Brings log (wanted-after rule log (given-by h) (brought-by h)) n log′
 
 -- "Each gets the point as the call before left it": the words p that a call lends are the point's as far as both go. Behind the
 -- point any words may stand; if they are fewer than the point's, they are the first of them.
@@ -173,6 +174,11 @@ pub record Demand2 (rule log : List ℕ) (h : List Call) : Type 0 where
   pub as-it-ends : (i : ℕ) → i < length (laid h) →
       Says (λ φ. HoldsIn (first-records (closed-by h) log (brought-by h)) φ i) (formulas-of rule) (getD (laid h) i 0)
 
+-- what `status` tells after the accepted calls h
+abbrev pub facts-after : (rule log : List ℕ) → List Call → Facts
+facts-after rule log h =
+    record { given = given-by h; seen = brought-by h; wanted = wanted-after rule log (given-by h) (brought-by h); closed = closed-by h }
+
 -- "any words behind them are kept": those behind the words that weigh gave, and how many there are
 pub record Keeps (rule words words′ : List ℕ) : Type 0 where
   pub behind : drop (measured rule .words) words′ ≡ drop (measured rule .words) words
@@ -220,4 +226,4 @@ pub record Demand3 (rule log : List ℕ) (h : List Call) (point : List ℕ) : Ty
   -- 8. `status` of the point, whole in the words lent, is not refused: given is the sum of c, seen and closed are those of the last
   -- accepted call, and wanted is the record from which `BringsAfter` asks the log to stand
   pub status : (p : List ℕ) → Lends point p → length point ≤ length p →
-      (r : Standing) → standing-of r ≡ known rule p → standing-of r ≡ known-told (facts rule (given-by h) (brought-by h) (closed-by h))
+      (r : Standing) → standing-of r ≡ known rule p → standing-of r ≡ known-told (facts-after rule log h)

@@ -14,7 +14,7 @@ use lib.Seq.{getD-drop}
 use Rattle.mtl.specs.Satisfaction.{any}
 use Rattle.mtl.proofs.Bounded.{and-iff, leb-iff, any-false-iff}
 use Rattle.rule.specs.declared.Entry.{Entry}
-use Rattle.rule.specs.Entries.{version, count, decoded}
+use Rattle.rule.specs.Entries.{version, count, decoded, entry}
 use Rattle.rule.specs.Refusal.{before, refusal}
 use Rattle.rule.proofs.Headers.{first-zero, or-left, or-right, Decoded, before-none, measured-once}
 use Rattle.rule.specs.declared.refusals.Header.{Header}
@@ -30,9 +30,9 @@ use Rattle.rule.proofs.Outcome.{passes-with}
 use Rattle.blocks.specs.Block.{word}
 use Rattle.trace.specs.Format.{record-count, records-of, malformed}
 use Rattle.trace.proofs.Laws.{well-formed-records}
-use Rattle.checkpoint.specs.Checkpoint.{given, seen, last, closed-with, no-count, after-latest, need, foreign, block-at, block-outside, block-in-range, room, noes-outside, closed-in-range, outside, header-in-range}
+use Rattle.checkpoint.specs.Checkpoint.{given, seen, last, closed-with, log-kind, first-wanted, no-count, after-latest, need, foreign, block-at, block-outside, block-in-range, waiting-in-range, room, noes-outside, closed-in-range, kind-in-range, outside, header-in-range}
 use Rattle.verdicts.specs.Counts.{noes-in-range}
-use Rattle.checkpoint.specs.Refusal.{open-refusal, resumes-closed, point-refusal, words-refusal, summary-refusal}
+use Rattle.checkpoint.specs.Refusal.{open-refusal, resumes-closed, other-version, point-refusal, words-refusal, summary-refusal}
 use Rattle.checkpoint.specs.Code.{sized-of, sized-number, checked-by, checked-number, sized-by, Covers, own-checked}
 use Rattle.checkpoint.specs.declared.check.Sized.{Sized}
 use Rattle.checkpoint.specs.declared.check.Sized.the-variants.{Words, Stopped}
@@ -95,19 +95,25 @@ failed rule p number w r m n sized checked fails numbered =
 -- what the refusals that are not met tell
 pub record Passes (rule log p : List ℕ) : Type 0 where
   pub given : given p ≤ 1000000
+  pub wanted : first-wanted p ≤ seen p
+  pub no-fewer : seen p ≤ record-count (records-of log)
   pub counted : (k : ℕ) → k < most (version rule) → no-count p k ≤ 1000000
   pub held : (k : ℕ) → k < count rule → word p (block-at (header-words (version rule)) (decoded rule) k + 12) ≤ 64
   pub records : record-count (records-of log) ≤ 1000000
 
-header-given : (m : ℕ) (p : List ℕ) → header-in-range m p ≡ true → (given p ≤ 1000000) × ((k : ℕ) → k < m → no-count p k ≤ given p)
+header-given : (m : ℕ) (p : List ℕ) → header-in-range m p ≡ true →
+    (given p ≤ 1000000) × (first-wanted p ≤ seen p) × ((k : ℕ) → k < m → no-count p k ≤ given p)
 header-given m p fits =
     let first = and-iff _ (negate (any m (noes-outside m p))) .0 fits in
-    let second = and-iff _ (closed-in-range (closed-with p) (seen p)) .0 (first .0) in
+    let wanted = and-iff _ (leb (first-wanted p) (seen p)) .0 (first .0) in
+    let kind = and-iff _ (kind-in-range (log-kind p) (seen p) (closed-with p)) .0 (wanted .0) in
+    let second = and-iff _ (closed-in-range (closed-with p) (seen p)) .0 (kind .0) in
     let third = and-iff (leb (seen p) 1000000 && leb (given p) (seen p)) (ltb (last p) (2 ^ 32)) .0 (second .0) in
     let fourth = and-iff (leb (seen p) 1000000) (leb (given p) (seen p)) .0 (third .0) in
     let few = leb-iff (seen p) 1000000 .0 (fourth .0) in
     let low = leb-iff (given p) (seen p) .0 (fourth .1) in (
       omega arith,
+      leb-iff (first-wanted p) (seen p) .0 (wanted .1),
       λ k h.
           let fits-k = not-false _ (any-false-iff m (noes-outside m p) .0 (not-true _ (first .1)) k h) in
           let both = and-iff (leb (no-count p k) (given p) && leb (after-latest m p k) (given p)) _ .0 fits-k in
@@ -118,7 +124,7 @@ header-given m p fits =
 held-few : (given size cells : ℕ) (b : List ℕ) → block-in-range given size cells b ≡ true → word b 12 ≤ 64
 held-few given size cells b fits =
     let others = leb (word b 0) size && leb (word b 1) 64 && leb (word b 3) 64 && leb (word b 5) size && leb (word b 6) 1 && leb (word b 7) 1
-    && ltb (word b 8) (2 ^ 32) && leb (word b 9) cells && leb (word b 10) cells in
+    && ltb (word b 8) (2 ^ 32) && leb (word b 9) cells && leb (word b 10) cells && leb (word b 11) size in
     leb-iff (word b 12) 64 .0 (and-iff others (leb (word b 12) 64) .0 (and-iff (others && leb (word b 12) 64) (room given (word b 12) size) .0 fits .0) .1)
 
 pub passes : (closing : Bool) (rule log p : List ℕ) → point-refusal closing (version rule) (decoded rule) (count rule) log p ≡ 0 →
@@ -132,13 +138,17 @@ passes closing rule log p none =
     let eleventh = first-zero 10 (outside v t n p) _ (tenth .1) in
     let twentieth = first-zero 19 (resumes-closed closing (closed-with p)) _ (eleventh .1) in
     let twelfth = first-zero 11 (malformed log) _ (twentieth .1) in
-    let (few, noes) = header-given (most v) p
+    let last = first-zero 21 (other-version log (log-kind p)) _ (twelfth .1) in
+    let thirteenth = first-zero 12 (ltb (record-count (records-of log)) (seen p)) _ (last .1) in
+    let (few, wanted, noes) = header-given (most v) p
     (not-false (header-in-range (most v) p) (or-left (negate (header-in-range (most v) p)) (any n (block-outside base t p)) (eleventh .0))) in
     let blocks = any-false-iff n (block-outside base t p) .0 (or-right (negate (header-in-range (most v) p)) (any n (block-outside base t p)) (eleventh .0)) in
     record {
       given = few;
+      wanted = wanted;
+      no-fewer = ltb-false (record-count (records-of log)) (seen p) (thirteenth .0);
       counted = λ k h. omega (arith, noes k h);
-      held = λ k h. subst (λ (w : ℕ). w ≤ 64) (getD-drop (block-at base t k) p 12 0) (held-few _ _ _ (drop (block-at base t k) p) (not-false _ (blocks k h)));
+      held = λ k h. subst (λ (w : ℕ). w ≤ 64) (getD-drop (block-at base t k) p 12 0) (held-few _ _ _ (drop (block-at base t k) p) (and-iff _ (waiting-in-range (entry t k .kind) (seen p) (drop (block-at base t k) p)) .0 (not-false _ (blocks k h)) .0));
       records = well-formed-records log (twelfth .0) .1 .few;
     }
 

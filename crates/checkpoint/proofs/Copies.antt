@@ -13,12 +13,12 @@ use borrow.Author.Tests.{eq-eqb}
 use Rattle.mtl.proofs.Bounded.{le-or-lt, any-congr, any-false-iff}
 use Rattle.rule.specs.declared.Entry.{Entry}
 use Rattle.rule.specs.Entries.{entry}
-use Rattle.rule.specs.Words.{header-words, words}
-use Rattle.rule.proofs.Spans.{header-least, offset-mono}
+use Rattle.rule.specs.Words.{own, header-words, words}
+use Rattle.rule.proofs.Spans.{header-least, own-least, offset-mono}
 use Rattle.blocks.specs.Block.{word}
 use Rattle.checkpoint.specs.Checkpoint.{format, copy-start, block-at, copy-head, copy-ends, copy-differs, foreign}
 use Rattle.checkpoint.specs.Code.{Fresh, copies}
-use Rattle.checkpoint.proofs.Offsets.{block-fits}
+use Rattle.checkpoint.proofs.Offsets.{until-words, block-within, block-fits}
 
 -- an entry's copy, written into the block that begins at `at`
 abbrev stored : (b : List ℕ) (at : ℕ) (e : Entry) → List ℕ
@@ -76,16 +76,16 @@ module _ (base : ℕ) (t : List Entry) (ws : List ℕ) where
       copies-has j inside value here n k l (omega (arith, offset-mono t n (suc n) (omega arith))))
       (le-or-lt n k)
 
--- no block's first words are in another's copy
-apart : (base : ℕ) (t : List Entry) (k k′ i j : ℕ) → i < 14 → 14 ≤ j → j < 16 → block-at base t k + i ≡ block-at base t k′ + j → ⊥
-apart base t k k′ i j h l l′ e =
+-- a word of a block is no other word of its own or of another's first 16
+apart : (base : ℕ) (t : List Entry) (k k′ i j : ℕ) → i < own (entry t k) → j < 16 → (i ≡ j → ⊥) → block-at base t k + i ≡ block-at base t k′ + j → ⊥
+apart base t k k′ i j h l differ e =
     ⊎-elim
     (λ (a : k′ ≤ k).
     ⊎-elim
-    (λ (b : k ≤ k′). let s : block-at base t k ≡ block-at base t k′ = ap (block-at base t) (omega arith) in omega arith)
+    (λ (b : k ≤ k′). let s : block-at base t k ≡ block-at base t k′ = ap (block-at base t) (omega arith) in differ (omega arith))
     (λ (b : k′ < k). omega (arith, block-fits base t k k′ b))
     (le-or-lt k k′))
-    (λ (a : k < k′). omega (arith, block-fits base t k′ k a))
+    (λ (a : k < k′). omega (arith, block-within base t k′ k a))
     (le-or-lt k′ k)
 
 module _ (version : ℕ) (t : List Entry) (n m : ℕ) (room : words version t n ≤ m) where
@@ -112,16 +112,19 @@ module _ (version : ℕ) (t : List Entry) (n m : ℕ) (room : words version t n 
       let zeros : (i : ℕ) → (i ≡ 0 → ⊥) → (i ≡ 4 → ⊥) → i < m → word headed i ≡ 0 =
       λ i h h′ b. getD-set-other (set (replicate m 0) 0 format) 4 i (copy-start version n) 0 h′ ∙ getD-set-other (replicate m 0) 0 i format 0 h ∙ getD-replicate m i 0 0 b
       in
+      let clear : (k i : ℕ) → k < n → i < own (entry t k) → (i ≡ 14 → ⊥) → (i ≡ 15 → ⊥) → word (copies base t n headed) (block-at base t k + i) ≡ 0 =
+      λ k i h inside ne ne′.
+      let b = block-within base t n k h in
+      copies-keep base t headed n (block-at base t k + i) (λ k′ l′. (apart base t k k′ i 14 inside (omega arith) ne, apart base t k k′ i 15 inside (omega arith) ne′))
+      ∙ zeros (block-at base t k + i) (omega arith) (omega arith) (omega arith)
+      in
       record {
         first-word =
             outside 0 (omega arith) ∙ getD-set-other (set (replicate m 0) 0 format) 4 0 (copy-start version n) 0 (omega arith) ∙ getD-set-same (replicate m 0) 0 format 0 (omega arith);
         start = outside 4 (omega arith) ∙ getD-set-same (set (replicate m 0) 0 format) 4 (copy-start version n) 0 (omega arith);
         header = λ i h h′ ne. outside i (omega arith) ∙ zeros i (omega arith) ne (omega arith);
-        blocks =
-            λ k h i h′.
-            let b = block-fits base t n k h in
-            copies-keep base t headed n (block-at base t k + i) (λ k′ l′. (apart base t k k′ i 14 h′ (omega arith) (omega arith), apart base t k k′ i 15 h′ (omega arith) (omega arith)))
-            ∙ zeros (block-at base t k + i) (omega arith) (omega arith) (omega arith);
+        blocks = λ k h i h′. clear k i h (omega (arith, own-least (entry t k .kind) (entry t k .high))) (omega arith) (omega arith);
+        waiting = λ k h is. clear k 16 h (omega (arith, until-words (entry t k) is)) (omega arith) (omega arith);
         heads = λ k h. copies-has base t headed 14 (omega arith) copy-head stored-head n k h (omega arith);
         ends = λ k h. copies-has base t headed 15 (omega arith) copy-ends stored-ends n k h (omega arith);
       }

@@ -22,6 +22,10 @@ use Rattle.checkpoint.specs.Checkpoint.{block-at}
 pub since-cells : (e : Entry) → e .kind ≡ 5 → own e - 16 ≡ cells-of (e .kind) (e .high)
 since-cells e h = rw (eq-eqb (e .kind) 5 h) (omega arith)
 
+-- behind those of an until stand words for both its heads
+pub until-words : (e : Entry) → e .kind ≡ 6 → 18 ≤ own e
+until-words e h = rw h (omega arith)
+
 -- a word of the block of entry k
 pub in-block : (base : ℕ) (t : List Entry) (ws : List ℕ) (k i : ℕ) → word (drop (offset t k) (drop base ws)) i ≡ word ws (block-at base t k + i)
 in-block base t ws k i =
@@ -45,7 +49,7 @@ module _ (base : ℕ) (t : List Entry) where
   block-next k = omega (arith, offset-more k)
 
   -- the words of each entry lie among those of all
-  block-within : (n k : ℕ) → k < n → block-at base t k + own (entry t k) ≤ block-at base t n
+  pub block-within : (n k : ℕ) → k < n → block-at base t k + own (entry t k) ≤ block-at base t n
   block-within n k h = omega (arith, block-next k, offset-mono t (k + 1) n (omega arith))
 
   pub block-fits : (n k : ℕ) → k < n → block-at base t k + 16 ≤ block-at base t n

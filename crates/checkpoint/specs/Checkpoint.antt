@@ -1,7 +1,7 @@
 -- The words of a checkpoint (document 01's point): 16 of its own, 24 for a rule of version 2, then each entry's block in entry order.
 -- docs/CHECKPOINT.md has the table.
 use Prim.Native.Nat.{ℕ, _+_, _*_, _-_, _^_}
-use mathlib.Core.Bool.{Bool, _&&_, _||_}
+use mathlib.Core.Bool.{Bool, true, cond, _&&_, _||_}
 use mathlib.Core.Bool.{not as negate}
 use mathlib.Core.List.{List}
 use lib.ListN.{drop}
@@ -16,7 +16,7 @@ use Rattle.verdicts.specs.Counts.{Noes, latest-of, noes-in-range}
 
 -- the number in a checkpoint's first word: the bytes HAVD, and the format's number
 abbrev pub format : ℕ
-format = 0x4841564400000006
+format = 0x4841564400000007
 
 -- "the verdicts given d, the records seen, and the last time seen"
 abbrev pub given : List ℕ → ℕ
@@ -35,6 +35,17 @@ copy-start version n = version * 256 + n
 -- the records at the first accepted closing, and 1; 0 while no closing was accepted
 abbrev pub closed-with : List ℕ → ℕ
 closed-with p = word p 5
+
+-- what is noted of the version of the log that the last accepted call brought, 0 before any: 2 where it has service records, else 1
+abbrev pub log-kind : List ℕ → ℕ
+log-kind p = word p 6
+
+abbrev pub kind-of-log : (skips : Bool) → ℕ
+kind-of-log skips = cond skips 2 1
+
+-- the first record still wanted
+abbrev pub first-wanted : List ℕ → ℕ
+first-wanted p = word p 7
 
 -- of formula k: how many of the verdicts given are no, and one more than the position of the latest of them: 0 where none is. The
 -- latest stand behind the counts, of which there are as many as a rule of that version has formulas at most.
@@ -84,12 +95,19 @@ block-in-range given size cells b =
     leb (word b 0) size && leb (word b 1) 64 && leb (word b 3) 64 && leb (word b 5) size
     && leb (word b 6) 1 && leb (word b 7) 1 && ltb (word b 8) (2 ^ 32)
     && leb (word b 9) cells && leb (word b 10) cells
+    && leb (word b 11) size
     && leb (word b 12) 64 && room given (word b 12) size
+
+-- so does the second head of an until; in other kinds of entries that word is none, or a cell of a ring
+abbrev pub waiting-in-range : (kind size : ℕ) → List ℕ → Bool
+waiting-in-range kind size b = cond (eqb kind 6) (leb (word b 16) size) true
 
 -- a word of the block of entry k is outside its range
 abbrev pub block-outside : (base : ℕ) → List Entry → List ℕ → ℕ → Bool
 block-outside base t p k =
-    negate (block-in-range (given p) (seen p) (cells-of (entry t k .kind) (entry t k .high)) (drop (block-at base t k) p))
+    negate
+    (block-in-range (given p) (seen p) (cells-of (entry t k .kind) (entry t k .high)) (drop (block-at base t k) p)
+    && waiting-in-range (entry t k .kind) (seen p) (drop (block-at base t k) p))
 
 -- the count of formula k or its latest is outside its range; where the rule has no formula k, the library leaves both 0
 abbrev pub noes-outside : (most : ℕ) → List ℕ → (k : ℕ) → Bool
@@ -99,10 +117,15 @@ noes-outside most p k = negate (noes-in-range (given p) (no-count p k) (after-la
 abbrev pub closed-in-range : (closed-with seen : ℕ) → Bool
 closed-in-range closed-with seen = eqb closed-with 0 || eqb (closed-with - 1) seen
 
+-- a version is noted wherever a record was seen or a closing accepted
+abbrev pub kind-in-range : (kind seen closed-with : ℕ) → Bool
+kind-in-range kind seen closed-with = leb kind 2 && (ltb 0 kind || (eqb seen 0 && eqb closed-with 0))
+
 -- "at most 1,000,000 records", "d above the records seen"
 abbrev pub header-in-range : (most : ℕ) → List ℕ → Bool
 header-in-range most p =
     leb (seen p) 1000000 && leb (given p) (seen p) && ltb (last p) (2 ^ 32) && closed-in-range (closed-with p) (seen p)
+    && kind-in-range (log-kind p) (seen p) (closed-with p) && leb (first-wanted p) (seen p)
     && negate (any most (noes-outside most p))
 
 -- refusal 11: "A word of the point is outside its range"

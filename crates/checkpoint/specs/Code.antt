@@ -58,6 +58,7 @@ pub record Fresh (version : ℕ) (t : List Entry) (n : ℕ) (ws : List ℕ) : Ty
   pub start : word ws 4 ≡ copy-start version n
   pub header : (i : ℕ) → 0 < i → i < header-words version → (i ≡ 4 → ⊥) → word ws i ≡ 0
   pub blocks : (k : ℕ) → k < n → (i : ℕ) → i < 14 → word ws (block-at (header-words version) t k + i) ≡ 0
+  pub waiting : (k : ℕ) → k < n → entry t k .kind ≡ 6 → word ws (block-at (header-words version) t k + 16) ≡ 0
   pub heads : (k : ℕ) → k < n → word ws (block-at (header-words version) t k + 14) ≡ copy-head (entry t k)
   pub ends : (k : ℕ) → k < n → word ws (block-at (header-words version) t k + 15) ≡ copy-ends (entry t k)
 

@@ -1,14 +1,12 @@
 -- Rows worked by hand, proved by computation: what is refused of the words of a small rule's checkpoint, letter 0, in both versions.
-use Prim.Native.Nat.{ℕ}
+use Prim.Native.Nat.{ℕ, _*_}
 use mathlib.Core.Bool.{false}
 use mathlib.Core.List.{List, [], _∷_}
 use mathlib.Core.Path.{_≡_, refl}
 use lib.ListN.{set, replicate}
 use Rattle.mtl.specs.Satisfaction.{any}
-use Rattle.mtl.specs.Wanted.{depth, deepest}
 use Rattle.rule.specs.declared.Entry.{Entry}
 use Rattle.rule.specs.Words.{offset}
-use Rattle.rule.specs.Postfix.{push-kind, read}
 use Rattle.checkpoint.specs.Checkpoint.{format, copy-start}
 use Rattle.checkpoint.specs.Refusal.{words-refusal, point-refusal}
 
@@ -79,7 +77,7 @@ held-of-version-2 = refl
 
 -- a closed point of one record, resumed with a log that is no log: 20 comes before 12, and 11 before 20
 abbrev closed : List ℕ
-closed = set (set (fresh 1) 2 1) 5 2
+closed = set (set (set (fresh 1) 2 1) 5 2) 6 1
 
 closed-before-12 : point-refusal false 1 table 1 [] closed ≡ 20
 unfolding any offset
@@ -94,6 +92,71 @@ closed-after-11 = refl
 abbrev overwritten : List ℕ
 overwritten = 0x4B ∷ 0x4C ∷ 0x47 ∷ 0 ∷ 1 ∷ 0 ∷ 0 ∷ 0 ∷ 255 ∷ 255 ∷ 255 ∷ 255 ∷ 0 ∷ 0 ∷ 0 ∷ 0 ∷ 0 ∷ 0 ∷ 0 ∷ 5 ∷ replicate 4 0
 
-overwritten-before-wanted : point-refusal false 1 table 1 overwritten (set (set (set (fresh 1) 1 1) 2 1) 3 5) ≡ 0
-unfolding any offset deepest depth read push-kind
+-- the point that one verdict of one record left, with a version noted
+abbrev given-one : (kind : ℕ) → List ℕ
+given-one kind = set (set (set (set (set (fresh 1) 1 1) 2 1) 3 5) 6 kind) 7 1
+
+overwritten-before-wanted : point-refusal false 1 table 1 overwritten (given-one 1) ≡ 0
+unfolding any offset
 overwritten-before-wanted = refl
+
+-- the same log as version 2, and as version 3, which no version is
+abbrev of-version : ℕ → List ℕ
+of-version v = set overwritten 4 v
+
+same-version : point-refusal false 1 table 1 (of-version 2) (given-one 2) ≡ 0
+unfolding any offset
+same-version = refl
+
+-- 22, both ways, and after 12
+version-1-after-2 : point-refusal false 1 table 1 overwritten (given-one 2) ≡ 22
+unfolding any offset
+version-1-after-2 = refl
+
+version-2-after-1 : point-refusal false 1 table 1 (of-version 2) (given-one 1) ≡ 22
+unfolding any offset
+version-2-after-1 = refl
+
+no-version : point-refusal false 1 table 1 (of-version 3) (given-one 1) ≡ 12
+unfolding any offset
+no-version = refl
+
+-- 11: a record seen and no version noted; a version that is none; the first wanted record behind all seen; a head there
+version-not-noted : refused 1 (given-one 0) ≡ 11
+unfolding any offset
+version-not-noted = refl
+
+version-out-of-range : refused 1 (given-one 3) ≡ 11
+unfolding any offset
+version-out-of-range = refl
+
+wanted-past-records : refused 1 (set (given-one 1) 7 2) ≡ 11
+unfolding any offset
+wanted-past-records = refl
+
+head-past-records : refused 1 (set (given-one 1) 27 2) ≡ 11
+unfolding any offset
+head-past-records = refl
+
+-- 22 comes before 13: more records were seen than are brought
+version-before-13 : point-refusal false 1 table 1 overwritten (set (given-one 2) 2 3) ≡ 22
+unfolding any offset
+version-before-13 = refl
+
+-- letter 0, letter 1 and an operator of this kind over both, with the interval 0 to 0, and its fresh checkpoint
+abbrev binary : (kind : ℕ) → List Entry
+binary kind =
+    record { kind = 0; letter = 0; low = 0; high = 0 } ∷ record { kind = 0; letter = 1; low = 0; high = 0 }
+    ∷ record { kind = kind; letter = 0; low = 0; high = 0 } ∷ []
+
+abbrev fresh-binary : (kind : ℕ) → List ℕ
+fresh-binary kind = set (set (set (set (replicate 66 0) 0 format) 4 (copy-start 1 3)) 46 1) 62 (kind * 256)
+
+-- 11: the second head of an until behind all records; in the same place a since has a cell
+waiting-head-past-records : words-refusal 1 (binary 6) 3 (set (fresh-binary 6) 64 1) 0 ≡ 11
+unfolding any offset
+waiting-head-past-records = refl
+
+cell-of-a-since : words-refusal 1 (binary 5) 3 (set (fresh-binary 5) 64 1) 0 ≡ 0
+unfolding any offset
+cell-of-a-since = refl

@@ -1,16 +1,14 @@
-// Refusals 1 to 14 (3 no longer occurs), 20 and 21: each check over all entries before the next begins. Nothing is written.
+// Refusals 1 to 14 (3 no longer occurs) and 20 to 22: each check over all entries before the next begins. Nothing is written.
 ghost use mathlib.Core.Path.{_≡_};
-ghost use Prim.Native.Nat.{_+_, _≤_, _<_};
+ghost use Prim.Native.Nat.{_+_, _-_, _≤_, _<_};
 ghost use lib.ListN.{length, drop};
 ghost use Rattle.mtl.specs.Satisfaction.{any};
-ghost use Rattle.mtl.specs.Wanted.{wanted};
-ghost use Rattle.rule.specs.Postfix.{formulas, formulas-or};
 ghost use Rattle.rule.specs.Refusal.{first};
-ghost use Rattle.rule.specs.Words.{header-words, offset};
-ghost use Rattle.checkpoint.specs.Checkpoint.{seen, last, closed-with, copy-start, copy-head, copy-ends, copy-differs, foreign, room, block-in-range, block-outside, noes-outside, closed-in-range, outside};
+ghost use Rattle.rule.specs.Words.{header-words, own, offset};
+ghost use Rattle.checkpoint.specs.Checkpoint.{seen, last, closed-with, kind-of-log, first-wanted, copy-start, copy-head, copy-ends, copy-differs, foreign, room, block-in-range, waiting-in-range, block-outside, noes-outside, closed-in-range, kind-in-range, outside};
 ghost use Rattle.verdicts.specs.Counts.{noes-in-range};
 ghost use Rattle.checkpoint.specs.Code.{sized-by, sized-number, checked-by, checked-number, Covers, own-checked};
-ghost use Rattle.checkpoint.specs.Refusal.{log-refusal, words-refusal, point-refusal};
+ghost use Rattle.checkpoint.specs.Refusal.{other-version, records-refusal, log-refusal, words-refusal, point-refusal};
 ghost use Rattle.blocks.specs.Block.{cells-of};
 use super::header;
 use blocks::word;
@@ -18,7 +16,7 @@ use rule::Entry;
 use rule::Measured;
 
 // The number in a checkpoint's first word: the bytes HAVD, and the format's number.
-pub const FORMAT: u64 = 5206537494274768902;
+pub const FORMAT: u64 = 5206537494274768903;
 
 // Refusals 1 to 9, or the words that the rule needs.
 pub enum Sized {
@@ -37,7 +35,7 @@ impl Sized {
     }
 }
 
-// Refusals 10 to 14, 20 and 21, in `check_own` 1 to 9 as well, or none of them.
+// Refusals 10 to 14 and 20 to 22, in `check_own` 1 to 9 as well, or none of them.
 pub enum Checked {
     Passed,
     Failed(u32),
@@ -162,8 +160,21 @@ fn block_fits(given: u64, size: u64, cells: u64, point: &[u64], at: usize) -> bo
         & (point[at + word::LAST_TIME] < 4294967296)
         & (point[at + word::RING_START] <= cells)
         & (point[at + word::RING_COUNT] <= cells)
+        & (point[at + word::HEAD] <= size)
         & (point[at + word::HELD_COUNT] <= 64)
         & has_room(given, point[at + word::HELD_COUNT], size)
+}
+
+// The second head of an until, in the block that begins at `at`, stands among so many records.
+fn waiting_fits(e: Entry, size: u64, point: &[u64], at: usize) -> bool
+    requires { ⌜ at + own e ≤ length (now point) ⌝ }
+    ensures { λ r. ⌜ r ≡ waiting-in-range (e .kind) size (drop at (now (point .entry))) ⌝ }
+{
+    if e.kind == 6 {
+        point[at + word::WAITING_HEAD] <= size
+    } else {
+        true
+    }
 }
 
 // Some entry's block, of the first count, has a word outside its range. The first block begins at `base`.
@@ -178,7 +189,8 @@ fn blocks_outside(base: usize, entries: [Entry; 128], count: usize, point: &[u64
     let mut outside = false;
     while k < count {
         let e = entries[k];
-        outside = outside | !block_fits(given, size, cells(e), point, at);
+        outside = outside
+            | !(block_fits(given, size, cells(e), point, at) & waiting_fits(e, size, point, at));
         at += rule::own_words(e) as usize;
         k += 1;
     }
@@ -215,6 +227,27 @@ fn closed_fits(noted: u64, seen: u64) -> bool
     if noted == 0 { true } else { noted - 1 == seen }
 }
 
+// A log's version is noted wherever a record was seen or a closing accepted.
+fn kind_fits(kind: u64, seen: u64, noted: u64) -> bool
+    ensures { λ r. ⌜ r ≡ kind-in-range kind seen noted ⌝ }
+{
+    (kind <= 2) & ((0 < kind) | ((seen == 0) & (noted == 0)))
+}
+
+// What a checkpoint notes of a log's version: 2 where it has service records, else 1.
+pub fn log_kind(skips: bool) -> u64
+    ensures { λ r. ⌜ r ≡ kind-of-log skips ⌝ }
+{
+    if skips { 2 } else { 1 }
+}
+
+// How many of the records from `first` on were seen, of so many in all.
+fn behind(first: usize, seen: usize) -> usize
+    ensures { λ r. ⌜ r ≡ seen - first ⌝ }
+{
+    if first <= seen { seen - first } else { 0 }
+}
+
 // Refusal 11.
 fn is_outside(version: usize, entries: [Entry; 128], count: usize, point: &[u64]) -> bool
     requires { ⌜ (version ≤ 2) × (count ≤ 128) × (header-words version + offset entries count ≤ length (now point)) ⌝ }
@@ -227,39 +260,52 @@ fn is_outside(version: usize, entries: [Entry; 128], count: usize, point: &[u64]
         & (point[header::GIVEN] <= seen)
         & (point[header::LAST] < 4294967296)
         & closed_fits(point[header::CLOSED_WITH], seen)
+        & kind_fits(point[header::LOG_KIND], seen, point[header::CLOSED_WITH])
+        & (point[header::WANTED] <= seen)
         & !some_noes_outside(most, point);
     !fits | blocks_outside(base, entries, count, point)
 }
 
-// The first record still wanted: those before it may have been overwritten.
-pub fn first_wanted(version: usize, entries: [Entry; 128], count: usize, given: usize) -> usize
-    requires { ⌜ count ≤ 128 ⌝ }
-    ensures { λ r. ⌜ r ≡ wanted (formulas-or (formulas version entries count)) given ⌝ }
+// Refusal 22: a log of another version was noted.
+fn is_other_version(log: &[u8], noted: u64) -> bool
+    ensures { λ r. ⌜ r ≡ other-version (now (log .entry)) noted ⌝ }
 {
-    let depth = rule::depth(version, entries, count) as usize;
-    if depth <= given { given - depth } else { 0 }
+    (0 < noted) & (noted != log_kind(trace::skips(log)))
 }
 
-// The number of the first of refusals 20, 12, 13, 21 and 14 that applies, or 0.
-fn log_reason(log: &[u8], closing: bool, point: &[u64], from: usize) -> u32
+// The number of the first of refusals 13, 21 and 14 that applies to a log's records, or 0.
+fn records_reason(records: &[u8], closing: bool, point: &[u64]) -> u32
     requires { ⌜ 16 ≤ length (now point) ⌝ }
-    ensures { λ r. ⌜ r ≡ log-refusal closing (now (log .entry)) from (seen (now (point .entry))) (last (now (point .entry))) (closed-with (now (point .entry))) ⌝ }
+    ensures { λ r. ⌜ r ≡ records-refusal closing (now (records .entry)) (first-wanted (now (point .entry))) (seen (now (point .entry))) (last (now (point .entry))) (closed-with (now (point .entry))) ⌝ }
 {
-    let records = trace::records(log);
     let seen = point[header::SEEN] as usize;
-    let disordered = trace::is_disordered(records, from, seen, point[header::LAST]);
+    let first = point[header::WANTED] as usize;
     let total = trace::count(records);
     let closed_with = point[header::CLOSED_WITH];
     let more = closing & ((0 < closed_with) & (closed_with <= total as u64));
-    let after = refuse(
+    let disordered = trace::is_disordered(
+        trace::from_record(records, first),
+        behind(first, seen),
+        point[header::LAST],
+    );
+    refuse(
         13,
         total < seen,
         refuse(21, more, refuse(14, disordered, 0)),
-    );
+    )
+}
+
+// The number of the first of refusals 20, 12, 22 and these that applies, or 0.
+fn log_reason(log: &[u8], closing: bool, point: &[u64]) -> u32
+    requires { ⌜ 16 ≤ length (now point) ⌝ }
+    ensures { λ r. ⌜ r ≡ log-refusal closing (now (log .entry)) (now (point .entry)) ⌝ }
+{
+    let after = records_reason(trace::records(log), closing, point);
+    let other = is_other_version(log, point[header::LOG_KIND]);
     refuse(
         20,
-        !closing & (0 < closed_with),
-        refuse(12, trace::is_malformed(log), after),
+        !closing & (0 < point[header::CLOSED_WITH]),
+        refuse(12, trace::is_malformed(log), refuse(22, other, after)),
     )
 }
 
@@ -299,7 +345,7 @@ fn check_words(version: usize, entries: [Entry; 128], count: usize, point: &[u64
     checked_by(words_reason(version, entries, count, point, 0))
 }
 
-// Refusals 10 to 14, and 20 or 21.
+// Refusals 10 to 14, and 20 to 22.
 pub fn check_point(
     version: usize,
     entries: [Entry; 128],
@@ -311,14 +357,12 @@ pub fn check_point(
     requires { ⌜ (version ≤ 2) × (count ≤ 128) × (header-words version + offset entries count ≤ length (now point)) ⌝ }
     ensures { λ r. ⌜ r ≡ checked-by (point-refusal closing version entries count (now (log .entry)) (now (point .entry))) ⌝ }
 {
-    let given = point[header::GIVEN] as usize;
-    let wanted = first_wanted(version, entries, count, given);
     checked_by(words_reason(
         version,
         entries,
         count,
         point,
-        log_reason(log, closing, point, wanted),
+        log_reason(log, closing, point),
     ))
 }
 

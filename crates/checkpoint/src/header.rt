@@ -11,4 +11,8 @@ pub const COPY_START: usize = 4;
 
 pub const CLOSED_WITH: usize = 5;
 
+pub const LOG_KIND: usize = 6;
+
+pub const WANTED: usize = 7;
+
 pub const NO_COUNT: usize = 8;

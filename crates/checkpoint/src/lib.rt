@@ -7,5 +7,5 @@ pub use check::Checked;
 pub use check::Sized;
 pub use check::check_own;
 pub use check::check_point;
-pub use check::first_wanted;
+pub use check::log_kind;
 pub use check::size_of;

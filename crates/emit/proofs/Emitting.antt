@@ -1,152 +1,161 @@
--- One accepted call on exactly the words that its rule needs: where its formulas stand, and the header once the log's end is noted.
-use Prim.Native.Nat.{ℕ, suc, _+_, _-_, _≤_, _<_, min}
+-- One accepted call on exactly the words that its rule needs: where its formulas stand, the view of its records, and the header once the log
+-- is noted.
+use Prim.Native.Nat.{ℕ, suc, _+_, _-_, _≤_, _<_}
 use mathlib.Core.Bool.{Bool, cond}
-use mathlib.Core.Path.{_≡_, sym, ap₂, _∙_}
-use mathlib.Core.List.{List}
-use mathlib.Core.Logic.{⊎-elim}
+use mathlib.Core.Path.{_≡_, refl, sym, ap, ap₂, _∙_}
+use mathlib.Core.List.{List, [], _∷_}
 use native.Mathlib.Omega.{arith}
-use borrow.Author.Tests.{lt-ltb, le-ltb}
-use lib.Dec.{ltb}
 use lib.ListN.{length, getD, set, length-set}
-use lib.Seq.{getD-set-same, getD-set-other}
+use lib.Seq.{getD-set-other}
 use Rattle.mtl.specs.Formula.{Formula}
-use Rattle.mtl.specs.Log.{Log}
-use Rattle.mtl.specs.Progress.{joint-progress}
-use Rattle.mtl.proofs.Bounded.{le-or-lt}
+use Rattle.mtl.specs.Log.{Log, head-of}
+use Rattle.mtl.specs.Wanted.{deepest, wanted, wanted-record}
 use Rattle.verdicts.specs.Counts.{latest-of}
 use Rattle.verdicts.proofs.Noes.{noes}
 use Rattle.rule.specs.declared.Entry.{Entry}
-use Rattle.rule.specs.Postfix.{formula}
 use Rattle.trace.specs.Format.{record-count}
 use Rattle.trace.specs.Order.{last-time}
+use Rattle.trace.specs.Positions.{place}
+use Rattle.trace.specs.View.{total, view-of}
+use Rattle.trace.specs.View.{skips as view-skips}
+use Rattle.trace.specs.Window.{Found}
 use Rattle.trace.proofs.Laws.{last-time-bound}
+use Rattle.trace.proofs.Reading.{wanted-shown}
+use Rattle.trace.proofs.Slices.{served, served-before, served-shows, flag-told}
 use Rattle.blocks.specs.Block.{word}
+use Rattle.blocks.specs.Step.{Agrees}
+use Rattle.blocks.proofs.Words.{Store, put, after, word-stores}
 use Rattle.engine.specs.Tops.{Tops, Ended}
 use Rattle.engine.proofs.Formulas.{rule-size}
-use Rattle.engine.proofs.Uniform.{agrees-later}
-use Rattle.checkpoint.specs.Checkpoint.{stored-noes}
-use Rattle.emit.specs.Top.{held-count, part-of, Top}
-use Rattle.emit.specs.Code.{Fits, Held, Frame, Gave, Ready, Emits}
+use Rattle.checkpoint.specs.Checkpoint.{given, seen, last, first-wanted, kind-of-log, stored-noes}
+use Rattle.emit.specs.Top.{part-of, Top}
+use Rattle.emit.specs.Code.{Fits, Gave, viewed, noted, Notes, Ready, Emits}
 use Rattle.emit.specs.declared.Emitted.{Emitted}
-use Rattle.emit.proofs.Meaning.{joint-least}
 use Rattle.emit.proofs.Places.{part-same}
-use Rattle.emit.proofs.Giving.{frame-held, noes-held, frame-then}
 
 -- the formulas of the rule have all words behind the header
-pub fits-of : (t : List Entry) (n : ℕ) (ends : List ℕ) (number most base : ℕ) (ws table tops : List ℕ) → Ready t n ends number most base ws →
-    (fs : List Formula) → Ended t n ends number fs → Tops table tops base number fs → Fits table tops base number fs (length ws)
-fits-of t n ends number most base ws table tops ready fs ended laid =
+pub fits-of : (t : List Entry) (n : ℕ) (ends : List ℕ) (number most base deep : ℕ) (s ws table tops : List ℕ) →
+    Ready t n ends number most base deep s ws → (fs : List Formula) → Ended t n ends number fs → Tops table tops base number fs →
+    Fits table tops base number fs (length ws)
+fits-of t n ends number most base deep s ws table tops ready fs ended laid =
     record {
       laid = laid;
       header = ready .header .0;
       all = omega (arith, ready .size, rule-size t n (ready .well-formed) fs (ended .whole));
     }
 
--- the header once the last time, the number of records and whether the log is closed are noted
-abbrev pub noted : (time size ended : ℕ) → List ℕ → List ℕ
-noted time size ended ws = set (set (set ws 3 time) 2 size) 5 ended
+-- THE VIEW
 
-module _ (time size ended : ℕ) (ws : List ℕ) (room : 16 ≤ length ws) where
-  pub length-noted : length (noted time size ended ws) ≡ length ws
+-- where no service record lies in the slice, none is passed over, and it tells the same log
+viewed-agrees : (skips closed : Bool) (s : List ℕ) (first q : ℕ) (L : Log) (g : ℕ) → Agrees (view-of first q skips closed s) s L g →
+    Agrees (view-of first q (served skips s) closed s) s L g
+viewed-agrees skips closed s first q L g agrees =
+    record {
+      ends = agrees .ends;
+      size = ap (λ (n : ℕ). q + n) (served-before skips s) ∙ agrees .size;
+      shows = λ i low high. rw (flag-told (served skips s)) (served-shows skips s first L i (rw (flag-told skips) at (agrees .shows i low high)));
+    }
+
+-- the record found is the first still wanted
+found-wanted : (skips closed : Bool) (s : List ℕ) (first q : ℕ) (L : Log) (q′ n : ℕ) → head-of L q ≤ first → q ≤ q′ → q′ ≤ L .size →
+    let v = view-of first q skips closed s in
+    Agrees v s L q → Found (view-skips v) s (total v - q′) n → first + n ≡ wanted-record L (first + record-count s) q′
+found-wanted skips closed s first q L q′ n starts later inside agrees found =
+    let v = view-of first q skips closed s in
+    let flag = flag-told skips in
+    let found′ : Found skips s (total v - q′) n = rw flag at found in
+    let size = agrees .size in
+    let there : q + (q′ - q) ≡ q′ = omega arith in
+    ap (λ (m : ℕ). first + m) (found′ .at (omega arith) ∙ ap (place skips s 0) (omega arith)) ∙
+    sym (wanted-shown skips s first L q starts size (λ i low high. rw flag at (agrees .shows i low high)) (q′ - q) (omega arith)) ∙
+    ap (wanted-record L (first + record-count s)) there
+
+-- THE HEADER
+
+module _ (skips closed : Bool) (s : List ℕ) (n : ℕ) (ws : List ℕ) (room : 16 ≤ length ws) where
+  abbrev ws′ : List ℕ
+  ws′ = noted skips closed s n ws
+
+  abbrev size : ℕ
+  size = first-wanted ws + record-count s
+
+  abbrev noting : List Store
+  noting =
+      put 3 (last-time s (seen ws - first-wanted ws) (last ws)) ∷ put 2 size ∷ put 5 (cond closed (suc size) 0) ∷ put 6 (kind-of-log skips) ∷
+      put 7 (first-wanted ws + n) ∷ []
+
+  noted-word : (k : ℕ) → word ws′ k ≡ after noting (word ws) k
+  noted-word = word-stores noting ws (omega arith)
+
+  length-noted : length ws′ ≡ length ws
   length-noted = simp length-set
 
-  pub noted-other : (i : ℕ) → (i ≡ 3 → ⊥) → (i ≡ 2 → ⊥) → (i ≡ 5 → ⊥) → word (noted time size ended ws) i ≡ word ws i
-  noted-other i a b c =
-      getD-set-other (set (set ws 3 time) 2 size) 5 i ended 0 c ∙ getD-set-other (set ws 3 time) 2 i size 0 b ∙ getD-set-other ws 3 i time 0 a
+  -- the words behind word 7
+  noted-high : (i : ℕ) → 8 ≤ i → word ws′ i ≡ word ws i
+  noted-high i high =
+      getD-set-other (set (set (set (set ws 3 _) 2 size) 5 _) 6 _) 7 i _ 0 (λ e. omega arith) ∙
+      getD-set-other (set (set (set ws 3 _) 2 size) 5 _) 6 i _ 0 (λ e. omega arith) ∙
+      getD-set-other (set (set ws 3 _) 2 size) 5 i _ 0 (λ e. omega arith) ∙
+      getD-set-other (set ws 3 _) 2 i size 0 (λ e. omega arith) ∙
+      getD-set-other ws 3 i _ 0 (λ e. omega arith)
 
-  noted-time : word (noted time size ended ws) 3 ≡ time
-  noted-time =
-      getD-set-other (set (set ws 3 time) 2 size) 5 3 ended 0 (λ e. omega arith) ∙ getD-set-other (set ws 3 time) 2 3 size 0 (λ e. omega arith) ∙
-      getD-set-same ws 3 time 0 (omega arith)
+  noted-noes : (most k : ℕ) → stored-noes most ws′ k ≡ stored-noes most ws k
+  noted-noes most k = ap₂ (λ (c a : ℕ). noes c (latest-of a)) (noted-high (8 + k) (omega arith)) (noted-high (8 + most + k) (omega arith))
 
-  noted-size : word (noted time size ended ws) 2 ≡ size
-  noted-size =
-      getD-set-other (set (set ws 3 time) 2 size) 5 2 ended 0 (λ e. omega arith) ∙ getD-set-same (set ws 3 time) 2 size 0 (simp length-set (omega arith))
+  noted-part : (base : ℕ) (fs : List Formula) (k : ℕ) → 16 ≤ base → part-of base fs k ws′ ≡ part-of base fs k ws
+  noted-part base fs k high = part-same base fs k ws ws′ length-noted (λ i l m. noted-high i (omega arith))
 
-  noted-ended : word (noted time size ended ws) 5 ≡ ended
-  noted-ended = getD-set-same (set (set ws 3 time) 2 size) 5 ended 0 (simp length-set (omega arith))
-
-  noted-noes : (most k : ℕ) → stored-noes most (noted time size ended ws) k ≡ stored-noes most ws k
-  noted-noes most k =
-      ap₂ (λ (c a : ℕ). noes c (latest-of a)) (noted-other (8 + k) (λ e. omega arith) (λ e. omega arith) (λ e. omega arith))
-      (noted-other (8 + most + k) (λ e. omega arith) (λ e. omega arith) (λ e. omega arith))
-
-  noted-part : (base : ℕ) (fs : List Formula) (k : ℕ) → 16 ≤ base → part-of base fs k (noted time size ended ws) ≡ part-of base fs k ws
-  noted-part base fs k high =
-      part-same base fs k ws (noted time size ended ws) length-noted
-      (λ i l m. noted-other i (λ e. omega arith) (λ e. omega arith) (λ e. omega arith))
-
-  top-noted : (base : ℕ) (fs : List Formula) (L : Log) (d : ℕ) → 16 ≤ base → Top base fs L d ws → Top base fs L d (noted time size ended ws)
+  top-noted : (base : ℕ) (fs : List Formula) (L : Log) (d : ℕ) → 16 ≤ base → Top base fs L d ws → Top base fs L d ws′
   top-noted base fs L d high top =
-      record {
-        at = noted-other 1 (λ e. omega arith) (λ e. omega arith) (λ e. omega arith) ∙ top .at;
-        within = top .within;
-        each = λ k h. rw (noted-part base fs k high) (top .each k h);
-      }
+      record { at = noted-word 1 ∙ top .at; within = top .within; each = λ k h. rw (noted-part base fs k high) (top .each k h) }
 
--- c and "more", from what was given and what is held then
-record Counted (base : ℕ) (fs : List Formula) (L : Log) (d c room : ℕ) (left : Bool) (ws′ : List ℕ) : Type 0 where
-  top : Top base fs L (d + c) ws′
-  count : c ≡ min (joint-progress fs L - d) room
-  more : left ≡ ltb (d + c) (joint-progress fs L)
+-- THE CALL
 
-counted : (base : ℕ) (fs : List Formula) (L : Log) (d c room r : ℕ) (ws′ : List ℕ) → c ≤ room → (c < room → joint-progress fs L ≡ d + c) →
-    ((k : ℕ) → k < length fs → r ≤ held-count (formula fs k) (part-of base fs k ws′)) →
-    Top base fs L (d + c) ws′ → d + c + r ≤ L .size → (r ≡ 0 → joint-progress fs L ≡ d + c) → Counted base fs L d c room (ltb 0 r) ws′
-counted base fs L d c room r ws′ fits short least top size none =
-    ⊎-elim
-    (λ (some : 1 ≤ r).
-    let ahead : suc (d + c) ≤ joint-progress fs L =
-    joint-least fs L (suc (d + c)) (omega arith) (λ k h. let w = top .each k h .buffer .within in omega (arith, least k h)) in
-    let full : room ≤ c = ⊎-elim (λ le. le) (λ lt. omega (arith, short lt)) (le-or-lt room c) in
-    record { top = top; count = omega arith; more = lt-ltb 0 r some ∙ sym (lt-ltb (d + c) (joint-progress fs L) (omega arith)) })
-    (λ (zero : r < 1).
-    let is-open = none (omega arith) in
-    record {
-      top = top;
-      count = omega arith;
-      more = le-ltb 0 r (omega arith) ∙ sym (le-ltb (d + c) (joint-progress fs L) (omega arith));
-    })
-    (le-or-lt 1 r)
-
-pub emitted : {table tops : List ℕ} {base number most : ℕ} {fs : List Formula} (s : List ℕ) (closed : Bool) (ws sheet : List ℕ) (c : ℕ) (ws₁ sheet₁ : List ℕ)
-    (r : ℕ) (ws₂ : List ℕ) (time size ended : ℕ) (out : Emitted) → Fits table tops base number fs (length ws) → 8 + most + most ≤ base → number ≤ most → 1 ≤ most →
-    ((i : ℕ) → getD s i 0 < 256) → Gave base most fs s closed ws sheet c ws₁ sheet₁ → Held base fs s closed ws₁ r ws₂ →
-    time ≡ last-time s (word ws₂ 2) (word ws₂ 3) → size ≡ record-count s → ended ≡ cond closed (suc size) 0 →
-    out .count ≡ c → out .more ≡ ltb 0 r → Emits base most fs s closed ws sheet out (noted time size ended ws₂) sheet₁
-emitted {base = base} {most = most} {fs = fs} s closed ws sheet c ws₁ sheet₁ r ws₂ time size ended out fits counts few some byte gave held timed sized noting c-is more-is =
+pub emitted : {table tops : List ℕ} {base number most : ℕ} {fs : List Formula} (skips closed : Bool) (s ws sheet : List ℕ) (out : Emitted) (ws₁ sheet₁ ws₂ : List ℕ) →
+    Fits table tops base number fs (length ws) → ((i : ℕ) → getD s i 0 < 256) →
+    Gave base most fs (viewed skips closed (deepest fs) s ws) s ws sheet out ws₁ sheet₁ →
+    Notes skips (deepest fs) (viewed skips closed (deepest fs) s ws) s ws₁ ws₂ → Emits base most fs s skips closed ws sheet out ws₂ sheet₁
+emitted {base = base} {most = most} {fs = fs} skips closed s ws sheet out ws₁ sheet₁ ws₂ fits byte gave (n, found, is) =
     let header = fits .header in
-    let wide : 16 ≤ length ws₂ = omega (arith, held .words-length, gave .words-length, fits .all) in
-    let note = noted-other time size ended ws₂ wide in
-    let frame : Frame base most fs ws ws₂ = frame-then base most fs ws ws₁ ws₂ (gave .frame) (frame-held counts held) in
-    let seen-same = frame .header 2 (omega arith) (λ e. omega arith) in
-    let last-same = frame .header 3 (omega arith) (λ e. omega arith) in
-    let now : time ≡ last-time s (word ws 2) (word ws 3) = rw (seen-same, last-same) at timed in
-    rw (c-is, more-is)
-    (record {
+    let wide : 16 ≤ length ws₁ = omega (arith, gave .words-length, fits .all) in
+    let at = noted-word skips closed s n ws₁ wide in
+    let frame = gave .frame in
+    let first-same : first-wanted ws₁ ≡ first-wanted ws = frame .header 7 (omega arith) (λ e. omega arith) in
+    let seen-same : seen ws₁ ≡ seen ws = frame .header 2 (omega arith) (λ e. omega arith) in
+    let last-same : last ws₁ ≡ last ws = frame .header 3 (omega arith) (λ e. omega arith) in
+    let ending : ws₂ ≡ noted skips closed s n ws₁ = rw (flag-told closed) at is in
+    let time : last ws₂ ≡ last-time s (seen ws - first-wanted ws) (last ws) = rw (ending, at 3, first-same, seen-same, last-same) refl in
+    let size : seen ws₂ ≡ first-wanted ws + record-count s = rw (ending, at 2, first-same) refl in
+    let next : first-wanted ws₂ ≡ first-wanted ws + n = rw (ending, at 7, first-same) refl in
+    record {
       room = gave .room;
       rest = gave .rest;
       sheet-length = gave .sheet-length;
-      words-length = length-noted time size ended ws₂ wide ∙ held .words-length ∙ gave .words-length;
-      count = note 1 (λ e. omega arith) (λ e. omega arith) (λ e. omega arith) ∙ held .header 1 (omega arith) ∙ gave .count;
-      size = noted-size time size ended ws₂ wide ∙ sized;
-      time = noted-time time size ended ws₂ wide ∙ now;
-      fits = λ small. rw (noted-time time size ended ws₂ wide, now) (last-time-bound s (word ws 2) (word ws 3) byte small);
-      ended = noted-ended time size ended ws₂ wide ∙ rw sized at noting;
-      noes = λ k h. noted-noes time size ended ws₂ wide most k ∙ noes-held counts held k (omega (arith, fits .laid .number)) ∙ gave .noes k h;
-      header = λ i low one two three five. note i three two five ∙ frame .header i low one;
+      words-length = ap length ending ∙ length-noted skips closed s n ws₁ wide ∙ gave .words-length;
+      count = rw ending (at 1 ∙ gave .count);
+      size = size;
+      time = time;
+      fits = λ small. rw time (last-time-bound s (seen ws - first-wanted ws) (last ws) byte small);
+      ended = rw (size, ending) (at 5 ∙ rw first-same refl);
+      kind = rw ending (at 6);
+      first = let low = found .bounded in (omega arith, omega arith);
+      noes = λ k h. rw ending (noted-noes skips closed s n ws₁ wide most k) ∙ gave .noes k h;
+      header = rw ending (at 0 ∙ frame .header 0 (omega arith) (λ e. omega arith), at 4 ∙ frame .header 4 (omega arith) (λ e. omega arith));
       spare = λ k late h.
-          let (x, y) = frame .spare k late h in (
-            note (8 + k) (λ e. omega arith) (λ e. omega arith) (λ e. omega arith) ∙ x,
-            note (8 + most + k) (λ e. omega arith) (λ e. omega arith) (λ e. omega arith) ∙ y,
+          let (x, y) = frame .spare k late h in
+          rw ending (noted-high skips closed s n ws₁ wide (8 + k) (omega arith) ∙ x, noted-high skips closed s n ws₁ wide (8 + most + k) (omega arith) ∙ y);
+      onward = λ k h. rw (ending, noted-part skips closed s n ws₁ wide base fs k header) (frame .onward k h);
+      meaning = λ L d never brought top.
+          let d-is : given ws ≡ d = top .at in
+          let agrees : Agrees (viewed skips closed (deepest fs) s ws) s L (wanted fs d) =
+          rw d-is (viewed-agrees skips closed s (first-wanted ws) (wanted fs d) L (wanted fs d) (brought .agrees)) in
+          let (giving, count, more) = gave .meaning L d never agrees top in
+          let there : given ws₁ ≡ d + out .count = giving .top .at in
+          let wants = found-wanted (served skips s) closed s (first-wanted ws) (wanted fs d) L (wanted fs (d + out .count)) n (brought .starts) (omega arith)
+          (let w = giving .top .within in omega arith) (rw d-is at agrees) (rw (d-is, there) at found) in (
+            record { top = rw ending (top-noted skips closed s n ws₁ wide base fs L (d + out .count) header (giving .top)); bytes = giving .bytes },
+            count,
+            more,
+            rw (next, size) wants,
           );
-      onward = λ k h. rw (noted-part time size ended ws₂ wide base fs k header) (frame .onward k h);
-      meaning = λ L d never agrees top.
-          let (giving, short) = gave .meaning L d never agrees top in
-          let (after, within, is-open) = held .meaning L (d + c) never (agrees-later agrees (omega arith)) (giving .top) in
-          let n = counted base fs L d c (length sheet) r ws₂ (gave .room) short (held .least) after within is-open in (
-            record { top = top-noted time size ended ws₂ wide base fs L (d + c) header (n .top); bytes = giving .bytes },
-            n .count,
-            n .more,
-          );
-    })
+    }

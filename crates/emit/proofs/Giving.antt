@@ -1,15 +1,18 @@
 -- The verdicts of one call, portion by portion: what holds between two portions, and what holds at the end.
-use Prim.Native.Nat.{ℕ, zero, suc, _+_, _-_, _≤_, _<_, _^_, zero-le}
-use mathlib.Core.Bool.{Bool, false}
+use Prim.Native.Nat.{ℕ, zero, suc, _+_, _-_, _≤_, _<_, _^_, min, zero-le}
+use mathlib.Core.Bool.{false}
 use mathlib.Core.Logic.{⊎-elim}
 use mathlib.Core.Option.{none}
 use mathlib.Core.Path.{_≡_, refl, sym, ap, ap₂, _∙_}
 use mathlib.Core.List.{List}
 use native.Mathlib.Omega.{arith}
+use borrow.Author.Tests.{lt-ltb, le-ltb}
+use lib.Dec.{ltb}
 use lib.ListN.{length, getD, take, drop, length-take}
 use lib.Seq.{drop-drop, getD-take}
 use Rattle.mtl.specs.Formula.{Formula}
 use Rattle.mtl.specs.Log.{Log, NeverFalls}
+use Rattle.mtl.specs.Progress.{joint-progress}
 use Rattle.mtl.specs.Wanted.{wanted}
 use Rattle.mtl.proofs.Bounded.{le-or-lt}
 use Rattle.bits.specs.Packed.{bit, zeros, last-zero}
@@ -25,9 +28,9 @@ use Rattle.engine.proofs.Onward.{formula-refl, formula-trans}
 use Rattle.engine.proofs.Uniform.{agrees-later}
 use Rattle.checkpoint.specs.Checkpoint.{given, stored-noes}
 use Rattle.emit.specs.Verdicts.{columns}
-use Rattle.emit.specs.Top.{part-of, Top}
+use Rattle.emit.specs.Top.{held-count, part-of, Top}
 use Rattle.emit.specs.Code.{Fits, Held, Answered, all-spent, Spendable, Giving, Frame, Gave}
-use Rattle.emit.proofs.Meaning.{all-bits, verdict-answers}
+use Rattle.emit.proofs.Meaning.{joint-least, all-bits, verdict-answers}
 use Rattle.emit.proofs.Places.{count-at, bits-at}
 use Rattle.emit.proofs.Spending.{its-row, length-all, now-given, now-header, now-spare, now-noes, now-onward, top-spent}
 
@@ -64,8 +67,8 @@ frame-then base most fs ws ws′ ws″ a b =
     }
 
 -- asking touches no header
-pub frame-held : {base most : ℕ} {fs : List Formula} {s : List ℕ} {closed : Bool} {ws : List ℕ} {r : ℕ} {ws′ : List ℕ} → 8 + most + most ≤ base →
-    Held base fs s closed ws r ws′ → Frame base most fs ws ws′
+pub frame-held : {base most : ℕ} {fs : List Formula} {v s : List ℕ} {ws : List ℕ} {r : ℕ} {ws′ : List ℕ} → 8 + most + most ≤ base →
+    Held base fs v s ws r ws′ → Frame base most fs ws ws′
 frame-held room held =
     record {
       header = λ i low ne. held .header i (omega arith);
@@ -74,13 +77,29 @@ frame-held room held =
     }
 
 -- nor counts anything
-pub noes-held : {base most : ℕ} {fs : List Formula} {s : List ℕ} {closed : Bool} {ws : List ℕ} {r : ℕ} {ws′ : List ℕ} → 8 + most + most ≤ base →
-    Held base fs s closed ws r ws′ → (k : ℕ) → k < most → stored-noes most ws′ k ≡ stored-noes most ws k
+pub noes-held : {base most : ℕ} {fs : List Formula} {v s : List ℕ} {ws : List ℕ} {r : ℕ} {ws′ : List ℕ} → 8 + most + most ≤ base →
+    Held base fs v s ws r ws′ → (k : ℕ) → k < most → stored-noes most ws′ k ≡ stored-noes most ws k
 noes-held {most = most} room held k h =
     ap₂ (λ (c a : ℕ). noes c (latest-of a)) (held .header (8 + k) (omega arith)) (held .header (8 + most + k) (omega arith))
 
+-- as many verdicts as there are or as have room, and whether there are more, from what is held then
+counted : (base : ℕ) (fs : List Formula) (L : Log) (d c room r : ℕ) (ws′ : List ℕ) → c ≤ room → (0 < r → room ≤ c) →
+    ((k : ℕ) → k < length fs → r ≤ held-count (formula fs k) (part-of base fs k ws′)) →
+    Top base fs L (d + c) ws′ → d + c + r ≤ L .size → (r ≡ 0 → joint-progress fs L ≡ d + c) →
+    (c ≡ min (joint-progress fs L - d) room) × (ltb 0 r ≡ ltb (d + c) (joint-progress fs L))
+counted base fs L d c room r ws′ fits full least top size short =
+    ⊎-elim
+    (λ (some : 0 < r).
+    let ahead : d + c < joint-progress fs L =
+    joint-least fs L (suc (d + c)) (omega arith) (λ k h. let w = top .each k h .buffer .within in omega (arith, least k h)) in
+    (omega (arith, full some), lt-ltb 0 r some ∙ sym (lt-ltb (d + c) (joint-progress fs L) ahead)))
+    (λ (zero : r < 1).
+    let is-open = short (omega arith) in
+    (omega arith, le-ltb 0 r (omega arith) ∙ sym (le-ltb (d + c) (joint-progress fs L) (omega arith))))
+    (le-or-lt 1 r)
+
 -- after `done` verdicts
-pub record Going (base most : ℕ) (fs : List Formula) (s : List ℕ) (closed : Bool) (ws sheet : List ℕ) (done : ℕ) (ws′ sheet′ : List ℕ) : Type 0 where
+pub record Going (base most : ℕ) (fs : List Formula) (v s ws sheet : List ℕ) (done : ℕ) (ws′ sheet′ : List ℕ) : Type 0 where
   pub room : done ≤ length sheet
   pub rest : drop done sheet′ ≡ drop done sheet
   pub sheet-length : length sheet′ ≡ length sheet
@@ -88,11 +107,11 @@ pub record Going (base most : ℕ) (fs : List Formula) (s : List ℕ) (closed : 
   pub count : given ws′ ≡ given ws + done
   pub frame : Frame base most fs ws ws′
   pub noes : (k : ℕ) → k < columns fs → stored-noes most ws′ k ≡ laid-behind (stored-noes most ws k) (given ws) (noes-in k sheet′ done)
-  pub meaning : (L : Log) (d : ℕ) → NeverFalls L → Agrees closed s L (wanted fs d) → Top base fs L d ws → Giving base fs L d done ws′ sheet′
+  pub meaning : (L : Log) (d : ℕ) → NeverFalls L → Agrees v s L (wanted fs d) → Top base fs L d ws → Giving base fs L d done ws′ sheet′
 
-pub going-none : (base most : ℕ) (fs : List Formula) (s : List ℕ) (closed : Bool) (ws sheet : List ℕ) → Going base most fs s closed ws sheet 0 ws sheet
+pub going-none : (base most : ℕ) (fs : List Formula) (v s ws sheet : List ℕ) → Going base most fs v s ws sheet 0 ws sheet
 unfolding count-of latest-no
-going-none base most fs s closed ws sheet =
+going-none base most fs v s ws sheet =
     record {
       room = zero-le;
       rest = refl;
@@ -107,14 +126,14 @@ going-none base most fs s closed ws sheet =
     }
 
 -- no more of them are no
-pub counted-so-far : {base most : ℕ} {fs : List Formula} {s : List ℕ} {closed : Bool} {ws sheet : List ℕ} {done : ℕ} {ws′ sheet′ : List ℕ} →
-    Going base most fs s closed ws sheet done ws′ sheet′ → (k : ℕ) → k < columns fs → word ws′ (8 + k) ≤ word ws (8 + k) + done
+pub counted-so-far : {base most : ℕ} {fs : List Formula} {v s ws sheet : List ℕ} {done : ℕ} {ws′ sheet′ : List ℕ} →
+    Going base most fs v s ws sheet done ws′ sheet′ → (k : ℕ) → k < columns fs → word ws′ (8 + k) ≤ word ws (8 + k) + done
 counted-so-far {done = done} {sheet′ = sheet′} going k h =
     omega (arith, ap (λ (x : Noes). x .count) (going .noes k h), count-le k sheet′ false done)
 
-module _ {table tops : List ℕ} {base number most : ℕ} {fs : List Formula} {s : List ℕ} {closed : Bool} {ws sheet : List ℕ} {done : ℕ} {ws₁ sheet₁ : List ℕ} {r : ℕ} {ws₂ : List ℕ}
+module _ {table tops : List ℕ} {base number most : ℕ} {fs : List Formula} {v s ws sheet : List ℕ} {done : ℕ} {ws₁ sheet₁ : List ℕ} {r : ℕ} {ws₂ : List ℕ}
     (fits : Fits table tops base number fs (length ws)) (counts : 8 + most + most ≤ base) (few : number ≤ most) (some : 1 ≤ most)
-    (going : Going base most fs s closed ws sheet done ws₁ sheet₁) (held : Held base fs s closed ws₁ r ws₂) where
+    (going : Going base most fs v s ws sheet done ws₁ sheet₁) (held : Held base fs v s ws₁ r ws₂) where
   fits-now : Fits table tops base number fs (length ws₂)
   fits-now = rw (held .words-length, going .words-length) fits
 
@@ -181,7 +200,7 @@ module _ {table tops : List ℕ} {base number most : ℕ} {fs : List Formula} {s
         }
 
     -- one portion more
-    pub portion-more : Going base most fs s closed ws sheet (done + n) ws₃ sheet₂
+    pub portion-more : Going base most fs v s ws sheet (done + n) ws₃ sheet₂
     portion-more =
         record {
           room = inside;
@@ -239,9 +258,9 @@ module _ {table tops : List ℕ} {base number most : ℕ} {fs : List Formula} {s
         given = omega arith;
       }
 
-  -- nothing more is settled
-  pub gave-open : r ≡ 0 → Gave base most fs s closed ws sheet done ws₂ sheet₁
-  gave-open is-open =
+  -- the sheet is full, or nothing more is settled
+  pub gave : (0 < r → length sheet ≤ done) → Gave base most fs v s ws sheet (record { count = done; more = ltb 0 r }) ws₂ sheet₁
+  gave full =
       record {
         room = going .room;
         rest = going .rest;
@@ -253,20 +272,6 @@ module _ {table tops : List ℕ} {base number most : ℕ} {fs : List Formula} {s
         meaning = λ L d never agrees top.
             let so-far = going .meaning L d never agrees top in
             let (next, size, short) = held .meaning L (d + done) never (agrees-later agrees (omega arith)) (so-far .top) in
-            (record { top = next; bytes = so-far .bytes }, λ below. short is-open);
+            let (count, more) = counted base fs L d done (length sheet) r ws₂ (going .room) full (held .least) next size short in
+            (record { top = next; bytes = so-far .bytes }, count, more);
       }
-
--- the sheet is full
-pub gave-full : {base most : ℕ} {fs : List Formula} {s : List ℕ} {closed : Bool} {ws sheet : List ℕ} {done : ℕ} {ws′ sheet′ : List ℕ} →
-    Going base most fs s closed ws sheet done ws′ sheet′ → length sheet ≤ done → Gave base most fs s closed ws sheet done ws′ sheet′
-gave-full going full =
-    record {
-      room = going .room;
-      rest = going .rest;
-      sheet-length = going .sheet-length;
-      words-length = going .words-length;
-      count = going .count;
-      frame = going .frame;
-      noes = going .noes;
-      meaning = λ L d never agrees top. (going .meaning L d never agrees top, λ below. absurd (omega arith));
-    }

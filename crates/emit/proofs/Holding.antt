@@ -14,7 +14,7 @@ use Rattle.mtl.specs.Wanted.{wanted}
 use Rattle.mtl.proofs.Bounded.{le-or-lt}
 use Rattle.mtl.proofs.Joint.{joint-le-size}
 use Rattle.rule.specs.Postfix.{formula}
-use Rattle.trace.specs.Format.{record-count}
+use Rattle.trace.specs.View.{total}
 use Rattle.blocks.specs.Block.{word}
 use Rattle.blocks.specs.Step.{Agrees, Batched}
 use Rattle.blocks.proofs.Words.{empty-buffer}
@@ -41,9 +41,9 @@ same-or-not j k =
 -- ONE FORMULA
 
 -- nothing to do where it holds something
-pub already : {table tops : List ℕ} {base number : ℕ} {fs : List Formula} (s : List ℕ) (closed : Bool) (k : ℕ) (ws : List ℕ) (r : ℕ) →
-    Fits table tops base number fs (length ws) → k < length fs → r ≡ word ws (place 3 tops k) → 0 < r → HeldOne base fs s closed k ws r ws
-already {base = base} {fs = fs} s closed k ws r fits h is some =
+pub already : {table tops : List ℕ} {base number : ℕ} {fs : List Formula} (v s : List ℕ) (k : ℕ) (ws : List ℕ) (r : ℕ) →
+    Fits table tops base number fs (length ws) → k < length fs → r ≡ word ws (place 3 tops k) → 0 < r → HeldOne base fs v s k ws r ws
+already {base = base} {fs = fs} v s k ws r fits h is some =
     record {
       words-length = refl;
       count = is ∙ sym (count-at fits k h ws);
@@ -73,7 +73,7 @@ module _ (from to : ℕ) (ys ws : List ℕ) (ordered : from ≤ to) (inside : to
       (le-or-lt from i)
 
 -- formula k of formulas that fit, with its own words replaced by ys
-module _ {table tops : List ℕ} {base number : ℕ} {fs : List Formula} (s : List ℕ) (closed : Bool) (k : ℕ) (ws : List ℕ)
+module _ {table tops : List ℕ} {base number : ℕ} {fs : List Formula} (v s : List ℕ) (k : ℕ) (ws : List ℕ)
     (fits : Fits table tops base number fs (length ws)) (h : k < length fs) (empty : word ws (place 3 tops k) ≡ 0) where
   abbrev φ : Formula
   φ = formula fs k
@@ -117,8 +117,8 @@ module _ {table tops : List ℕ} {base number : ℕ} {fs : List Formula} (s : Li
 
     -- it is open: it holds nothing still
     asked-open : (r : ℕ) → r ≡ word asked slot → OnwardAll φ (part-of base fs k ws) ys →
-        ((L : Log) (d : ℕ) → NeverFalls L → Agrees closed s L (wanted fs d) → State φ L d (part-of base fs k ws) → (settled-to φ L ≡ d) × State φ L d ys) →
-        HeldOne base fs s closed k ws r asked
+        ((L : Log) (d : ℕ) → NeverFalls L → Agrees v s L (wanted fs d) → State φ L d (part-of base fs k ws) → (settled-to φ L ≡ d) × State φ L d ys) →
+        HeldOne base fs v s k ws r asked
     asked-open r is goes means =
         let none : held-count φ ys ≡ 0 = kept-own φ (part-of base fs k ws) ys goes 12 (omega arith) (omega arith) ∙ count-at fits k h ws ∙ empty in
         let long = length-back from to ys ws ordered inside kept in
@@ -183,9 +183,9 @@ module _ {table tops : List ℕ} {base number : ℕ} {fs : List Formula} (s : Li
 
       -- it has answered
       asked-filled : (r : ℕ) → r ≡ word filled slot → 1 ≤ count → OnwardAll φ (part-of base fs k ws) ys →
-          ((L : Log) (d : ℕ) → NeverFalls L → Agrees closed s L (wanted fs d) → State φ L d (part-of base fs k ws) →
+          ((L : Log) (d : ℕ) → NeverFalls L → Agrees v s L (wanted fs d) → State φ L d (part-of base fs k ws) →
           Batched φ L d bits count × State φ L (d + count) ys) →
-          HeldOne base fs s closed k ws r filled
+          HeldOne base fs v s k ws r filled
       asked-filled r is some goes means =
           record {
             words-length = length-filled;
@@ -210,8 +210,8 @@ module _ {table tops : List ℕ} {base number : ℕ} {fs : List Formula} (s : Li
           }
 
   -- what asking promises
-  asked-by : (b : Bool) (r : ℕ) (ws′ : List ℕ) → r ≡ word ws′ slot → Asks table s closed (place 0 tops k) from to slot ws b ws′ →
-      HeldOne base fs s closed k ws r ws′
+  asked-by : (b : Bool) (r : ℕ) (ws′ : List ℕ) → r ≡ word ws′ slot → Asks table v s (place 0 tops k) from to slot ws b ws′ →
+      HeldOne base fs v s k ws r ws′
   asked-by true r ws′ is (ys, kept, goes, (bits, count, some, e, means)) =
       let has = fits .laid .each k h .has in
       rw e (asked-filled ys kept bits count r (rw e at is) some (rw (lent-part fits k h ws) at (goes φ has))
@@ -221,26 +221,26 @@ module _ {table tops : List ℕ} {base number : ℕ} {fs : List Formula} (s : Li
       rw e (asked-open ys kept r (rw e at is) (rw (lent-part fits k h ws) at (goes φ has))
       (λ L d never agrees state. means φ L d has never (agrees-later agrees (reads-wanted fs k d h)) (rw (lent-part fits k h ws) state)))
 
-pub asked-holds : {table tops : List ℕ} {base number : ℕ} {fs : List Formula} (s : List ℕ) (closed : Bool) (k : ℕ) (ws : List ℕ) (b : Bool) (r : ℕ) (ws′ : List ℕ) →
+pub asked-holds : {table tops : List ℕ} {base number : ℕ} {fs : List Formula} (v s : List ℕ) (k : ℕ) (ws : List ℕ) (b : Bool) (r : ℕ) (ws′ : List ℕ) →
     Fits table tops base number fs (length ws) → k < length fs → word ws (place 3 tops k) ≡ 0 → r ≡ word ws′ (place 3 tops k) →
-    Asks table s closed (place 0 tops k) (place 1 tops k) (place 2 tops k) (place 3 tops k) ws b ws′ → HeldOne base fs s closed k ws r ws′
-asked-holds s closed k ws b r ws′ fits h empty is asks = asked-by s closed k ws fits h empty b r ws′ is asks
+    Asks table v s (place 0 tops k) (place 1 tops k) (place 2 tops k) (place 3 tops k) ws b ws′ → HeldOne base fs v s k ws r ws′
+asked-holds v s k ws b r ws′ fits h empty is asks = asked-by v s k ws fits h empty b r ws′ is asks
 
 -- ALL FORMULAS
 
 -- after the first n of them were asked
-pub record Asked (base : ℕ) (fs : List Formula) (s : List ℕ) (closed : Bool) (ws : List ℕ) (n r : ℕ) (ws′ : List ℕ) : Type 0 where
+pub record Asked (base : ℕ) (fs : List Formula) (v s : List ℕ) (ws : List ℕ) (n r : ℕ) (ws′ : List ℕ) : Type 0 where
   pub words-length : length ws′ ≡ length ws
   pub header : (i : ℕ) → i < base → word ws′ i ≡ word ws i
   pub few : r ≤ 64
   pub least : (k : ℕ) → k < n → k < length fs → r ≤ held-count (formula fs k) (part-of base fs k ws′)
   pub onward : (k : ℕ) → k < length fs → OnwardFormula (formula fs k) (part-of base fs k ws) (part-of base fs k ws′)
-  pub meaning : (L : Log) (d : ℕ) → NeverFalls L → Agrees closed s L (wanted fs d) → Top base fs L d ws →
+  pub meaning : (L : Log) (d : ℕ) → NeverFalls L → Agrees v s L (wanted fs d) → Top base fs L d ws →
       Top base fs L d ws′ × (d + r ≤ L .size) × (r ≡ 0 → joint-progress fs L ≡ d)
 
-pub asked-none : (base : ℕ) (fs : List Formula) (s : List ℕ) (closed : Bool) (ws : List ℕ) (r : ℕ) → r ≡ min (record-count s - given ws) 64 →
-    Asked base fs s closed ws 0 r ws
-asked-none base fs s closed ws r is =
+pub asked-none : (base : ℕ) (fs : List Formula) (v s : List ℕ) (ws : List ℕ) (r : ℕ) → r ≡ min (total v - given ws) 64 →
+    Asked base fs v s ws 0 r ws
+asked-none base fs v s ws r is =
     record {
       words-length = refl;
       header = λ i h. refl;
@@ -258,17 +258,17 @@ asked-none base fs s closed ws r is =
           );
     }
 
-module _ {base : ℕ} {fs : List Formula} {s : List ℕ} {closed : Bool} {ws : List ℕ} {n r : ℕ} {ws₁ : List ℕ}
-    (header : 16 ≤ base) (so-far : Asked base fs s closed ws n r ws₁) where
+module _ {base : ℕ} {fs : List Formula} {v s : List ℕ} {ws : List ℕ} {n r : ℕ} {ws₁ : List ℕ}
+    (header : 16 ≤ base) (so-far : Asked base fs v s ws n r ws₁) where
   -- another formula's part
-  other-part : (k : ℕ) (q : ℕ) (ws₂ : List ℕ) → k < length fs → n < length fs → (k ≡ n → ⊥) → HeldOne base fs s closed n ws₁ q ws₂ →
+  other-part : (k : ℕ) (q : ℕ) (ws₂ : List ℕ) → k < length fs → n < length fs → (k ≡ n → ⊥) → HeldOne base fs v s n ws₁ q ws₂ →
       part-of base fs k ws₂ ≡ part-of base fs k ws₁
   other-part k q ws₂ h h′ ne one =
       part-same base fs k ws₁ ws₂ (one .words-length)
       (λ i l m. one .others i (λ l′ m′.
       ⊎-elim (λ (x : n ≤ k). omega (arith, before-grows fs (suc n) k (omega arith))) (λ (x : k < n). omega (arith, before-grows fs (suc k) n x)) (le-or-lt n k)))
 
-  pub one-more : (q : ℕ) (ws₂ : List ℕ) → n < length fs → HeldOne base fs s closed n ws₁ q ws₂ → Asked base fs s closed ws (n + 1) (min r q) ws₂
+  pub one-more : (q : ℕ) (ws₂ : List ℕ) → n < length fs → HeldOne base fs v s n ws₁ q ws₂ → Asked base fs v s ws (n + 1) (min r q) ws₂
   one-more q ws₂ h one =
       record {
         words-length = one .words-length ∙ so-far .words-length;
@@ -311,8 +311,8 @@ module _ {base : ℕ} {fs : List Formula} {s : List ℕ} {closed : Bool} {ws : L
       }
 
 -- all of them
-pub all-asked : {base : ℕ} {fs : List Formula} {s : List ℕ} {closed : Bool} {ws : List ℕ} {n r : ℕ} {ws′ : List ℕ} → length fs ≤ n →
-    Asked base fs s closed ws n r ws′ → Held base fs s closed ws r ws′
+pub all-asked : {base : ℕ} {fs : List Formula} {v s : List ℕ} {ws : List ℕ} {n r : ℕ} {ws′ : List ℕ} → length fs ≤ n →
+    Asked base fs v s ws n r ws′ → Held base fs v s ws r ws′
 all-asked all a =
     record {
       words-length = a .words-length;

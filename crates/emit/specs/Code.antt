@@ -6,9 +6,9 @@ use mathlib.Core.List.{List}
 use lib.ListN.{length, getD, drop, set}
 use lib.Dec.{ltb}
 use Rattle.mtl.specs.Formula.{Formula}
-use Rattle.mtl.specs.Log.{Log, NeverFalls}
+use Rattle.mtl.specs.Log.{Log, head-of, Placed, NeverFalls}
 use Rattle.mtl.specs.Progress.{settled-to, joint-progress}
-use Rattle.mtl.specs.Wanted.{wanted}
+use Rattle.mtl.specs.Wanted.{deepest, wanted, wanted-record}
 use Rattle.bits.specs.Packed.{zeros, last-zero}
 use Rattle.verdicts.specs.Counts.{noes-in, laid-behind, later-end}
 use Rattle.rule.specs.declared.Entry.{Entry}
@@ -17,11 +17,16 @@ use Rattle.rule.specs.Postfix.{formula}
 use Rattle.rule.specs.Accepted.{WellFormed}
 use Rattle.trace.specs.Format.{record-count}
 use Rattle.trace.specs.Order.{last-time}
+use Rattle.trace.specs.Positions.{before}
+use Rattle.trace.specs.View.{total, view-of}
+use Rattle.trace.specs.View.{skips as view-skips}
+use Rattle.trace.specs.View.{closed as view-closed}
+use Rattle.trace.specs.Window.{Found}
 use Rattle.blocks.specs.Block.{word}
 use Rattle.blocks.specs.Step.{Agrees}
 use Rattle.engine.specs.State.{words-before, OnwardFormula}
 use Rattle.engine.specs.Tops.{place, Tops, Ended}
-use Rattle.checkpoint.specs.Checkpoint.{given, seen, last, closed-with, stored-noes}
+use Rattle.checkpoint.specs.Checkpoint.{given, seen, last, closed-with, log-kind, kind-of-log, first-wanted, stored-noes}
 use Rattle.emit.specs.Verdicts.{columns, verdict}
 use Rattle.emit.specs.Top.{held-count, Waiting, part-of, Top}
 use Rattle.emit.specs.declared.Emitted.{Emitted}
@@ -37,32 +42,32 @@ abbrev pub Fitting : (table tops : List ℕ) (number size : ℕ) → Type 0
 Fitting table tops number size = (base : ℕ) × (fs : List Formula) × Fits table tops base number fs size
 
 -- asking formula k, where it holds nothing: r is how many answers it holds then
-pub record HeldOne (base : ℕ) (fs : List Formula) (s : List ℕ) (closed : Bool) (k : ℕ) (ws : List ℕ) (r : ℕ) (ws′ : List ℕ) : Type 0 where
+pub record HeldOne (base : ℕ) (fs : List Formula) (v s : List ℕ) (k : ℕ) (ws : List ℕ) (r : ℕ) (ws′ : List ℕ) : Type 0 where
   pub words-length : length ws′ ≡ length ws
   pub count : r ≡ held-count (formula fs k) (part-of base fs k ws′)
   pub others : (i : ℕ) → ((base + words-before fs k ≤ i) → (i < base + words-before fs (suc k)) → ⊥) → word ws′ i ≡ word ws i
   pub onward : OnwardFormula (formula fs k) (part-of base fs k ws) (part-of base fs k ws′)
-  pub meaning : (L : Log) (d : ℕ) → NeverFalls L → Agrees closed s L (wanted fs d) → Waiting (formula fs k) L d (part-of base fs k ws) →
+  pub meaning : (L : Log) (d : ℕ) → NeverFalls L → Agrees v s L (wanted fs d) → Waiting (formula fs k) L d (part-of base fs k ws) →
       Waiting (formula fs k) L d (part-of base fs k ws′) × (r ≡ 0 → settled-to (formula fs k) L ≡ d)
 
 -- what is promised of formula k by its place, whatever the formulas
-abbrev pub HoldsOne : (table tops s : List ℕ) (closed : Bool) (number k : ℕ) (ws : List ℕ) (r : ℕ) (ws′ : List ℕ) → Type 0
-HoldsOne table tops s closed number k ws r ws′ =
-    (base : ℕ) (fs : List Formula) → Fits table tops base number fs (length ws) → k < length fs → HeldOne base fs s closed k ws r ws′
+abbrev pub HoldsOne : (table tops v s : List ℕ) (number k : ℕ) (ws : List ℕ) (r : ℕ) (ws′ : List ℕ) → Type 0
+HoldsOne table tops v s number k ws r ws′ =
+    (base : ℕ) (fs : List Formula) → Fits table tops base number fs (length ws) → k < length fs → HeldOne base fs v s k ws r ws′
 
 -- asking all formulas: r is the least number of answers held then, as far as one word goes
-pub record Held (base : ℕ) (fs : List Formula) (s : List ℕ) (closed : Bool) (ws : List ℕ) (r : ℕ) (ws′ : List ℕ) : Type 0 where
+pub record Held (base : ℕ) (fs : List Formula) (v s ws : List ℕ) (r : ℕ) (ws′ : List ℕ) : Type 0 where
   pub words-length : length ws′ ≡ length ws
   pub header : (i : ℕ) → i < base → word ws′ i ≡ word ws i
   pub few : r ≤ 64
   pub least : (k : ℕ) → k < length fs → r ≤ held-count (formula fs k) (part-of base fs k ws′)
   pub onward : (k : ℕ) → k < length fs → OnwardFormula (formula fs k) (part-of base fs k ws) (part-of base fs k ws′)
-  pub meaning : (L : Log) (d : ℕ) → NeverFalls L → Agrees closed s L (wanted fs d) → Top base fs L d ws →
+  pub meaning : (L : Log) (d : ℕ) → NeverFalls L → Agrees v s L (wanted fs d) → Top base fs L d ws →
       Top base fs L d ws′ × (d + r ≤ L .size) × (r ≡ 0 → joint-progress fs L ≡ d)
 
-abbrev pub Holds : (table tops s : List ℕ) (closed : Bool) (number : ℕ) (ws : List ℕ) (r : ℕ) (ws′ : List ℕ) → Type 0
-Holds table tops s closed number ws r ws′ =
-    (base : ℕ) (fs : List Formula) → Fits table tops base number fs (length ws) → Held base fs s closed ws r ws′
+abbrev pub Holds : (table tops v s : List ℕ) (number : ℕ) (ws : List ℕ) (r : ℕ) (ws′ : List ℕ) → Type 0
+Holds table tops v s number ws r ws′ =
+    (base : ℕ) (fs : List Formula) → Fits table tops base number fs (length ws) → Held base fs v s ws r ws′
 
 -- the words of answers that the formulas hold; of an empty rule one word of yes
 pub record Answered (tops : List ℕ) (number : ℕ) (ws answers : List ℕ) : Type 0 where
@@ -116,21 +121,22 @@ pub record Frame (base most : ℕ) (fs : List Formula) (ws ws′ : List ℕ) : T
   pub spare : (k : ℕ) → length fs ≤ k → k < most → (word ws′ (8 + k) ≡ word ws (8 + k)) × (word ws′ (8 + most + k) ≡ word ws (8 + most + k))
   pub onward : (k : ℕ) → k < length fs → OnwardFormula (formula fs k) (part-of base fs k ws) (part-of base fs k ws′)
 
--- `give` writes c verdicts: as many as the sheet holds, or as there are
-pub record Gave (base most : ℕ) (fs : List Formula) (s : List ℕ) (closed : Bool) (ws sheet : List ℕ) (c : ℕ) (ws′ sheet′ : List ℕ) : Type 0 where
-  pub room : c ≤ length sheet
-  pub rest : drop c sheet′ ≡ drop c sheet
+-- `give` writes as many verdicts as the sheet holds, or as there are
+pub record Gave (base most : ℕ) (fs : List Formula) (v s ws sheet : List ℕ) (r : Emitted) (ws′ sheet′ : List ℕ) : Type 0 where
+  pub room : r .count ≤ length sheet
+  pub rest : drop (r .count) sheet′ ≡ drop (r .count) sheet
   pub sheet-length : length sheet′ ≡ length sheet
   pub words-length : length ws′ ≡ length ws
-  pub count : given ws′ ≡ given ws + c
+  pub count : given ws′ ≡ given ws + r .count
   pub frame : Frame base most fs ws ws′
-  pub noes : (k : ℕ) → k < columns fs → stored-noes most ws′ k ≡ laid-behind (stored-noes most ws k) (given ws) (noes-in k sheet′ c)
-  pub meaning : (L : Log) (d : ℕ) → NeverFalls L → Agrees closed s L (wanted fs d) → Top base fs L d ws →
-      Giving base fs L d c ws′ sheet′ × (c < length sheet → joint-progress fs L ≡ d + c)
+  pub noes : (k : ℕ) → k < columns fs → stored-noes most ws′ k ≡ laid-behind (stored-noes most ws k) (given ws) (noes-in k sheet′ (r .count))
+  pub meaning : (L : Log) (d : ℕ) → NeverFalls L → Agrees v s L (wanted fs d) → Top base fs L d ws →
+      Giving base fs L d (r .count) ws′ sheet′ × (r .count ≡ min (joint-progress fs L - d) (length sheet)) ×
+      (r .more ≡ ltb (d + r .count) (joint-progress fs L))
 
-abbrev pub Gives : (table tops s : List ℕ) (closed : Bool) (number most : ℕ) (ws sheet : List ℕ) (c : ℕ) (ws′ sheet′ : List ℕ) → Type 0
-Gives table tops s closed number most ws sheet c ws′ sheet′ =
-    (base : ℕ) (fs : List Formula) → Fits table tops base number fs (length ws) → 8 + most + most ≤ base → Gave base most fs s closed ws sheet c ws′ sheet′
+abbrev pub Gives : (table tops v s : List ℕ) (number most : ℕ) (ws sheet : List ℕ) (r : Emitted) (ws′ sheet′ : List ℕ) → Type 0
+Gives table tops v s number most ws sheet r ws′ sheet′ =
+    (base : ℕ) (fs : List Formula) → Fits table tops base number fs (length ws) → 8 + most + most ≤ base → Gave base most fs v s ws sheet r ws′ sheet′
 
 -- a call's verdicts begin with at most 1,000,000 given and as many counted, so that no count can wrap
 pub record Countable (table tops : List ℕ) (number most : ℕ) (ws : List ℕ) : Type 0 where
@@ -140,28 +146,53 @@ pub record Countable (table tops : List ℕ) (number most : ℕ) (ws : List ℕ)
   pub given : given ws ≤ 1000000
   pub noes : (k : ℕ) → k < most → word ws (8 + k) ≤ 1000000
 
+-- the slice of records, from the first wanted one on, that a call brings of a log, where d verdicts were given: its positions begin with the
+-- first still wanted
+pub record Brought (fs : List Formula) (s : List ℕ) (skips closed : Bool) (first : ℕ) (L : Log) (d : ℕ) : Type 0 where
+  pub placed : Placed L (first + record-count s)
+  pub starts : head-of L (wanted fs d) ≤ first
+  pub agrees : Agrees (view-of first (wanted fs d) skips closed s) s L (wanted fs d)
+
+-- the view of these records that is handed on: service records are passed over only where one lies among them
+abbrev pub viewed : (skips closed : Bool) (deep : ℕ) (s ws : List ℕ) → List ℕ
+viewed skips closed deep s ws = view-of (first-wanted ws) (given ws - deep) (ltb (before skips s (record-count s)) (record-count s)) closed s
+
+-- what is noted of the log: the last time, the records seen, whether it is closed, its version, and the first record still wanted, the
+-- slice's record n
+abbrev pub noted : (skips closed : Bool) (s : List ℕ) (n : ℕ) → List ℕ → List ℕ
+noted skips closed s n ws =
+    let size = first-wanted ws + record-count s in
+    set (set (set (set (set ws 3 (last-time s (seen ws - first-wanted ws) (last ws))) 2 size) 5 (cond closed (suc size) 0)) 6 (kind-of-log skips)) 7
+    (first-wanted ws + n)
+
+-- it is the one from which on as many positions stand as are still wanted
+abbrev pub Notes : (skips : Bool) (deep : ℕ) (v s ws ws′ : List ℕ) → Type 0
+Notes skips deep v s ws ws′ = (n : ℕ) × Found (view-skips v) s (total v - (given ws - deep)) n × (ws′ ≡ noted skips (view-closed v) s n ws)
+
 -- an accepted call on exactly the words that the rule needs
-pub record Emits (base most : ℕ) (fs : List Formula) (s : List ℕ) (closed : Bool) (ws sheet : List ℕ) (r : Emitted) (ws′ sheet′ : List ℕ) : Type 0 where
+pub record Emits (base most : ℕ) (fs : List Formula) (s : List ℕ) (skips closed : Bool) (ws sheet : List ℕ) (r : Emitted) (ws′ sheet′ : List ℕ) : Type 0 where
   pub room : r .count ≤ length sheet
   pub rest : drop (r .count) sheet′ ≡ drop (r .count) sheet
   pub sheet-length : length sheet′ ≡ length sheet
   pub words-length : length ws′ ≡ length ws
   pub count : given ws′ ≡ given ws + r .count
-  pub size : seen ws′ ≡ record-count s
-  pub time : last ws′ ≡ last-time s (seen ws) (last ws)
+  pub size : seen ws′ ≡ first-wanted ws + record-count s
+  pub time : last ws′ ≡ last-time s (seen ws - first-wanted ws) (last ws)
   pub fits : last ws < 2 ^ 32 → last ws′ < 2 ^ 32
-  pub ended : closed-with ws′ ≡ cond closed (suc (record-count s)) 0
+  pub ended : closed-with ws′ ≡ cond closed (suc (seen ws′)) 0
+  pub kind : log-kind ws′ ≡ kind-of-log skips
+  pub first : (first-wanted ws ≤ first-wanted ws′) × (first-wanted ws′ ≤ seen ws′)
   pub noes : (k : ℕ) → k < columns fs → stored-noes most ws′ k ≡ laid-behind (stored-noes most ws k) (given ws) (noes-in k sheet′ (r .count))
   -- what stays, whatever the words hold
-  pub header : (i : ℕ) → i < 8 → (i ≡ 1 → ⊥) → (i ≡ 2 → ⊥) → (i ≡ 3 → ⊥) → (i ≡ 5 → ⊥) → word ws′ i ≡ word ws i
+  pub header : (word ws′ 0 ≡ word ws 0) × (word ws′ 4 ≡ word ws 4)
   pub spare : (k : ℕ) → length fs ≤ k → k < most → (word ws′ (8 + k) ≡ word ws (8 + k)) × (word ws′ (8 + most + k) ≡ word ws (8 + most + k))
   pub onward : (k : ℕ) → k < length fs → OnwardFormula (formula fs k) (part-of base fs k ws) (part-of base fs k ws′)
-  pub meaning : (L : Log) (d : ℕ) → NeverFalls L → Agrees closed s L (wanted fs d) → Top base fs L d ws →
+  pub meaning : (L : Log) (d : ℕ) → NeverFalls L → Brought fs s skips closed (first-wanted ws) L d → Top base fs L d ws →
       Giving base fs L d (r .count) ws′ sheet′ × (r .count ≡ min (joint-progress fs L - d) (length sheet)) ×
-      (r .more ≡ ltb (d + r .count) (joint-progress fs L))
+      (r .more ≡ ltb (d + r .count) (joint-progress fs L)) × (first-wanted ws′ ≡ wanted-record L (seen ws′) (wanted fs (d + r .count)))
 
 -- the decoded entries of an accepted rule, where its formulas end, and the words that they need
-pub record Ready (t : List Entry) (n : ℕ) (ends : List ℕ) (number most base : ℕ) (ws : List ℕ) : Type 0 where
+pub record Ready (t : List Entry) (n : ℕ) (ends : List ℕ) (number most base deep : ℕ) (s ws : List ℕ) : Type 0 where
   pub few : n ≤ 128
   pub well-formed : WellFormed t n
   pub the-formulas : List Formula
@@ -172,7 +203,10 @@ pub record Ready (t : List Entry) (n : ℕ) (ends : List ℕ) (number most base 
   pub size : length ws ≡ base + offset t n
   pub given : given ws ≤ 1000000
   pub noes : (k : ℕ) → k < most → word ws (8 + k) ≤ 1000000
+  pub depth : deep ≡ deepest the-formulas
+  pub wanted : first-wanted ws ≤ 1000000
+  pub records : record-count s ≤ 1000000
 
-abbrev pub Emission : (closed : Bool) (t : List Entry) (n : ℕ) (ends : List ℕ) (number most base : ℕ) (s ws sheet : List ℕ) → Emitted → (ws′ sheet′ : List ℕ) → Type 0
-Emission closed t n ends number most base s ws sheet r ws′ sheet′ =
-    (fs : List Formula) → Ended t n ends number fs → Emits base most fs s closed ws sheet r ws′ sheet′
+abbrev pub Emission : (skips closed : Bool) (t : List Entry) (n : ℕ) (ends : List ℕ) (number most base deep : ℕ) (s ws sheet : List ℕ) → Emitted → (ws′ sheet′ : List ℕ) → Type 0
+Emission skips closed t n ends number most base deep s ws sheet r ws′ sheet′ =
+    (fs : List Formula) → Ended t n ends number fs → deep ≡ deepest fs → Emits base most fs s skips closed ws sheet r ws′ sheet′

@@ -1,16 +1,17 @@
 -- The meaning of a rule: its formulas, the number of positions that they have answered together (`joint-progress` of the logic),
 -- and their verdict at a position. The promises, both demands and the examples speak of a rule through these.
 use Prim.Native.Nat.{ℕ, zero, suc, _*_, max}
-use mathlib.Core.Bool.{Bool, true}
+use mathlib.Core.Bool.{Bool, true, false}
 use mathlib.Core.List.{List, [], _∷_, _++_, map}
 use lib.ListN.{length, take}
 use Rattle.mtl.specs.Formula.{Formula}
 use Rattle.mtl.specs.Log.{Log, closing}
 use Rattle.mtl.specs.Satisfaction.{sat}
 use Rattle.mtl.specs.Progress.{joint-progress}
+use Rattle.mtl.specs.Wanted.{wanted, wanted-record}
 use Rattle.rule.specs.Entries.{version, count, decoded}
 use Rattle.rule.specs.Postfix.{formulas, formulas-or}
-use Rattle.trace.specs.Format.{records-of}
+use Rattle.trace.specs.Format.{records-of, skips-of}
 use Rattle.trace.specs.Log.{log-of}
 use Rattle.verdicts.specs.Bytes.{byte-of}
 
@@ -39,7 +40,11 @@ verdicts fs L (suc n) = verdicts fs L n ++ (verdict fs L n ∷ [])
 
 -- the log that the first n records of a log's bytes are, closed or open
 abbrev pub first-records : (closed : Bool) → List ℕ → ℕ → Log
-first-records closed log n = closing closed (log-of (take (8 * n) (records-of log)))
+first-records closed log n = closing closed (log-of (skips-of log) (take (8 * n) (records-of log)))
+
+-- the first record still wanted, where d verdicts are given and the first n records were seen
+abbrev pub wanted-after : (rule log : List ℕ) (d n : ℕ) → ℕ
+wanted-after rule log d n = wanted-record (first-records false log n) n (wanted (formulas-of rule) d)
 
 -- the answered number A of a rule on the first n records
 abbrev pub answered : (closed : Bool) (rule log : List ℕ) → ℕ → ℕ

@@ -1,17 +1,19 @@
 // The verdicts of one call: each formula's last entry is asked for its answers, and what does not fit into the sheet is held in its
-// block. A rule with no formula is not asked, and every record is a yes.
+// block. A rule with no formula is not asked, and every position is a yes.
 ghost use mathlib.Core.Path.{_≡_};
-ghost use mathlib.Core.Bool.{true, cond};
-ghost use mathlib.Core.List.{List};
+ghost use mathlib.Core.Bool.{cond};
 ghost use Prim.Native.Nat.{ℕ, suc, _+_, _-_, _≤_, _<_, _^_, min, max};
 ghost use lib.ListN.{length};
 ghost use Rattle.blocks.specs.Block.{word};
+ghost use Rattle.trace.specs.View.{Numbered};
 ghost use Rattle.engine.specs.Tops.{place};
 ghost use Rattle.verdicts.specs.Counts.{later-end};
-ghost use Rattle.emit.specs.Code.{Fitting, HoldsOne, Holds, Answered, spent-one, all-spent, Spendable, Gives, Countable, Ready, Emission};
+ghost use Rattle.checkpoint.specs.Checkpoint.{given, first-wanted};
+ghost use Rattle.emit.specs.Code.{Fitting, HoldsOne, Holds, Answered, spent-one, all-spent, Spendable, Gives, Countable, viewed, Notes, Ready, Emission};
 use checkpoint::header;
 use engine::tops;
 use rule::Entry;
+use trace::view;
 
 // How many verdicts a call gave, and whether more are settled.
 pub struct Emitted {
@@ -42,11 +44,14 @@ fn hold_one(
     number: usize,
     k: usize,
     records: &[u8],
-    closed: bool,
+    view: &[u64; 4],
+    copy: &mut [u8; 520],
+    waiting: &mut [u8; 520],
     words: &mut [u64],
 ) -> u64
-    requires { ⌜ (k < number) × Fitting (now table) (now tops) number (length (now words)) ⌝ }
-    ensures { λ r. ⌜ HoldsOne (now (table .entry)) (now (tops .entry)) (now (records .entry)) closed number k (now (words .entry)) r (now (words .exit)) ⌝ }
+    requires { ⌜ (k < number) × Fitting (now table) (now tops) number (length (now words)) × (length (now copy) ≡ 520) × (length (now waiting) ≡ 520) × Numbered (now view) (now records) ⌝ }
+    ensures { λ r. ⌜ HoldsOne (now (table .entry)) (now (tops .entry)) (now (view .entry)) (now (records .entry)) number k (now (words .entry)) r (now (words .exit)) ⌝ }
+    ensures { λ _. ⌜ (length (now (copy .exit)) ≡ 520) × (length (now (waiting .exit)) ≡ 520) ⌝ }
 {
     let held = tops::place(tops, k, tops::HELD);
     let count = words[held];
@@ -56,7 +61,18 @@ fn hold_one(
     let entry = tops::place(tops, k, tops::ENTRY);
     let from = tops::place(tops, k, tops::FROM);
     let to = tops::place(tops, k, tops::TO);
-    engine::ask(table, records, closed, entry, from, to, held, words);
+    engine::ask(
+        table,
+        records,
+        view,
+        copy,
+        waiting,
+        entry,
+        from,
+        to,
+        held,
+        words,
+    );
     words[held]
 }
 
@@ -66,16 +82,19 @@ fn hold(
     tops: &[usize; 32],
     number: usize,
     records: &[u8],
-    closed: bool,
+    view: &[u64; 4],
+    copy: &mut [u8; 520],
+    waiting: &mut [u8; 520],
     words: &mut [u64],
 ) -> u64
-    requires { ⌜ Fitting (now table) (now tops) number (length (now words)) ⌝ }
-    ensures { λ r. ⌜ Holds (now (table .entry)) (now (tops .entry)) (now (records .entry)) closed number (now (words .entry)) r (now (words .exit)) ⌝ }
+    requires { ⌜ Fitting (now table) (now tops) number (length (now words)) × (length (now copy) ≡ 520) × (length (now waiting) ≡ 520) × Numbered (now view) (now records) ⌝ }
+    ensures { λ r. ⌜ Holds (now (table .entry)) (now (tops .entry)) (now (view .entry)) (now (records .entry)) number (now (words .entry)) r (now (words .exit)) ⌝ }
+    ensures { λ _. ⌜ (length (now (copy .exit)) ≡ 520) × (length (now (waiting .exit)) ≡ 520) ⌝ }
 {
-    let mut least = not_given(words[header::GIVEN], trace::count(records) as u64);
+    let mut least = not_given(words[header::GIVEN], view[view::TOTAL]);
     let mut k: usize = 0;
     while k < number {
-        let count = hold_one(table, tops, number, k, records, closed, words);
+        let count = hold_one(table, tops, number, k, records, view, copy, waiting, words);
         least = blocks::smaller(least, count);
         k += 1;
     }
@@ -157,28 +176,32 @@ fn give(
     number: usize,
     most: usize,
     records: &[u8],
-    closed: bool,
+    view: &[u64; 4],
+    copy: &mut [u8; 520],
+    waiting: &mut [u8; 520],
     words: &mut [u64],
     sheet: &mut [u8],
-) -> usize
-    requires { ⌜ Countable (now table) (now tops) number most (now words) ⌝ }
-    ensures { λ r. ⌜ Gives (now (table .entry)) (now (tops .entry)) (now (records .entry)) closed number most (now (words .entry)) (now (sheet .entry)) r (now (words .exit)) (now (sheet .exit)) ⌝ }
+) -> Emitted
+    requires { ⌜ Countable (now table) (now tops) number most (now words) × (length (now copy) ≡ 520) × (length (now waiting) ≡ 520) × Numbered (now view) (now records) ⌝ }
+    ensures { λ r. ⌜ Gives (now (table .entry)) (now (tops .entry)) (now (view .entry)) (now (records .entry)) number most (now (words .entry)) (now (sheet .entry)) r (now (words .exit)) (now (sheet .exit)) ⌝ }
 {
     let columns = columns_of(number);
     let mut answers = [0u64; 8];
     let mut done: usize = 0;
-    while done < sheet.len() {
-        let least = hold(table, tops, number, records, closed, words);
-        if least == 0 {
-            return done;
-        }
+    loop {
+        let least = hold(table, tops, number, records, view, copy, waiting, words);
         let count = blocks::available(done as u64, least, sheet.len() as u64);
+        if count == 0 {
+            return Emitted {
+                count: done,
+                more: 0 < least,
+            };
+        }
         copy_answers(tops, number, words, &mut answers);
         verdicts::write_answers(sheet, done, count as usize, &answers, columns);
         spend(tops, number, most, words, count);
         done += count as usize;
     }
-    done
 }
 
 // What a checkpoint notes of a log of so many records: their number and 1 where it is closed, 0 where it is open.
@@ -189,7 +212,47 @@ fn closed_with(closed: bool, total: u64) -> u64
     if closed { total + 1 } else { 0 }
 }
 
-// Gives the verdicts that are settled, as far as the sheet goes, and notes what was seen of the log.
+// The position from which on a rule of this depth wants the log, where so many have verdicts.
+fn wanted_position(depth: u64, given: u64) -> u64
+    ensures { λ r. ⌜ r ≡ given - depth ⌝ }
+{
+    blocks::time::gap(depth, given)
+}
+
+// What the call knows of its log: the view of the records from the first wanted on.
+fn view_of(records: &[u8], skips: bool, closed: bool, depth: u64, words: &[u64]) -> [u64; 4]
+    requires { ⌜ (8 ≤ length (now words)) × (given (now words) ≤ 1000000) ⌝ }
+    ensures { λ r. ⌜ r ≡ viewed skips closed depth (now (records .entry)) (now (words .entry)) ⌝ }
+{
+    let before = wanted_position(depth, words[header::GIVEN]);
+    let positions = trace::window::positions(records, skips);
+    [
+        words[header::WANTED],
+        before + positions,
+        bits::flag(positions < trace::count(records) as u64),
+        bits::flag(closed),
+    ]
+}
+
+// Notes what was seen of the log.
+fn note(records: &[u8], view: &[u64; 4], skips: bool, depth: u64, words: &mut [u64])
+    requires { ⌜ (8 ≤ length (now words)) × (first-wanted (now words) ≤ 1000000) ⌝ }
+    ensures { λ _. ⌜ Notes skips depth (now (view .entry)) (now (records .entry)) (now (words .entry)) (now (words .exit)) ⌝ }
+{
+    let first = words[header::WANTED];
+    let seen = blocks::time::gap(first, words[header::SEEN]);
+    let total = first + trace::count(records) as u64;
+    let wanted = wanted_position(depth, words[header::GIVEN]);
+    let left = blocks::time::gap(wanted, view[view::TOTAL]);
+    words[header::LAST] = trace::last_time(records, seen as usize, words[header::LAST]);
+    words[header::SEEN] = total;
+    words[header::CLOSED_WITH] = closed_with(view[view::CLOSED] == 1, total);
+    words[header::LOG_KIND] = checkpoint::log_kind(skips);
+    words[header::WANTED] = first + trace::window::find(records, view[view::SKIPS] == 1, left);
+}
+
+// Gives the verdicts that are settled, as far as the sheet goes, and notes what was seen of the log. The records are those from the first
+// wanted on.
 pub fn emit(
     entries: [Entry; 128],
     count: usize,
@@ -197,26 +260,34 @@ pub fn emit(
     number: usize,
     most: usize,
     base: usize,
+    depth: u64,
     records: &[u8],
+    skips: bool,
     closed: bool,
     words: &mut [u64],
     sheet: &mut [u8],
 ) -> Emitted
-    requires { ⌜ Ready entries count ends number most base (now words) ⌝ }
-    ensures { λ r. ⌜ Emission closed entries count ends number most base (now (records .entry)) (now (words .entry)) (now (sheet .entry)) r (now (words .exit)) (now (sheet .exit)) ⌝ }
+    requires { ⌜ Ready entries count ends number most base depth (now records) (now words) ⌝ }
+    ensures { λ r. ⌜ Emission skips closed entries count ends number most base depth (now (records .entry)) (now (words .entry)) (now (sheet .entry)) r (now (words .exit)) (now (sheet .exit)) ⌝ }
 {
     let mut table = [0u64; 1024];
     engine::layout::lay_out(entries, count, &mut table);
     let tops = engine::layout::lay_tops(entries, count, &ends, number, &table, base);
-    let given = give(&table, &tops, number, most, records, closed, words, sheet);
-    let more = hold(&table, &tops, number, records, closed, words) > 0;
-    words[header::LAST] = trace::last_time(
+    let view = view_of(records, skips, closed, depth, words);
+    let mut copy = [0u8; 520];
+    let mut waiting = [0u8; 520];
+    let emitted = give(
+        &table,
+        &tops,
+        number,
+        most,
         records,
-        words[header::SEEN] as usize,
-        words[header::LAST],
+        &view,
+        &mut copy,
+        &mut waiting,
+        words,
+        sheet,
     );
-    let total = trace::count(records) as u64;
-    words[header::SEEN] = total;
-    words[header::CLOSED_WITH] = closed_with(closed, total);
-    Emitted { count: given, more }
+    note(records, &view, skips, depth, words);
+    emitted
 }

@@ -8,11 +8,12 @@ use native.Mathlib.Nat.{not-suc-le-zero}
 use native.Mathlib.Omega.{arith}
 use lib.ListN.{length, getD, take, drop, length-drop}
 use lib.Dec.{eqb}
-use lib.Seq.{take-take, drop-drop, getD-take, getD-drop, length-take-le}
+use lib.Seq.{drop-drop, getD-take, getD-drop, length-take-le}
 use Rattle.mtl.specs.Formula.{Formula, unbounded}
 use Rattle.mtl.specs.Formula.Formula.{letter, not, or, previous, next, since, until}
-use Rattle.mtl.specs.Log.{Log}
+use Rattle.mtl.specs.Log.{Log, Placed}
 use Rattle.mtl.proofs.Bounded.{le-or-lt}
+use Rattle.mtl.proofs.Closing.{settled-le-size}
 use Rattle.rule.specs.declared.Entry.{Entry}
 use Rattle.rule.specs.Entries.{entry}
 use Rattle.rule.specs.Words.{ring-words, own-words, own, offset}
@@ -20,10 +21,12 @@ use Rattle.rule.specs.Postfix.{root}
 use Rattle.rule.specs.Operands.{operands, left, part, FormulaAt, Unary, Binary}
 use Rattle.rule.specs.Accepted.{WellFormed}
 use Rattle.rule.proofs.Spans.{own-least, offset-mono}
-use Rattle.blocks.specs.Block.{word, taken, left-count, right-count, kind-of, high-of, FreshBlock, Onward, cells-of, InRange, Own, Core, Buffers, Ready}
+use Rattle.blocks.specs.Block.{word, taken, left-count, right-count, waiting-head, kind-of, high-of, FreshBlock, Onward, cells-of, InRange, Own, Core, Buffers, Ready}
 use Rattle.engine.specs.State.{words, Parts, Absent, State, OnwardParts, OnwardNone, OnwardAll, OnwardFormula}
 use Rattle.engine.specs.Layout.{first}
+use Rattle.engine.proofs.Parts.{take-drop-take}
 use Rattle.engine.proofs.Rows.{words-at, fields-of}
+use Rattle.engine.proofs.Heads.{HeadsWithin, heads-fresh, heads-within}
 use Rattle.blocks.proofs.Words.{empty-buffer}
 use Rattle.blocks.proofs.Onward.{onward-fewer, onward-same}
 
@@ -33,26 +36,20 @@ part-words t k W = take (part t k) (drop (offset t (first t k)) W)
 
 -- WORDS IN PARTS OF LISTS
 
--- two lists have the same 16 words: all that a block is read by, but for the ring behind them
-abbrev Same : List ℕ → List ℕ → Type 0
-Same b b′ = (i : ℕ) → i < 16 → word b i ≡ word b′ i
+-- two lists have the same first n words
+abbrev Same : ℕ → List ℕ → List ℕ → Type 0
+Same n b b′ = (i : ℕ) → i < n → word b i ≡ word b′ i
 
-part-same : (W : List ℕ) (o w m p : ℕ) → o + m ≡ p → m + 16 ≤ w → Same (drop m (take w (drop o W))) (drop p W)
-part-same W o w m p e h i l =
+part-same : (W : List ℕ) (o w m n p : ℕ) → o + m ≡ p → m + n ≤ w → Same n (drop m (take w (drop o W))) (drop p W)
+part-same W o w m n p e h i l =
     getD-drop m (take w (drop o W)) i 0 ∙ getD-take w (drop o W) (m + i) 0 (omega arith) ∙ getD-drop o W (m + i) 0 ∙
     ap (λ x. getD W x 0) (omega arith) ∙ sym (getD-drop p W i 0)
-
-take-drop-take : (a c w : ℕ) (l : List ℕ) → a + c ≤ w → take c (drop a (take w l)) ≡ take c (drop a l)
-take-drop-take zero c w l h = take-take c w l (omega arith)
-take-drop-take (suc a) c zero l h = absurd (omega arith)
-take-drop-take (suc a) c (suc w) [] h = refl
-take-drop-take (suc a) c (suc w) (x ∷ l) h = take-drop-take a c w l (omega arith)
 
 -- a part of a part
 part-of-part : (W : List ℕ) (o w a c p : ℕ) → o + a ≡ p → a + c ≤ w → take c (drop a (take w (drop o W))) ≡ take c (drop p W)
 part-of-part W o w a c p e h = take-drop-take a c w (drop o W) h ∙ ap (take c) (drop-drop a o W ∙ ap (λ x. drop x W) e)
 
-range-same : {size cells : ℕ} (b b′ : List ℕ) → Same b b′ → InRange size cells b → InRange size cells b′
+range-same : {size cells : ℕ} (b b′ : List ℕ) → Same 16 b b′ → InRange size cells b → InRange size cells b′
 range-same b b′ same r =
     omega (
       arith,
@@ -75,12 +72,18 @@ module _ (t : List Entry) (W : List ℕ) where
   part-ends k = let g = offset-mono t (first t k) (suc k) (omega arith) in omega arith
 
   module _ (k a c : ℕ) (all : part t k ≡ a + c + own (entry t k)) where
-    own-same : Same (drop (a + c) (part-words t k W)) (drop (offset t k) W)
+    all-same : Same (own (entry t k)) (drop (a + c) (part-words t k W)) (drop (offset t k) W)
     unfolding offset
-    own-same =
+    all-same =
         let p = part-ends k in
-        let w = own-least (entry t k .kind) (entry t k .high) in
-        part-same W (offset t (first t k)) (part t k) (a + c) (offset t k) (omega arith) (omega arith)
+        part-same W (offset t (first t k)) (part t k) (a + c) (own (entry t k)) (offset t k) (omega arith) (omega arith)
+
+    own-same : Same 16 (drop (a + c) (part-words t k W)) (drop (offset t k) W)
+    own-same i l = all-same i (omega (arith, own-least (entry t k .kind) (entry t k .high)))
+
+    -- an until's second head is among them
+    waiting-same : entry t k .kind ≡ 6 → waiting-head (drop (a + c) (part-words t k W)) ≡ waiting-head (drop (offset t k) W)
+    waiting-same is = all-same 16 (rw is (omega arith))
 
     own-room : (n : ℕ) → k < n → offset t n ≤ length W → own (entry t k) ≤ length (drop (a + c) (part-words t k W))
     own-room n h room =
@@ -93,9 +96,10 @@ module _ (t : List Entry) (W : List ℕ) where
 
 -- A FRESH BLOCK
 
-module _ (φ : Formula) (L : Log) (b : List ℕ) (zeros : FreshBlock b) where
+module _ (φ : Formula) (L : Log) (b : List ℕ) (fresh : FreshBlock (kind-of φ) b) where
   fresh-core : Own φ L 0 b → Core φ L 0 b
   fresh-core is =
+      let zeros = fresh .own in
       record {
         reached = omega arith;
         range =
@@ -112,6 +116,7 @@ module _ (φ : Formula) (L : Log) (b : List ℕ) (zeros : FreshBlock b) where
               zeros 10 (omega arith),
             );
         own = is;
+        heads = heads-fresh φ L b fresh;
       }
 
 ring-least : (high : ℕ) → 1 ≤ ring-words high
@@ -121,7 +126,7 @@ ring-least high = least (eqb high unbounded)
     least true = omega arith
     least false = omega arith
 
-fresh-own : (φ : Formula) (L : Log) (b : List ℕ) → FreshBlock b → own-words (kind-of φ) (high-of φ) ≤ length b → Own φ L 0 b
+fresh-own : (φ : Formula) (L : Log) (b : List ℕ) → ((i : ℕ) → i < 12 → word b i ≡ 0) → own-words (kind-of φ) (high-of φ) ≤ length b → Own φ L 0 b
 fresh-own (letter k) L b zeros room = zeros 0 (omega arith)
 fresh-own (not φ) L b zeros room = zeros 0 (omega arith)
 fresh-own (or φ ψ) L b zeros room = zeros 0 (omega arith)
@@ -177,17 +182,22 @@ entry-fields P φ e is p =
 
 module _ (t : List Entry) (n : ℕ) (W : List ℕ) (room : offset t n ≤ length W) (φ : Formula) (k a c : ℕ) (h : k < n) (is : entry t k ≡ root φ)
     (all : part t k ≡ a + c + own (entry t k))
-    (block : FreshBlock (drop (offset t k) W)) (L : Log) where
-  fresh-block : FreshBlock (drop (a + c) (part-words t k W))
-  fresh-block i l = own-same t W k a c all i (omega arith) ∙ block i l
+    (block : FreshBlock (entry t k .kind) (drop (offset t k) W)) (L : Log) where
+  fresh-block : FreshBlock (kind-of φ) (drop (a + c) (part-words t k W))
+  fresh-block =
+      entry-fields (λ kind high. FreshBlock kind (drop (a + c) (part-words t k W))) φ (entry t k) is
+      (record {
+        own = λ i l. own-same t W k a c all i (omega arith) ∙ block .own i l;
+        waiting = λ until. waiting-same t W k a c all until ∙ block .waiting until;
+      })
 
   fresh-ready : Ready φ L 0 (drop (a + c) (part-words t k W))
   fresh-ready =
-      let zeros = fresh-block in
+      let zeros = fresh-block .own in
       let r = entry-fields (λ kind high. own-words kind high ≤ length (drop (a + c) (part-words t k W))) φ (entry t k) is
       (own-room t W k a c all n h room) in
       record {
-        core = fresh-core φ L (drop (a + c) (part-words t k W)) zeros (fresh-own φ L (drop (a + c) (part-words t k W)) zeros r);
+        core = fresh-core φ L (drop (a + c) (part-words t k W)) fresh-block (fresh-own φ L (drop (a + c) (part-words t k W)) zeros r);
         buffers = fresh-buffers φ L (drop (a + c) (part-words t k W)) (zeros 0 (omega arith)) (zeros 1 (omega arith)) (zeros 3 (omega arith));
       }
 
@@ -195,7 +205,7 @@ module _ (t : List Entry) (n : ℕ) (W : List ℕ) (room : offset t n ≤ length
       take a (part-words t k W) ≡ us → take c (drop a (part-words t k W)) ≡ vs → Left 0 us → Right 0 vs →
       Parts (Ready φ L 0) Left Right a c (part-words t k W)
   fresh-parts Left Right us vs e f l r =
-      let zeros = fresh-block in
+      let zeros = fresh-block .own in
       let z = zeros 0 (omega arith) in
       let z′ = zeros 1 (omega arith) in
       let z″ = zeros 3 (omega arith) in
@@ -207,9 +217,10 @@ module _ (t : List Entry) (n : ℕ) (W : List ℕ) (room : offset t n ≤ length
 
 -- A BLOCK IN ITS RANGES
 
--- the block of entry j is in its ranges
-abbrev pub Ranged : List Entry → List ℕ → (size j : ℕ) → Type 0
-Ranged t W size j = InRange size (cells-of (entry t j .kind) (entry t j .high)) (drop (offset t j) W)
+-- the block of entry j is in its ranges, on a log of so many positions in so many records
+abbrev pub Ranged : List Entry → List ℕ → (size records j : ℕ) → Type 0
+Ranged t W size records j =
+    InRange size (cells-of (entry t j .kind) (entry t j .high)) (drop (offset t j) W) × HeadsWithin (entry t j .kind) records (drop (offset t j) W)
 
 -- a formula's names in the entry's fields
 fields-entry : (P : (kind high : ℕ) → Type 0) (φ : Formula) (e : Entry) → e ≡ root φ → P (kind-of φ) (high-of φ) → P (e .kind) (e .high)
@@ -217,13 +228,20 @@ fields-entry P φ e is p =
     let f = fields-of φ in
     subst (λ x. P (x .kind) (x .high)) (sym is) (rw (f .kind, f .high) p)
 
-own-ranged : (t : List Entry) (W : List ℕ) (φ : Formula) (L : Log) (g k a c : ℕ) → entry t k ≡ root φ → part t k ≡ a + c + own (entry t k) →
-    Ready φ L g (drop (a + c) (part-words t k W)) → (j : ℕ) → k ≤ j → j ≤ k → Ranged t W (L .size) j
-own-ranged t W φ L g k a c is all ready j l l′ =
+own-ranged : (t : List Entry) (W : List ℕ) (φ : Formula) (L : Log) (records : ℕ) → Placed L records → (g k a c : ℕ) → entry t k ≡ root φ →
+    part t k ≡ a + c + own (entry t k) → Ready φ L g (drop (a + c) (part-words t k W)) → (j : ℕ) → k ≤ j → j ≤ k → Ranged t W (L .size) records j
+own-ranged t W φ L records placed g k a c is all ready j l l′ =
+    let b = drop (a + c) (part-words t k W) in
+    let b′ = drop (offset t k) W in
     let same = own-same t W k a c all in
-    subst (Ranged t W (L .size)) (omega arith)
-    (fields-entry (λ kind high. InRange (L .size) (cells-of kind high) (drop (offset t k) W)) φ (entry t k) is
-    (range-same (drop (a + c) (part-words t k W)) (drop (offset t k) W) same (ready .core .range)))
+    let core = ready .core in
+    let heads =
+    fields-entry (λ kind high. HeadsWithin kind records b) φ (entry t k) is
+    (heads-within L records placed g b (core .range .at) (omega (arith, core .reached, settled-le-size φ L)) φ (core .heads)) in
+    subst (Ranged t W (L .size) records) (omega arith) (
+      fields-entry (λ kind high. InRange (L .size) (cells-of kind high) b′) φ (entry t k) is (range-same b b′ same (core .range)),
+      record { own = rw (← same 11 (omega arith)) (heads .own); waiting = λ until. rw (← waiting-same t W k a c all until) (heads .waiting until) },
+    )
 
 -- A BLOCK THAT HAS GONE ON
 
@@ -249,10 +267,10 @@ as-last t W W′ k j l l′ onward = (onward, λ other. absurd (other (omega ari
 
 -- every block of the entries from f to k is fresh, in its ranges, or has gone on
 abbrev pub FreshFrom : List Entry → List ℕ → ℕ → ℕ → Type 0
-FreshFrom t W f k = (j : ℕ) → f ≤ j → j ≤ k → FreshBlock (drop (offset t j) W)
+FreshFrom t W f k = (j : ℕ) → f ≤ j → j ≤ k → FreshBlock (entry t j .kind) (drop (offset t j) W)
 
-abbrev pub RangedFrom : List Entry → List ℕ → (size : ℕ) → ℕ → ℕ → Type 0
-RangedFrom t W size f k = (j : ℕ) → f ≤ j → j ≤ k → Ranged t W size j
+abbrev pub RangedFrom : List Entry → List ℕ → (size records : ℕ) → ℕ → ℕ → Type 0
+RangedFrom t W size records f k = (j : ℕ) → f ≤ j → j ≤ k → Ranged t W size records j
 
 abbrev pub OnwardFrom : List Entry → (W W′ : List ℕ) → ℕ → ℕ → Type 0
 OnwardFrom t W W′ f k = (j : ℕ) → f ≤ j → j ≤ k → OnwardEntry 12 t W W′ j
@@ -308,11 +326,11 @@ module _ (t : List Entry) (n : ℕ) (ok : WellFormed t n) (χ φ : Formula) (k :
         fresh-parts t n W room χ k 0 (words φ) h is one-part (fresh k (omega (arith, unary .span-is)) (omega arith)) L Absent (State φ L) _ _ refl (one-right W) tt
         (right (λ j l l′. fresh j (omega (arith, one-first)) (omega arith)))
 
-    ranged-one : (g : ℕ) → Parts (Ready χ L g) Absent (State φ L) 0 (words φ) (part-words t k W) →
-        ((p : ℕ) → State φ L p (part-words t (k - 1) W) → RangedFrom t W (L .size) (first t (k - 1)) (k - 1)) →
-        RangedFrom t W (L .size) (first t k) k
-    ranged-one g s right =
-        from-one (Ranged t W (L .size)) (own-ranged t W χ L g k 0 (words φ) is one-part (s .own))
+    ranged-one : (records : ℕ) → Placed L records → (g : ℕ) → Parts (Ready χ L g) Absent (State φ L) 0 (words φ) (part-words t k W) →
+        ((p : ℕ) → State φ L p (part-words t (k - 1) W) → RangedFrom t W (L .size) records (first t (k - 1)) (k - 1)) →
+        RangedFrom t W (L .size) records (first t k) k
+    ranged-one records placed g s right =
+        from-one (Ranged t W (L .size) records) (own-ranged t W χ L records placed g k 0 (words φ) is one-part (s .own))
         (right _ (subst (State φ L _) (one-right W) (s .right)))
 
 -- an entry of χ with two operands φ and ψ
@@ -384,12 +402,12 @@ module _ (t : List Entry) (n : ℕ) (ok : WellFormed t n) (χ φ ψ : Formula) (
         (lefts (λ j l l′. fresh j (omega (arith, two-first)) (omega arith)))
         (rights (λ j l l′. fresh j (omega (arith, two-first, two-next)) (omega arith)))
 
-    ranged-two : (g : ℕ) → Parts (Ready χ L g) (State φ L) (State ψ L) (words φ) (words ψ) (part-words t k W) →
-        ((p : ℕ) → State φ L p (part-words t (left t k) W) → RangedFrom t W (L .size) (first t (left t k)) (left t k)) →
-        ((p : ℕ) → State ψ L p (part-words t (k - 1) W) → RangedFrom t W (L .size) (first t (k - 1)) (k - 1)) →
-        RangedFrom t W (L .size) (first t k) k
-    ranged-two g s lefts rights =
-        from-two (Ranged t W (L .size)) (own-ranged t W χ L g k (words φ) (words ψ) is two-part (s .own))
+    ranged-two : (records : ℕ) → Placed L records → (g : ℕ) → Parts (Ready χ L g) (State φ L) (State ψ L) (words φ) (words ψ) (part-words t k W) →
+        ((p : ℕ) → State φ L p (part-words t (left t k) W) → RangedFrom t W (L .size) records (first t (left t k)) (left t k)) →
+        ((p : ℕ) → State ψ L p (part-words t (k - 1) W) → RangedFrom t W (L .size) records (first t (k - 1)) (k - 1)) →
+        RangedFrom t W (L .size) records (first t k) k
+    ranged-two records placed g s lefts rights =
+        from-two (Ranged t W (L .size) records) (own-ranged t W χ L records placed g k (words φ) (words ψ) is two-part (s .own))
         (lefts _ (subst (State φ L _) (two-left W) (s .left)))
         (rights _ (subst (State ψ L _) (two-right W) (s .right)))
 
@@ -420,28 +438,28 @@ fresh-state t n ok W room (until low high φ ψ) k h (e, b, f, f′) L fresh =
 
 -- THEOREM: where the words have the state, every block is in its ranges.
 pub state-ranges : (t : List Entry) (n : ℕ) → WellFormed t n → (W : List ℕ) (φ : Formula) (k : ℕ) → k < n → FormulaAt t k φ →
-    (L : Log) (g : ℕ) → State φ L g (part-words t k W) → RangedFrom t W (L .size) (first t k) k
+    (L : Log) (records : ℕ) → Placed L records → (g : ℕ) → State φ L g (part-words t k W) → RangedFrom t W (L .size) records (first t k) k
 unfolding FormulaAt State
-state-ranges t n ok W (letter l) k h e L g s =
+state-ranges t n ok W (letter l) k h e L records placed g s =
     let p = ok .leaf k h (ap (λ x. operands (x .kind)) e) in
     let q = p .span-is in
     let q′ = p .part-is in
-    λ j from to. own-ranged t W (letter l) L g k 0 0 e (omega arith) (s .own) j (omega arith) to
-state-ranges t n ok W (not φ) k h (e, b, f) L g s =
-    ranged-one t n ok (not φ) φ k h e refl f W L g s (state-ranges t n ok W φ (k - 1) (omega arith) f L)
-state-ranges t n ok W (or φ ψ) k h (e, b, f, f′) L g s =
-    ranged-two t n ok (or φ ψ) φ ψ k h e refl f f′ W L g s (state-ranges t n ok W φ (left t k) (omega arith) f L)
-    (state-ranges t n ok W ψ (k - 1) (omega arith) f′ L)
-state-ranges t n ok W (previous low high φ) k h (e, b, f) L g s =
-    ranged-one t n ok (previous low high φ) φ k h e refl f W L g s (state-ranges t n ok W φ (k - 1) (omega arith) f L)
-state-ranges t n ok W (next low high φ) k h (e, b, f) L g s =
-    ranged-one t n ok (next low high φ) φ k h e refl f W L g s (state-ranges t n ok W φ (k - 1) (omega arith) f L)
-state-ranges t n ok W (since low high φ ψ) k h (e, b, f, f′) L g s =
-    ranged-two t n ok (since low high φ ψ) φ ψ k h e refl f f′ W L g s (state-ranges t n ok W φ (left t k) (omega arith) f L)
-    (state-ranges t n ok W ψ (k - 1) (omega arith) f′ L)
-state-ranges t n ok W (until low high φ ψ) k h (e, b, f, f′) L g s =
-    ranged-two t n ok (until low high φ ψ) φ ψ k h e refl f f′ W L g s (state-ranges t n ok W φ (left t k) (omega arith) f L)
-    (state-ranges t n ok W ψ (k - 1) (omega arith) f′ L)
+    λ j from to. own-ranged t W (letter l) L records placed g k 0 0 e (omega arith) (s .own) j (omega arith) to
+state-ranges t n ok W (not φ) k h (e, b, f) L records placed g s =
+    ranged-one t n ok (not φ) φ k h e refl f W L records placed g s (state-ranges t n ok W φ (k - 1) (omega arith) f L records placed)
+state-ranges t n ok W (or φ ψ) k h (e, b, f, f′) L records placed g s =
+    ranged-two t n ok (or φ ψ) φ ψ k h e refl f f′ W L records placed g s (state-ranges t n ok W φ (left t k) (omega arith) f L records placed)
+    (state-ranges t n ok W ψ (k - 1) (omega arith) f′ L records placed)
+state-ranges t n ok W (previous low high φ) k h (e, b, f) L records placed g s =
+    ranged-one t n ok (previous low high φ) φ k h e refl f W L records placed g s (state-ranges t n ok W φ (k - 1) (omega arith) f L records placed)
+state-ranges t n ok W (next low high φ) k h (e, b, f) L records placed g s =
+    ranged-one t n ok (next low high φ) φ k h e refl f W L records placed g s (state-ranges t n ok W φ (k - 1) (omega arith) f L records placed)
+state-ranges t n ok W (since low high φ ψ) k h (e, b, f, f′) L records placed g s =
+    ranged-two t n ok (since low high φ ψ) φ ψ k h e refl f f′ W L records placed g s (state-ranges t n ok W φ (left t k) (omega arith) f L records placed)
+    (state-ranges t n ok W ψ (k - 1) (omega arith) f′ L records placed)
+state-ranges t n ok W (until low high φ ψ) k h (e, b, f, f′) L records placed g s =
+    ranged-two t n ok (until low high φ ψ) φ ψ k h e refl f f′ W L records placed g s (state-ranges t n ok W φ (left t k) (omega arith) f L records placed)
+    (state-ranges t n ok W ψ (k - 1) (omega arith) f′ L records placed)
 
 -- THEOREM: where no head goes back in a subformula's blocks and words 12 to 15 are kept, so it is in each of its entries' blocks.
 pub entries-onward : (t : List Entry) (n : ℕ) → WellFormed t n → (W W′ : List ℕ) (φ : Formula) (k : ℕ) → k < n → FormulaAt t k φ →

@@ -16,6 +16,7 @@ use Rattle.engine.specs.Ask.{stored}
 use Rattle.engine.proofs.Parts.{Side, other, by-side, slot}
 use Rattle.engine.proofs.Parts.Side.{on-left, on-right}
 use Rattle.engine.proofs.Uniform.{of, Buffered, buffered, all-buffered}
+use Rattle.engine.proofs.Heads.{heads-same}
 
 -- the buffers may have changed, the block's other words have not
 pub record Rebuffered (b b′ : List ℕ) : Type 0 where
@@ -77,6 +78,7 @@ rebuffered φ L g b b′ e r counts buffers =
                   count = rw (e .rest 10 (lit≤ tt)) (range .count);
                 };
             own = own-kept φ L g b b′ e (r .core .own);
+            heads = heads-same φ L g b b′ (e .at) (e .rest 11 (lit≤ tt)) (e .rest 16 (lit≤ tt)) (r .core .heads);
           };
       buffers = all-buffered φ L b′ buffers;
     }
@@ -109,7 +111,7 @@ module _ (side : Side) (b : List ℕ) (room : 16 ≤ length b) (bits n : ℕ) wh
   pub stored-onward : Onward 12 b (stored b (slot side) bits n)
   stored-onward =
       let s = slots side in
-      still b (stored b (slot side) bits n) stored-at (stored-other 5 (λ e. omega arith) (λ e. omega arith))
+      still b (stored b (slot side) bits n) stored-at (stored-other 5 (λ e. omega arith) (λ e. omega arith)) (stored-other 11 (λ e. omega arith) (λ e. omega arith))
       (λ i h l. stored-other i (λ e. omega arith) (λ e. omega arith))
 
   pub stored-count : word (stored b (slot side) bits n) (slot side) ≡ n

@@ -8,7 +8,7 @@ use native.Mathlib.Omega.{arith}
 use lib.ListN.{length, take, drop}
 use Rattle.mtl.specs.Formula.{Formula}
 use Rattle.mtl.specs.Formula.Formula.{letter, not, or, previous, next, since, until}
-use Rattle.mtl.specs.Log.{Log}
+use Rattle.mtl.specs.Log.{Log, Placed}
 use Rattle.mtl.proofs.Bounded.{le-or-lt}
 use Rattle.rule.specs.declared.Entry.{Entry}
 use Rattle.rule.specs.Entries.{entry}
@@ -127,7 +127,7 @@ module _ (t : List Entry) (n : ℕ) (ok : WellFormed t n) (fs : List Formula) (w
       each k (is .below) j (omega (arith, is .from, last-first k (is .below))) (is .to)
 
   -- THEOREM: the words that open writes have the state of each formula at 0, on every log.
-  pub fresh-rule : (W : List ℕ) → offset t n ≤ length W → ((j : ℕ) → j < n → FreshBlock (drop (offset t j) W)) →
+  pub fresh-rule : (W : List ℕ) → offset t n ≤ length W → ((j : ℕ) → j < n → FreshBlock (entry t j .kind) (drop (offset t j) W)) →
       (L : Log) (k : ℕ) → k < length fs → State (formula fs k) L 0 (formula-words fs k W)
   fresh-rule W room fresh L k h =
       let b = last-below k h in
@@ -135,12 +135,12 @@ module _ (t : List Entry) (n : ℕ) (ok : WellFormed t n) (fs : List Formula) (w
       (fresh-state t n ok W room (formula fs k) (last-entry fs k) b (last-at k h) L (λ j l l′. fresh j (omega arith)))
 
   -- THEOREM: where the words have the state of each formula, every block is in its ranges.
-  pub rule-ranges : (W : List ℕ) (L : Log) → ((k : ℕ) → k < length fs → (g : ℕ) × State (formula fs k) L g (formula-words fs k W)) →
-      (j : ℕ) → j < n → Ranged t W (L .size) j
-  rule-ranges W L states =
-      by-formula (Ranged t W (L .size)) (λ k h.
+  pub rule-ranges : (W : List ℕ) (L : Log) (records : ℕ) → Placed L records →
+      ((k : ℕ) → k < length fs → (g : ℕ) × State (formula fs k) L g (formula-words fs k W)) → (j : ℕ) → j < n → Ranged t W (L .size) records j
+  rule-ranges W L records placed states =
+      by-formula (Ranged t W (L .size) records) (λ k h.
       let (g, s) = states k h in
-      state-ranges t n ok W (formula fs k) (last-entry fs k) (last-below k h) (last-at k h) L g
+      state-ranges t n ok W (formula fs k) (last-entry fs k) (last-below k h) (last-at k h) L records placed g
       (subst (State (formula fs k) L g) (sym (words-are k h W)) s))
 
   -- THEOREM: where each formula's words have gone on, no head goes back in any entry's block and its words 14 and 15 are kept; words 12

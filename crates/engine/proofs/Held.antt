@@ -18,6 +18,7 @@ use Rattle.blocks.specs.Step.{has-left, has-right, left-of, right-of}
 use Rattle.blocks.proofs.Onward.{still}
 use Rattle.engine.specs.State.{words, left-words, right-words, own-at, Parts, Absent, State, OnwardParts, OnwardNone, OnwardAll, OnwardOperand, OnwardFormula}
 use Rattle.engine.proofs.Uniform.{all-words}
+use Rattle.engine.proofs.Heads.{heads-same}
 
 -- a formula's own block has 16 words and more
 pub own-block : (φ : Formula) → own-at φ + 16 ≤ words φ
@@ -97,6 +98,7 @@ module _ (b b′ : List ℕ) (held : HeldBlock b b′) where
           reached = r .core .reached;
           range = range-held _ _ (r .core .range);
           own = own-held φ L g (r .core .own);
+          heads = heads-same φ L g b b′ (low-same 0 (omega arith)) (low-same 11 (omega arith)) (held .same 16 (λ e. omega arith) (λ e. omega arith)) (r .core .heads);
         };
         buffers = buffers-held φ L (r .buffers);
       }
@@ -236,7 +238,7 @@ parts-same Left Right a c ws ws′ same left right =
     let at : (i : ℕ) → word (drop (a + c) ws′) i ≡ word (drop (a + c) ws) i =
     λ i. getD-drop (a + c) ws′ i 0 ∙ same .1 (a + c + i) ∙ sym (getD-drop (a + c) ws i 0) in
     record {
-      own = still (drop (a + c) ws) (drop (a + c) ws′) (at 0) (at 5) (λ i h l. at i);
+      own = still (drop (a + c) ws) (drop (a + c) ws′) (at 0) (at 5) (at 11) (λ i h l. at i);
       left = left _ _ (part-beside (a + c) 0 a ws ws′ (inl (omega arith)) held);
       right = right _ _ (part-beside (a + c) a c ws ws′ (inl (omega arith)) held);
     }
@@ -269,7 +271,7 @@ formula-held φ ws ws′ held =
     let b′ = drop (a + c) ws′ in
     let block = block-held (a + c) ws ws′ held in
     record {
-      own = still b b′ (low-same b b′ block 0 (omega arith)) (low-same b b′ block 5 (omega arith)) (λ i h l. block .same i (λ e. omega arith) (λ e. omega arith));
+      own = still b b′ (low-same b b′ block 0 (omega arith)) (low-same b b′ block 5 (omega arith)) (low-same b b′ block 11 (omega arith)) (λ i h l. block .same i (λ e. omega arith) (λ e. omega arith));
       left = operand-same (has-left φ) (left-of φ) (take a ws) (take a ws′) (part-beside (a + c) 0 a ws ws′ (inl (omega arith)) held);
       right =
           operand-same (has-right φ) (right-of φ) (take c (drop a ws)) (take c (drop a ws′)) (part-beside (a + c) a c ws ws′ (inl (omega arith)) held);

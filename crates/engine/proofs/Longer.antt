@@ -15,6 +15,7 @@ use Rattle.bits.proofs.Laws.{packed-same}
 use Rattle.blocks.specs.Ring.{Witness, Witnesses}
 use Rattle.blocks.specs.Block.{taken, kind-of, high-of, cells-of, InRange, Until, Own, Buffer, Buffers, Ready}
 use Rattle.engine.specs.State.{words, Parts, Absent, State}
+use Rattle.engine.proofs.Heads.{heads-longer}
 
 -- a witness is one by the truth values below its position
 witness-same : (n : ℕ) (left right left′ right′ : ℕ → Bool) →
@@ -135,6 +136,7 @@ module _ (K L : Log) (longer : Continues K L) (falls : NeverFalls L) where
           reached = omega arith;
           range = range-longer (cells-of (kind-of φ) (high-of φ)) b (c .range);
           own = own-longer φ g b h (r .buffers) (c .own);
+          heads = heads-longer φ K L longer g b (c .range .at) (omega (arith, settled-le-size φ K)) (c .heads);
         };
         buffers = buffers-longer φ b (r .buffers);
       }

@@ -1,12 +1,19 @@
 -- Laws on a part of a list that is lent and put back, and on a batch stored in a buffer.
-use Prim.Native.Nat.{ℕ, _+_, _-_, _≤_, zero-le}
-use mathlib.Core.Path.{_≡_, sym, ap, _∙_}
-use mathlib.Core.List.{List, _++_, append-assoc, append-nil}
+use Prim.Native.Nat.{ℕ, zero, suc, _+_, _-_, _≤_, zero-le}
+use mathlib.Core.Path.{_≡_, refl, sym, ap, _∙_}
+use mathlib.Core.List.{List, [], _∷_, _++_, append-assoc, append-nil}
 use native.Mathlib.Omega.{arith}
 use native.Mathlib.Nat.{sub-zero}
 use lib.ListN.{length, take, drop, set, length-append, length-drop, take-append-drop, drop-of-length-le}
-use lib.Seq.{length-take-le, take-all, take-append-le, drop-append-le, drop-drop, drop-at, take-at, take-set-le, drop-set-add}
+use lib.Seq.{length-take-le, take-all, take-take, take-append-le, drop-append-le, drop-drop, drop-at, take-at, take-set-le, drop-set-add}
 use Rattle.engine.specs.Ask.{part, back, stored}
+
+-- a part of the first w words
+pub take-drop-take : (a c w : ℕ) (l : List ℕ) → a + c ≤ w → take c (drop a (take w l)) ≡ take c (drop a l)
+take-drop-take zero c w l h = take-take c w l (omega arith)
+take-drop-take (suc a) c zero l h = absurd (omega arith)
+take-drop-take (suc a) c (suc w) [] h = refl
+take-drop-take (suc a) c (suc w) (x ∷ l) h = take-drop-take a c w l (omega arith)
 
 -- a part up to the list's end
 pub part-end : (from to : ℕ) (ws : List ℕ) → length ws ≡ to → part from to ws ≡ drop from ws
@@ -66,13 +73,6 @@ drop-back-last from to ys ws ordered last =
     drop-at (take from ws) (ys ++ drop to ws) from (length-take-le from ws (omega arith)) ∙
     ap (λ (l : List ℕ). ys ++ l) (drop-of-length-le ws past) ∙
     append-nil ys
-
--- a part put back as it was
-pub back-same : (from to : ℕ) (ws : List ℕ) → from ≤ to → length ws ≡ to → put-back from to (part from to ws) ws ≡ ws
-back-same from to ws ordered last =
-    let past : length ws ≤ to = omega arith in
-    back-from from to (part from to ws) ws ordered ∙
-    rw (part-end from to ws last, drop-of-length-le ws past, append-nil, take-append-drop)
 
 -- a batch stored behind a part leaves the part
 module _ (ws : List ℕ) (bits count : ℕ) where
@@ -142,23 +142,14 @@ lent-right a c ws =
     let size : a + c - a ≡ c = omega arith in
     rw size
 
--- the operator's own block put back leaves its operands' words
-pub lent-own : (side : Side) (a c end : ℕ) (ws b : List ℕ) → length ws ≡ end → a + c ≤ end → length b ≡ end - (a + c) →
-    lent side a c (put-back (a + c) end b ws) ≡ lent side a c ws
-lent-own side a c end ws b last room kept =
+-- what keeps the words before the operator's own block keeps its operands' words
+pub lent-before : (side : Side) (a c : ℕ) (ws ws′ : List ℕ) → take (a + c) ws′ ≡ take (a + c) ws → lent side a c ws′ ≡ lent side a c ws
+lent-before side a c ws ws′ same =
     let w = within side a c in
-    rw (back-from (a + c) end b ws room)
-    (part-before
-    (a + c)
-    end
-    b
-    ws
-    room
-    (omega arith)
-    kept
-    (start side a)
-    (stop side a c - start side a)
-    (omega arith))
+    let from = start side a in
+    let size = stop side a c - start side a in
+    sym (take-drop-take from size (a + c) ws′ (omega arith)) ∙ ap (λ (l : List ℕ). take size (drop from l)) same ∙
+    take-drop-take from size (a + c) ws (omega arith)
 
 -- the words after an operand's part was put back: its own are ys, the others are as they were
 pub record Asked (side : Side) (a c : ℕ) (ws ys ws′ b : List ℕ) : Type 0 where

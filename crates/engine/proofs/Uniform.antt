@@ -136,11 +136,11 @@ all-buffered (next low high φ) L b s = s on-right refl
 all-buffered (since low high φ ψ) L b s = (s on-left refl, s on-right refl)
 all-buffered (until low high φ ψ) L b s = (s on-left refl, s on-right refl)
 
--- records that are a log's own from one position on are its own from a later one on
-pub agrees-later : {closed : Bool} {s : List ℕ} {L : Log} {a b : ℕ} → Agrees closed s L a → a ≤ b → Agrees closed s L b
-agrees-later agrees later = record { ends = agrees .ends; size = agrees .size; same = λ i low high. agrees .same i (omega arith) high }
+-- a slice that shows a log from one position on shows it from a later one on
+pub agrees-later : {v s : List ℕ} {L : Log} {a b : ℕ} → Agrees v s L a → a ≤ b → Agrees v s L b
+agrees-later agrees later = record { ends = agrees .ends; size = agrees .size; shows = λ i low high. agrees .shows i (omega arith) high }
 
--- a step reads no earlier record
+-- a step reads no earlier position
 pub step-from : (φ : Formula) (g : ℕ) → first-read φ g ≤ reads-from φ g
 unfolding depth
 step-from (letter k) g = omega arith

@@ -1,6 +1,5 @@
 -- What an entry asked for its next batch of answers promises.
 use Prim.Native.Nat.{ℕ, _+_, _-_}
-use mathlib.Core.Bool.{Bool}
 use mathlib.Core.Path.{_≡_}
 use mathlib.Core.List.{List}
 use Rattle.mtl.specs.Formula.{Formula}
@@ -22,13 +21,13 @@ Replied φ L g Open ws′ = (settled-to φ L ≡ g) × State φ L g ws′
 abbrev pub GoesOn : List ℕ → ℕ → List ℕ → List ℕ → Type 0
 GoesOn t k ws ws′ = (φ : Formula) → Has φ t k → OnwardAll φ ws ws′
 
--- the first record that the formula's entries may read, where g is the next position that it answers: its operands, and theirs, may
+-- the first position that the formula's entries may read, where g is the next position that it answers: its operands, and theirs, may
 -- have answered one position fewer for each previous on the way
 abbrev pub first-read : Formula → (g : ℕ) → ℕ
 first-read φ g = g - depth φ
 
--- the promise of `answer` for entry k of table t, on records s, closed or open, from words ws to words ws′
-abbrev pub Answers : List ℕ → List ℕ → Bool → ℕ → List ℕ → Reply → List ℕ → Type 0
-Answers t s closed k ws r ws′ =
+-- the promise of `answer` for entry k of table t, on the view v and the slice s of records, from words ws to words ws′
+abbrev pub Answers : (t v s : List ℕ) (k : ℕ) (ws : List ℕ) → Reply → List ℕ → Type 0
+Answers t v s k ws r ws′ =
     GoesOn t k ws ws′ ×
-    ((φ : Formula) (L : Log) (g : ℕ) → Has φ t k → NeverFalls L → Agrees closed s L (first-read φ g) → State φ L g ws → Replied φ L g r ws′)
+    ((φ : Formula) (L : Log) (g : ℕ) → Has φ t k → NeverFalls L → Agrees v s L (first-read φ g) → State φ L g ws → Replied φ L g r ws′)

@@ -3,8 +3,9 @@ ghost use mathlib.Core.Path.{_≡_};
 ghost use mathlib.Core.Bool.{true, false};
 ghost use Prim.Native.Nat.{_+_, _≤_, _<_};
 ghost use lib.ListN.{length};
+ghost use Rattle.trace.specs.View.{Numbered};
 ghost use Rattle.engine.specs.Answer.{Answers};
-ghost use Rattle.engine.specs.Ask.{Asks, stored};
+ghost use Rattle.engine.specs.Ask.{Advances, Asks, stored};
 ghost use Rattle.engine.specs.Table.{RowsOk, column};
 
 pub mod layout;
@@ -29,35 +30,58 @@ fn store(words: &mut [u64], slot: usize, bits: u64, count: u64)
     words[slot + 1] = bits;
 }
 
-// Asks entry k for its next batch of answers, on a log that is closed or open. Its words are its operands' words, left then right, and its own block.
+// One step of entry k on its own block, which begins at `own`.
+fn advance(
+    table: &[u64; 1024],
+    records: &[u8],
+    view: &[u64; 4],
+    copy: &mut [u8; 520],
+    waiting: &mut [u8; 520],
+    k: usize,
+    own: usize,
+    words: &mut [u64],
+) -> Step
+    requires { ⌜ (k < 128) × RowsOk (now table) k × (own ≡ column 5 (now table) k + column 6 (now table) k) × (length (now words) ≡ column 7 (now table) k) × (length (now copy) ≡ 520) × (length (now waiting) ≡ 520) × Numbered (now view) (now records) ⌝ }
+    ensures { λ r. ⌜ Advances (now (table .entry)) (now (view .entry)) (now (records .entry)) k own (now (words .entry)) r (now (words .exit)) ⌝ }
+    ensures { λ _. ⌜ (length (now (copy .exit)) ≡ 520) × (length (now (waiting .exit)) ≡ 520) ⌝ }
+{
+    let end = words.len();
+    operators::advance(
+        table::field(table, k, table::KIND),
+        table::field(table, k, table::LETTER),
+        table::field(table, k, table::LOW),
+        table::field(table, k, table::HIGH),
+        records,
+        view,
+        copy,
+        waiting,
+        &mut words[own..end],
+    )
+}
+
+// Asks entry k for its next batch of answers, on the log that the view tells of. Its words are its operands' words, left then right, and
+// its own block.
 pub fn answer(
     table: &[u64; 1024],
     records: &[u8],
-    closed: bool,
+    view: &[u64; 4],
+    copy: &mut [u8; 520],
+    waiting: &mut [u8; 520],
     k: usize,
     words: &mut [u64],
 ) -> Reply
-    requires { ⌜ (k < 128) × RowsOk (now table) k × (length (now words) ≡ column 7 (now table) k) ⌝ }
-    ensures { λ r. ⌜ Answers (now (table .entry)) (now (records .entry)) closed k (now (words .entry)) r (now (words .exit)) ⌝ }
+    requires { ⌜ (k < 128) × RowsOk (now table) k × (length (now words) ≡ column 7 (now table) k) × (length (now copy) ≡ 520) × (length (now waiting) ≡ 520) × Numbered (now view) (now records) ⌝ }
+    ensures { λ r. ⌜ Answers (now (table .entry)) (now (view .entry)) (now (records .entry)) k (now (words .entry)) r (now (words .exit)) ⌝ }
+    ensures { λ _. ⌜ (length (now (copy .exit)) ≡ 520) × (length (now (waiting .exit)) ≡ 520) ⌝ }
 {
-    let kind = table::field(table, k, table::KIND);
-    let letter = table::field(table, k, table::LETTER);
-    let low = table::field(table, k, table::LOW);
-    let high = table::field(table, k, table::HIGH);
     let left = table::field(table, k, table::LEFT) as usize;
-    let middle = table::field(table, k, table::LEFT_WORDS) as usize;
-    let own = middle + table::field(table, k, table::RIGHT_WORDS) as usize;
-    let end = words.len();
+    let left_words = table::field(table, k, table::LEFT_WORDS) as usize;
+    let right_words = table::field(table, k, table::RIGHT_WORDS) as usize;
+    let own = left_words + right_words;
+    // Two calls of `advance`, before the loop and in it, keep it out of the recursive function, whose frame stands on the stack once
+    // for each level.
+    let mut step = advance(table, records, view, copy, waiting, k, own, words);
     loop {
-        let step = operators::advance(
-            kind,
-            letter,
-            low,
-            high,
-            records,
-            closed,
-            &mut words[own..end],
-        );
         match step {
             Step::Batch { bits, count } => {
                 return Reply::Batch { bits, count };
@@ -70,10 +94,12 @@ pub fn answer(
                 let filled = ask(
                     table,
                     records,
-                    closed,
+                    view,
+                    copy,
+                    waiting,
                     left,
                     0,
-                    middle,
+                    left_words,
                     own + word::LEFT_COUNT,
                     words,
                 );
@@ -85,9 +111,11 @@ pub fn answer(
                 let filled = ask(
                     table,
                     records,
-                    closed,
+                    view,
+                    copy,
+                    waiting,
                     k - 1,
-                    middle,
+                    left_words,
                     own,
                     own + word::RIGHT_COUNT,
                     words,
@@ -97,6 +125,7 @@ pub fn answer(
                 }
             }
         }
+        step = advance(table, records, view, copy, waiting, k, own, words);
     }
 }
 
@@ -104,17 +133,28 @@ pub fn answer(
 pub fn ask(
     table: &[u64; 1024],
     records: &[u8],
-    closed: bool,
+    view: &[u64; 4],
+    copy: &mut [u8; 520],
+    waiting: &mut [u8; 520],
     operand: usize,
     from: usize,
     to: usize,
     slot: usize,
     words: &mut [u64],
 ) -> bool
-    requires { ⌜ (operand < 128) × RowsOk (now table) operand × (from + column 7 (now table) operand ≡ to) × (to ≤ length (now words)) × (slot + 1 < length (now words)) ⌝ }
-    ensures { λ r. ⌜ Asks (now (table .entry)) (now (records .entry)) closed operand from to slot (now (words .entry)) r (now (words .exit)) ⌝ }
+    requires { ⌜ (operand < 128) × RowsOk (now table) operand × (from + column 7 (now table) operand ≡ to) × (to ≤ length (now words)) × (slot + 1 < length (now words)) × (length (now copy) ≡ 520) × (length (now waiting) ≡ 520) × Numbered (now view) (now records) ⌝ }
+    ensures { λ r. ⌜ Asks (now (table .entry)) (now (view .entry)) (now (records .entry)) operand from to slot (now (words .entry)) r (now (words .exit)) ⌝ }
+    ensures { λ _. ⌜ (length (now (copy .exit)) ≡ 520) × (length (now (waiting .exit)) ≡ 520) ⌝ }
 {
-    let reply = answer(table, records, closed, operand, &mut words[from..to]);
+    let reply = answer(
+        table,
+        records,
+        view,
+        copy,
+        waiting,
+        operand,
+        &mut words[from..to],
+    );
     let Reply::Batch { bits, count } = reply else {
         return false;
     };

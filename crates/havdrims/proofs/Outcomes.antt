@@ -172,7 +172,7 @@ module _ (s p : List ℕ) (d n w ended : ℕ) (o : Standing) (e : standing-of o 
       let q : standing-of (Unknown k) ≡ known s p = ap standing-of (sym is) ∙ e in
       let same : r ≡ k = number ∙ ap (λ (a : Standing). standing-of a .number) is in
       let z : r ≡ 0 → ⊥ =
-      λ g. not-known-by (eqb (summary-refusal s p) 0) (summary-refusal s p) k (stored-facts s p) refl q (sym same ∙ g) in
+      λ g. not-known-by (eqb (summary-refusal s p) 0) (summary-refusal s p) k (stored-facts p) refl q (sym same ∙ g) in
       record {
         number = same ∙ ap (λ (a : Status). a .number) q;
         given = kept r d (known s p .facts .given) z;

@@ -1,33 +1,34 @@
 -- From an accepted call on the words that the rule needs to what `resume` promises of the whole checkpoint.
-use Prim.Native.Nat.{ℕ, suc, _+_, _-_, _≤_, _<_, zero-le}
+use Prim.Native.Nat.{ℕ, zero, suc, _+_, _-_, _*_, _≤_, _<_, zero-le}
 use mathlib.Core.Bool.{Bool, true, false, cond}
 use mathlib.Core.Path.{_≡_, refl, sym, ap, ap₂, _∙_}
 use mathlib.Core.List.{List, _++_}
 use mathlib.Core.Logic.{_⊎_, inl, inr, ⊎-elim}
 use native.Mathlib.Omega.{arith}
 use native.Mathlib.Nat.{sub-zero}
-use borrow.Author.Tests.{le-ltb, lt-ltb, ne-eqb, eqb-false}
-use lib.Dec.{eqb}
+use borrow.Author.Tests.{le-ltb, lt-ltb, ne-eqb}
 use lib.ListN.{length, take, drop, length-append, length-drop, List·getD-append}
 use lib.Seq.{length-take-le, take-at, drop-at, getD-take, getD-drop}
 use Rattle.mtl.specs.Formula.{Formula}
-use Rattle.mtl.specs.Log.{Log, NeverFalls, Continues}
+use Rattle.mtl.specs.Log.{Log, head-of, Placed, NeverFalls, Continues}
 use Rattle.mtl.specs.Progress.{joint-progress}
-use Rattle.mtl.specs.Wanted.{wanted}
+use Rattle.mtl.specs.Wanted.{deepest, wanted, wanted-record}
 use Rattle.mtl.proofs.Bounded.{le-or-lt}
 use Rattle.verdicts.specs.Counts.{Noes, noes-in, laid-behind}
 use Rattle.rule.specs.declared.Entry.{Entry}
 use Rattle.rule.specs.declared.measuring.Ends.{Ends}
 use Rattle.rule.specs.Entries.{version, count, decoded}
-use Rattle.rule.specs.Postfix.{most, formula, start}
+use Rattle.rule.specs.Postfix.{most, formulas, formulas-or, formula, start}
 use Rattle.rule.specs.Refusal.{refusal}
 use Rattle.rule.specs.Words.{header-words, offset}
 use Rattle.rule.specs.Code.{EndsOf}
 use Rattle.rule.proofs.Headers.{Decoded}
 use Rattle.rule.proofs.Acceptance.{accepted}
 use Rattle.rule.proofs.Spans.{header-least, header-most}
-use Rattle.trace.specs.Format.{record-count, records-of}
+use Rattle.trace.specs.Format.{record-count, time-at, records-of, skips-of}
 use Rattle.trace.specs.Order.{last-time}
+use Rattle.trace.specs.View.{from-record, view-of}
+use Rattle.trace.proofs.Slices.{cut-from, time-part, flag-told}
 use Rattle.blocks.specs.Block.{word, Onward}
 use Rattle.blocks.specs.Step.{Agrees}
 use Rattle.blocks.proofs.Onward.{onward-same}
@@ -36,7 +37,7 @@ use Rattle.engine.specs.State.{OnwardFormula, formula-words}
 use Rattle.engine.proofs.Formulas.{last-next, rule-onward, rule-others}
 use Rattle.engine.proofs.Longer.{buffer-longer, state-longer}
 use Rattle.engine.proofs.Parts.{put-back}
-use Rattle.checkpoint.specs.Checkpoint.{given, seen, last, stored-noes, need, block-at, foreign}
+use Rattle.checkpoint.specs.Checkpoint.{given, seen, last, closed-with, log-kind, kind-of-log, first-wanted, stored-noes, need, block-at, foreign, kind-in-range}
 use Rattle.checkpoint.specs.Refusal.{point-refusal}
 use Rattle.checkpoint.specs.Code.{sized-of}
 use Rattle.checkpoint.specs.declared.check.Sized.the-variants.{Words}
@@ -46,11 +47,11 @@ use Rattle.checkpoint.proofs.Offsets.{in-block, block-fits, noes-within}
 use Rattle.checkpoint.proofs.Sizes.{enough}
 use Rattle.emit.specs.Verdicts.{formulas-of, columns, verdicts}
 use Rattle.emit.specs.Top.{held-count, held-bits, part-of, Waiting, Top}
-use Rattle.emit.specs.Code.{Giving, Emits, Emission, Ready}
+use Rattle.emit.specs.Code.{Giving, Brought, Emits, Emission, Ready}
 use Rattle.emit.specs.declared.Emitted.{Emitted}
 use Rattle.emit.proofs.Meaning.{joint-least}
-use Rattle.monitor.specs.Stands.{last-of, Stands}
-use Rattle.monitor.specs.Resume.{block-of, gave, refused-with, Resumes}
+use Rattle.monitor.specs.Stands.{Stands}
+use Rattle.monitor.specs.Resume.{block-of, wanted-records, gave, refused-with, Gives, Resumes}
 use Rattle.monitor.proofs.Meaning.{most-few, rule-whole, few-formulas, few-columns, rule-ended, part-is}
 use Rattle.monitor.proofs.VerdictBytes.{noes-more, verdicts-stay}
 
@@ -81,38 +82,51 @@ top-longer base fs K L d ws longer never top =
       each = λ k h. waiting-longer (formula fs k) K L d (part-of base fs k ws) longer never (top .each k h);
     }
 
-cond-same : (b : Bool) (x y : ℕ) → (b ≡ false → x ≡ y) → cond b 0 x ≡ cond b 0 y
-cond-same true x y e = refl
-cond-same false x y e = e refl
+-- THE RECORDS THAT ARE LENT, from the first wanted on
 
--- the last time seen, once the lent records are seen
-module _ {closed : Bool} (s : List ℕ) (K L : Log) (first : ℕ) (longer : Continues K L) (agrees : Agrees closed s L first) (given : first ≤ K .size) where
-  time-new : K .size < record-count s → last-time s (K .size) (last-of K) ≡ last-of L
-  time-new new =
-      let size = agrees .size in
-      let some : L .size ≡ 0 → ⊥ = λ e. omega arith in
-      rw (lt-ltb (K .size) (record-count s) new, ne-eqb (L .size) 0 some, size)
-      (agrees .same (L .size - 1) (omega arith) (omega arith) .time)
+module _ (s : List ℕ) (first : ℕ) (fits : first ≤ record-count s) where
+  -- with those before it they are all
+  pub all-counted : first + record-count (from-record first s) ≡ record-count s
+  all-counted = cut-from s s first refl fits (λ k low high. refl) .whole
 
-  time-kept : record-count s ≤ K .size → last-time s (K .size) (last-of K) ≡ last-of L
-  time-kept old =
-      let same : K .size ≡ L .size = omega (arith, agrees .size, longer .longer) in
-      rw (le-ltb (K .size) (record-count s) old, same)
-      (cond-same
-      (eqb (L .size) 0)
-      (K .time (L .size - 1))
-      (L .time (L .size - 1))
-      (λ none.
-      let some = eqb-false (L .size) 0 none in
-      longer .same (L .size - 1) zero-le (omega arith) .time))
+  -- the last time seen is the same by all records
+  pub last-time-from : (seen last : ℕ) → first ≤ seen → last-time (from-record first s) (seen - first) last ≡ last-time s seen last
+  last-time-from seen last low =
+      let cut = cut-from s s first refl fits (λ k low high. refl) in
+      let rest = from-record first s in
+      let whole = cut .whole in
+      ⊎-elim
+      (λ (old : record-count s ≤ seen).
+      let none-new : record-count rest ≤ seen - first = omega arith in
+      rw (le-ltb seen (record-count s) old, le-ltb (seen - first) (record-count rest) none-new))
+      (λ (new : seen < record-count s).
+      let some-new : seen - first < record-count rest = omega arith in
+      let inside : record-count rest - 1 < record-count rest = omega arith in
+      let at : first + (record-count rest - 1) ≡ record-count s - 1 = omega arith in
+      rw (lt-ltb seen (record-count s) new, lt-ltb (seen - first) (record-count rest) some-new)
+      (time-part s rest first (cut .part) (record-count rest - 1) inside ∙ ap (time-at s) at))
+      (le-or-lt (record-count s) seen)
 
-  pub time-seen : last-time s (K .size) (last-of K) ≡ last-of L
-  time-seen = ⊎-elim time-kept time-new (le-or-lt (record-count s) (K .size))
+-- no position that is passed stands at the first wanted record or behind it
+head-starts : (K L : Log) (n : ℕ) → Continues K L → Placed K n → (q : ℕ) → q ≤ K .size → head-of L q ≤ wanted-record K n q
+unfolding head-of
+head-starts K L n longer placed zero h = zero-le
+head-starts K L n longer placed (suc q) h =
+    let same = longer .same q zero-le h .place in
+    ⊎-elim
+    (λ last. let low = placed .below q h in rw (le-ltb (suc q) (K .size) last) (omega arith))
+    (λ more. let low = placed .rising q (suc q) (omega arith) more in rw (lt-ltb (suc q) (K .size) more) (omega arith))
+    (le-or-lt (K .size) (suc q))
+
+-- a version is noted
+kind-noted : (skips : Bool) (seen closed-with : ℕ) → kind-in-range (kind-of-log skips) seen closed-with ≡ true
+kind-noted true seen closed-with = refl
+kind-noted false seen closed-with = refl
 
 -- an accepted call: the words that the rule needs are ws′ then, the others are kept
 module _ (closing : Bool) (rule log p sheet : List ℕ) (ok : refusal rule ≡ 0) (room : need rule ≤ length p)
     (none : point-refusal closing (version rule) (decoded rule) (count rule) log p ≡ 0) (r : Emitted) (ws′ sheet′ : List ℕ)
-    (done : Emits (header-words (version rule)) (most (version rule)) (formulas-of rule) (records-of log) closing (take (need rule) p) sheet r ws′ sheet′) where
+    (done : Emits (header-words (version rule)) (most (version rule)) (formulas-of rule) (wanted-records log p) (skips-of log) closing (take (need rule) p) sheet r ws′ sheet′) where
   abbrev base : ℕ
   base = header-words (version rule)
 
@@ -165,23 +179,22 @@ module _ (closing : Bool) (rule log p sheet : List ℕ) (ok : refusal rule ≡ 0
       onward-same _ (block-of rule k p) _ (block-of rule k after) (block-was k h) (block-now k h)
       (rule-onward (decoded rule) (count rule) (accepted rule ok .well-formed) fs (rule-whole rule ok) _ _ onward-words k h)
 
-  header-now : (i : ℕ) → i < 8 → (i ≡ 1 → ⊥) → (i ≡ 2 → ⊥) → (i ≡ 3 → ⊥) → (i ≡ 5 → ⊥) → word after i ≡ word p i
-  header-now i low a b c d = now i (own-header i low) ∙ done .header i low a b c d ∙ was i (own-header i low)
-
   -- so the rule's copy is what it was
   foreign-now : foreign (version rule) (decoded rule) (count rule) after ≡ foreign (version rule) (decoded rule) (count rule) p
   foreign-now =
       let t = decoded rule in
+      let first = own-header 0 (omega arith) in
+      let four = own-header 4 (omega arith) in
       foreign-same (version rule) t (count rule) after p
-      (header-now 0 (omega arith) (λ e. omega arith) (λ e. omega arith) (λ e. omega arith) (λ e. omega arith))
-      (header-now 4 (omega arith) (λ e. omega arith) (λ e. omega arith) (λ e. omega arith) (λ e. omega arith))
+      (now 0 first ∙ done .header .0 ∙ was 0 first)
+      (now 4 four ∙ done .header .1 ∙ was 4 four)
       (λ k i h late l.
       sym (getD-drop (block-at base t k) after i 0) ∙ onward-now k h .kept i late l ∙ getD-drop (block-at base t k) p i 0)
 
   -- an entry that is no formula's last holds what it held
   spare-now : (j : ℕ) → j < count rule → word p (block-at base (decoded rule) j + 12) ≡ 0 →
       ((k : ℕ) × (k < length fs) × (suc j ≡ start fs (suc k))) ⊎ (word after (block-at base (decoded rule) j + 12) ≡ 0)
-  spare-now j h zero =
+  spare-now j h none-held =
       let t = decoded rule in
       let n = count rule in
       let good = accepted rule ok .well-formed in
@@ -194,7 +207,7 @@ module _ (closing : Bool) (rule log p sheet : List ℕ) (ok : refusal rule ≡ 0
       inl (k, l, omega (arith, last-next t n good fs whole k l)))
       (λ onward.
       inr (now at (omega arith) ∙ sym (in-block base t ws′ j 12) ∙ onward .kept 12 (omega arith) (omega arith) ∙
-      in-block base t (take (need rule) p) j 12 ∙ was at (omega arith) ∙ zero))
+      in-block base t (take (need rule) p) j 12 ∙ was at (omega arith) ∙ none-held))
       (rule-others t n good fs whole _ _ onward-words j h)
 
   length-now : length after ≡ length p
@@ -225,46 +238,90 @@ module _ (closing : Bool) (rule log p sheet : List ℕ) (ok : refusal rule ≡ 0
         now (8 + m + k) (inside .1) ∙ same .1 ∙ was (8 + m + k) (inside .1),
       )
 
-  stands-now : (K L : Log) (d : ℕ) → Stands rule K d p → Continues K L → NeverFalls L → Agrees closing (records-of log) L (wanted fs d) →
-      Giving base fs L d (r .count) ws′ sheet′ → Stands rule L (d + r .count) after
-  stands-now K L d stands longer never agrees giving =
-      let first = wanted fs d in
-      let within = stands .top .within in
-      let reached : first ≤ K .size = omega arith in
-      let one = own-header 1 (omega arith) in
-      let two = own-header 2 (omega arith) in
-      let three = own-header 3 (omega arith) in
-      let five = own-header 5 (omega arith) in
-      let at-d : given p ≡ d = sym (was 1 one) ∙ stands .top .at in
-      let answered : d ≤ joint-progress fs K =
-      joint-least fs K d within (λ k h. let b = stands .top .each k h .buffer in omega (arith, b .within)) in
-      let stay : (k : ℕ) → noes-in k (verdicts fs K d) d ≡ noes-in k (verdicts fs L d) d =
-      λ k. ap (λ (vs : List ℕ). noes-in k vs d) (verdicts-stay fs K L longer never d answered) in
-      let before : last-time (records-of log) (seen (take (need rule) p)) (last (take (need rule) p)) ≡ last-of L =
-      rw (was 2 two, was 3 three, stands .size, stands .time)
-      (time-seen (records-of log) K L first longer agrees reached) in
-      record {
-        enough = omega (arith, length-now);
-        own = foreign-now ∙ stands .own;
-        size = now 2 two ∙ done .size ∙ agrees .size;
-        few = omega (arith, passes closing rule log p none .records, agrees .size);
-        time = now 3 three ∙ done .time ∙ before;
-        fits = rw (now 3 three) (done .fits (rw (was 3 three) (stands .fits)));
-        closed = now 5 five ∙ done .ended ∙ rw (agrees .ends, agrees .size);
-        top = rw (take-at ws′ (drop (need rule) p) (need rule) size) (giving .top);
-        noes = λ k h.
-            noes-now k h ∙
-            ap₂ (λ (x : Noes) (n : ℕ). laid-behind x n (noes-in k sheet′ (r .count))) (stands .noes k h ∙ stay k) at-d ∙
-            noes-more fs L k d (r .count) sheet′ (giving .bytes);
-        unused = λ k h l. (unused-now k h l .0 ∙ stands .unused k h l .0, unused-now k h l .1 ∙ stands .unused k h l .1);
-        spare = λ j h. ⊎-elim (λ is. inl is) (λ zero. spare-now j h zero) (stands .spare j h);
-      }
+  -- WHAT IS NOTED OF THE LOG
+
+  abbrev size-now : ℕ
+  size-now = record-count (records-of log)
+
+  -- the first wanted record is one of those seen, or the next
+  first-fits : (first-wanted p ≤ seen p) × (first-wanted p ≤ size-now)
+  first-fits = let checks = passes closing rule log p none in omega (arith, checks .wanted, checks .no-fewer)
+
+  seen-is : seen ws′ ≡ size-now
+  seen-is =
+      done .size ∙ ap (λ (k : ℕ). k + record-count (wanted-records log p)) (was 7 (own-header 7 (omega arith))) ∙
+      all-counted (records-of log) (first-wanted p) (first-fits .1)
+
+  seen-now : seen after ≡ size-now
+  seen-now = now 2 (own-header 2 (omega arith)) ∙ seen-is
+
+  last-now : last after ≡ last-time (records-of log) (seen p) (last p)
+  last-now =
+      now 3 (own-header 3 (omega arith)) ∙ done .time ∙
+      rw (was 2 (own-header 2 (omega arith)), was 3 (own-header 3 (omega arith)), was 7 (own-header 7 (omega arith)))
+      (last-time-from (records-of log) (first-wanted p) (first-fits .1) (seen p) (last p) (first-fits .0))
+
+  closed-now : closed-with after ≡ cond closing (suc size-now) 0
+  closed-now = now 5 (own-header 5 (omega arith)) ∙ done .ended ∙ ap (λ (k : ℕ). cond closing (suc k) 0) seen-is
+
+  kind-now : log-kind after ≡ kind-of-log (skips-of log)
+  kind-now = now 6 (own-header 6 (omega arith)) ∙ done .kind
+
+  onward-wanted : (first-wanted p ≤ first-wanted after) × (first-wanted after ≤ seen after)
+  onward-wanted =
+      let seven = own-header 7 (omega arith) in
+      omega (arith, done .first, was 7 seven, now 7 seven, now 2 (own-header 2 (omega arith)))
+
+  -- WHERE THE CHECKPOINT STOOD FOR THE RULE AND A LOG
+
+  module _ (K L : Log) (n d : ℕ) (stands : Stands rule K n d p) (longer : Continues K L) (never : NeverFalls L) (placed : Placed L size-now)
+      (agrees : Agrees (view-of (first-wanted p) (wanted fs d) (skips-of log) closing (wanted-records log p)) (wanted-records log p) L (wanted fs d)) where
+    brought : Brought fs (wanted-records log p) (skips-of log) closing (first-wanted (take (need rule) p)) L d
+    brought =
+        let within = stands .top .within in
+        let is = stands .wanted in
+        let starts = head-starts K L n longer (stands .placed) (wanted fs d) (omega arith) in
+        rw (was 7 (own-header 7 (omega arith)))
+        (record { placed = rw (all-counted (records-of log) (first-wanted p) (first-fits .1)) placed; starts = omega arith; agrees = agrees })
+
+    stands-now : Giving base fs L d (r .count) ws′ sheet′ → first-wanted ws′ ≡ wanted-record L (seen ws′) (wanted fs (d + r .count)) →
+        Stands rule L size-now (d + r .count) after
+    stands-now giving first =
+        let one = own-header 1 (omega arith) in
+        let three = own-header 3 (omega arith) in
+        let at-d : given p ≡ d = sym (was 1 one) ∙ stands .top .at in
+        let answered : d ≤ joint-progress fs K =
+        joint-least fs K d (stands .top .within) (λ k h. let b = stands .top .each k h .buffer in omega (arith, b .within)) in
+        let stay : (k : ℕ) → noes-in k (verdicts fs K d) d ≡ noes-in k (verdicts fs L d) d =
+        λ k. ap (λ (vs : List ℕ). noes-in k vs d) (verdicts-stay fs K L longer never d answered) in
+        record {
+          enough = omega (arith, length-now);
+          own = foreign-now ∙ stands .own;
+          size = seen-now;
+          few = passes closing rule log p none .records;
+          placed = placed;
+          fits = rw (now 3 three) (done .fits (rw (was 3 three) (stands .fits)));
+          closed = closed-now ∙ ap (λ (b : Bool). cond b (suc size-now) 0) (sym (agrees .ends ∙ flag-told closing));
+          kind = rw kind-now (kind-noted (skips-of log) size-now (closed-with after));
+          wanted = now 7 (own-header 7 (omega arith)) ∙ first ∙ ap (λ (k : ℕ). wanted-record L k (wanted fs (d + r .count))) seen-is;
+          top = rw (take-at ws′ (drop (need rule) p) (need rule) size) (giving .top);
+          noes = λ k h.
+              noes-now k h ∙
+              ap₂ (λ (x : Noes) (m : ℕ). laid-behind x m (noes-in k sheet′ (r .count))) (stands .noes k h ∙ stay k) at-d ∙
+              noes-more fs L k d (r .count) sheet′ (giving .bytes);
+          unused = λ k h l. (unused-now k h l .0 ∙ stands .unused k h l .0, unused-now k h l .1 ∙ stands .unused k h l .1);
+          spare = λ j h. ⊎-elim (λ is. inl is) (λ none-held. spare-now j h none-held) (stands .spare j h);
+        }
+
+    gives-now : Gives rule L size-now d sheet (r .count) (r .more) after sheet′
+    gives-now =
+        let top = top-longer base fs K L d (take (need rule) p) longer never (stands .top) in
+        let (giving, count, further, first) = done .meaning L d never brought top in
+        record { count = count; bytes = giving .bytes; more = further; stands = stands-now giving first }
 
   pub resumed : Resumes closing rule log p sheet (gave (r .count) (r .more)) after sheet′
   resumed =
       let one = own-header 1 (omega arith) in
-      let two = own-header 2 (omega arith) in
-      let three = own-header 3 (omega arith) in
       record {
         outcome = rw (ok, le-ltb (length p) (need rule) room, none);
         point-length = length-now;
@@ -275,22 +332,16 @@ module _ (closing : Bool) (rule log p sheet : List ℕ) (ok : refusal rule ≡ 0
               rest = done .rest;
               beyond = drop-at ws′ (drop (need rule) p) (need rule) size;
               count = now 1 one ∙ done .count ∙ ap (λ (k : ℕ). k + r .count) (was 1 one);
-              size = now 2 two ∙ done .size;
-              time = now 3 three ∙ done .time ∙ rw (was 2 two, was 3 three);
-              closed = now 5 (own-header 5 (omega arith)) ∙ done .ended;
+              size = seen-now;
+              time = last-now;
+              closed = closed-now;
+              kind = kind-now;
+              onward = onward-wanted;
               noes = noes-now;
               unused = unused-now;
               own = foreign-now;
               heads = λ k h. onward-now k h .heads;
-              meaning = λ K L d stands longer never agrees.
-                  let top = top-longer base fs K L d (take (need rule) p) longer never (stands .top) in
-                  let (giving, count, further) = done .meaning L d never agrees top in
-                  record {
-                    count = count;
-                    bytes = giving .bytes;
-                    more = further;
-                    stands = stands-now K L d stands longer never agrees giving;
-                  };
+              meaning = gives-now;
             };
       }
 
@@ -302,8 +353,9 @@ module _ (closing : Bool) (rule log p : List ℕ) (v : ℕ) (t : List Entry) (n 
   the-words = sub-zero w ∙ enough rule (length p) w sized .words-are
 
   -- the accepted rule is ready
-  pub ready-of : Ready t n (ends .at) (ends .number) (most v) (header-words v) (part 0 w p)
-  ready-of =
+  pub ready-of : (deep : ℕ) → deep ≡ deepest (formulas-or (formulas v t n)) → (records : List ℕ) → records ≡ wanted-records log p →
+      Ready t n (ends .at) (ends .number) (most v) (header-words v) deep records (part 0 w p)
+  ready-of deep deep-is records handed =
       let e = enough rule (length p) w sized in
       let a = accepted rule (e .accepted) in
       let own-ends : EndsOf (decoded rule) (count rule) ends = rw (d .entries-are, d .count-is) at ended in
@@ -312,7 +364,8 @@ module _ (closing : Bool) (rule log p : List ℕ) (v : ℕ) (t : List Entry) (n 
       let least = header-least (version rule) in
       let most-words = header-most (version rule) in
       let within = noes-within (version rule) in
-      rw (the-words, is-version, d .entries-are, d .count-is)
+      let counted = length-drop (first-wanted p * 8) (records-of log) in
+      rw (the-words, deep-is, handed, is-version, d .entries-are, d .count-is)
       (record {
         few = a .few-entries;
         well-formed = a .well-formed;
@@ -324,15 +377,20 @@ module _ (closing : Bool) (rule log p : List ℕ) (v : ℕ) (t : List Entry) (n 
         size = length-take-le (need rule) p (e .room);
         given = omega (arith, checks .given, getD-take (need rule) p 1 0 (omega arith));
         noes = λ k h. omega (arith, checks .counted k h, getD-take (need rule) p (8 + k) 0 (omega arith));
+        depth = refl;
+        wanted = omega (arith, checks .wanted, checks .no-fewer, checks .records, getD-take (need rule) p 7 0 (omega arith));
+        records = omega (arith, checks .records);
       })
 
   -- the words as they came back
-  pub resume-given : (sheet records : List ℕ) (r : Emitted) (ws′ sheet′ : List ℕ) → records ≡ records-of log →
-      Emission closing t n (ends .at) (ends .number) (most v) (header-words v) records (part 0 w p) sheet r ws′ sheet′ →
+  pub resume-given : (deep : ℕ) → deep ≡ deepest (formulas-or (formulas v t n)) → (sheet records : List ℕ) (skips : Bool) (r : Emitted) (ws′ sheet′ : List ℕ) →
+      records ≡ wanted-records log p → skips ≡ skips-of log →
+      Emission skips closing t n (ends .at) (ends .number) (most v) (header-words v) deep records (part 0 w p) sheet r ws′ sheet′ →
       Resumes closing rule log p sheet (gave (r .count) (r .more)) (put-back 0 w ws′ p) sheet′
-  resume-given sheet records r ws′ sheet′ handed done =
+  resume-given deep deep-is sheet records skips r ws′ sheet′ handed kind done =
       let e = enough rule (length p) w sized in
       let own-ends : EndsOf (decoded rule) (count rule) ends = rw (d .entries-are, d .count-is) at ended in
       let where-ended = rule-ended rule (e .accepted) ends own-ends in
-      let is-done = rw (the-words, handed, is-version, d .entries-are, d .count-is) at done in
-      rw the-words (resumed closing rule log p sheet (e .accepted) (e .room) none r ws′ sheet′ (is-done (formulas-of rule) where-ended))
+      let is-done = rw (the-words, handed, kind, is-version, d .entries-are, d .count-is) at done in
+      let depth-is : deep ≡ deepest (formulas-of rule) = rw (is-version, d .entries-are, d .count-is) at deep-is in
+      rw the-words (resumed closing rule log p sheet (e .accepted) (e .room) none r ws′ sheet′ (is-done (formulas-of rule) where-ended depth-is))

@@ -6,25 +6,24 @@ use native.Mathlib.Omega.{arith}
 use lib.Dec.{ltb}
 use lib.ListN.{length, drop}
 use borrow.Author.Tests.{eq-eqb, ne-eqb}
-use Rattle.mtl.specs.Wanted.{wanted}
 use Rattle.verdicts.specs.Counts.{Noes}
 use Rattle.verdicts.proofs.Listed.{listed-same}
 use Rattle.rule.specs.declared.Entry.{Entry}
 use Rattle.rule.specs.declared.measuring.Ends.{Ends}
 use Rattle.rule.specs.Entries.{version}
-use Rattle.rule.specs.Postfix.{most, formulas, formulas-or}
+use Rattle.rule.specs.Postfix.{most}
 use Rattle.rule.specs.Refusal.{refusal}
 use Rattle.rule.specs.Code.{EndsOf}
 use Rattle.rule.proofs.Headers.{Decoded}
-use Rattle.checkpoint.specs.Checkpoint.{given, seen, closed-with, stored-noes, need}
+use Rattle.checkpoint.specs.Checkpoint.{given, seen, closed-with, first-wanted, stored-noes}
 use Rattle.checkpoint.specs.Refusal.{summary-refusal}
 use Rattle.checkpoint.proofs.Checks.{is-accepted, has-room}
 use Rattle.checkpoint.proofs.Offsets.{noes-within}
 use Rattle.emit.specs.Verdicts.{formulas-of, columns}
 use Rattle.monitor.specs.Summary.{position-or, no-position, counts-of, latest-words, Told, counted, refused-with, Summarizes}
 use Rattle.monitor.specs.Status.{known}
-use Rattle.monitor.specs.Status.{answer as standing-of, told as known-told, refused-with as known-refused}
-use Rattle.monitor.specs.Formulas.{Answer, answer, formula-count}
+use Rattle.monitor.specs.Status.{answer as standing-of, refused-with as known-refused}
+use Rattle.monitor.specs.Formulas.{answer, formula-count}
 use Rattle.monitor.specs.declared.Standing.the-variants.{Known}
 use Rattle.monitor.specs.declared.Standing.the-variants.{Refused as Unknown}
 use Rattle.monitor.specs.declared.FormulaCount.the-variants.{Formulas}
@@ -82,10 +81,5 @@ module _ (rule p : List ℕ) where
         Told 0 m (stored-noes (most v) p) nos latest nos′ latest′ → Summarizes rule p nos latest (counted m) nos′ latest′
     summary-told nos latest nos′ latest′ v is m e told = record { outcome = rw none (ap counted e); words = rw is at told }
 
-    -- first is the first record wanted by the entries decoded, which are the rule's
-    pub status-told : (v : ℕ) → v ≡ version rule → (t : List Entry) (n : ℕ) → Decoded rule t n → (first : ℕ) →
-        first ≡ wanted (formulas-or (formulas v t n)) (given p) → standing-of (Known (given p) (seen p) first (ltb 0 (closed-with p))) ≡ known rule p
-    status-told v is-version t n e first is =
-        let own : first ≡ wanted (formulas-of rule) (given p) = rw (is-version, e .entries-are, e .count-is) at is in
-        rw (eq-eqb (summary-refusal rule p) 0 none)
-        (ap (λ w. known-told (record { given = given p; seen = seen p; wanted = w; closed = ltb 0 (closed-with p) })) own)
+    pub status-told : standing-of (Known (given p) (seen p) (first-wanted p) (ltb 0 (closed-with p))) ≡ known rule p
+    status-told = rw (eq-eqb (summary-refusal rule p) 0 none)

@@ -11,7 +11,7 @@ use lib.ListN.{length, take, drop, replicate}
 use Rattle.mtl.specs.Formula.{has-next, reach}
 use Rattle.mtl.specs.Satisfaction.{any, all, sat}
 use Rattle.mtl.specs.Progress.{run, progress, settled-to, joint-progress}
-use Rattle.mtl.specs.Wanted.{depth, deepest, wanted}
+use Rattle.mtl.specs.Wanted.{depth, deepest}
 use Rattle.rule.specs.declared.Entry.{Entry}
 use Rattle.rule.specs.Entries.{count, first-entries, entries}
 use Rattle.rule.specs.Entries.{version as version-of}
@@ -19,13 +19,14 @@ use Rattle.rule.specs.Words.{own, offset, header-words}
 use Rattle.rule.specs.Postfix.{push-kind, read}
 use Rattle.rule.specs.Refusal.{header-refusal, entries-refusal}
 use Rattle.rule.specs.Measure.{farthest, measured}
-use Rattle.trace.specs.Format.{record-count, records-of}
+use Rattle.trace.specs.Format.{record-count, records-of, skips-of}
+use Rattle.trace.specs.Positions.{passing, spot, positions}
 use Rattle.trace.specs.Order.{last-time}
 use Rattle.checkpoint.specs.Refusal.{resume-refusal}
-use Rattle.checkpoint.specs.Checkpoint.{format, copy-start, copy-head, copy-ends, stored-noes}
+use Rattle.checkpoint.specs.Checkpoint.{format, copy-start, kind-of-log, copy-head, copy-ends, stored-noes}
 use Rattle.verdicts.specs.Bytes.{byte-of}
 use Rattle.verdicts.specs.Counts.{count-of, latest-no, Noes, noes-in, laid-behind, listed}
-use Rattle.emit.specs.Verdicts.{formulas-of, verdicts, answered, all-verdicts}
+use Rattle.emit.specs.Verdicts.{verdicts, wanted-after, answered, all-verdicts}
 use Rattle.monitor.specs.Summary.{no-position, counts-of, latest-words}
 use Rattle.monitor.specs.Status.{Answer, told, refused-with, known}
 use Rattle.monitor.specs.Formulas.{formula-count}
@@ -76,14 +77,24 @@ abbrev at : (time : ℕ) → List ℕ → List ℕ
 at time letters = word time ++ word (event-set letters)
 
 -- "A log opens with KLG (4B 4C 47), a 16-bit version, 1, and three zero bytes."
+abbrev log-of-version : (version : ℕ) → List ℕ → List ℕ
+log-of-version version records = 0x4B ∷ 0x4C ∷ 0x47 ∷ 0 ∷ version ∷ 0 ∷ 0 ∷ 0 ∷ records
+
 abbrev log : List ℕ → List ℕ
-log records = 0x4B ∷ 0x4C ∷ 0x47 ∷ 0 ∷ 1 ∷ 0 ∷ 0 ∷ 0 ∷ records
+log records = log-of-version 1 records
+
+-- "From log version 2, a record with letter 31 is a service record"
+abbrev log-2 : List ℕ → List ℕ
+log-2 records = log-of-version 2 records
+
+abbrev service : (time : ℕ) → List ℕ
+service time = at time (31 ∷ [])
 
 -- a checkpoint's own words up to word 7: of d verdicts given, n records seen, the last time seen, the rule's version and number of entries,
--- and the word of the first closing
-abbrev first-words : (d n last version entries closed-with : ℕ) → List ℕ
-first-words d n last version entries closed-with =
-    format ∷ d ∷ n ∷ last ∷ copy-start version entries ∷ closed-with ∷ 0 ∷ 0 ∷ []
+-- the word of the first closing, what is noted of the log's version, and the first record still wanted
+abbrev first-words : (d n last version entries closed-with kind wanted : ℕ) → List ℕ
+first-words d n last version entries closed-with kind wanted =
+    format ∷ d ∷ n ∷ last ∷ copy-start version entries ∷ closed-with ∷ kind ∷ wanted ∷ []
 
 -- a block with its copy, and 0 in its other words
 abbrev block : (head ends : ℕ) → List ℕ
@@ -95,16 +106,16 @@ blocks [] = []
 blocks (e ∷ es) = block (copy-head e) (copy-ends e) ++ (replicate (own e - 16) 0 ++ blocks es)
 
 -- a checkpoint of the rule; its counts of no and its operators' own words are 0: a refusal asks of both only that they are in range
-abbrev point-of : (rule : List ℕ) (d n last closed-with : ℕ) → List ℕ
-point-of rule d n last closed-with =
-    first-words d n last (version-of rule) (count rule) closed-with
+abbrev point-of : (rule : List ℕ) (d n last closed-with kind wanted : ℕ) → List ℕ
+point-of rule d n last closed-with kind wanted =
+    first-words d n last (version-of rule) (count rule) closed-with kind wanted
     ++ (replicate (header-words (version-of rule) - 8) 0 ++ blocks (entries rule))
 
 -- THE TABLE
 
--- a call: the rule, the untouched log, the log as it is brought, and the verdicts given, the records seen and the last time seen
--- before it, and the sheet's length; then the refusal's number or 0, the words and the reach of the rule, A, the verdicts written,
--- and whether there are more
+-- a call: the rule, the untouched log, the log as it is brought, and before it the verdicts given, the records seen, the last time seen,
+-- what is noted of the log's version and the first record still wanted, and the sheet's length; then the refusal's number or 0, the words
+-- and the reach of the rule, A, the verdicts written, and whether there are more
 pub record Row : Type 0 where
   pub rule : List ℕ
   pub untouched : List ℕ
@@ -112,6 +123,8 @@ pub record Row : Type 0 where
   pub given : ℕ
   pub seen : ℕ
   pub last : ℕ
+  pub kind : ℕ
+  pub wanted : ℕ
   pub room : ℕ
   pub number : ℕ
   pub words : ℕ
@@ -130,6 +143,8 @@ on-fresh rule log words reach answered verdicts =
       given = 0;
       seen = 0;
       last = 0;
+      kind = 0;
+      wanted = 0;
       room = 8191;
       number = 0;
       words = words;
@@ -149,6 +164,8 @@ with-room r room verdicts more =
       given = r .given;
       seen = r .seen;
       last = r .last;
+      kind = r .kind;
+      wanted = r .wanted;
       room = room;
       number = 0;
       words = r .words;
@@ -163,9 +180,9 @@ abbrev on-short : Row → (room : ℕ) (verdicts : List ℕ) → Row
 on-short r room verdicts = with-room r room verdicts true
 
 -- the next call with the same rule, accepted, with room for all verdicts: "The point then has d + c verdicts given, N records seen,
--- and the last record's time"
-abbrev after : Row → (untouched brought : List ℕ) (answered : ℕ) (verdicts : List ℕ) → Row
-after r untouched brought answered verdicts =
+-- and the last record's time", and `first` is the first record still wanted
+abbrev after : Row → (first : ℕ) (untouched brought : List ℕ) (answered : ℕ) (verdicts : List ℕ) → Row
+after r first untouched brought answered verdicts =
     record {
       rule = r .rule;
       untouched = untouched;
@@ -173,6 +190,8 @@ after r untouched brought answered verdicts =
       given = r .given + length (r .verdicts);
       seen = record-count (records-of (r .brought));
       last = last-time (records-of (r .brought)) (r .seen) (r .last);
+      kind = kind-of-log (skips-of (r .brought));
+      wanted = first;
       room = 8191;
       number = 0;
       words = r .words;
@@ -192,6 +211,8 @@ stopped r number =
       given = r .given;
       seen = r .seen;
       last = r .last;
+      kind = r .kind;
+      wanted = r .wanted;
       room = r .room;
       number = number;
       words = r .words;
@@ -211,6 +232,8 @@ refused rule number =
       given = 0;
       seen = 0;
       last = 0;
+      kind = 0;
+      wanted = 0;
       room = 8191;
       number = number;
       words = 0;
@@ -231,16 +254,17 @@ same (x ∷ xs) (y ∷ ys) = eqb x y && same xs ys
 -- gives
 unfoldable pub computes-refusal : (closing : Bool) (closed-with : ℕ) → Row → Bool
 computes-refusal closing closed-with r =
-    let point = point-of (r .rule) (r .given) (r .seen) (r .last) closed-with in
+    let point = point-of (r .rule) (r .given) (r .seen) (r .last) closed-with (r .kind) (r .wanted) in
     eqb (resume-refusal closing (r .rule) (r .brought) point) (r .number)
     && (eqb (measured (r .rule) .words) (r .words) && eqb (measured (r .rule) .reach) (r .reach))
 
 -- what is brought is the untouched log: its header, and its records from the first still wanted on
 unfoldable pub brings-untouched : Row → Bool
 brings-untouched r =
-    let from = 8 + 8 * wanted (formulas-of (r .rule)) (r .given) in
-    eqb (length (r .brought)) (length (r .untouched))
-    && (same (take 8 (r .brought)) (take 8 (r .untouched)) && same (drop from (r .brought)) (drop from (r .untouched)))
+    let from = 8 + 8 * r .wanted in
+    eqb (wanted-after (r .rule) (r .untouched) (r .given) (r .seen)) (r .wanted)
+    && (eqb (length (r .brought)) (length (r .untouched))
+    && (same (take 8 (r .brought)) (take 8 (r .untouched)) && same (drop from (r .brought)) (drop from (r .untouched))))
 
 -- two answers are the same
 abbrev agree : Bool → Bool → Bool
@@ -292,7 +316,7 @@ call-1 = on-fresh rule-1 (log records-1) 70 2 5 (no ∷ no ∷ no ∷ yes ∷ ye
 -- P2: the next call, with records 0 to 4 set to all ones and (21, 1) added
 abbrev call-2 : Row
 call-2 =
-    after call-1 (log (records-1 ++ at 21 (1 ∷ []))) (log (replicate 40 255 ++ at 20 (0 ∷ []) ++ at 21 (1 ∷ []))) 7 (yes ∷ yes ∷ [])
+    after call-1 5 (log (records-1 ++ at 21 (1 ∷ []))) (log (replicate 40 255 ++ at 20 (0 ∷ []) ++ at 21 (1 ∷ []))) 7 (yes ∷ yes ∷ [])
 
 -- two untils over three letters
 abbrev rule-10 : ℕ → List ℕ
@@ -313,7 +337,7 @@ abbrev call-4 : Row
 call-4 = on-fresh (rule 1 2 (letter 0 ++ previous 0 0)) (log records-4) 48 0 3 (no ∷ yes ∷ no ∷ [])
 
 abbrev after-4 : List ℕ → Row
-after-4 kept = after call-4 (log (records-4 ++ at 6 [])) (log (kept ++ at 6 [])) 4 (yes ∷ [])
+after-4 kept = after call-4 2 (log (records-4 ++ at 6 [])) (log (kept ++ at 6 [])) 4 (yes ∷ [])
 
 -- previous 0 to 9 of P1's until, over P7's two records, and over these and two more
 abbrev records-23 : List ℕ
@@ -341,7 +365,7 @@ call-28 = on-fresh rule-28 (log records-1) 148 2 5 (no-yes ∷ no-yes ∷ no-yes
 -- the next call, as P2 is after P1
 abbrev call-29 : Row
 call-29 =
-    after call-28 (log (records-1 ++ at 21 (1 ∷ []))) (log (replicate 40 255 ++ at 20 (0 ∷ []) ++ at 21 (1 ∷ []))) 7 (yes-no ∷ yes-no ∷ [])
+    after call-28 5 (log (records-1 ++ at 21 (1 ∷ []))) (log (replicate 40 255 ++ at 20 (0 ∷ []) ++ at 21 (1 ∷ []))) 7 (yes-no ∷ yes-no ∷ [])
 
 -- letter 0, P1's until, and letter 0 again
 abbrev rule-30 : List ℕ
@@ -367,7 +391,43 @@ call-38 =
     on-fresh (rule 2 5 (letter 0 ++ previous 0 0 ++ letter 0 ++ letter 0 ++ previous 0 0)) (log records-4) 104 0 3 (no-yes-no ∷ yes-no-yes ∷ no-yes-no ∷ [])
 
 abbrev after-38 : List ℕ → Row
-after-38 kept = after call-38 (log (records-4 ++ at 6 [])) (log (kept ++ at 6 [])) 4 (yes-no-yes ∷ [])
+after-38 kept = after call-38 2 (log (records-4 ++ at 6 [])) (log (kept ++ at 6 [])) 4 (yes-no-yes ∷ [])
+
+-- Document 02, paper 10: P1's log as version 2 with a service record in each of four places. In the middle of second 11 it has letters 0
+-- and 1 besides: as a position it would make the until hold. Behind all it stands ten seconds behind the last position, which is open.
+abbrev service-first : Row
+service-first = on-fresh rule-1 (log-2 (service 9 ++ records-1)) 70 2 5 (no ∷ no ∷ no ∷ yes ∷ yes ∷ [])
+
+abbrev service-between : Row
+service-between =
+    on-fresh rule-1 (log-2 (take 8 records-1 ++ service 10 ++ drop 8 records-1)) 70 2 5 (no ∷ no ∷ no ∷ yes ∷ yes ∷ [])
+
+abbrev records-within : List ℕ
+records-within = take 16 records-1 ++ at 11 (0 ∷ 1 ∷ 31 ∷ []) ++ drop 16 records-1
+
+abbrev service-within : Row
+service-within = on-fresh rule-1 (log-2 records-within) 70 2 5 (no ∷ no ∷ no ∷ yes ∷ yes ∷ [])
+
+abbrev service-last : Row
+service-last = on-fresh rule-1 (log-2 (records-1 ++ service 30)) 70 2 5 (no ∷ no ∷ no ∷ yes ∷ yes ∷ [])
+
+-- service records alone
+abbrev services : List ℕ
+services = service 5 ++ service 6 ++ service 6
+
+abbrev services-alone : Row
+services-alone = on-fresh rule-1 (log-2 services) 70 2 0 []
+
+-- P4's records with a service record behind the first and one behind the last, and the next call, as `after-4`: position 2 is record 3
+abbrev records-4-serviced : List ℕ
+records-4-serviced = take 8 records-4 ++ service 5 ++ drop 8 records-4 ++ service 6
+
+abbrev call-4-serviced : Row
+call-4-serviced = on-fresh (rule 1 2 (letter 0 ++ previous 0 0)) (log-2 records-4-serviced) 48 0 3 (no ∷ yes ∷ no ∷ [])
+
+abbrev after-4-serviced : List ℕ → Row
+after-4-serviced kept =
+    after call-4-serviced 3 (log-2 (records-4-serviced ++ at 6 [])) (log-2 (kept ++ service 6 ++ at 6 [])) 4 (yes ∷ [])
 
 unfoldable pub rows : List Row
 rows =
@@ -410,13 +470,13 @@ rows =
     ∷ on-fresh (rule 1 0 []) (log []) 16 0 0 []
     -- 20 and 21: over three records with a sheet of two bytes, yes, yes, more; then, with those two overwritten, yes, caught up
     ∷ call-20
-    ∷ after call-20 (log records-20) (log (replicate 16 255 ++ at 7 [])) 3 (yes ∷ [])
+    ∷ after call-20 2 (log records-20) (log (replicate 16 255 ++ at 7 [])) 3 (yes ∷ [])
     -- 22: a count of 0 with a length of 18 is refusal 4
     ∷ refused (rule 1 0 (letter 0)) 4
     -- 23 and 24: request 2: previous 0 to 9 of P1's until over (10, 0) (12, 0): the until is open, previous says no at 0; with (12, 1)
     -- (12, 0) added the until is open at 3 alone: yes, yes, yes
     ∷ call-23
-    ∷ after call-23 (log more-23) (log more-23) 4 (yes ∷ yes ∷ yes ∷ [])
+    ∷ after call-23 0 (log more-23) (log more-23) 4 (yes ∷ yes ∷ yes ∷ [])
     -- 25 and 26: after P4 record 2 is still wanted. With records 0 and 1 set to all ones: yes; with record 2, too: refusal 14
     ∷ after-4 (replicate 16 255 ++ at 6 (0 ∷ []))
     ∷ stopped (after-4 (replicate 24 255)) 14
@@ -443,12 +503,36 @@ rows =
     ∷ call-38
     ∷ after-38 (replicate 16 255 ++ at 6 (0 ∷ []))
     ∷ stopped (after-38 (replicate 24 255)) 14
+    -- 41 to 44: request 10: a service record before P1's records, between them, in the middle of a second, and after all: P1's verdicts
+    ∷ service-first
+    ∷ service-between
+    ∷ service-within
+    ∷ service-last
+    -- 45 and 46: then as P2 after 43, position 5 being record 6; after 44 with (31, 1) added, which is over: no, yes
+    ∷ after service-within 6 (log-2 (records-within ++ at 21 (1 ∷ []))) (log-2 (replicate 48 255 ++ at 20 (0 ∷ []) ++ at 21 (1 ∷ []))) 7 (yes ∷ yes ∷ [])
+    ∷ after service-last 5 (log-2 (records-1 ++ service 30 ++ at 31 (1 ∷ [])))
+    (log-2 (replicate 40 255 ++ at 20 (0 ∷ []) ++ service 30 ++ at 31 (1 ∷ []))) 7 (no ∷ yes ∷ [])
+    -- 47 and 48: service records alone: no verdict, and the record after all is wanted: with all of them overwritten, P1's verdicts
+    ∷ services-alone
+    ∷ after services-alone 3 (log-2 (services ++ records-1)) (log-2 (replicate 24 255 ++ records-1)) 5 (no ∷ no ∷ no ∷ yes ∷ yes ∷ [])
+    -- 49 and 50: the bytes of 43 and of 47 as version 1, where letter 31 is a letter
+    ∷ on-fresh rule-1 (log records-within) 70 2 6 (yes ∷ yes ∷ yes ∷ no ∷ yes ∷ yes ∷ [])
+    ∷ on-fresh (rule 1 1 (letter 31)) (log services) 32 0 3 (yes ∷ yes ∷ yes ∷ [])
+    -- 51: no position of version 2 has letter 31
+    ∷ on-fresh (rule 1 1 (letter 31)) (log-2 (at 5 (0 ∷ []) ++ service 5 ++ at 6 [])) 32 0 2 (no ∷ no ∷ [])
+    -- 52 to 54: previous over a service record; then with records 0 to 2 set to all ones: yes; with record 3, too: refusal 14
+    ∷ call-4-serviced
+    ∷ after-4-serviced (replicate 24 255 ++ at 6 (0 ∷ []))
+    ∷ stopped (after-4-serviced (replicate 32 255)) 14
+    -- 55 and 56: a service record's time is below that of the record before it; that of the first new record is below a service record's
+    ∷ stopped (on-fresh rule-1 (log-2 (at 10 (0 ∷ []) ++ service 9 ++ at 12 (0 ∷ []))) 70 2 0 []) 14
+    ∷ stopped (after services-alone 3 (log-2 services) (log-2 (replicate 24 255 ++ at 5 (0 ∷ []))) 0 []) 14
     ∷ []
 
 -- every row computes; an edit of the definitions that breaks a row has its number in an error
 pub every-row : Right 1 rows
-unfolding Right wrong rows computes computes-refusal brings-untouched computes-verdicts same blocks event-set first-entries offset push-kind read header-refusal entries-refusal has-next reach any all sat run progress settled-to farthest depth deepest joint-progress byte-of verdicts
-every-row = (refl, (refl, (refl, (refl, (refl, (refl, (refl, (refl, (refl, (refl, (refl, (refl, (refl, (refl, (refl, (refl, (refl, (refl, (refl, (refl, (refl, (refl, (refl, (refl, (refl, (refl, (refl, (refl, (refl, (refl, (refl, (refl, (refl, (refl, (refl, (refl, (refl, (refl, (refl, (refl, tt))))))))))))))))))))))))))))))))))))))))
+unfolding Right wrong rows passing spot positions computes computes-refusal brings-untouched computes-verdicts same blocks event-set first-entries offset push-kind read header-refusal entries-refusal has-next reach any all sat run progress settled-to farthest depth deepest joint-progress byte-of verdicts
+every-row = (refl, (refl, (refl, (refl, (refl, (refl, (refl, (refl, (refl, (refl, (refl, (refl, (refl, (refl, (refl, (refl, (refl, (refl, (refl, (refl, (refl, (refl, (refl, (refl, (refl, (refl, (refl, (refl, (refl, (refl, (refl, (refl, (refl, (refl, (refl, (refl, (refl, (refl, (refl, (refl, (refl, (refl, (refl, (refl, (refl, (refl, (refl, (refl, (refl, (refl, (refl, (refl, (refl, (refl, (refl, (refl, tt))))))))))))))))))))))))))))))))))))))))))))))))))))))))
 
 -- CLOSINGS: document 02, paper 9
 
@@ -480,15 +564,19 @@ records-7 = at 10 (0 ∷ []) ++ at 12 (0 ∷ []) ++ at 13 (0 ∷ [])
 abbrev close-7 : Row
 close-7 = on-fresh rule-1 (log records-7) 70 2 3 (no ∷ no ∷ no ∷ [])
 
+-- the same as version 2
+abbrev close-7-serviced : Row
+close-7-serviced = on-fresh rule-1 (log-2 records-7) 70 2 3 (no ∷ no ∷ no ∷ [])
+
 abbrev first-of-3 : Row
 first-of-3 = on-short close-7 1 (no ∷ [])
 
 abbrev second-of-3 : Row
 second-of-3 =
-    with-room (after first-of-3 (log records-7) (log (replicate 8 255 ++ at 12 (0 ∷ []) ++ at 13 (0 ∷ []))) 3 []) 1 (no ∷ []) true
+    with-room (after first-of-3 1 (log records-7) (log (replicate 8 255 ++ at 12 (0 ∷ []) ++ at 13 (0 ∷ []))) 3 []) 1 (no ∷ []) true
 
 abbrev third-of-3 : Row
-third-of-3 = with-room (after second-of-3 (log records-7) (log (replicate 16 255 ++ at 13 (0 ∷ []))) 3 []) 1 (no ∷ []) false
+third-of-3 = with-room (after second-of-3 2 (log records-7) (log (replicate 16 255 ++ at 13 (0 ∷ []))) 3 []) 1 (no ∷ []) false
 
 unfoldable pub closing-rows : List ClosingRow
 closing-rows =
@@ -506,19 +594,24 @@ closing-rows =
     ∷ closes-again second-of-3
     ∷ closes-again third-of-3
     -- 8 to 11: then a resume is 20, before a log of 7 bytes is 12; a closing with a record more is 21, with one fewer 13
-    ∷ resumes-then (stopped (after close-7 (log records-7) (log records-7) 0 []) 20)
-    ∷ resumes-then (stopped (after close-7 (log records-7) (take 7 (log records-7)) 0 []) 20)
-    ∷ closes-again (stopped (after close-7 (log records-7) (log (records-7 ++ at 13 [])) 0 []) 21)
-    ∷ closes-again (stopped (after close-7 (log records-7) (log (at 10 (0 ∷ []) ++ at 12 (0 ∷ []))) 0 []) 13)
+    ∷ resumes-then (stopped (after close-7 3 (log records-7) (log records-7) 0 []) 20)
+    ∷ resumes-then (stopped (after close-7 3 (log records-7) (take 7 (log records-7)) 0 []) 20)
+    ∷ closes-again (stopped (after close-7 3 (log records-7) (log (records-7 ++ at 13 [])) 0 []) 21)
+    ∷ closes-again (stopped (after close-7 3 (log records-7) (log (at 10 (0 ∷ []) ++ at 12 (0 ∷ []))) 0 []) 13)
     -- 12: an empty log closed: 0 verdicts, caught up
     ∷ closes (on-fresh rule-1 (log []) 70 2 0 [])
     -- 13: three formulas closed: P1's until between two letters, over P7's second log
     ∷ closes (on-fresh rule-30 (log records-7) 110 2 3 (yes-no-yes ∷ yes-no-yes ∷ yes-no-yes ∷ []))
+    -- 14 and 15: 2 and 3 with service records at the end
+    ∷ closes (on-fresh rule-1 (log-2 (records-7 ++ service 13 ++ service 99)) 70 2 3 (no ∷ no ∷ no ∷ []))
+    ∷ closes (on-fresh (rule 1 2 (letter 0 ++ next 1 1)) (log-2 (at 5 [] ++ at 6 (0 ∷ []) ++ at 8 (0 ∷ []) ++ service 9)) 48 no-end 3 (yes ∷ no ∷ no ∷ []))
+    -- 16: a service record more is 21
+    ∷ closes-again (stopped (after close-7-serviced 3 (log-2 records-7) (log-2 (records-7 ++ service 13)) 0 []) 21)
     ∷ []
 
 pub every-closing : AllClose 1 closing-rows
-unfolding AllClose closing-rows computes computes-refusal brings-untouched computes-verdicts same blocks event-set first-entries offset push-kind read header-refusal entries-refusal has-next reach any all sat run progress settled-to farthest depth deepest joint-progress byte-of verdicts
-every-closing = (refl, (refl, (refl, (refl, (refl, (refl, (refl, (refl, (refl, (refl, (refl, (refl, (refl, tt)))))))))))))
+unfolding AllClose closing-rows passing spot positions computes computes-refusal brings-untouched computes-verdicts same blocks event-set first-entries offset push-kind read header-refusal entries-refusal has-next reach any all sat run progress settled-to farthest depth deepest joint-progress byte-of verdicts
+every-closing = (refl, (refl, (refl, (refl, (refl, (refl, (refl, (refl, (refl, (refl, (refl, (refl, (refl, (refl, (refl, (refl, tt))))))))))))))))
 
 -- THE COUNTS OF NO
 
@@ -557,38 +650,40 @@ summary-rows =
     ∷ record { call = call-28; formula = 1; before = noes 0 none; after = noes 2 (some 4) }
     ∷ record { call = call-29; formula = 0; before = noes 3 (some 2); after = noes 3 (some 2) }
     ∷ record { call = call-29; formula = 1; before = noes 2 (some 4); after = noes 4 (some 6) }
+    -- the latest is a position, where the record is 3
+    ∷ record { call = service-within; formula = 0; before = noes 0 none; after = noes 3 (some 2) }
     -- an empty rule has no no
     ∷ record { call = call-20; formula = 0; before = noes 0 none; after = noes 0 none }
     ∷ []
 
 pub every-summary : AllCount summary-rows
-unfolding AllCount Counts summary-rows count-of latest-no event-set first-entries offset push-kind read any all sat run progress settled-to joint-progress byte-of verdicts
-every-summary = ((refl, refl), ((refl, refl), ((refl, refl), ((refl, refl), ((refl, refl), ((refl, refl), ((refl, refl), ((refl, refl), tt))))))))
+unfolding AllCount Counts summary-rows passing spot positions count-of latest-no event-set first-entries offset push-kind read any all sat run progress settled-to joint-progress byte-of verdicts
+every-summary = ((refl, refl), ((refl, refl), ((refl, refl), ((refl, refl), ((refl, refl), ((refl, refl), ((refl, refl), ((refl, refl), ((refl, refl), tt)))))))))
 
 -- WHAT A CARD HAS TO KNOW
 
 -- the checkpoint's own words, of version 1, with the count of no and one more than the position of the latest
-abbrev own-words : (d n entries closed-with count after : ℕ) → List ℕ
-own-words d n entries closed-with count after =
-    first-words d n 0 1 entries closed-with ++ (count ∷ after ∷ replicate 6 0)
+abbrev own-words : (d n entries closed-with kind wanted count after : ℕ) → List ℕ
+own-words d n entries closed-with kind wanted count after =
+    first-words d n 0 1 entries closed-with kind wanted ++ (count ∷ after ∷ replicate 6 0)
 
 -- P1's rule and P4's, without a no where none is named
 abbrev blocks-1 : List ℕ
 blocks-1 = block 0 0 ++ block 1 0 ++ block 1536 2 ++ replicate 6 0
 
-abbrev point-1-with : (d n closed-with count after : ℕ) → List ℕ
-point-1-with d n closed-with count after = own-words d n 3 closed-with count after ++ blocks-1
+abbrev point-1-with : (d n closed-with kind wanted count after : ℕ) → List ℕ
+point-1-with d n closed-with kind wanted count after = own-words d n 3 closed-with kind wanted count after ++ blocks-1
 
-abbrev point-1 : (d n closed-with : ℕ) → List ℕ
-point-1 d n closed-with = point-1-with d n closed-with 0 0
+abbrev point-1 : (d n closed-with kind wanted : ℕ) → List ℕ
+point-1 d n closed-with kind wanted = point-1-with d n closed-with kind wanted 0 0
 
-abbrev point-4 : (d n : ℕ) → List ℕ
-point-4 d n = own-words d n 2 0 0 0 ++ block 0 0 ++ block 768 0
+abbrev point-4 : (d n kind wanted : ℕ) → List ℕ
+point-4 d n kind wanted = own-words d n 2 0 kind wanted 0 0 ++ block 0 0 ++ block 768 0
 
 -- P1's until and its not, with the count of each formula and one more than the position of the latest of each
-abbrev point-28 : (d n count after count′ after′ : ℕ) → List ℕ
-point-28 d n count after count′ after′ =
-    first-words d n 0 2 7 0 ++ (count ∷ count′ ∷ replicate 6 0) ++ (after ∷ after′ ∷ replicate 6 0) ++ blocks-1 ++ blocks-1 ++ block 256 0
+abbrev point-28 : (d n kind wanted count after count′ after′ : ℕ) → List ℕ
+point-28 d n kind wanted count after count′ after′ =
+    first-words d n 0 2 7 0 kind wanted ++ (count ∷ count′ ∷ replicate 6 0) ++ (after ∷ after′ ∷ replicate 6 0) ++ blocks-1 ++ blocks-1 ++ block 256 0
 
 pub record StatusRow : Type 0 where
   pub rule : List ℕ
@@ -606,45 +701,49 @@ AllKnown (r ∷ rest) = (known (r .rule) (r .point) ≡ r .answer) × AllKnown r
 unfoldable pub status-rows : List StatusRow
 status-rows =
     -- a fresh point: everything is wanted
-    tells rule-1 (point-1 0 0 0) 0 0 0 false
+    tells rule-1 (point-1 0 0 0 0 0) 0 0 0 false
     -- after P1: 5 given, 6 seen; after P2: 7 and 7
-    ∷ tells rule-1 (point-1 5 6 0) 5 6 5 false
-    ∷ tells rule-1 (point-1 7 7 0) 7 7 7 false
+    ∷ tells rule-1 (point-1 5 6 0 1 5) 5 6 5 false
+    ∷ tells rule-1 (point-1 7 7 0 1 7) 7 7 7 false
     -- after P4 record 2 is still wanted
-    ∷ tells (call-4 .rule) (point-4 3 3) 3 3 2 false
+    ∷ tells (call-4 .rule) (point-4 3 3 1 2) 3 3 2 false
     -- P1 closed with an empty sheet, and with room for all
-    ∷ tells rule-1 (point-1 0 6 7) 0 6 0 true
-    ∷ tells rule-1 (point-1 6 6 7) 6 6 6 true
+    ∷ tells rule-1 (point-1 0 6 7 1 0) 0 6 0 true
+    ∷ tells rule-1 (point-1 6 6 7 1 6) 6 6 6 true
+    -- after 43 record 6 is wanted, which holds position 5; after 47 the record after all; after 52 record 3
+    ∷ tells rule-1 (point-1 5 7 0 2 6) 5 7 6 false
+    ∷ tells rule-1 (point-1 0 3 0 2 3) 0 3 3 false
+    ∷ tells (call-4 .rule) (point-4 3 5 2 3) 3 5 3 false
     -- a word too few is 9, another rule's point 10, more given than seen 11
-    ∷ record { rule = rule-1; point = take 69 (point-1 5 6 0); answer = refused-with 9 }
-    ∷ record { rule = call-4 .rule; point = point-1 5 6 0; answer = refused-with 10 }
-    ∷ record { rule = rule-1; point = point-1 7 6 0; answer = refused-with 11 }
+    ∷ record { rule = rule-1; point = take 69 (point-1 5 6 0 1 5); answer = refused-with 9 }
+    ∷ record { rule = call-4 .rule; point = point-1 5 6 0 1 5; answer = refused-with 10 }
+    ∷ record { rule = rule-1; point = point-1 7 6 0 1 6; answer = refused-with 11 }
     -- 11 as well: a closing with fewer records than were seen, a latest no without a count, and one behind the verdicts given
-    ∷ record { rule = rule-1; point = point-1 5 6 6; answer = refused-with 11 }
-    ∷ record { rule = rule-1; point = point-1-with 5 6 0 0 1; answer = refused-with 11 }
-    ∷ record { rule = rule-1; point = point-1-with 5 6 0 1 6; answer = refused-with 11 }
+    ∷ record { rule = rule-1; point = point-1 5 6 6 1 5; answer = refused-with 11 }
+    ∷ record { rule = rule-1; point = point-1-with 5 6 0 1 5 0 1; answer = refused-with 11 }
+    ∷ record { rule = rule-1; point = point-1-with 5 6 0 1 5 1 6; answer = refused-with 11 }
     -- P1's until and its not: after 28; a latest no of the second without a count is 11
-    ∷ tells rule-28 (point-28 5 6 3 3 2 5) 5 6 5 false
-    ∷ record { rule = rule-28; point = point-28 5 6 3 3 0 5; answer = refused-with 11 }
+    ∷ tells rule-28 (point-28 5 6 1 5 3 3 2 5) 5 6 5 false
+    ∷ record { rule = rule-28; point = point-28 5 6 1 5 3 3 0 5; answer = refused-with 11 }
     -- a point of version 1 is 10 under the same entries of version 2
-    ∷ record { rule = rule 2 3 entries-1; point = point-1 5 6 0 ++ replicate 8 0; answer = refused-with 10 }
+    ∷ record { rule = rule 2 3 entries-1; point = point-1 5 6 0 1 5 ++ replicate 8 0; answer = refused-with 10 }
     ∷ []
 
 pub every-status : AllKnown status-rows
 unfolding AllKnown status-rows first-entries offset push-kind read header-refusal entries-refusal has-next reach any depth deepest
-every-status = (refl, (refl, (refl, (refl, (refl, (refl, (refl, (refl, (refl, (refl, (refl, (refl, (refl, (refl, (refl, tt)))))))))))))))
+every-status = (refl, (refl, (refl, (refl, (refl, (refl, (refl, (refl, (refl, (refl, (refl, (refl, (refl, (refl, (refl, (refl, (refl, (refl, tt))))))))))))))))))
 
 -- 20 "after 11": a resume on P1's point, closed, is 20, and 11 where more was given than seen besides
 pub closed-and-damaged :
-    (resume-refusal false rule-1 (log records-7) (point-1 6 6 7) ≡ 20) × (resume-refusal false rule-1 (log records-7) (point-1 7 6 7) ≡ 11)
+    (resume-refusal false rule-1 (log records-7) (point-1 6 6 7 1 6) ≡ 20) × (resume-refusal false rule-1 (log records-7) (point-1 7 6 7 1 6) ≡ 11)
 unfolding first-entries offset push-kind read header-refusal entries-refusal has-next reach any depth deepest event-set
 closed-and-damaged = (refl, refl)
 
 -- what `summary` writes of the two formulas after 28, and of a fresh point
 pub two-told :
-    (counts-of (stored-noes 8 (point-28 5 6 3 3 2 5)) 2 ≡ 3 ∷ 2 ∷ []) × (latest-words (stored-noes 8 (point-28 5 6 3 3 2 5)) 2 ≡ 2 ∷ 4 ∷ []) ×
-    (counts-of (stored-noes 8 (point-28 0 0 0 0 0 0)) 2 ≡ 0 ∷ 0 ∷ []) ×
-    (latest-words (stored-noes 8 (point-28 0 0 0 0 0 0)) 2 ≡ no-position ∷ no-position ∷ [])
+    (counts-of (stored-noes 8 (point-28 5 6 1 5 3 3 2 5)) 2 ≡ 3 ∷ 2 ∷ []) × (latest-words (stored-noes 8 (point-28 5 6 1 5 3 3 2 5)) 2 ≡ 2 ∷ 4 ∷ []) ×
+    (counts-of (stored-noes 8 (point-28 0 0 0 0 0 0 0 0)) 2 ≡ 0 ∷ 0 ∷ []) ×
+    (latest-words (stored-noes 8 (point-28 0 0 0 0 0 0 0 0)) 2 ≡ no-position ∷ no-position ∷ [])
 unfolding listed
 two-told = (refl, refl, refl, refl)
 

@@ -6,7 +6,7 @@ use mathlib.Core.List.{List}
 use lib.Dec.{ltb}
 use lib.ListN.{length, drop}
 use Rattle.mtl.specs.Log.{Log}
-use Rattle.checkpoint.specs.Checkpoint.{need}
+use Rattle.checkpoint.specs.Checkpoint.{last, log-kind, need}
 use Rattle.checkpoint.specs.Refusal.{open-refusal}
 use Rattle.monitor.specs.Stands.{Stands}
 use Rattle.monitor.specs.declared.Opened.{Opened}
@@ -31,10 +31,12 @@ answer (Refused n) = refused-with n
 abbrev pub opened : (rule : List ℕ) (lent : ℕ) → Answer
 opened rule lent = record { refused = ltb 0 (open-refusal rule lent); number = open-refusal rule lent }
 
--- a fresh point stands for the rule on an open log with no record, with no verdict given, and "words beyond the need are not touched";
--- a refused call: ".. point .. keep their bytes"
+-- a fresh point stands for the rule on an open log with no record, with no verdict given, no last time and no log's version, and "words
+-- beyond the need are not touched"; a refused call: ".. point .. keep their bytes"
 abbrev pub Opening : (refused : Bool) (rule p p′ : List ℕ) → Type 0
-Opening false rule p p′ = (drop (need rule) p′ ≡ drop (need rule) p) × ((L : Log) → L .size ≡ 0 → L .closed ≡ false → Stands rule L 0 p′)
+Opening false rule p p′ =
+    (drop (need rule) p′ ≡ drop (need rule) p) × (last p′ ≡ 0) × (log-kind p′ ≡ 0) ×
+    ((L : Log) → L .size ≡ 0 → L .closed ≡ false → Stands rule L 0 0 p′)
 Opening true rule p p′ = p′ ≡ p
 
 pub record Opens (rule p : List ℕ) (a : Answer) (p′ : List ℕ) : Type 0 where

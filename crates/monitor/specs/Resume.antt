@@ -5,11 +5,12 @@ use mathlib.Core.Path.{_≡_}
 use mathlib.Core.List.{List}
 use lib.ListN.{length, getD, drop}
 use lib.Dec.{ltb, eqb}
-use Rattle.mtl.specs.Log.{Log, NeverFalls, Continues}
+use Rattle.mtl.specs.Log.{Log, Placed, NeverFalls, Continues}
 use Rattle.mtl.specs.Progress.{joint-progress}
 use Rattle.mtl.specs.Wanted.{wanted}
-use Rattle.trace.specs.Format.{record-count, records-of}
+use Rattle.trace.specs.Format.{record-count, records-of, skips-of}
 use Rattle.trace.specs.Order.{last-time}
+use Rattle.trace.specs.View.{from-record, view-of}
 use Rattle.blocks.specs.Block.{Forward}
 use Rattle.blocks.specs.Step.{Agrees}
 use Rattle.verdicts.specs.Counts.{noes-in, laid-behind}
@@ -17,7 +18,7 @@ use Rattle.rule.specs.Entries.{version, decoded}
 use Rattle.rule.specs.Entries.{count as entry-count}
 use Rattle.rule.specs.Postfix.{most}
 use Rattle.rule.specs.Words.{header-words}
-use Rattle.checkpoint.specs.Checkpoint.{given, seen, last, closed-with, no-count, after-latest, stored-noes, need, block-at, foreign}
+use Rattle.checkpoint.specs.Checkpoint.{given, seen, last, closed-with, log-kind, kind-of-log, first-wanted, no-count, after-latest, stored-noes, need, block-at, foreign}
 use Rattle.checkpoint.specs.Refusal.{resume-refusal}
 use Rattle.emit.specs.Verdicts.{formulas-of, columns, verdict}
 use Rattle.monitor.specs.Stands.{Stands}
@@ -47,19 +48,22 @@ abbrev pub result-or-refusal : (number c : ℕ) (more : Bool) → Answer
 result-or-refusal number c more = cond (eqb number 0) (gave c more) (refused-with number)
 
 -- "Carry on writes c verdicts, c the smaller of A - d and the sheet's length .. It gives c and 'more' if A > d + c"
-pub record Gives (rule : List ℕ) (L : Log) (d : ℕ) (sheet : List ℕ) (c : ℕ) (m : Bool) (p′ sheet′ : List ℕ) : Type 0 where
+pub record Gives (rule : List ℕ) (L : Log) (n d : ℕ) (sheet : List ℕ) (c : ℕ) (m : Bool) (p′ sheet′ : List ℕ) : Type 0 where
   pub count : c ≡ min (joint-progress (formulas-of rule) L - d) (length sheet)
   pub bytes : (i : ℕ) → i < c → getD sheet′ i 0 ≡ verdict (formulas-of rule) L (d + i)
   pub more : m ≡ ltb (d + c) (joint-progress (formulas-of rule) L)
-  pub stands : Stands rule L (d + c) p′
+  pub stands : Stands rule L n (d + c) p′
 
 -- the block of entry k
 abbrev pub block-of : (rule : List ℕ) (k : ℕ) → List ℕ → List ℕ
 block-of rule k p = drop (block-at (header-words (version rule)) (decoded rule) k) p
 
+-- the records from the first still wanted on: those before it may have been overwritten
+abbrev pub wanted-records : (log p : List ℕ) → List ℕ
+wanted-records log p = from-record (first-wanted p) (records-of log)
+
 -- an accepted call: what holds on any words, and `meaning`, where the checkpoint stands for the rule and a log as it was last
--- seen, the log brought continues it, and the lent records are its own from the first still wanted on: those before may have been
--- overwritten
+-- seen, the log brought continues it, and the records from the first still wanted on are its own
 pub record Accepted (closing : Bool) (rule log p sheet : List ℕ) (c : ℕ) (more : Bool) (p′ sheet′ : List ℕ) : Type 0 where
   pub room : c ≤ length sheet
   pub rest : drop c sheet′ ≡ drop c sheet
@@ -68,6 +72,9 @@ pub record Accepted (closing : Bool) (rule log p sheet : List ℕ) (c : ℕ) (mo
   pub size : seen p′ ≡ record-count (records-of log)
   pub time : last p′ ≡ last-time (records-of log) (seen p) (last p)
   pub closed : closed-with p′ ≡ cond closing (suc (record-count (records-of log))) 0
+  pub kind : log-kind p′ ≡ kind-of-log (skips-of log)
+  -- the first record still wanted does not go back, whatever the words hold
+  pub onward : (first-wanted p ≤ first-wanted p′) × (first-wanted p′ ≤ seen p′)
   -- the no of each formula among the bytes written, behind those from before
   pub noes : (k : ℕ) → k < columns (formulas-of rule) →
       stored-noes (most (version rule)) p′ k ≡ laid-behind (stored-noes (most (version rule)) p k) (given p) (noes-in k sheet′ c)
@@ -78,8 +85,10 @@ pub record Accepted (closing : Bool) (rule log p sheet : List ℕ) (c : ℕ) (mo
   pub own : foreign (version rule) (decoded rule) (entry-count rule) p′ ≡ foreign (version rule) (decoded rule) (entry-count rule) p
   -- no head goes back, whatever the words hold
   pub heads : (k : ℕ) → k < entry-count rule → Forward (block-of rule k p) (block-of rule k p′)
-  pub meaning : (K L : Log) (d : ℕ) → Stands rule K d p → Continues K L → NeverFalls L → Agrees closing (records-of log) L (wanted (formulas-of rule) d) →
-      Gives rule L d sheet c more p′ sheet′
+  -- (`Placed` says of the log brought what `Stands` says of the one seen)
+  pub meaning : (K L : Log) (n d : ℕ) → Stands rule K n d p → Continues K L → NeverFalls L → Placed L (record-count (records-of log)) →
+      Agrees (view-of (first-wanted p) (wanted (formulas-of rule) d) (skips-of log) closing (wanted-records log p)) (wanted-records log p) L (wanted (formulas-of rule) d) →
+      Gives rule L (record-count (records-of log)) d sheet c more p′ sheet′
 
 abbrev pub Resuming : (refused closing : Bool) (rule log p sheet : List ℕ) (c : ℕ) (more : Bool) (p′ sheet′ : List ℕ) → Type 0
 Resuming false closing rule log p sheet c more p′ sheet′ = Accepted closing rule log p sheet c more p′ sheet′

@@ -1,36 +1,34 @@
 -- A checkpoint stands for a rule, the log that it has seen, and the number of verdicts given. What the inside of a checkpoint means
 -- is said here, in emit's Top and in the engine alone.
-use Prim.Native.Nat.{ℕ, suc, _+_, _-_, _≤_, _<_, _^_}
-use mathlib.Core.Bool.{false, cond}
+use Prim.Native.Nat.{ℕ, suc, _+_, _≤_, _<_, _^_}
+use mathlib.Core.Bool.{true, false, cond}
 use mathlib.Core.Path.{_≡_}
 use mathlib.Core.List.{List}
 use mathlib.Core.Logic.{_⊎_}
 use lib.ListN.{length, take}
-use lib.Dec.{eqb}
-use Rattle.mtl.specs.Log.{Log}
+use Rattle.mtl.specs.Log.{Log, Placed}
+use Rattle.mtl.specs.Wanted.{wanted, wanted-record}
 use Rattle.verdicts.specs.Counts.{noes-in}
 use Rattle.rule.specs.Entries.{version, count, decoded}
 use Rattle.rule.specs.Postfix.{most, start}
 use Rattle.rule.specs.Words.{header-words}
 use Rattle.blocks.specs.Block.{word}
-use Rattle.checkpoint.specs.Checkpoint.{seen, last, closed-with, no-count, after-latest, stored-noes, need, block-at, foreign}
+use Rattle.checkpoint.specs.Checkpoint.{seen, last, closed-with, log-kind, first-wanted, no-count, after-latest, stored-noes, need, block-at, foreign, kind-in-range}
 use Rattle.emit.specs.Verdicts.{formulas-of, columns, verdicts}
 use Rattle.emit.specs.Top.{Top}
 
--- "the last record's time (.. 0 while there is none)"
-abbrev pub last-of : Log → ℕ
-last-of L = cond (eqb (L .size) 0) 0 (L .time (L .size - 1))
-
--- the checkpoint's words stand for the rule, which they have a copy of, the log as it was last seen, closed or open, and d verdicts
--- given
-pub record Stands (rule : List ℕ) (L : Log) (d : ℕ) (p : List ℕ) : Type 0 where
+-- the checkpoint's words stand for the rule, which they have a copy of, the n records that were seen, the log that they are, closed or
+-- open, and d verdicts given
+pub record Stands (rule : List ℕ) (L : Log) (n d : ℕ) (p : List ℕ) : Type 0 where
   pub enough : need rule ≤ length p
   pub own : foreign (version rule) (decoded rule) (count rule) p ≡ false
-  pub size : seen p ≡ L .size
-  pub few : L .size ≤ 1000000
-  pub time : last p ≡ last-of L
+  pub size : seen p ≡ n
+  pub few : n ≤ 1000000
+  pub placed : Placed L n
   pub fits : last p < 2 ^ 32
-  pub closed : closed-with p ≡ cond (L .closed) (suc (L .size)) 0
+  pub closed : closed-with p ≡ cond (L .closed) (suc n) 0
+  pub kind : kind-in-range (log-kind p) n (closed-with p) ≡ true
+  pub wanted : first-wanted p ≡ wanted-record L n (wanted (formulas-of rule) d)
   pub top : Top (header-words (version rule)) (formulas-of rule) L d (take (need rule) p)
   -- of the verdicts given, for each formula
   pub noes : (k : ℕ) → k < columns (formulas-of rule) → stored-noes (most (version rule)) p k ≡ noes-in k (verdicts (formulas-of rule) L d) d

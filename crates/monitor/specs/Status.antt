@@ -3,10 +3,8 @@ use Prim.Native.Nat.{ℕ}
 use mathlib.Core.Bool.{Bool, true, false, cond}
 use mathlib.Core.List.{List}
 use lib.Dec.{eqb, ltb}
-use Rattle.mtl.specs.Wanted.{wanted}
-use Rattle.checkpoint.specs.Checkpoint.{given, seen, closed-with}
+use Rattle.checkpoint.specs.Checkpoint.{given, seen, closed-with, first-wanted}
 use Rattle.checkpoint.specs.Refusal.{summary-refusal}
-use Rattle.emit.specs.Verdicts.{formulas-of}
 use Rattle.monitor.specs.declared.Standing.{Standing}
 use Rattle.monitor.specs.declared.Standing.the-variants.{Known, Refused}
 
@@ -17,13 +15,9 @@ pub record Facts : Type 0 where
   pub wanted : ℕ
   pub closed : Bool
 
--- of a rule, d verdicts given and n records seen
-abbrev pub facts : (rule : List ℕ) (d n : ℕ) (closed : Bool) → Facts
-facts rule d n closed = record { given = d; seen = n; wanted = wanted (formulas-of rule) d; closed = closed }
-
 -- as the checkpoint has them
-abbrev pub stored-facts : (rule point : List ℕ) → Facts
-stored-facts rule p = facts rule (given p) (seen p) (ltb 0 (closed-with p))
+abbrev pub stored-facts : (point : List ℕ) → Facts
+stored-facts p = record { given = given p; seen = seen p; wanted = first-wanted p; closed = ltb 0 (closed-with p) }
 
 -- the number and the values for each case; `refused` tells the cases apart
 pub record Answer : Type 0 where
@@ -43,4 +37,4 @@ answer (Refused n) = refused-with n
 
 -- with summary's checks, 1 to 11
 abbrev pub known : (rule point : List ℕ) → Answer
-known rule p = cond (eqb (summary-refusal rule p) 0) (told (stored-facts rule p)) (refused-with (summary-refusal rule p))
+known rule p = cond (eqb (summary-refusal rule p) 0) (told (stored-facts p)) (refused-with (summary-refusal rule p))

@@ -184,7 +184,9 @@ fn resume_or_close(
         ends.number,
         rule::most_of(version),
         rule::header_words(version),
-        trace::records(log),
+        rule::depth(version, entries, count),
+        trace::from_record(trace::records(log), point[header::WANTED] as usize),
+        trace::skips(log),
         closing,
         &mut point[0..words],
         sheet,
@@ -268,11 +270,10 @@ pub fn status(rule: &[u8], point: &[u64]) -> Standing
     let Checked::Passed = checked else {
         return Standing::Refused(checked.number());
     };
-    let given = point[header::GIVEN];
     Standing::Known {
-        given: given,
+        given: point[header::GIVEN],
         seen: point[header::SEEN],
-        wanted: checkpoint::first_wanted(version, entries, count, given as usize) as u64,
+        wanted: point[header::WANTED],
         closed: 0 < point[header::CLOSED_WITH],
     }
 }

@@ -10,7 +10,7 @@ use Rattle.mtl.specs.Formula.Formula.{letter, not, or, previous, next, s
 use Rattle.mtl.specs.Log.{Log, closing}
 use Rattle.mtl.specs.Satisfaction.{any, all, sat}
 use Rattle.mtl.specs.Progress.{run, progress, settled-to}
-use Rattle.mtl.specs.Wanted.{depth, deepest, wanted}
+use Rattle.mtl.specs.Wanted.{depth, deepest, wanted, wanted-record}
 
 -- "time in seconds (32 bits), event set (32 bits, letter k is the bit worth 2 to the k)", from position 0 on
 abbrev pub Records : Type 0
@@ -25,6 +25,7 @@ log-of-list rs = record {
   size = length rs;
   time = λ (i : ℕ). getD rs i past-end .0;
   letters = λ (i k : ℕ). eqb (getD rs i past-end .1 / 2 ^ k % 2) 1;
+  place = λ (i : ℕ). i;
   closed = false;
 }
 
@@ -145,15 +146,31 @@ pub every-row : (wrong false 1 rows ≡ []) × (wrong true 1 closed-rows ≡ [])
 unfolding wrong rows closed-rows computes matches progress settled-to run sat any all
 every-row = (refl, refl)
 
--- the first record still wanted for a formula, with 1, 2, 3 and 4 verdicts given
-abbrev wanted-after : Formula → List ℕ
-wanted-after φ = wanted (φ ∷ []) 1 ∷ wanted (φ ∷ []) 2 ∷ wanted (φ ∷ []) 3 ∷ wanted (φ ∷ []) 4 ∷ []
+-- the first position still wanted for a formula, with 1, 2, 3 and 4 verdicts given
+abbrev wanted-of : Formula → List ℕ
+wanted-of φ = wanted (φ ∷ []) 1 ∷ wanted (φ ∷ []) 2 ∷ wanted (φ ∷ []) 3 ∷ wanted (φ ∷ []) 4 ∷ []
 
 -- three previous over a letter; two on one path of an or and one on the other; none
 pub every-wanted :
-    wanted-after (previous 0 9 (previous 0 9 (previous 0 9 a))) ∷
-    wanted-after (or (until 0 9 a (previous 0 9 (previous 0 9 b))) (previous 0 9 c)) ∷
-    wanted-after (next 0 9 a) ∷ [] ≡
+    wanted-of (previous 0 9 (previous 0 9 (previous 0 9 a))) ∷
+    wanted-of (or (until 0 9 a (previous 0 9 (previous 0 9 b))) (previous 0 9 c)) ∷
+    wanted-of (next 0 9 a) ∷ [] ≡
     (0 ∷ 0 ∷ 0 ∷ 1 ∷ []) ∷ (0 ∷ 0 ∷ 1 ∷ 2 ∷ []) ∷ (1 ∷ 2 ∷ 3 ∷ 4 ∷ []) ∷ []
 unfolding depth deepest
 every-wanted = refl
+
+-- three positions, in records 1, 2 and 4 of six: the record that holds the first, that of the third, and, of a fourth that is not there, the
+-- one after all
+abbrev with-services : Log
+with-services =
+    record {
+      size = 3;
+      time = λ (i : ℕ). 0;
+      letters = λ (i k : ℕ). false;
+      place = λ (i : ℕ). getD (1 ∷ 2 ∷ 4 ∷ []) i 0;
+      closed = false;
+    }
+
+pub every-record :
+    wanted-record with-services 6 0 ∷ wanted-record with-services 6 2 ∷ wanted-record with-services 6 3 ∷ [] ≡ 1 ∷ 4 ∷ 6 ∷ []
+every-record = refl

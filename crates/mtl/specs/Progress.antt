@@ -1,4 +1,5 @@
--- Progress: document 01's answered number. "Each entry answers a run of positions from 0 up. N is the number of records."
+-- Progress: document 01's answered number. "Each entry answers a run of positions from 0 up."; N is
+-- the number of positions (document 02, paper 10)
 use Prim.Native.Nat.{ℕ, zero, suc, _-_, min}
 use mathlib.Core.Bool.{Bool, cond, _&&_, _||_}
 use mathlib.Core.Bool.{not as negate}

@@ -1,7 +1,7 @@
 -- From an entry's number of its kind to the formula's last operator, for the dispatch. Assumes nothing.
 use Prim.Native.Nat.{ℕ, _+_, _≤_}
 use native.Mathlib.Omega.{arith}
-use mathlib.Core.Bool.{Bool, cond}
+use mathlib.Core.Bool.{cond}
 use mathlib.Core.List.{List}
 use mathlib.Core.Path.{_≡_, refl, subst}
 use lib.Dec.{eqb}
@@ -32,15 +32,18 @@ rebuilt (since low high φ ψ) = refl
 rebuilt (until low high φ ψ) = refl
 
 -- what the operator of kind n promises, it promises of every formula that an entry of this kind stands for
-pub steps-of : (closed : Bool) (φ : Formula) {k c l h : ℕ} (n : ℕ) (s b : List ℕ) (r : Step) (b′ : List ℕ) → k ≡ n → Fields φ k c l h →
-    Steps closed (formula n c l h (left-of φ) (right-of φ)) s b r b′ → Steps closed φ s b r b′
-steps-of closed φ {c = c} {l = l} {h = h} n s b r b′ e f steps =
+pub steps-of : (φ : Formula) {k c l h : ℕ} (n : ℕ) (v s b : List ℕ) (r : Step) (b′ : List ℕ) → k ≡ n → Fields φ k c l h →
+    Steps (formula n c l h (left-of φ) (right-of φ)) v s b r b′ → Steps φ v s b r b′
+steps-of φ {c = c} {l = l} {h = h} n v s b r b′ e f steps =
     let same : formula n c l h (left-of φ) (right-of φ) ≡ φ = rw (← e, f .kind, f .letter, f .low, f .high) (rebuilt φ) in
-    subst (λ (χ : Formula). Steps closed χ s b r b′) same steps
+    subst (λ (χ : Formula). Steps χ v s b r b′) same steps
 
--- an entry's block has 16 words at least, and a since's its ring besides
+-- an entry's block has 16 words at least, a since's its ring besides, and an until's that of its other head
 pub room-of : (k h n : ℕ) → own-words k h ≤ n → 16 ≤ n
 room-of k h n r = omega (arith, own-least k h)
 
 pub since-room-of : (k h n : ℕ) → k ≡ 5 → own-words k h ≤ n → 16 + ring-words h ≤ n
 since-room-of k h n e r = rw e at r
+
+pub until-room-of : (k h n : ℕ) → k ≡ 6 → own-words k h ≤ n → 17 ≤ n
+until-room-of k h n e r = let more : own-words 6 h ≤ n = rw e at r in omega arith

@@ -1,5 +1,6 @@
 -- One step of the letter, not, or, previous and next over their block's words, as the code leaves them. Assumes nothing.
 use Prim.Native.Nat.{ℕ, _+_, _-_, _≤_, _<_, _^_}
+use native.Mathlib.Nat.{zero-add, le-refl}
 use native.Mathlib.Omega.{arith}
 use mathlib.Core.Bool.{Bool, true, false, _&&_, _||_, false≢true}
 use mathlib.Core.List.{List, [], _∷_}
@@ -8,10 +9,10 @@ use mathlib.Core.Path.{_≡_, refl, sym, ap, _∙_}
 use lib.Bits.{bitAnd, bitOr}
 use lib.Dec.{leb, ltb}
 use lib.ListN.{length, set}
-use borrow.Author.Tests.{leb-true, ltb-true, lt-ltb, le-ltb}
+use borrow.Author.Tests.{leb-true, leb-false, ltb-true, ltb-false, lt-ltb, le-ltb}
 use Rattle.mtl.specs.Formula.{Formula}
 use Rattle.mtl.specs.Formula.Formula.{letter, not, or, previous, next}
-use Rattle.mtl.specs.Log.{Log}
+use Rattle.mtl.specs.Log.{Log, head-of}
 use Rattle.mtl.specs.Satisfaction.{sat, within}
 use Rattle.mtl.specs.Progress.{settled-to}
 use Rattle.mtl.proofs.Bounded.{or-iff}
@@ -27,51 +28,69 @@ use Rattle.mtl.proofs.Closing.{
 }
 use Rattle.bits.specs.Packed.{Packed}
 use Rattle.bits.proofs.Laws.{packed-none, packed-push, packed-same, packed-not, packed-or, packed-and}
-use Rattle.trace.specs.Format.{record-count, time-at, has-letter}
-use Rattle.blocks.specs.Block.{taken, left-count, left-bits, right-count, right-bits, answered, Onward, Core, Own, RightBuffer, Buffers, Ready, took-right, took-both}
-use Rattle.blocks.specs.Near.{near-at}
+use Rattle.trace.specs.Format.{time-at, has-letter}
+use Rattle.trace.specs.View.{first, total, skips, in-slice}
+use Rattle.trace.specs.Window.{window-of, Opened, Passed}
+use Rattle.trace.specs.declared.window.Window.{Window}
+use Rattle.trace.proofs.Laws.{neither}
+use Rattle.blocks.specs.Block.{taken, left-count, left-bits, right-count, right-bits, answered, head, Onward, Core, Own, Heads, RightBuffer, Buffers, Ready, took-right, took-both}
+use Rattle.blocks.specs.Near.{near-after}
 use Rattle.blocks.specs.Step.{Agrees, Stepped, Moved, has-left, left-to-do}
 use Rattle.blocks.specs.declared.Step.the-variants.{Batch, Again}
 use Rattle.blocks.proofs.Words.{Store, put, stores, word-stores, stores-onward, less-to-do, fits}
 use Rattle.blocks.proofs.Taking.{right-stores, both-stores, first-of, taken-right, taken-both}
+use Rattle.blocks.proofs.Reading.{read-time, read-letter, head-end, head-passed}
+use Rattle.operators.specs.Neighbour.{Gaps, TookNear}
+
+-- the stores of a letter that has read n positions, its head behind them being h
+abbrev read-stores : (n h : ℕ) → List ℕ → List Store
+read-stores n h b = put 0 (taken b + n) ∷ put 11 h ∷ []
+
+pub read-onward : (n h : ℕ) (b : List ℕ) → 16 ≤ length b → head b ≤ h → Onward 12 b (stores (read-stores n h b) b)
+read-onward n h b room later = stores-onward (read-stores n h b) b (omega arith) (omega arith) (omega arith)
 
 -- the stores of a previous or a next that has taken n positions for as many answers
-abbrev answered-stores : ℕ → List ℕ → List Store
-answered-stores n b = right-stores n b (put 5 (answered b + n) ∷ [])
+abbrev answered-stores : (n h : ℕ) → List ℕ → List Store
+answered-stores n h b = right-stores n b (put 11 h ∷ put 5 (answered b + n) ∷ [])
 
-pub answered-onward : (n : ℕ) (b : List ℕ) → 16 ≤ length b → Onward 12 b (set (took-right n b) 5 (answered b + n))
-answered-onward n b room = stores-onward (answered-stores n b) b room (omega arith) (omega arith) (omega arith)
+pub answered-onward : (n h : ℕ) (b : List ℕ) → 16 ≤ length b → head b ≤ h → Onward 12 b (stores (answered-stores n h b) b)
+answered-onward n h b room later = stores-onward (answered-stores n h b) b (omega arith) (omega arith) (omega arith)
 
-module _ (s b : List ℕ) (room : 16 ≤ length b) (n : ℕ) (some : 0 < n) where
+module _ (v b : List ℕ) (room : 16 ≤ length b) (n : ℕ) (some : 0 < n) where
   right-at : taken (took-right n b) ≡ taken b + n
-  right-at = word-stores (right-stores n b []) b (omega arith) room 0
+  right-at = word-stores (right-stores n b []) b (omega arith) 0
 
-  pub right-less : taken b + n ≤ record-count s → left-to-do s (took-right n b) < left-to-do s b
-  right-less inside = less-to-do s b (took-right n b) n some inside right-at
+  pub right-less : taken b + n ≤ total v → left-to-do v (took-right n b) < left-to-do v b
+  right-less inside = less-to-do v b (took-right n b) n some inside right-at
 
   module _ (L : Log) (g : ℕ) where
-    pub letter-batch : {closed : Bool} → Agrees closed s L g → (k bits : ℕ) → taken b + n ≤ record-count s → Packed (has-letter s k) (taken b) n bits → Ready (letter k) L g b →
-        Stepped (letter k) L g b (Batch bits n) (set b 0 (taken b + n))
+    pub letter-batch : {s : List ℕ} → Agrees v s L g → (k bits : ℕ) → taken b + n ≤ total v → {w : Window} {copy : List ℕ} →
+        Opened (skips v) s (in-slice (first v) (head b)) n w copy → Packed (has-letter (window-of w s copy) k) 0 n bits → Ready (letter k) L g b →
+        Stepped (letter k) L g b (Batch bits n) (stores (read-stores n (first v + w .end) b) b)
     unfolding sat
-    letter-batch agrees k bits inside packed ready =
+    letter-batch {s} agrees k bits inside {w} {copy} opened packed ready =
         let all = settled-letter L k in
-        let at = word-stores (put 0 (taken b + n) ∷ []) b (omega arith) room in
+        let at = word-stores (read-stores n (first v + w .end) b) b (omega arith) in
         let core = ready .core in
         let range = core .range in
         let size = agrees .size in
-        let head = core .own in
-        let same : (i : ℕ) → i < n → L .letters (g + i) k ≡ has-letter s k (taken b + i) =
-        λ i h. sym (agrees .same (g + i) (omega arith) (omega arith) .letters k) ∙ ap (has-letter s k) (omega arith)
+        let own = core .own in
+        let from : g ≤ taken b = omega arith in
+        let within : taken b + n ≤ L .size = omega arith in
+        let record-letter = has-letter (window-of w s copy) k in
+        let same : (i : ℕ) → i < n → L .letters (g + i) k ≡ record-letter (0 + i) =
+        λ i h. rw (zero-add i, ← own) (sym (read-letter agrees (taken b) (core .heads) from within opened k i h))
         in (
           record {
             some = some;
-            buffer = record { within = omega arith; packed = packed-same (has-letter s k) (sat (letter k) L) (taken b) g n bits same packed };
+            buffer = record { within = omega arith; packed = packed-same record-letter (sat (letter k) L) 0 g n bits same packed };
           },
           record {
             core = record {
               reached = omega arith;
               range = omega (arith, at 0, at 1, at 3, at 5, at 6, at 7, at 8, at 9, at 10);
               own = omega (arith, at 0);
+              heads = at 11 ∙ head-end agrees (taken b) (core .heads) from within opened some ∙ ap (head-of L) (sym (at 0));
             };
             buffers = tt;
           },
@@ -80,13 +99,13 @@ module _ (s b : List ℕ) (room : 16 ≤ length b) (n : ℕ) (some : 0 < n) wher
 
     -- not stores nothing more, nor does next at position 0; φ is either, and ψ its operand
     right-ready : (φ ψ : Formula) → has-left φ ≡ false → (RightBuffer ψ L (took-right n b) → Buffers φ L (took-right n b)) → Core φ L g b →
-        RightBuffer ψ L b → n ≤ right-count b → (g′ : ℕ) → g′ ≤ settled-to φ L → Own φ L g′ (took-right n b) →
+        RightBuffer ψ L b → n ≤ right-count b → (g′ : ℕ) → g′ ≤ settled-to φ L → Own φ L g′ (took-right n b) → Heads φ L g′ (took-right n b) →
         Ready φ L g′ (took-right n b) × Moved φ b (took-right n b)
-    right-ready φ ψ single whole core right h g′ reached own =
-        let at = word-stores (right-stores n b []) b (omega arith) room in
+    right-ready φ ψ single whole core right h g′ reached own heads =
+        let at = word-stores (right-stores n b []) b (omega arith) in
         let range = core .range in
         let most = fits right in
-        taken-right φ b n g′ (took-right n b) reached (omega (arith, at 0, at 1, at 3, at 5, at 6, at 7, at 8, at 9, at 10)) own single whole h
+        taken-right φ b n g′ (took-right n b) reached (omega (arith, at 0, at 1, at 3, at 5, at 6, at 7, at 8, at 9, at 10)) own heads single whole h
         (record { at = at 0; count = at 3; bits = at 4 })
         right
 
@@ -98,7 +117,8 @@ module _ (s b : List ℕ) (room : 16 ≤ length b) (n : ℕ) (some : 0 < n) wher
         let core = ready .core in
         let head = core .own in
         let right = ready .buffers in
-        let moved = right-ready (not φ) φ refl (λ x. x) core right h (g + n) (omega arith) (omega (arith, right-at)) in (
+        let still = word-stores (right-stores n b []) b (omega arith) 11 in
+        let moved = right-ready (not φ) φ refl (λ x. x) core right h (g + n) (omega arith) (omega (arith, right-at)) (still ∙ core .heads) in (
           record {
             some = some;
             buffer = record { within = omega arith; packed = rw head at (packed-not (sat φ L) (taken b) n (right-bits b) word (first-of n h right)) };
@@ -112,7 +132,7 @@ module _ (s b : List ℕ) (room : 16 ≤ length b) (n : ℕ) (some : 0 < n) wher
     unfolding sat
     or-batch φ ψ l r ready =
         let all = settled-or L φ ψ in
-        let at = word-stores (both-stores n b []) b (omega arith) room in
+        let at = word-stores (both-stores n b []) b (omega arith) in
         let core = ready .core in
         let range = core .range in
         let head = core .own in
@@ -123,6 +143,7 @@ module _ (s b : List ℕ) (room : 16 ≤ length b) (n : ℕ) (some : 0 < n) wher
         taken-both (or φ ψ) b n (g + n) (took-both n b) (omega arith)
         (omega (arith, at 0, at 1, at 3, at 5, at 6, at 7, at 8, at 9, at 10))
         (omega (arith, at 0))
+        (at 11 ∙ core .heads)
         (λ x. x) l r
         (record { right = record { at = at 0; count = at 3; bits = at 4 }; count = at 1; bits = at 2 })
         left right
@@ -139,44 +160,33 @@ module _ (s b : List ℕ) (room : 16 ≤ length b) (n : ℕ) (some : 0 < n) wher
         )
 
     module _ (low high : ℕ) (φ : Formula) (h : n ≤ right-count b) where
-      -- χ at g + i is the operand's answer at the i-th position that is taken, if position from + i lies in the interval after
-      -- the one before
-      near-packed : {closed : Bool} (χ : Formula) (from near : ℕ) → 0 < from → from + n ≤ record-count s → Agrees closed s L (from - 1) →
-          Packed (near-at low high (time-at s)) from n near → RightBuffer φ L b →
-          ((i : ℕ) → i < n → sat χ L (g + i) ≡ within low high (L .time (from + i - 1)) (L .time (from + i)) && sat φ L (taken b + i)) →
-          Packed (sat χ L) g n (bitAnd near (right-bits b))
-      near-packed χ from near past inside agrees packed right same =
-          let size = agrees .size in
-          let is-near = near-at low high (time-at s) in
-          let operand : ℕ → Bool = λ j. sat φ L (taken b + (j - from)) in
-          let held = packed-same (sat φ L) operand (taken b) from n (right-bits b) (λ i l. ap (λ j. sat φ L (taken b + j)) (omega arith)) (first-of n h right) in
-          packed-same
-          (λ j. is-near j && operand j)
-          (sat χ L)
-          from
-          g
-          n
-          _
-          (λ i l.
-          let here : from + i - from ≡ i = omega arith in
-          rw (agrees .same (from + i - 1) (omega arith) (omega arith) .time, agrees .same (from + i) (omega arith) (omega arith) .time, here)
-          (same i l))
-          (packed-and is-near operand from n near (right-bits b) packed held)
+      -- χ at g + i is the operand's answer at the i-th position that is taken, if the position behind p + i lies in the interval after it
+      near-packed : (χ : Formula) (p : ℕ) {bits : ℕ} {b′ : List ℕ} → Gaps low high L p b n bits b′ → RightBuffer φ L b →
+          ((i : ℕ) → i < n → sat χ L (g + i) ≡ near-after low high (L .time) (p + i) && sat φ L (taken b + i)) → Packed (sat χ L) g n bits
+      near-packed χ p {bits} gaps right same =
+          let operand : ℕ → Bool = λ i. sat φ L (taken b + i) in
+          let held = packed-same (sat φ L) operand (taken b) 0 n (right-bits b) (λ i l. ap operand (zero-add i)) (first-of n h right) in
+          packed-same (λ i. near-after low high (L .time) (p + i) && operand i) (sat χ L) 0 g n bits (λ i l. rw (zero-add i) (same i l)) (gaps .answers operand held)
 
-      pub previous-batch : {closed : Bool} → Agrees closed s L (g - 1) → (near : ℕ) → 0 < answered b → answered b + n ≤ record-count s →
-          Packed (near-at low high (time-at s)) (answered b) n near → Ready (previous low high φ) L g b →
-          Stepped (previous low high φ) L g b (Batch (bitAnd near (right-bits b)) n) (set (took-right n b) 5 (answered b + n))
+      pub previous-batch : {s : List ℕ} {bits : ℕ} {b′ : List ℕ} → TookNear low high v s b n bits b′ → Agrees v s L (g - 1) → 0 < answered b → answered b + n ≤ total v →
+          Ready (previous low high φ) L g b → Stepped (previous low high φ) L g b (Batch bits n) (stores (answered-stores n (head b′) b) b)
       unfolding sat
-      previous-batch agrees near past inside packed ready =
+      previous-batch {bits = bits} {b′ = b′} took agrees past inside ready =
           let all = settled-previous L low high φ in
-          let at = word-stores (answered-stores n b) b (omega arith) room in
+          let at = word-stores (answered-stores n (head b′) b) b (omega arith) in
           let core = ready .core in
           let range = core .range in
           let own = core .own in
-          let right = ready .buffers in
           let size = agrees .size in
-          let same : (i : ℕ) → i < n → sat (previous low high φ) L (g + i) ≡ within low high (L .time (g + i - 1)) (L .time (g + i)) && sat φ L (taken b + i) =
-          λ i l. let before : g + i - 1 ≡ taken b + i = omega arith in rw (lt-ltb 0 (g + i) (omega arith), before)
+          let right = ready .buffers in
+          let gaps = took .gaps L (g - 1) agrees (core .heads ∙ ap (head-of L) (own .1)) (omega arith) in
+          let to : g + n ≤ settled-to (previous low high φ) L = omega arith in
+          let same : (i : ℕ) → i < n → sat (previous low high φ) L (g + i) ≡ near-after low high (L .time) (g - 1 + i) && sat φ L (taken b + i) =
+          λ i l.
+          let before : g + i - 1 ≡ taken b + i = omega arith in
+          let here : g + i ≡ g - 1 + i + 1 = omega arith in
+          let first : taken b + i ≡ g - 1 + i = omega arith in
+          rw (lt-ltb 0 (g + i) (omega arith), before, here, first)
           in
           let moved =
           taken-right
@@ -184,23 +194,18 @@ module _ (s b : List ℕ) (room : 16 ≤ length b) (n : ℕ) (some : 0 < n) wher
           b
           n
           (g + n)
-          (stores (answered-stores n b) b)
-          (omega arith)
+          (stores (answered-stores n (head b′) b) b)
+          to
           (omega (arith, at 0, at 1, at 3, at 5, at 6, at 7, at 8, at 9, at 10))
           (omega (arith, at 5), omega (arith, at 0))
+          (at 11 ∙ gaps .head ∙ ap (λ (p : ℕ). head-of L (p + n)) (sym (own .1)) ∙ ap (head-of L) (sym (at 0)))
           refl
           (λ x. x)
           h
           (record { at = at 0; count = at 3; bits = at 4 })
           right
           in (
-            record {
-              some = some;
-              buffer = record {
-                within = omega arith;
-                packed = near-packed (previous low high φ) g near (omega arith) (omega arith) agrees (rw (own .0) at packed) right same;
-              };
-            },
+            record { some = some; buffer = record { within = to; packed = near-packed (previous low high φ) (g - 1) gaps right same } },
             moved .0,
             moved .1,
           )
@@ -221,30 +226,28 @@ module _ (s b : List ℕ) (room : 16 ≤ length b) (n : ℕ) (some : 0 < n) wher
       -- position 0 is passed over
       pub next-pass : taken b ≡ 0 → n ≡ 1 → Ready (next low high φ) L g b → Stepped (next low high φ) L g b Again (took-right n b)
       next-pass first one ready =
-          let still = word-stores (right-stores n b []) b (omega arith) room 5 in
-          right-ready (next low high φ) φ refl (λ x. x) (ready .core) (ready .buffers) h g (ready .core .reached) (
-            still ∙ ready .core .own .0,
-            inl (omega (arith, right-at, trails ready)),
-          )
+          let still = word-stores (right-stores n b []) b (omega arith) 5 in
+          let unread = word-stores (right-stores n b []) b (omega arith) 11 in
+          right-ready (next low high φ) φ refl (λ x. x) (ready .core) (ready .buffers) h g (ready .core .reached)
+          (still ∙ ready .core .own .0, inl (omega (arith, right-at, trails ready)))
+          (unread ∙ ready .core .heads ∙ ap (head-of L) (omega (arith, right-at)))
 
-      pub next-batch : {closed : Bool} → Agrees closed s L g → (near : ℕ) → 0 < taken b → taken b + n ≤ record-count s →
-          Packed (near-at low high (time-at s)) (taken b) n near → Ready (next low high φ) L g b →
-          Stepped (next low high φ) L g b (Batch (bitAnd near (right-bits b)) n) (set (took-right n b) 5 (answered b + n))
+      pub next-batch : {s : List ℕ} {bits : ℕ} {b′ : List ℕ} → TookNear low high v s b n bits b′ → Agrees v s L g → 0 < taken b → taken b + n ≤ total v →
+          Ready (next low high φ) L g b → Stepped (next low high φ) L g b (Batch bits n) (stores (answered-stores n (head b′) b) b)
       unfolding sat
-      next-batch agrees near past inside packed ready =
+      next-batch {bits = bits} {b′ = b′} took agrees past inside ready =
           let own = trails ready in
-          let at = word-stores (answered-stores n b) b (omega arith) room in
-          let range = ready .core .range in
-          let head = ready .core .own .0 in
-          let right = ready .buffers in
+          let at = word-stores (answered-stores n (head b′) b) b (omega arith) in
           let size = agrees .size in
-          let p = taken b in
+          let gaps = took .gaps L g agrees (ready .core .heads ∙ ap (head-of L) (sym own)) (omega arith) in
+          let range = ready .core .range in
+          let next-is = ready .core .own .0 in
+          let right = ready .buffers in
           let to = next-reaches (g + n) (omega (arith, right .within)) in
-          let same : (i : ℕ) → i < n → sat (next low high φ) L (g + i) ≡ within low high (L .time (p + i - 1)) (L .time (p + i)) && sat φ L (p + i) =
+          let same : (i : ℕ) → i < n → sat (next low high φ) L (g + i) ≡ near-after low high (L .time) (g + i) && sat φ L (taken b + i) =
           λ i l.
-          let here : g + i + 1 ≡ p + i = omega arith in
-          let back : p + i - 1 ≡ g + i = omega arith in
-          rw (here, lt-ltb (p + i) (L .size) (omega arith), back)
+          let behind : taken b + i ≡ g + i + 1 = omega arith in
+          rw (behind, lt-ltb (g + i + 1) (L .size) (omega arith))
           in
           let moved =
           taken-right
@@ -252,34 +255,57 @@ module _ (s b : List ℕ) (room : 16 ≤ length b) (n : ℕ) (some : 0 < n) wher
           b
           n
           (g + n)
-          (stores (answered-stores n b) b)
+          (stores (answered-stores n (head b′) b) b)
           to
           (omega (arith, at 0, at 1, at 3, at 5, at 6, at 7, at 8, at 9, at 10))
           (omega (arith, at 5), inl (omega (arith, at 0)))
+          (at 11 ∙ gaps .head ∙ ap (head-of L) (omega (arith, at 0)))
           refl
           (λ x. x)
           h
           (record { at = at 0; count = at 3; bits = at 4 })
           right
           in (
-            record {
-              some = some;
-              buffer = record {
-                within = to;
-                packed = near-packed (next low high φ) p near past inside (rw own at agrees) packed right same;
-              };
-            },
+            record { some = some; buffer = record { within = to; packed = near-packed (next low high φ) g gaps right same } },
             moved .0,
             moved .1,
           )
 
+-- n answers taken through a window of one position more
+module _ (low high : ℕ) (v s b : List ℕ) (n : ℕ) (room : 16 ≤ length b) (w : Window) (copy : List ℕ)
+    (opened : Opened (skips v) s (in-slice (first v) (head b)) (n + 1) w copy) where
+  pub took-near : (near e : ℕ) → Packed (near-after low high (time-at (window-of w s copy))) 0 n near → Passed v s (head b) n w e →
+      TookNear low high v s b n (bitAnd near (right-bits b)) (set (took-right n b) 11 e)
+  took-near near e packed passed =
+      let at = word-stores (right-stores n b (put 11 e ∷ [])) b (omega arith) 11 in
+      let is-near = near-after low high (time-at (window-of w s copy)) in
+      record {
+        words = ap (set (took-right n b) 11) (sym at);
+        onward = rw at (passed .onward);
+        gaps = λ L p agrees stands fewer.
+            let inside : p + (n + 1) ≤ L .size = omega arith in
+            let reads = read-time agrees p stands (le-refl p) inside opened in
+            record {
+              answers = λ operand held.
+                  packed-same
+                  (λ i. is-near i && operand i)
+                  (λ i. near-after low high (L .time) (p + i) && operand i)
+                  0 0 n _
+                  (λ i l.
+                  let next : p + (0 + i) + 1 ≡ p + (0 + i + 1) = omega arith in
+                  rw (next, reads (0 + i) (omega arith), reads (0 + i + 1) (omega arith)))
+                  (packed-and is-near operand 0 n near (right-bits b) packed held);
+              head = at ∙ head-passed agrees p stands (le-refl p) inside opened n e (omega arith) passed;
+            };
+      }
+
 -- χ, a previous or a next, answers position g with no, whatever its operand φ holds
 module _ (b : List ℕ) (room : 16 ≤ length b) (χ φ : Formula) (L : Log) (g : ℕ) (single : has-left χ ≡ false) (ready : Ready χ L g b)
     (right : RightBuffer φ L b) (v : ℕ) (whole : RightBuffer φ L (set b 5 v) → Buffers χ L (set b 5 v)) where
-  answered-no : answered b ≤ v → v ≤ L .size → g + 1 ≤ settled-to χ L → Own χ L (g + 1) (set b 5 v) → sat χ L (g + 0) ≡ false →
+  answered-no : answered b ≤ v → v ≤ L .size → g + 1 ≤ settled-to χ L → Own χ L (g + 1) (set b 5 v) → Heads χ L (g + 1) (set b 5 v) → sat χ L (g + 0) ≡ false →
       Stepped χ L g b (Batch 0 1) (set b 5 v)
-  answered-no later inside reached own none =
-      let at = word-stores (put 5 v ∷ []) b (omega arith) room in
+  answered-no later inside reached own heads none =
+      let at = word-stores (put 5 v ∷ []) b (omega arith) in
       let range = ready .core .range in
       let moved =
       taken-right
@@ -291,6 +317,7 @@ module _ (b : List ℕ) (room : 16 ≤ length b) (χ φ : Formula) (L : Log) (g 
       reached
       (omega (arith, at 0, at 1, at 3, at 5, at 6, at 7, at 8, at 9, at 10))
       own
+      heads
       single
       whole
       (omega arith)
@@ -305,58 +332,70 @@ module _ (b : List ℕ) (room : 16 ≤ length b) (χ φ : Formula) (L : Log) (g 
         moved .1,
       )
 
+-- a previous and a next go on where the next position to answer, g, lies in the log, and what is taken fits what is answered
+pub not-open : (total g x y : ℕ) → leb total g || ltb x y ≡ false → (g < total) × (y ≤ x)
+not-open total g x y e = let (some, fit) = neither (leb total g) (ltb x y) .0 e in (leb-false total g some, ltb-false x y fit)
+
 -- a previous is open where no position is left; no later position than its own is taken
-pub previous-open : (s b : List ℕ) {closed : Bool} (low high : ℕ) (φ : Formula) (L : Log) (g : ℕ) → Agrees closed s L (g - 1) → Ready (previous low high φ) L g b →
-    leb (record-count s) (answered b) || ltb (answered b) (taken b) ≡ true → settled-to (previous low high φ) L ≡ g
-previous-open s b low high φ L g agrees ready e =
+pub previous-open : (v b : List ℕ) {s : List ℕ} (low high : ℕ) (φ : Formula) (L : Log) (g : ℕ) → Agrees v s L (g - 1) → Ready (previous low high φ) L g b →
+    leb (total v) (answered b) || ltb (answered b) (taken b) ≡ true → settled-to (previous low high φ) L ≡ g
+previous-open v b low high φ L g agrees ready e =
     let size = agrees .size in
     let own = ready .core .own in
     let reached = ready .core .reached in
     ⊎-elim
-    (λ none. let all = leb-true (record-count s) (answered b) none in omega (arith, settled-le-size (previous low high φ) L))
+    (λ none. let all = leb-true (total v) (answered b) none in omega (arith, settled-le-size (previous low high φ) L))
     (λ ahead. let less = ltb-true (answered b) (taken b) ahead in absurd (omega arith))
-    (or-iff (leb (record-count s) (answered b)) (ltb (answered b) (taken b)) .0 e)
+    (or-iff (leb (total v) (answered b)) (ltb (answered b) (taken b)) .0 e)
 
 -- position 0 of a previous is no
-pub previous-first : (s b : List ℕ) → 16 ≤ length b → 0 < record-count s → answered b ≡ 0 → {closed : Bool} (low high : ℕ) (φ : Formula) (L : Log) (g : ℕ) →
-    Agrees closed s L (g - 1) → Ready (previous low high φ) L g b → Stepped (previous low high φ) L g b (Batch 0 1) (set b 5 1)
+pub previous-first : (v b : List ℕ) → 16 ≤ length b → 0 < total v → answered b ≡ 0 → {s : List ℕ} (low high : ℕ) (φ : Formula) (L : Log) (g : ℕ) →
+    Agrees v s L (g - 1) → Ready (previous low high φ) L g b → Stepped (previous low high φ) L g b (Batch 0 1) (set b 5 1)
 unfolding sat
-previous-first s b room some first low high φ L g agrees ready =
-    let at = word-stores (put 5 1 ∷ []) b (omega arith) room in
+previous-first v b room some first low high φ L g agrees ready =
+    let at = word-stores (put 5 1 ∷ []) b (omega arith) in
     let own = ready .core .own in
     let size = agrees .size in
     answered-no b room (previous low high φ) φ L g refl ready (ready .buffers) 1 (λ x. x) (omega arith) (omega arith)
     (omega (arith, settled-previous L low high φ))
     (omega (arith, at 5), omega (arith, at 0))
+    (at 11 ∙ ready .core .heads ∙ ap (head-of L) (sym (at 0)))
     (rw (le-ltb 0 (g + 0) (omega arith)))
 
 -- next, where no position is left, at the end of a closed log, and before it
-module _ (s b : List ℕ) (room : 16 ≤ length b) {closed : Bool} (low high : ℕ) (φ : Formula) (L : Log) (g : ℕ) (agrees : Agrees closed s L g)
+module _ (v b : List ℕ) (room : 16 ≤ length b) {s : List ℕ} (low high : ℕ) (φ : Formula) (L : Log) (g : ℕ) (agrees : Agrees v s L g)
     (ready : Ready (next low high φ) L g b) where
-  pub next-none : record-count s ≤ answered b → settled-to (next low high φ) L ≡ g
-  next-none h =
+  pub next-none : leb (total v) (answered b) || ltb (taken b) (answered b) ≡ true → settled-to (next low high φ) L ≡ g
+  next-none e =
       let size = agrees .size in
-      let head = ready .core .own .0 in
+      let own = ready .core .own .0 in
       let reached = ready .core .reached in
-      omega (arith, settled-le-size (next low high φ) L)
+      let most = settled-le-size (next low high φ) L in
+      ⊎-elim
+      (λ none. let all = leb-true (total v) (answered b) none in omega arith)
+      (λ behind.
+      let less = ltb-true (taken b) (answered b) behind in
+      absurd (⊎-elim (λ t. omega arith) (λ t. let all = t .1 in let last = t .2 in omega arith) (ready .core .own .1)))
+      (or-iff (leb (total v) (answered b)) (ltb (taken b) (answered b)) .0 e)
 
   -- the last position of a closed log is no
-  pub next-end : L .closed ≡ true → answered b < record-count s → taken b ≡ record-count s →
+  pub next-end : L .closed ≡ true → answered b < total v → taken b ≡ total v →
       Stepped (next low high φ) L g b (Batch 0 1) (set b 5 (answered b + 1))
   unfolding sat
   next-end c left all =
       let size = agrees .size in
       let head = ready .core .own .0 in
-      let at = word-stores (put 5 (answered b + 1) ∷ []) b (omega arith) room in
+      let at = word-stores (put 5 (answered b + 1) ∷ []) b (omega arith) in
       let last : g + 1 ≡ L .size = ⊎-elim (λ e. omega arith) (λ e. let past = e .2 in absurd (omega arith)) (ready .core .own .1) in
       let here : g + 0 ≡ g = omega arith in
       answered-no b room (next low high φ) φ L g refl ready (ready .buffers) (answered b + 1) (λ x. x) (omega arith) (omega arith)
       (omega (arith, settled-closed (next low high φ) L c))
       (omega (arith, at 5), inr (c, omega (arith, at 0), last))
+      (at 11 ∙ ready .core .heads ∙ ap (λ (t : ℕ). head-of L (t - 1)) (sym (at 0)))
       (rw (here, le-ltb (g + 1) (L .size) (omega arith)))
 
   -- the operand is asked before the end alone: if it has no more answers, next has none
-  pub next-right : (L .closed ≡ true → taken b ≡ record-count s → ⊥) → settled-to φ L ≡ taken b → settled-to (next low high φ) L ≡ g
+  pub next-right : (L .closed ≡ true → taken b ≡ total v → ⊥) → settled-to φ L ≡ taken b → settled-to (next low high φ) L ≡ g
   next-right before e =
       let size = agrees .size in
       by-closed L

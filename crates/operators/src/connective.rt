@@ -1,18 +1,20 @@
 // not and or, on whole words of answers.
-ghost use mathlib.Core.Bool.{Bool, true, false};
-ghost use Prim.Native.Nat.{_≤_};
+ghost use mathlib.Core.Bool.{true, false};
+ghost use mathlib.Core.List.{List};
+ghost use Prim.Native.Nat.{ℕ, _≤_};
 ghost use lib.ListN.{length};
 ghost use Rattle.mtl.specs.Formula.{Formula};
 ghost use Rattle.mtl.specs.Formula.Formula.{not as not-formula, or as or-formula};
 ghost use Rattle.blocks.specs.Step.{Steps, Ends};
 use blocks::Step;
 use blocks::word;
+use trace::view;
 
 // Turns every answer of the operand.
-pub fn step_not(records: &[u8], block: &mut [u64]) -> Step
+pub fn step_not(view: &[u64; 4], block: &mut [u64]) -> Step
     requires { ⌜ 16 ≤ length (now block) ⌝ }
-    ensures { λ r. ⌜ Ends false true (now (records .entry)) (now (block .entry)) r (now (block .exit)) ⌝ }
-    ensures { λ r. ⌜ ((closed : Bool) (φ : Formula) → Steps closed (not-formula φ) (now (records .entry)) (now (block .entry)) r (now (block .exit))) ⌝ }
+    ensures { λ r. ⌜ Ends false true (now (view .entry)) (now (block .entry)) r (now (block .exit)) ⌝ }
+    ensures { λ r. ⌜ ((s : List ℕ) (φ : Formula) → Steps (not-formula φ) (now (view .entry)) s (now (block .entry)) r (now (block .exit))) ⌝ }
 {
     if block[word::RIGHT_COUNT] == 0 {
         return Step::Right;
@@ -20,7 +22,7 @@ pub fn step_not(records: &[u8], block: &mut [u64]) -> Step
     let count = blocks::available(
         block[word::TAKEN],
         block[word::RIGHT_COUNT],
-        trace::count(records) as u64,
+        view[view::TOTAL],
     );
     if count == 0 {
         return Step::Open;
@@ -31,10 +33,10 @@ pub fn step_not(records: &[u8], block: &mut [u64]) -> Step
 }
 
 // As many positions as both operands have answered.
-pub fn step_or(records: &[u8], block: &mut [u64]) -> Step
+pub fn step_or(view: &[u64; 4], block: &mut [u64]) -> Step
     requires { ⌜ 16 ≤ length (now block) ⌝ }
-    ensures { λ r. ⌜ Ends true true (now (records .entry)) (now (block .entry)) r (now (block .exit)) ⌝ }
-    ensures { λ r. ⌜ ((closed : Bool) (φ ψ : Formula) → Steps closed (or-formula φ ψ) (now (records .entry)) (now (block .entry)) r (now (block .exit))) ⌝ }
+    ensures { λ r. ⌜ Ends true true (now (view .entry)) (now (block .entry)) r (now (block .exit)) ⌝ }
+    ensures { λ r. ⌜ ((s : List ℕ) (φ ψ : Formula) → Steps (or-formula φ ψ) (now (view .entry)) s (now (block .entry)) r (now (block .exit))) ⌝ }
 {
     if block[word::LEFT_COUNT] == 0 {
         return Step::Left;
@@ -43,7 +45,7 @@ pub fn step_or(records: &[u8], block: &mut [u64]) -> Step
         return Step::Right;
     }
     let both = blocks::smaller(block[word::LEFT_COUNT], block[word::RIGHT_COUNT]);
-    let count = blocks::available(block[word::TAKEN], both, trace::count(records) as u64);
+    let count = blocks::available(block[word::TAKEN], both, view[view::TOTAL]);
     if count == 0 {
         return Step::Open;
     }

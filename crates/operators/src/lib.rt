@@ -1,8 +1,10 @@
 // One step of an entry on its own block, by kind: the seven operators. An operand's answers come out of the block.
+ghost use mathlib.Core.Path.{_≡_};
 ghost use Prim.Native.Nat.{_≤_, _<_, _^_};
 ghost use lib.ListN.{length};
 ghost use Rattle.mtl.specs.Formula.{Formula};
 ghost use Rattle.rule.specs.Words.{own-words};
+ghost use Rattle.trace.specs.View.{Numbered};
 ghost use Rattle.blocks.specs.Step.{Steps, Ends};
 ghost use Rattle.blocks.specs.Kinds.{Fields, takes-left, takes-right};
 
@@ -18,20 +20,23 @@ pub fn advance(
     low: u64,
     high: u64,
     records: &[u8],
-    closed: bool,
+    view: &[u64; 4],
+    copy: &mut [u8; 520],
+    waiting: &mut [u8; 520],
     block: &mut [u64],
 ) -> Step
-    requires { ⌜ (kind ≤ 6) × (letter < 32) × (high < 2 ^ 32) × (own-words kind high ≤ length (now block)) ⌝ }
-    ensures { λ r. ⌜ Ends (takes-left kind) (takes-right kind) (now (records .entry)) (now (block .entry)) r (now (block .exit)) ⌝ }
-    ensures { λ r. ⌜ ((φ : Formula) → Fields φ kind letter low high → Steps closed φ (now (records .entry)) (now (block .entry)) r (now (block .exit))) ⌝ }
+    requires { ⌜ (kind ≤ 6) × (letter < 32) × (high < 2 ^ 32) × (own-words kind high ≤ length (now block)) × (length (now copy) ≡ 520) × (length (now waiting) ≡ 520) × Numbered (now view) (now records) ⌝ }
+    ensures { λ r. ⌜ Ends (takes-left kind) (takes-right kind) (now (view .entry)) (now (block .entry)) r (now (block .exit)) ⌝ }
+    ensures { λ r. ⌜ ((φ : Formula) → Fields φ kind letter low high → Steps φ (now (view .entry)) (now (records .entry)) (now (block .entry)) r (now (block .exit))) ⌝ }
+    ensures { λ _. ⌜ (length (now (copy .exit)) ≡ 520) × (length (now (waiting .exit)) ≡ 520) ⌝ }
 {
     match kind {
-        0 => letter::step_letter(letter, records, block),
-        1 => connective::step_not(records, block),
-        2 => connective::step_or(records, block),
-        3 => neighbour::step_previous(low, high, records, block),
-        4 => neighbour::step_next(low, high, records, closed, block),
-        5 => since::step_since(low, high, records, block),
-        _ => until::step_until(low, high, records, closed, block),
+        0 => letter::step_letter(letter, records, view, copy, block),
+        1 => connective::step_not(view, block),
+        2 => connective::step_or(view, block),
+        3 => neighbour::step_previous(low, high, records, view, copy, block),
+        4 => neighbour::step_next(low, high, records, view, copy, block),
+        5 => since::step_since(low, high, records, view, copy, block),
+        _ => until::step_until(low, high, records, view, copy, waiting, block),
     }
 }

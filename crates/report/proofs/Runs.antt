@@ -1,6 +1,6 @@
 -- What one call of `open` and one of `resume` on the fresh checkpoint come to: a refusal by rule and log alone, or all verdicts.
 -- Assumes nothing.
-use Prim.Native.Nat.{ℕ, _+_, _*_, _≤_}
+use Prim.Native.Nat.{ℕ, _+_, _*_, _≤_, zero-le}
 use mathlib.Core.Bool.{Bool, true, false, cond, false≢true}
 use mathlib.Core.Path.{_≡_, refl, sym, _∙_, ap, subst}
 use mathlib.Core.List.{List, [], _++_}
@@ -17,17 +17,21 @@ use Rattle.rule.specs.Entries.{version}
 use Rattle.rule.specs.Refusal.{first, refusal}
 use Rattle.rule.proofs.Headers.{first-zero, before-none, or-right}
 use Rattle.rule.proofs.Acceptance.{accepted}
-use Rattle.trace.specs.Format.{record-count, records-of, malformed}
+use Rattle.trace.specs.Format.{record-count, records-of, skips-of, malformed}
 use Rattle.trace.specs.Log.{log-of}
 use Rattle.trace.specs.Order.{disordered}
+use Rattle.trace.specs.View.{view-of, Shows}
 use Rattle.trace.proofs.Laws.{well-formed-records, ordered-iff}
-use Rattle.checkpoint.specs.Checkpoint.{need}
-use Rattle.checkpoint.specs.Refusal.{open-refusal, log-refusal, resume-refusal}
+use Rattle.trace.proofs.Positions.{before-few, log-placed, positions-keep}
+use Rattle.trace.proofs.Slices.{cut-from, before-cut, slice-shows, flag-told}
+use Rattle.blocks.specs.Step.{Agrees}
+use Rattle.checkpoint.specs.Checkpoint.{first-wanted, need}
+use Rattle.checkpoint.specs.Refusal.{open-refusal, resume-refusal}
 use Rattle.emit.specs.Verdicts.{formulas-of, columns, verdicts, first-records, all-verdicts}
 use Rattle.monitor.specs.Stands.{Stands}
 use Rattle.monitor.specs.Open.{done, Opens}
 use Rattle.monitor.specs.Open.{answer as opened-of}
-use Rattle.monitor.specs.Resume.{gave, Gives, Resumes}
+use Rattle.monitor.specs.Resume.{gave, wanted-records, Gives, Resumes}
 use Rattle.monitor.specs.Resume.{answer as resumed-of}
 use Rattle.monitor.specs.Formulas.{Answer, answer, formula-count}
 use Rattle.monitor.specs.declared.Opened.{Opened}
@@ -41,7 +45,7 @@ use Rattle.monitor.specs.declared.FormulaCount.the-variants.{Formulas}
 use Rattle.monitor.specs.declared.FormulaCount.the-variants.{Refused as NotCounted}
 use Rattle.monitor.proofs.Answers.{open-number, open-unrefused, open-refused, resume-number, resume-unrefused, resume-refused}
 use Rattle.monitor.proofs.Meaning.{few-columns, most-few}
-use Rattle.monitor.proofs.OwnCheckpoint.{own-given, not-outside}
+use Rattle.monitor.proofs.OwnCheckpoint.{wanted-within, not-outside}
 use Rattle.monitor.proofs.VerdictBytes.{verdicts-more}
 use Rattle.report.specs.Report.{refused-text, first-line, lines, verdicts-text, run-refusal, too-long, report}
 
@@ -67,7 +71,7 @@ module _ (rule : List ℕ) (fine : refusal rule ≡ 0) where
 
 -- a log with no record
 abbrev none-yet : Log
-none-yet = log-of []
+none-yet = log-of false []
 
 -- what an accepted run gives
 pub record Ran (rule log : List ℕ) (c : ℕ) (sheet′ : List ℕ) : Type 0 where
@@ -110,23 +114,26 @@ module _ (rule log : List ℕ) (short : too-long rule log ≡ false) where
     fine : refusal rule ≡ 0
     fine = sym opens-by ∙ ap (open-refusal rule) (sym size) ∙ open-unrefused opens
 
-    stands : Stands rule none-yet 0 p
-    stands = opens .words .1 none-yet refl refl
+    stands : Stands rule none-yet 0 0 p
+    stands = opens .words .3 none-yet refl refl
 
-    -- 9, 10, 11, 13 and 20 are not met
+    all-wanted : first-wanted p ≡ 0
+    all-wanted = omega (arith, stands .wanted, wanted-within none-yet 0 (stands .placed) (wanted (formulas-of rule) 0))
+
+    -- 9, 10, 11, 13, 20 and 22 are not met
     resumes-by : resume-refusal false rule log p ≡ run-refusal rule log
     resumes-by =
-        let all-wanted : wanted (formulas-of rule) 0 ≡ 0 = omega arith in
         rw (
           eq-eqb (refusal rule) 0 fine,
           le-ltb (length p) (need rule) (stands .enough),
           stands .own,
-          not-outside rule none-yet 0 p fine stands,
-          own-given rule none-yet 0 p fine stands,
+          not-outside rule none-yet 0 0 p fine stands,
           all-wanted,
           stands .size,
-          stands .time,
+          opens .words .1,
           stands .closed,
+          opens .words .2,
+          le-ltb (record-count (records-of log)) 0 zero-le,
         )
 
     module _ (sheet : List ℕ) (r : Resumed) (p′ sheet′ : List ℕ) (resumes : Resumes false rule log p sheet (resumed-of r) p′ sheet′) where
@@ -146,40 +153,54 @@ module _ (rule log : List ℕ) (short : too-long rule log ≡ false) where
         unrefused = sym resumes-by ∙ resume-unrefused given
 
         -- 12 and 14 are not met
-        log-fine : log-refusal false log 0 0 0 0 ≡ 0
-        log-fine = before-none (refusal rule) (log-refusal false log 0 0 0 0) unrefused .1
+        log-fine : first 12 (malformed log) (first 14 (disordered (records-of log) 0 0) 0) ≡ 0
+        log-fine = before-none (refusal rule) _ unrefused .1
 
         well-formed : malformed log ≡ false
-        well-formed = first-zero 11 (malformed log) _ (first-zero 19 false _ log-fine .1) .0
+        well-formed = first-zero 11 (malformed log) _ log-fine .0
 
-        ordered : disordered (records-of log) 0 0 0 ≡ false
-        ordered =
-            let fewer = ltb (record-count (records-of log)) 0 in
-            let after-13 = first 14 (disordered (records-of log) 0 0 0) 0 in
-            let after-12 = first 13 fewer after-13 in
-            first-zero 13 (disordered (records-of log) 0 0 0) 0
-            (first-zero 12 fewer after-13 (first-zero 11 (malformed log) after-12 (first-zero 19 false _ log-fine .1) .1) .1) .0
+        ordered : disordered (records-of log) 0 0 ≡ false
+        ordered = first-zero 13 (disordered (records-of log) 0 0) 0 (first-zero 11 (malformed log) _ log-fine .1) .0
+
+        abbrev records : ℕ
+        records = record-count (records-of log)
 
         abbrev L : Log
-        L = log-of (records-of log)
+        L = log-of (skips-of log) (records-of log)
 
         never-falls : NeverFalls L
-        never-falls i j le h = ordered-iff (records-of log) 0 0 0 .0 ordered .0 i j (omega arith) le h
+        never-falls = positions-keep (skips-of log) (records-of log) (ordered-iff (records-of log) 0 0 .0 ordered .0)
 
-        whole : first-records false log (L .size) ≡ L
+        whole : first-records false log records ≡ L
         whole =
             let bytes = well-formed-records log well-formed .1 .whole in
-            ap log-of (take-all (8 * L .size) (records-of log) (omega arith))
+            ap (log-of (skips-of log)) (take-all (8 * records) (records-of log) (omega arith))
 
-        gives : Gives rule L 0 sheet c more p′ sheet′
+        -- the fresh checkpoint wants all records
+        agrees : Agrees (view-of (first-wanted p) (wanted (formulas-of rule) 0) (skips-of log) false (wanted-records log p)) (wanted-records log p) L (wanted (formulas-of rule) 0)
+        agrees =
+            let skips = skips-of log in
+            let slice = wanted-records log p in
+            let none = all-wanted in
+            let cut = cut-from (records-of log) (records-of log) (first-wanted p) refl (omega arith) (λ k lo hi. refl) in
+            let counts = before-cut (records-of log) slice (first-wanted p) cut skips in
+            let few = before-few skips (records-of log) (first-wanted p) in
+            record {
+              ends = refl;
+              size = omega arith;
+              shows = λ i lo hi.
+                  subst (λ b. Shows b slice (first-wanted p) L i) (sym (flag-told skips))
+                  (slice-shows skips (records-of log) slice (first-wanted p) cut i (omega arith) hi);
+            }
+
+        gives : Gives rule L records 0 sheet c more p′ sheet′
         gives =
-            given .words .meaning none-yet L 0 stands
+            given .words .meaning none-yet L 0 0 stands
             (record { longer = omega arith; same = λ i lo hi. absurd (omega arith); ended = λ e. absurd (false≢true e) })
-            never-falls
-            (record { ends = refl; size = refl; same = λ i lo hi. record { time = refl; letters = λ k. refl } })
+            never-falls (log-placed (skips-of log) (records-of log)) agrees
 
         -- a log of 65,536 bytes has 8,191 records
-        few-records : L .size ≤ 8191
+        few-records : records ≤ 8191
         few-records =
             let short-log = ltb-false 65536 (length log) (or-right (ltb 65536 (length rule)) (ltb 65536 (length log)) short) in
             let behind = length-drop 8 log in
@@ -190,6 +211,7 @@ module _ (rule log : List ℕ) (short : too-long rule log ≡ false) where
         all-given =
             let count = gives .count in
             let below = joint-le-size (formulas-of rule) L in
+            let positions = before-few (skips-of log) (records-of log) records in
             let few = few-records in
             omega arith
 
@@ -202,17 +224,17 @@ module _ (rule log : List ℕ) (short : too-long rule log ≡ false) where
             let sum : 0 + c ≡ c = omega arith in
             verdicts-more (formulas-of rule) L 0 c sheet′ given-fits (gives .bytes) ∙ ap (verdicts (formulas-of rule) L) sum
 
-        all : all-verdicts false rule log (L .size) ≡ take c sheet′
+        all : all-verdicts false rule log records ≡ take c sheet′
         all =
             ap (λ K. verdicts (formulas-of rule) K (joint-progress (formulas-of rule) K)) whole ∙
             ap (verdicts (formulas-of rule) L) (sym all-given) ∙ sym bytes
 
-        text : report rule log ≡ first-line c (L .size) ++ lines (columns (formulas-of rule)) (take c sheet′) (length (take c sheet′))
+        text : report rule log ≡ first-line c records ++ lines (columns (formulas-of rule)) (take c sheet′) (length (take c sheet′))
         text =
             let count : length (take c sheet′) ≡ c = length-take-le c sheet′ given-fits in
             rw (short, eq-eqb (run-refusal rule log) 0 unrefused)
-            (ap (verdicts-text (L .size) (columns (formulas-of rule))) all ∙
-            ap (λ k. first-line k (L .size) ++ lines (columns (formulas-of rule)) (take c sheet′) (length (take c sheet′))) count)
+            (ap (verdicts-text records (columns (formulas-of rule))) all ∙
+            ap (λ k. first-line k records ++ lines (columns (formulas-of rule)) (take c sheet′) (length (take c sheet′))) count)
 
         pub resumed : Ran rule log c sheet′
         resumed = record { few-records = few-records; few = omega (arith, given .words .room); fits = given-fits; accepts = fine; text = text }

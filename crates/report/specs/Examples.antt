@@ -1,5 +1,5 @@
--- Document 01's run, from its bytes to its text, the same log with an empty rule and with two formulas, and two small cases, by
--- computation.
+-- Document 01's run, from its bytes to its text, the same log with an empty rule, with two formulas and with a service record, and two
+-- small cases, by computation.
 use Prim.Native.Nat.{ℕ}
 use mathlib.Core.List.{List, [], _∷_, _++_}
 use mathlib.Core.Path.{_≡_, refl}
@@ -10,6 +10,7 @@ use Rattle.rule.specs.Entries.{first-entries}
 use Rattle.rule.specs.Words.{offset}
 use Rattle.rule.specs.Postfix.{push-kind, read}
 use Rattle.rule.specs.Refusal.{header-refusal, entries-refusal}
+use Rattle.trace.specs.Positions.{passing, spot, positions}
 use Rattle.verdicts.specs.Bytes.{byte-of}
 use Rattle.emit.specs.Verdicts.{verdicts}
 use Rattle.report.specs.Report.{ascii, decimal-in, decimal, words, lines, report}
@@ -50,6 +51,12 @@ pub two-formulas : report (0x4B ∷ 0x52 ∷ 0x4C ∷ 0 ∷ 2 ∷ 7 ∷ 0 ∷ 0 
     ≡ ascii "verdicts 5 of 6\n0 no yes\n1 no yes\n2 no yes\n3 yes no\n4 yes no\n"
 unfolding ascii decimal-in words lines first-entries offset push-kind read header-refusal entries-refusal any all sat run progress settled-to joint-progress byte-of verdicts
 two-formulas = refl
+
+-- request 10: the same records as version 2 with a service record before them: the total counts it, and no position is its
+pub serviced : report rule (0x4B ∷ 0x4C ∷ 0x47 ∷ 0 ∷ 2 ∷ 0 ∷ 0 ∷ 0 ∷ 0 ∷ 0 ∷ 0 ∷ 9 ∷ 0x80 ∷ 0 ∷ 0 ∷ 0 ∷ drop 8 log)
+    ≡ ascii "verdicts 5 of 7\n0 no\n1 no\n2 no\n3 yes\n4 yes\n"
+unfolding ascii decimal-in words lines passing spot positions first-entries offset push-kind read header-refusal entries-refusal any all sat run progress settled-to joint-progress byte-of verdicts
+serviced = refl
 
 -- the same log with no rule
 pub no-rule : report [] log ≡ ascii "refused 1\n"

@@ -9,9 +9,9 @@ use mathlib.Core.List.{List, [], _∷_, _++_}
 use lib.ListN.{length, getD, take, drop}
 use lib.Dec.{ltb, eqb}
 use Rattle.bits.specs.Packed.{bit}
-use Rattle.rule.specs.Refusal.{before, refusal}
-use Rattle.trace.specs.Format.{record-count, records-of}
-use Rattle.checkpoint.specs.Refusal.{log-refusal}
+use Rattle.rule.specs.Refusal.{first, before, refusal}
+use Rattle.trace.specs.Format.{record-count, records-of, malformed}
+use Rattle.trace.specs.Order.{disordered}
 use Rattle.emit.specs.Verdicts.{formulas-of, columns, all-verdicts}
 
 -- the bytes of a text; every character here is ASCII, one byte
@@ -32,7 +32,7 @@ decimal n = decimal-in (suc n) n
 abbrev pub refused-text : ℕ → List ℕ
 refused-text number = ascii "refused " ++ decimal number ++ ascii "\n"
 
--- "The first line has verdicts given and records"
+-- "The first line has verdicts given and records": service records, too (document 02, paper 10)
 abbrev pub first-line : (given records : ℕ) → List ℕ
 first-line given records = ascii "verdicts " ++ decimal given ++ ascii " of " ++ decimal records ++ ascii "\n"
 
@@ -57,10 +57,10 @@ lines columns verdicts (suc n) = lines columns verdicts n ++ line n columns (get
 abbrev pub verdicts-text : (records columns : ℕ) (verdicts : List ℕ) → List ℕ
 verdicts-text records columns verdicts = first-line (length verdicts) records ++ lines columns verdicts (length verdicts)
 
--- "opens, carries on": the first refusal that applies. The checkpoint is fresh, with nothing given or seen, and has room for
--- every rule that passes 8. So 9, 10, 11, 13 and 20 are never met
+-- "opens, carries on": the first refusal that applies. The checkpoint is fresh, with nothing given, seen or noted, and has room for
+-- every rule that passes 8. So 9, 10, 11, 13, 20 and 22 are never met
 abbrev pub run-refusal : (rule log : List ℕ) → ℕ
-run-refusal rule log = before (refusal rule) (log-refusal false log 0 0 0 0)
+run-refusal rule log = before (refusal rule) (first 12 (malformed log) (first 14 (disordered (records-of log) 0 0) 0))
 
 -- "a file above 65,536 bytes prints `too long` before all else"
 abbrev pub too-long : (rule log : List ℕ) → Bool

@@ -62,7 +62,7 @@ module _ (s : Settings) (seed n : ℕ) (few : n ≤ 3600) where
   well-formed = made-well time-of (events-in s seed) n (omega arith)
 
   -- check 14 passes for a first call
-  pub in-order : disordered written 0 0 0 ≡ false
+  pub in-order : disordered written 0 0 ≡ false
   in-order = made-ordered time-of (events-in s seed) n (λ i h. omega arith) (λ i j le h. le)
 
   module _ (t : ℕ) (h : t < n) where

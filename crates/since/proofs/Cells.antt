@@ -304,18 +304,18 @@ oldest cells b start cell low at gap s e g (q ∷ qs) r =
     ap (λ (k : ℕ). getD b k 0) e ∙ ap (λ (k : ℕ). getD b (16 + wrap cells k) 0) (s (r .start)) ∙ first cells b (getD b 9 0) (getD b 10 0) q qs (held cells b (q ∷ qs) r) in
     rw (r .count, g, f)
 
--- words below the ring's own are no part of it
-pub ring-kept : (cells : ℕ) (b b′ qs : List ℕ) → length b′ ≡ length b → ((i : ℕ) → 9 ≤ i → getD b′ i 0 ≡ getD b i 0) → Ring cells b qs → Ring cells b′ qs
+-- words below the ring's own, and the head, are no part of it
+pub ring-kept : (cells : ℕ) (b b′ qs : List ℕ) → length b′ ≡ length b → ((i : ℕ) → 9 ≤ i → (i ≡ 11 → ⊥) → getD b′ i 0 ≡ getD b i 0) → Ring cells b qs → Ring cells b′ qs
 ring-kept cells b b′ qs l same r =
     let room = r .room in
     let start = r .start in
-    let e = same 9 (omega arith) in
+    let e = same 9 (omega arith) (omega arith) in
     record {
       room = omega arith;
       start = omega arith;
-      count = same 10 (omega arith) ∙ r .count;
+      count = same 10 (omega arith) (omega arith) ∙ r .count;
       fits = r .fits;
-      at = λ i h. rw e (same (16 + wrap cells (getD b 9 0 + i)) (omega arith) ∙ r .at i h);
+      at = λ i h. rw e (same (16 + wrap cells (getD b 9 0 + i)) (omega arith) (omega arith) ∙ r .at i h);
     }
 
 -- one thing after the other

@@ -4,28 +4,31 @@ use native.Mathlib.Nat.{zero-add, add-zero}
 use native.Mathlib.Numerals.{add-one}
 use native.Mathlib.Omega.{arith}
 use mathlib.Core.Bool.{Bool}
-use mathlib.Core.List.{List, []}
+use mathlib.Core.List.{List, [], _∷_}
 use mathlib.Core.Path.{_≡_, refl, sym, ap, _∙_}
-use lib.ListN.{length, getD, length-set}
+use lib.ListN.{length, getD, set, length-set}
 use borrow.Author.Tests.{ne-eqb}
 use Rattle.mtl.specs.Formula.{Formula, unbounded}
 use Rattle.mtl.specs.Formula.Formula.{since}
-use Rattle.mtl.specs.Log.{Log, NeverFalls}
+use Rattle.mtl.specs.Log.{Log, NeverFalls, head-of}
 use Rattle.mtl.specs.Satisfaction.{sat, since-at}
 use Rattle.mtl.specs.Progress.{settled-to}
 use Rattle.mtl.proofs.Closing.{settled-since}
 use Rattle.bits.specs.Packed.{bit, with-bit, Packed}
 use Rattle.bits.proofs.Laws.{with-bit-lt, packed-none, packed-push, packed-same}
 use Rattle.rule.specs.Words.{ring-words}
-use Rattle.trace.specs.Format.{record-count, times-from}
-use Rattle.trace.proofs.Laws.{time-bound}
-use Rattle.blocks.specs.Block.{word, taken, left-count, left-bits, right-count, right-bits, Onward, Ready, took-both}
-use Rattle.blocks.specs.Ring.{Ring, Rings, Witnesses, turned, turns, reaches, reached}
+use Rattle.trace.specs.Format.{time-at}
+use Rattle.trace.specs.View.{first, total, skips, in-slice}
+use Rattle.trace.specs.Window.{window-of, Opened}
+use Rattle.trace.specs.declared.window.Window.{Window}
+use Rattle.trace.proofs.Reading.{shown-time-bound}
+use Rattle.blocks.specs.Block.{word, taken, left-count, left-bits, right-count, right-bits, head, Onward, Ready, took-both}
+use Rattle.blocks.specs.Ring.{Ring, Rings, Witnesses, Turns, turned, turns, reaches, reached}
 use Rattle.blocks.specs.Step.{Agrees, Stepped, Steps}
 use Rattle.blocks.specs.declared.Step.the-variants.{Batch, Left, Right, Open}
-use Rattle.blocks.proofs.Words.{word-stores, after, fits, Available}
-use Rattle.blocks.proofs.Onward.{still, onward-trans}
-use Rattle.blocks.proofs.Taking.{both-stores, both-onward, first-of, taken-both}
+use Rattle.blocks.proofs.Words.{put, word-stores, after, fits, Available}
+use Rattle.blocks.proofs.Taking.{both-stores, first-of, taken-both}
+use Rattle.blocks.proofs.Reading.{end-onward, read-time, head-end}
 use Rattle.since.proofs.Witnesses.{turn-keeps, oldest-decides}
 use Rattle.since.proofs.Cells.{ring-kept, followed}
 
@@ -33,16 +36,17 @@ use Rattle.since.proofs.Cells.{ring-kept, followed}
 module _ (low high : ℕ) (at : ℕ → ℕ) (left right : ℕ) (b : List ℕ) where
   pub record Turning (i answers : ℕ) (d : List ℕ) : Type 0 where
     pub small : answers < 2 ^ i
-    pub rings : Rings (ring-words high) (turns (ring-words high) high at left right i) b d
-    pub packed : (qs : List ℕ) → Ring (ring-words high) b qs → Packed (reached low (ring-words high) high at left right qs) 0 i answers
+    pub turns : Turns low high at left right i b answers d
 
   pub turning-none : Turning 0 0 b
   unfolding turns
   turning-none =
       record {
         small = omega arith;
-        rings = record { others = λ i h n9 n10. refl; ring = λ qs r. r };
-        packed = λ qs r. packed-none _ 0 0;
+        turns = record {
+          rings = record { others = λ i h n9 n10. refl; ring = λ qs r. r };
+          packed = λ qs r. packed-none _ 0 0;
+        };
       }
 
   pub turning-next : (i answers : ℕ) (d : List ℕ) → Turning i answers d → i < 64 →
@@ -57,12 +61,14 @@ module _ (low high : ℕ) (at : ℕ → ℕ) (left right : ℕ) (b : List ℕ) w
       let says : (qs : List ℕ) → Ring (ring-words high) d qs → holds ≡ reaches low (at i) (here qs) = rw (ec, en, el, er) at verdict in
       record {
         small = with-bit-lt answers i holds (t .small);
-        rings = rw (add-one i) (followed (t .rings) rings);
-        packed = λ qs ring.
-            let reached-here = reached low (ring-words high) high at left right qs in
-            packed-push reached-here 0 i answers holds few (t .small)
-            (ap reached-here (zero-add i) ∙ sym (says _ (t .rings .ring qs ring)))
-            (t .packed qs ring);
+        turns = record {
+          rings = rw (add-one i) (followed (t .turns .rings) rings);
+          packed = λ qs ring.
+              let reached-here = reached low (ring-words high) high at left right qs in
+              packed-push reached-here 0 i answers holds few (t .small)
+              (ap reached-here (zero-add i) ∙ sym (says _ (t .turns .rings .ring qs ring)))
+              (t .turns .packed qs ring);
+        };
       }
 
 -- n positions from g on: `at` tells their times, two words what left and right answer there
@@ -109,119 +115,136 @@ module _ (low high : ℕ) (time : ℕ → ℕ) (left right : ℕ → Bool) (g n 
             packed,
       )
 
--- the turns move no head, and the taking puts none back
-pub since-onward : {cells : ℕ} {f : List ℕ → List ℕ} {b d : List ℕ} (n : ℕ) → 16 ≤ length d → Rings cells f b d → Onward 12 b (took-both n d)
-since-onward {b = b} {d = d} n room turn =
-    onward-trans
-    (still b d (turn .others 0 (omega arith) (λ e. omega arith) (λ e. omega arith)) (turn .others 5 (omega arith) (λ e. omega arith) (λ e. omega arith))
-    (λ i h l. turn .others i l (λ e. omega arith) (λ e. omega arith)))
-    (both-onward n d room)
-
-module _ (low high : ℕ) (s b : List ℕ) where
-  pub since-left : (closed : Bool) (φ ψ : Formula) → Steps closed (since low high φ ψ) s b Left b
-  since-left closed φ ψ L g falls agrees ready = (
+module _ (low high : ℕ) (v s b : List ℕ) where
+  pub since-left : (φ ψ : Formula) → Steps (since low high φ ψ) v s b Left b
+  since-left φ ψ L g falls agrees ready = (
     refl,
     λ e. let h = ready .core .reached in let at = ready .core .own .at in omega (arith, settled-since L φ ψ low high),
   )
 
-  pub since-right : (closed : Bool) (φ ψ : Formula) → Steps closed (since low high φ ψ) s b Right b
-  since-right closed φ ψ L g falls agrees ready = (
+  pub since-right : (φ ψ : Formula) → Steps (since low high φ ψ) v s b Right b
+  since-right φ ψ L g falls agrees ready = (
     refl,
     λ e. let h = ready .core .reached in let at = ready .core .own .at in omega (arith, settled-since L φ ψ low high),
   )
 
   -- n positions are taken: as many as both buffers have
   module _ (n : ℕ) (some-left : 0 < left-count b) (some-right : 0 < right-count b) (room : 16 ≤ length b)
-      (av : Available (taken b) (min (left-count b) (right-count b)) (record-count s) n) where
+      (av : Available (taken b) (min (left-count b) (right-count b)) (total v) n) where
     -- no buffer reaches past the log
-    pub since-open : n ≡ 0 → (closed : Bool) (φ ψ : Formula) → Steps closed (since low high φ ψ) s b Open b
-    since-open none closed φ ψ L g falls agrees ready =
+    pub since-open : n ≡ 0 → (φ ψ : Formula) → Steps (since low high φ ψ) v s b Open b
+    since-open none φ ψ L g falls agrees ready =
         let size = agrees .size in
         let inside = fits (ready .buffers .0) in
         let all = av .all (omega (arith, ready .buffers .0 .packed .few)) (omega arith) in
         absurd (omega arith)
 
-    -- d is the block after their turns
-    module _ (some : 0 < n) (d : List ℕ) (long : length d ≡ length b)
-        (turn : Rings (ring-words high) (turns (ring-words high) high (times-from s (taken b)) (left-bits b) (right-bits b) n) b d) where
+    -- a window of them is open, and d is the block after their turns
+    module _ (some : 0 < n) (w : Window) (copy : List ℕ) (opened : Opened (skips v) s (in-slice (first v) (head b)) n w copy)
+        (d : List ℕ) (long : length d ≡ length b) (answers : ℕ)
+        (turn : Turns low high (time-at (window-of w s copy)) (left-bits b) (right-bits b) n b answers d) where
       turned-word : (i : ℕ) → i < 9 → word d i ≡ word b i
-      turned-word i h = turn .others i (omega arith) (omega arith) (omega arith)
+      turned-word i h = turn .rings .others i (omega arith) (omega arith) (omega arith)
 
       -- what the taking requires
-      pub takable : record-count s < 2 ^ 64 → (16 ≤ length d) × (n ≤ left-count d) × (n ≤ right-count d) × (taken d + n < 2 ^ 64)
+      pub takable : taken b + n < 2 ^ 64 → (16 ≤ length d) × (n ≤ left-count d) × (n ≤ right-count d) × (taken d + n < 2 ^ 64)
       takable fit =
           let most = av .most in
-          let inside = av .inside some in
           omega (arith, turned-word 0 (omega arith), turned-word 1 (omega arith), turned-word 3 (omega arith))
 
-      words : (i : ℕ) → word (took-both n d) i ≡ after (both-stores n d []) (word d) i
-      words = word-stores (both-stores n d []) d (omega arith) (omega arith)
+      -- the block behind the taking, the head moved behind the window
+      abbrev pub passed : List ℕ
+      passed = set (took-both n d) 11 (first v + w .end)
+
+      words : (i : ℕ) → word passed i ≡ after (both-stores n d (put 11 (first v + w .end) ∷ [])) (word d) i
+      words = word-stores (both-stores n d (put 11 (first v + w .end) ∷ [])) d (omega arith)
 
       -- the words that the taking does not write, and those that the turns do not write either
-      behind : (i : ℕ) → 4 < i → word (took-both n d) i ≡ word d i
-      behind i h =
-          words i ∙ rw (ne-eqb i 0 (omega arith), ne-eqb i 1 (omega arith), ne-eqb i 2 (omega arith), ne-eqb i 3 (omega arith), ne-eqb i 4 (omega arith)) refl
+      behind : (i : ℕ) → 4 < i → (i ≡ 11 → ⊥) → word passed i ≡ word d i
+      behind i h n11 =
+          words i ∙ rw (ne-eqb i 0 (omega arith), ne-eqb i 1 (omega arith), ne-eqb i 2 (omega arith), ne-eqb i 3 (omega arith), ne-eqb i 4 (omega arith), ne-eqb i 11 n11) refl
 
-      kept : (i : ℕ) → (4 < i) × (i < 16) × (i ≡ 9 → ⊥) × (i ≡ 10 → ⊥) → word (took-both n d) i ≡ word b i
-      kept i (h, k, n9, n10) = behind i h ∙ turn .others i k n9 n10
+      kept : (i : ℕ) → (4 < i) × (i < 16) × (i ≡ 9 → ⊥) × (i ≡ 10 → ⊥) × (i ≡ 11 → ⊥) → word passed i ≡ word b i
+      kept i (h, k, n9, n10, n11) = behind i h n11 ∙ turn .rings .others i k n9 n10
 
-      module _ (byte : (i : ℕ) → getD s i 0 < 256) (answers : ℕ)
-          (packed : (qs : List ℕ) → Ring (ring-words high) b qs →
-          Packed (reached low (ring-words high) high (times-from s (taken b)) (left-bits b) (right-bits b) qs) 0 n answers) where
-        module _ (closed : Bool) (φ ψ : Formula) (L : Log) (falls : NeverFalls L) (agrees : Agrees closed s L (taken b)) (ready : Ready (since low high φ ψ) L (taken b) b) where
-          within-settled : taken b + n ≤ settled-to (since low high φ ψ) L
-          within-settled =
-              let most = av .most in
-              omega (arith, ready .buffers .0 .within, ready .buffers .1 .within, settled-since L φ ψ low high)
+      at-passed : taken passed ≡ taken b + n
+      at-passed = omega (arith, words 0, turned-word 0 (omega arith))
 
-          at-taken : Stepped (since low high φ ψ) L (taken b) b (Batch answers n) (took-both n d)
-          unfolding sat
-          at-taken =
-              let core = ready .core in
-              let own = core .own in
-              let range = core .range in
-              let left = ready .buffers .0 in
-              let right = ready .buffers .1 in
-              let most = av .most in
-              let inside = fits left in
-              let at : taken (took-both n d) ≡ taken b + n = omega (arith, words 0, turned-word 0 (omega arith)) in
-              let count-left : left-count (took-both n d) ≡ left-count b - n = omega (arith, words 1, turned-word 1 (omega arith)) in
-              let count-right : right-count (took-both n d) ≡ right-count b - n = omega (arith, words 3, turned-word 3 (omega arith)) in
-              let (alive, answer) =
-              turns-answer low high (L .time) (sat φ L) (sat ψ L) (taken b) n
-              (λ i j h k. falls i j h (omega arith))
-              (times-from s (taken b))
-              (λ i h. time-bound s byte (taken b + i))
-              (λ i h. sym (agrees .same (taken b + i) (omega arith) (omega arith) .time))
-              (left-bits b)
-              (right-bits b)
-              (first-of n (omega arith) left)
-              (first-of n (omega arith) right)
-              (own .times)
-              (own .alive)
-              answers
-              (packed (own .times) (own .ring)) in
-              let ring = ring-kept (ring-words high) d (took-both n d) _ (simp length-set) (λ i h. behind i (omega arith)) (turn .ring (own .times) (own .ring)) in
-              let start = ring .start in
-              let count = ring .count in
-              let cells = ring .fits in
-              let moved =
-              taken-both (since low high φ ψ) b n (taken b + n) (took-both n d) within-settled
-              (omega (arith, kept 5 (omega arith), kept 6 (omega arith), kept 7 (omega arith), kept 8 (omega arith)))
-              (record { at = at; times = _; ring = ring; alive = alive })
-              (λ x. x) (omega arith) (omega arith)
-              (record {
-                right = record {
-                  at = at;
-                  count = count-right;
-                  bits = words 4 ∙ ap (λ (x : ℕ). x / 2 ^ n) (turned-word 4 (omega arith));
-                };
-                count = count-left;
-                bits = words 2 ∙ ap (λ (x : ℕ). x / 2 ^ n) (turned-word 2 (omega arith));
-              })
-              left right
-              in (record { some = some; buffer = record { within = within-settled; packed = answer } }, moved .0, moved .1)
+      pub since-onward : Onward 12 b passed
+      since-onward =
+          record {
+            heads = record {
+              taken = omega (arith, at-passed);
+              answered = omega (arith, kept 5 (omega arith));
+              head = omega (arith, words 11, end-onward v (head b) opened);
+            };
+            kept = λ i h l. kept i (omega arith);
+          }
 
-        pub since-batch : (closed : Bool) (φ ψ : Formula) → Steps closed (since low high φ ψ) s b (Batch answers n) (took-both n d)
-        since-batch closed φ ψ L g falls agrees ready =
-            let at = ready .core .own .at in rw (← at) (at-taken closed φ ψ L falls (rw (← at) at agrees) (rw (← at) at ready))
+      module _ (byte : (i : ℕ) → getD s i 0 < 256) (φ ψ : Formula) (L : Log) (falls : NeverFalls L) (agrees : Agrees v s L (taken b)) (ready : Ready (since low high φ ψ) L (taken b) b) where
+        within-settled : taken b + n ≤ settled-to (since low high φ ψ) L
+        within-settled =
+            let most = av .most in
+            omega (arith, ready .buffers .0 .within, ready .buffers .1 .within, settled-since L φ ψ low high)
+
+        heads : head b ≡ head-of L (taken b)
+        heads = ready .core .heads
+
+        inside-log : taken b + n ≤ L .size
+        inside-log = omega (arith, agrees .size, av .inside some)
+
+        time-here : (i : ℕ) → i < n → time-at (window-of w s copy) i ≡ L .time (taken b + i)
+        time-here = read-time agrees (taken b) heads (omega arith) inside-log opened
+
+        at-taken : Stepped (since low high φ ψ) L (taken b) b (Batch answers n) passed
+        unfolding sat
+        at-taken =
+            let core = ready .core in
+            let own = core .own in
+            let range = core .range in
+            let left = ready .buffers .0 in
+            let right = ready .buffers .1 in
+            let most = av .most in
+            let inside = fits left in
+            let at = at-passed in
+            let count-left : left-count passed ≡ left-count b - n = omega (arith, words 1, turned-word 1 (omega arith)) in
+            let count-right : right-count passed ≡ right-count b - n = omega (arith, words 3, turned-word 3 (omega arith)) in
+            let (alive, answer) =
+            turns-answer low high (L .time) (sat φ L) (sat ψ L) (taken b) n
+            (λ i j h k. falls i j h (omega arith))
+            (time-at (window-of w s copy))
+            (λ i h. omega (arith, time-here i h, shown-time-bound byte (agrees .shows (taken b + i) (omega arith) (omega (arith, inside-log)))))
+            (λ i h. sym (time-here i h))
+            (left-bits b)
+            (right-bits b)
+            (first-of n (omega arith) left)
+            (first-of n (omega arith) right)
+            (own .times)
+            (own .alive)
+            answers
+            (turn .packed (own .times) (own .ring)) in
+            let ring = ring-kept (ring-words high) d passed _ (simp length-set) (λ i h n11. behind i (omega arith) n11) (turn .rings .ring (own .times) (own .ring)) in
+            let start = ring .start in
+            let count = ring .count in
+            let cells = ring .fits in
+            let moved =
+            taken-both (since low high φ ψ) b n (taken b + n) passed within-settled
+            (omega (arith, kept 5 (omega arith), kept 6 (omega arith), kept 7 (omega arith), kept 8 (omega arith)))
+            (record { at = at; times = _; ring = ring; alive = alive })
+            (words 11 ∙ head-end agrees (taken b) heads (omega arith) inside-log opened some ∙ ap (head-of L) (sym at))
+            (λ x. x) (omega arith) (omega arith)
+            (record {
+              right = record {
+                at = at;
+                count = count-right;
+                bits = words 4 ∙ ap (λ (x : ℕ). x / 2 ^ n) (turned-word 4 (omega arith));
+              };
+              count = count-left;
+              bits = words 2 ∙ ap (λ (x : ℕ). x / 2 ^ n) (turned-word 2 (omega arith));
+            })
+            left right
+            in (record { some = some; buffer = record { within = within-settled; packed = answer } }, moved .0, moved .1)
+
+      pub since-batch : ((i : ℕ) → getD s i 0 < 256) → (φ ψ : Formula) → Steps (since low high φ ψ) v s b (Batch answers n) passed
+      since-batch byte φ ψ L g falls agrees ready =
+          let at = ready .core .own .at in rw (← at) (at-taken byte φ ψ L falls (rw (← at) at agrees) (rw (← at) at ready))

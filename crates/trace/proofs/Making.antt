@@ -2,16 +2,17 @@
 -- Assumes nothing.
 use Prim.Native.Nat.{ℕ, zero, suc, _+_, _*_, _/_, _%_, _≤_, _<_}
 use mathlib.Core.List.{List, [], _++_, append-assoc}
-use mathlib.Core.Bool.{false}
+use mathlib.Core.Bool.{false, false≢true}
 use mathlib.Core.Path.{_≡_, refl, sym, ap, _∙_}
 use mathlib.Core.Logic.{⊎-elim}
 use native.Mathlib.Nat.{add-assoc, not-suc-le-zero}
 use native.Mathlib.Numerals.{add-one}
 use native.Mathlib.Omega.{arith}
+use lib.Dec.{leb}
 use lib.ListN.{length, getD, take, drop, length-append}
 use lib.Seq.{length-take-le, take-at, drop-at, drop-drop, sets, sets-eq, length-sets, getD-append-add}
-use Rattle.mtl.proofs.Bounded.{le-or-lt}
-use Rattle.trace.specs.Format.{word-at, record-count, time-at, events-at, records-of, malformed}
+use Rattle.mtl.proofs.Bounded.{le-or-lt, false-iff, and-iff}
+use Rattle.trace.specs.Format.{word-at, record-count, time-at, events-at, records-of, skips-of, malformed}
 use Rattle.trace.specs.Order.{disordered}
 use Rattle.trace.specs.Making.{header, word-bytes, record-bytes, records-bytes, log-bytes, put}
 use Rattle.trace.proofs.Laws.{well-formed-iff, ordered-iff}
@@ -52,7 +53,7 @@ module _ (buffer : List ℕ) (at : ℕ) (first second : List ℕ) (fits : at + (
 
 -- numbers read back
 
-byte-behind : (begin rest : List ℕ) (n at : ℕ) → length begin ≡ n → getD (begin ++ rest) (n + at) 0 ≡ getD rest at 0
+pub byte-behind : (begin rest : List ℕ) (n at : ℕ) → length begin ≡ n → getD (begin ++ rest) (n + at) 0 ≡ getD rest at 0
 byte-behind begin rest n at e = ap (λ (k : ℕ). getD (begin ++ rest) (k + at) 0) (sym e) ∙ getD-append-add begin rest at 0
 
 word-behind : (begin rest : List ℕ) (n at : ℕ) → length begin ≡ n → word-at (begin ++ rest) (n + at) ≡ word-at rest at
@@ -134,12 +135,16 @@ module _ (time events : ℕ → ℕ) where
   pub made-records : (n : ℕ) → records-of (log-bytes time events n) ≡ records-bytes time events n
   made-records n = refl
 
+  -- version 1 has no service records
+  pub made-plain : (n : ℕ) → skips-of (log-bytes time events n) ≡ false
+  made-plain n = false-iff (skips-of (log-bytes time events n)) .1 (λ e. false≢true (and-iff (leb 8 (length (log-bytes time events n))) false .0 e .1))
+
   -- check 14 passes for a first call, if the times do not fall
   pub made-ordered : (n : ℕ) → ((i : ℕ) → i < n → time i < 4294967296) → ((i j : ℕ) → i ≤ j → j < n → time i ≤ time j) →
-      disordered (records-bytes time events n) 0 0 0 ≡ false
+      disordered (records-bytes time events n) 0 0 ≡ false
   made-ordered n small keeps =
-      ordered-iff (records-bytes time events n) 0 0 0 .1 (
-        λ i j lo le hi.
+      ordered-iff (records-bytes time events n) 0 0 .1 (
+        λ i j le hi.
             let count = records-count n in
             let first = time-back n i (omega arith) (small i (omega arith)) in
             let second = time-back n j (omega arith) (small j (omega arith)) in

@@ -3,9 +3,15 @@ ghost use mathlib.Core.Path.{_≡_};
 ghost use Prim.Native.Nat.{_+_, _*_, _%_, _<_, _≤_, _^_};
 ghost use lib.ListN.{length};
 ghost use Rattle.bits.specs.Packed.{number, Packed};
-ghost use Rattle.trace.specs.Format.{word-at, record-count, time-at, has-letter, records-of, wrong-mark, version-of, wrong-spare, malformed};
+ghost use Rattle.trace.specs.Format.{word-at, record-count, time-at, has-letter, records-of, wrong-mark, version-of, wrong-version, wrong-spare, skips-of, malformed};
 ghost use Rattle.trace.specs.Order.{falls, starts-below, disordered, last-time};
+ghost use Rattle.trace.specs.View.{from-record};
 ghost use Rattle.trace.specs.Making.{header, word-bytes, record-bytes, put};
+
+pub mod view;
+pub mod window;
+
+pub use window::Window;
 
 fn wide(x: u8) -> u64
     ensures { λ r. ⌜ (r ≡ x) × (r < 256) ⌝ }
@@ -46,6 +52,26 @@ fn has_wrong_spare(log: &[u8]) -> bool
     (log[5] != 0) | ((log[6] != 0) | (log[7] != 0))
 }
 
+// Versions 1 and 2 are known.
+fn has_wrong_version(log: &[u8]) -> bool
+    requires { ⌜ 8 ≤ length (now log) ⌝ }
+    ensures { λ r. ⌜ r ≡ wrong-version (now (log .entry)) ⌝ }
+{
+    let found = version(log);
+    (found < 1) | (2 < found)
+}
+
+// Whether the log's version has service records: from version 2 on.
+pub fn skips(log: &[u8]) -> bool
+    ensures { λ r. ⌜ r ≡ skips-of (now (log .entry)) ⌝ }
+{
+    if log.len() < 8 {
+        false
+    } else {
+        2 <= version(log)
+    }
+}
+
 // Check 12.
 pub fn is_malformed(log: &[u8]) -> bool
     ensures { λ r. ⌜ r ≡ malformed (now (log .entry)) ⌝ }
@@ -54,7 +80,7 @@ pub fn is_malformed(log: &[u8]) -> bool
         return true;
     }
     let size = log.len() - 8;
-    (has_wrong_mark(log) | ((version(log) != 1) | has_wrong_spare(log)))
+    (has_wrong_mark(log) | (has_wrong_version(log) | has_wrong_spare(log)))
         | ((size % 8 != 0) | (1000000 < size / 8))
 }
 
@@ -63,6 +89,17 @@ pub fn records(log: &[u8]) -> &[u8]
     ensures { λ r. ⌜ now r ≡ records-of (now (log .entry)) ⌝ }
 {
     if log.len() < 8 { &log[..0] } else { &log[8..] }
+}
+
+// The records from record `first` on; none where there are no more.
+pub fn from_record(records: &[u8], first: usize) -> &[u8]
+    ensures { λ r. ⌜ now r ≡ from-record first (now (records .entry)) ⌝ }
+{
+    if count(records) < first {
+        &records[..0]
+    } else {
+        &records[first * 8..]
+    }
 }
 
 pub fn count(records: &[u8]) -> usize
@@ -120,18 +157,18 @@ pub fn letter_bits(records: &[u8], from: usize, n: usize, letter: u64) -> u64
     answers
 }
 
-// Whether some record after record `after` has a time below that of the record before it.
-pub fn times_fall(records: &[u8], after: usize) -> bool
-    ensures { λ r. ⌜ r ≡ falls (now (records .entry)) after ⌝ }
+// Whether some record has a time below that of the record before it.
+fn times_fall(records: &[u8]) -> bool
+    ensures { λ r. ⌜ r ≡ falls (now (records .entry)) ⌝ }
 {
     let end = count(records);
-    if end <= after {
+    if end == 0 {
         return false;
     }
-    let mut last = time(records, after);
+    let mut last = time(records, 0);
     let mut fell = false;
-    let mut i = after + 1;
-    // two records a turn, for speed: every call reads the order of all records from `after` on
+    let mut i: usize = 1;
+    // two records a turn, for speed: every call reads the order of all records from the first wanted on
     while i + 1 < end {
         let next = time(records, i);
         let second = time(records, i + 1);
@@ -156,14 +193,14 @@ fn begins_below(records: &[u8], seen: usize, last: u64) -> bool
     }
 }
 
-// Check 14, where record `from` is the first still wanted.
-pub fn is_disordered(records: &[u8], from: usize, seen: usize, last: u64) -> bool
-    ensures { λ r. ⌜ r ≡ disordered (now (records .entry)) from seen last ⌝ }
+// Check 14 on the records from the first wanted on, of which `seen` were seen before.
+pub fn is_disordered(records: &[u8], seen: usize, last: u64) -> bool
+    ensures { λ r. ⌜ r ≡ disordered (now (records .entry)) seen last ⌝ }
 {
-    times_fall(records, from) | begins_below(records, seen, last)
+    times_fall(records) | begins_below(records, seen, last)
 }
 
-// The last time seen after a call that brought these records, `seen` and `last` being what was seen before it.
+// The last time seen after a call that brought these records, of which `seen` were seen before it, and `last` was the last time.
 pub fn last_time(records: &[u8], seen: usize, last: u64) -> u64
     ensures { λ r. ⌜ r ≡ last-time (now (records .entry)) seen last ⌝ }
 {

@@ -1,3 +1,4 @@
--- UntilLogic: until on numbers. UntilSteps: the same on a block's words.
+-- UntilLogic: until on numbers. UntilWalk: a walk over times and words of answers. UntilSteps: a step on a block's words.
 pub mod UntilLogic
+pub mod UntilWalk
 pub mod UntilSteps

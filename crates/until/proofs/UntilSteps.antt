@@ -1,428 +1,350 @@
--- until's words: what is settled, answered and taken on a block, from the laws over numbers.
+-- until's step on a block: the windows opened from its heads show the log, and what a walk over them does to its words.
 use Prim.Native.Nat.{ℕ, zero, suc, _+_, _-_, _≤_, _<_, _^_, min}
-use mathlib.Core.Bool.{Bool, true, false, cond, _&&_, _||_, true≢false}
-use mathlib.Core.Bool.{not as negate}
+use mathlib.Core.Bool.{Bool, true, false, _||_, true≢false}
 use mathlib.Core.List.{List, [], _∷_}
 use mathlib.Core.Logic.{_⊎_, inl, inr, ⊎-elim}
 use mathlib.Core.Path.{_≡_, refl, sym, _∙_, ap}
 use native.Mathlib.Omega.{arith}
 use lib.Dec.{eqb, leb, ltb}
 use lib.ListN.{length, getD}
-use borrow.Author.Tests.{eqb-true, eq-eqb, leb-true, leb-false, lt-ltb, le-ltb, not-true, not-false}
-use Rattle.mtl.specs.Formula.{Formula}
+use borrow.Author.Tests.{ltb-true, ltb-false, lt-ltb, le-ltb}
+use Rattle.mtl.specs.Formula.{Formula, unbounded}
 use Rattle.mtl.specs.Formula.Formula.{until}
-use Rattle.mtl.specs.Log.{Log, NeverFalls}
+use Rattle.mtl.specs.Log.{Log, NeverFalls, head-of}
 use Rattle.mtl.specs.Satisfaction.{sat}
 use Rattle.mtl.specs.Progress.{settled-to}
-use Rattle.mtl.proofs.Bounded.{and-iff, or-iff, le-or-lt, Above, above-small}
-use Rattle.mtl.proofs.Closing.{
-  settled-closed,
-  by-closed,
-  both-settled,
-  both-fit,
-  until-open,
-  until-settles,
-  until-met,
-  until-unmet,
-  until-ends,
-}
-use Rattle.bits.specs.Packed.{number, with-bit}
-use Rattle.bits.proofs.Laws.{number-lt, packed-none, packed-push}
-use Rattle.trace.specs.Format.{record-count}
-use Rattle.trace.proofs.Laws.{time-bound}
-use Rattle.blocks.specs.Block.{
-  word,
-  taken,
-  left-count,
-  left-bits,
-  right-count,
-  right-bits,
-  answered,
-  last-left,
-  last-right,
-  last-time,
-  Onward,
-  Until,
-  Buffer,
-  Ready,
-}
+use Rattle.mtl.proofs.Bounded.{or-iff, le-or-lt}
+use Rattle.mtl.proofs.Closing.{settled-closed, by-closed, both-settled, both-fit, until-open}
+use Rattle.bits.specs.Packed.{number}
+use Rattle.bits.proofs.Laws.{number-lt, packed-none}
+use Rattle.trace.specs.View.{first, total, skips, closed, in-slice}
+use Rattle.trace.specs.Window.{Opened, Windowed, Passed}
+use Rattle.trace.specs.declared.window.Window.{Window}
+use Rattle.trace.proofs.Reading.{shown-time-bound}
+use Rattle.blocks.specs.Block.{word, taken, left-count, left-bits, right-count, right-bits, answered, last-left, last-right, last-time, head, waiting-head, Onward, Heads, Buffer, Ready}
 use Rattle.blocks.specs.Step.{Agrees, Moved, Stepped, Ends}
-use Rattle.until.specs.Settle.{Times, plain, Reads, pick, is-met, is-over, next-time, has-ended, look-spec, take-spec, Reached, Walks, Limits, Waiting, walked, Wants}
-use Rattle.until.specs.declared.Last.{Last}
+use Rattle.until.specs.Settle.{Reads, Reached, Waiting, Walk, Holds, starts-of, ahead-of, last-taken, walked, Fits, Wants}
+use Rattle.until.specs.declared.Room.{Room}
 use Rattle.until.specs.declared.Walked.{Walked}
-use Rattle.until.specs.declared.Settled.{Settled}
-use Rattle.until.specs.declared.Settled.the-variants.{Known, Unknown}
+use Rattle.until.specs.declared.Settled.the-variants.{Unknown}
 use Rattle.blocks.specs.declared.Step.{Step}
 use Rattle.blocks.specs.declared.Step.the-variants.{Batch, Left, Right, Again, Open}
-use Rattle.until.proofs.UntilLogic as logic
-use Rattle.blocks.proofs.Words.{Store, put, after, word-stores, stores-onward, fits, less-to-do, Available}
+use Rattle.blocks.proofs.Words.{Store, put, after, word-stores, stores-onward, fits, less-to-do, available}
 use Rattle.blocks.proofs.Taking.{both-stores, first-of, taken-both}
+use Rattle.blocks.proofs.Reading.{readable, read-time, head-passed}
+use Rattle.until.proofs.UntilLogic as logic
+use Rattle.until.proofs.UntilWalk.{Sees, sees-log, finds, none-waits}
 
--- an answer as a word, and back
-is-number : (x : Bool) → eqb (number x) 1 ≡ x
-is-number true = refl
-is-number false = refl
-
+-- an answer that was read from a word
 number-is : (d : ℕ) → d ≤ 1 → number (eqb d 1) ≡ d
 number-is zero h = refl
 number-is (suc zero) h = refl
 number-is (suc (suc d)) h = absurd (omega arith)
 
-neither : (x y : Bool) → x || y ≡ false → (x ≡ false) × (y ≡ false)
-neither true y e = absurd (true≢false e)
-neither false y e = (refl, e)
+taken-fits : (l r n : ℕ) → n ≤ min l r → (n ≤ l) × (n ≤ r)
+taken-fits l r n h = omega arith
 
--- what was found, by the tests of `look-spec`
-abbrev Because : (fresh met over ended : Bool) → Settled → Type 0
-Because fresh met over ended (Known true) = (fresh ≡ false) × (met ≡ true)
-Because fresh met over ended (Known false) = (fresh ≡ false) × (met ≡ false) × ((over ≡ true) ⊎ ((over ≡ false) × (ended ≡ true)))
-Because fresh met over ended Unknown = (fresh ≡ true) ⊎ ((fresh ≡ false) × (met ≡ false) × (over ≡ false) × (ended ≡ false))
+-- how far a step may go
+pub room : (b : List ℕ) (total : ℕ) {take look answer : ℕ} → taken b ≤ total →
+    take ≡ min (min (min (left-count b) (right-count b)) (total - taken b)) 64 → taken b + take < 2 ^ 64 → look ≡ min (take + 1) (total - taken b) →
+    answer ≡ min (taken b - answered b + take) 64 → Fits b total (record { take = take; look = look; answer = answer })
+room b total {take = take} h e number ahead waiting =
+    let a = available (taken b) (min (left-count b) (right-count b)) total take e in
+    let most = taken-fits (left-count b) (right-count b) take (a .most) in
+    record {
+      left = most .0;
+      right = most .1;
+      few = a .few;
+      inside = ⊎-elim (λ z. omega arith) (λ p. a .inside p) (le-or-lt take 0);
+      number = number;
+      all = a .all;
+      ahead = ahead;
+      waiting = waiting;
+    }
 
-because : (fresh met over ended : Bool) →
-    Because fresh met over ended (pick fresh Unknown (pick (met || (over || ended)) (Known met) Unknown))
-because true met over ended = inl refl
-because false true over ended = (refl, refl)
-because false false true ended = (refl, refl, inl refl)
-because false false false true = (refl, refl, inr (refl, refl))
-because false false false false = inr (refl, refl, refl, refl)
+-- what is looked at ahead, and what may be answered, lies within the log
+ahead-fits : (at take look total : ℕ) → at + take ≤ total → look ≡ min (take + 1) (total - at) →
+    (take ≤ look) × (at + look ≤ total) × (at + take < total → take < look) × (at + take ≡ total → look ≤ take)
+ahead-fits at take look total h e = (omega arith, omega arith, λ l. omega arith, λ l. omega arith)
 
--- the tests behind a finding
-found : (low high : ℕ) (s : Times) (closed : Bool) (g p : ℕ) (last : Last) (r : Settled) → look-spec low high s closed g p last ≡ r →
-    Because (leb p g) (is-met low (s .start g) last) (is-over high (s .start g) last (next-time s p last)) (has-ended s closed p) r
-found low high s closed g p last r e =
-    rw e at
-    (because (leb p g) (is-met low (s .start g) last) (is-over high (s .start g) last (next-time s p last)) (has-ended s closed p))
+waiting-fits : (g at take answer : ℕ) → g ≤ at → answer ≡ min (at - g + take) 64 →
+    (g + answer ≤ at + take) × ((i : ℕ) → i ≤ 64 → g + i ≤ at + take → i ≤ answer)
+waiting-fits g at take answer h e = (omega arith, λ i few l. omega arith)
 
--- a position is known only behind those taken
-pub known-behind : (low high : ℕ) (s : Times) (closed : Bool) (g p : ℕ) (last : Last) (v : Bool) → look-spec low high s closed g p last ≡ Known v → g < p
-known-behind low high s closed g p last true e = leb-false p g (found low high s closed g p last (Known true) e .0)
-known-behind low high s closed g p last false e = leb-false p g (found low high s closed g p last (Known false) e .0)
+-- two windows opened from a block's heads
+pub record Opens (v s b : List ℕ) (r : Room) (ahead : Window) (copy : List ℕ) (starts : Window) (waiting : List ℕ) : Type 0 where
+  pub room : 17 ≤ length b
+  pub byte : (i : ℕ) → getD s i 0 < 256
+  pub behind : answered b ≤ taken b
+  pub fits : Fits b (total v) r
+  pub next : Opened (skips v) s (in-slice (first v) (head b)) (r .look) ahead copy
+  pub start : Opened (skips v) s (in-slice (first v) (waiting-head b)) (r .answer) starts waiting
 
--- a closed log with no position p
-ended-is : (s : Times) (closed : Bool) (p : ℕ) → has-ended s closed p ≡ true → (closed ≡ true) × (s .total ≤ p)
-ended-is s closed p e =
-    ⊎-elim
-    (λ h. (rw (le-ltb p (s .total) h) at e, h))
-    (λ h. absurd (true≢false (sym (rw (lt-ltb p (s .total) h) at e))))
-    (le-or-lt (s .total) p)
+module _ {v s b : List ℕ} {r : Room} {ahead : Window} {copy : List ℕ} {starts : Window} {waiting : List ℕ} (opens : Opens v s b r ahead copy starts waiting) where
+  looks : (r .take ≤ r .look) × (taken b + r .look ≤ total v) × (taken b + r .take < total v → r .take < r .look) × (taken b + r .take ≡ total v → r .look ≤ r .take)
+  looks = ahead-fits (taken b) (r .take) (r .look) (total v) (opens .fits .inside) (opens .fits .ahead)
 
--- behind the end of a closed log every position is known
-pub unknown-ahead : (low high : ℕ) (s : Times) (g p : ℕ) (last : Last) → look-spec low high s true g p last ≡ Unknown → s .total ≤ p → p ≤ g
-unknown-ahead low high s g p last e h =
-    ⊎-elim
-    (λ b. leb-true p g b)
-    (λ b. absurd (true≢false (rw (le-ltb p (s .total) h) at (b .3))))
-    (found low high s true g p last Unknown e)
+  answers : (answered b + r .answer ≤ taken b + r .take) × ((i : ℕ) → i ≤ 64 → answered b + i ≤ taken b + r .take → i ≤ r .answer)
+  answers = waiting-fits (answered b) (taken b) (r .take) (r .answer) (opens .behind) (opens .fits .waiting)
 
--- the time that is tested besides
-next-is : (s : Times) (p : ℕ) (last : Last) →
-    ((p < s .total) × (next-time s p last ≡ s .next p)) ⊎ ((s .total ≤ p) × (next-time s p last ≡ last .time))
-next-is s p last =
-    ⊎-elim
-    (λ h. inr (h, ap (λ (t : Bool). cond t (s .next p) (last .time)) (le-ltb p (s .total) h)))
-    (λ h. inl (h, ap (λ (t : Bool). cond t (s .next p) (last .time)) (lt-ltb p (s .total) h)))
-    (le-or-lt (s .total) p)
+  -- a walk can go and read so far
+  pub walk-fits : (16 ≤ length b) × (r .take ≤ 64) × (r .take ≤ r .look) × (taken b - answered b + r .take < 2 ^ 64)
+  walk-fits =
+      let room = opens .room in
+      let number = opens .fits .number in
+      (omega arith, opens .fits .few, looks .0, omega arith)
 
--- the heads stand at g and p, on a log that the records are from position `first` on
-module _ (low high : ℕ) (φ ψ : Formula) (s : Times) (bound : (i : ℕ) → s .next i < 4294967296) (closed : Bool) (L : Log) (first : ℕ) (falls : NeverFalls L)
-    (agrees : Reads closed s L first) (g p : ℕ) (from : first ≤ g) (behind : p ≤ both-settled φ ψ L) (last : Last)
-    (u : Until low high (L .time) (sat φ L) (sat ψ L) g p (number (last .left)) (number (last .right)) (last .time)) where
-  -- what each finding says of g
-  abbrev pub Means : Settled → Type 0
-  Means (Known v) = (g < settled-to (until low high φ ψ) L) × (sat (until low high φ ψ) L g ≡ v)
-  Means Unknown = logic.Waits low high (L .time) (sat φ L) (sat ψ L) (L .size) g p
+  pub ahead-holds : Holds ahead s copy (r .look)
+  ahead-holds = record { inside = readable v (head b) (opens .next); long = opens .next .long }
 
-  module _ (some : g < p) where
-    begins : s .start g ≡ L .time g
-    begins = agrees .start g from (omega (arith, both-fit φ ψ L))
+  pub starts-holds : Holds starts s waiting (min (taken b - answered b + r .take) 64)
+  starts-holds = record { inside = readable v (waiting-head b) (opens .start); long = rw (opens .fits .waiting) at (opens .start .long) }
 
-    -- if the time tested lies more than high after g, it is that of position p, since the last one's does not
-    late : is-over high (s .start g) last (next-time s p last) ≡ true →
-        (eqb (number (last .left)) 1 ≡ false) ⊎ ((p < L .size) × Above high (L .time p - L .time g))
-    late d =
-        ⊎-elim
-        (λ f. inl (is-number (last .left) ∙ not-true (last .left) f))
-        (λ v. inr (⊎-elim (inside v) (outside v) (next-is s p last)))
-        (or-iff (negate (last .left)) (ltb high (next-time s p last - s .start g)) .0 d)
-      where
-        inside : ltb high (next-time s p last - s .start g) ≡ true → (p < s .total) × (next-time s p last ≡ s .next p) →
-            (p < L .size) × Above high (L .time p - L .time g)
-        inside v (h, e) =
-            let z = agrees .size in
-            let t = agrees .next p (omega arith) (omega arith) in
-            let b = begins in
-            let fit = bound p in
-            (omega arith, above-small high (L .time g) (L .time p) (omega arith) (omega (arith, leb-true)))
-
-        outside : ltb high (next-time s p last - s .start g) ≡ true → (s .total ≤ p) × (next-time s p last ≡ last .time) →
-            (p < L .size) × Above high (L .time p - L .time g)
-        outside v (h, e) =
-            let t = u .last-time some in
-            let n = u .not-over some in
-            let b = begins in
-            absurd (omega (arith, leb-true))
-
-    -- if not, neither does the time of a position p
-    soon : is-over high (s .start g) last (next-time s p last) ≡ false →
-        (eqb (number (last .left)) 1 ≡ true) × (p < L .size → L .time p - L .time g ≤ high)
-    soon d =
-        let both = neither (negate (last .left)) (ltb high (next-time s p last - s .start g)) d in
-        let v = both .1 in
-        let z = agrees .size in
-        let b = begins in (
-          is-number (last .left) ∙ not-false (last .left) (both .0),
-          λ h.
-              let t = agrees .next p (omega arith) h in
-              ⊎-elim (λ w. let e = w .1 in omega (arith, leb-false)) (λ w. let o = w .0 in absurd (omega arith)) (next-is s p last),
-        )
-
-    unmet : is-met low (s .start g) last ≡ false → eqb (number (last .right)) 1 ≡ true → last .time - L .time g < low
-    unmet e r =
-        let h = rw (sym (is-number (last .right)) ∙ r) at e in
-        let b = begins in
-        omega (arith, leb-false)
-
-    yes : is-met low (s .start g) last ≡ true → Means (Known true)
-    yes e =
-        let both = and-iff (last .right) (leb low (last .time - s .start g)) .0 e in
-        let h = both .1 in
-        let b = begins in
-        let y = logic.met (both-fit φ ψ L) falls behind u some (is-number (last .right) ∙ both .0) (omega (arith, leb-true)) in
-        let k : g < both-settled φ ψ L = omega arith in
-        (until-settles low high φ ψ L falls g k (inl y), until-met low high φ ψ L falls g k y)
-
-    no : is-met low (s .start g) last ≡ false → is-over high (s .start g) last (next-time s p last) ≡ true → Means (Known false)
-    no e d =
-        let y = logic.over (both-fit φ ψ L) falls behind u some (unmet e) (late d) in
-        let k : g < both-settled φ ψ L = omega arith in
-        (until-settles low high φ ψ L falls g k (inr y), until-unmet low high φ ψ L falls g k y)
-
-    waits : is-met low (s .start g) last ≡ false → is-over high (s .start g) last (next-time s p last) ≡ false → Means Unknown
-    waits e d = logic.waits (both-fit φ ψ L) falls behind u some (unmet e) (soon d .0) (soon d .1)
-
-    -- no position follows the last one taken: what waits is no
-    ended : is-met low (s .start g) last ≡ false → is-over high (s .start g) last (next-time s p last) ≡ false →
-        has-ended s closed p ≡ true → Means (Known false)
-    ended e d end =
-        let (is, past) = ended-is s closed p end in
-        let c = agrees .ends ∙ is in
-        let size = agrees .size in
-        let whole = settled-closed (until low high φ ψ) L c in
-        let fit = both-fit φ ψ L in (
-          omega arith,
-          until-ends low high φ ψ L falls g c (λ y. logic.stuck fit falls behind (waits e d) (omega arith) (inl y)),
-        )
-
-  fresh : p ≤ g → Means Unknown
-  fresh h = let a = u .ahead in logic.waits-fresh (both-fit φ ψ L) falls behind (omega arith)
-
-  pub finds : (r : Settled) → look-spec low high s closed g p last ≡ r → Means r
-  finds (Known true) e = let b = found low high s closed g p last (Known true) e in yes (leb-false p g (b .0)) (b .1)
-  finds (Known false) e =
-      let b = found low high s closed g p last (Known false) e in
-      let some = leb-false p g (b .0) in
-      ⊎-elim (λ d. no some (b .1) d) (λ d. ended some (b .1) (d .0) (d .1)) (b .2)
-  finds Unknown e =
-      ⊎-elim
-      (λ b. fresh (leb-true p g b))
-      (λ b. waits (leb-false p g (b .0)) (b .1) (b .2))
-      (found low high s closed g p last Unknown e)
-
--- one turn of a walk
-module _ (low high : ℕ) (s : Times) (bound : (i : ℕ) → s .next i < 4294967296) (closed : Bool) (g at n left right : ℕ) (from : Last) (bits count took : ℕ)
-    (last : Last) (most : took ≤ n) where
-  -- all n positions lie below the operands' numbers
-  operands : {φ ψ : Formula} {L : Log} → Buffer φ L at n left → Buffer ψ L at n right → at + took ≤ both-settled φ ψ L
-  operands a b = let x = a .within in let y = b .within in omega arith
-
-  pub walks-known : (v : Bool) → look-spec low high s closed (g + count) (at + took) last ≡ Known v → count < 64 → bits < 2 ^ count →
-      Walks low high s closed g at n left right from bits count took last →
-      Walks low high s closed g at n left right from (with-bit bits count v) (count + 1) took last
-  walks-known v e h small walks φ ψ L falls agrees a b start =
-      let r = walks φ ψ L falls agrees a b start in
-      let m = finds low high φ ψ s bound closed L g falls agrees (g + count) (at + took) (omega arith) (operands a b) last (r .heads) (Known v) e in
-      let some = known-behind low high s closed (g + count) (at + took) last v e in
-      let inside = m .0 in
+  -- what they show is the log
+  reads : {L : Log} {g : ℕ} → Agrees v s L g → answered b ≡ g → head b ≡ head-of L (taken b) → waiting-head b ≡ head-of L g →
+      Reads (starts-of starts s waiting) (ahead-of ahead s copy (r .take) (r .look) (closed v)) L g (taken b) (r .take)
+  reads {L = L} {g = g} agrees at here there =
+      let size = agrees .size in
+      let behind = opens .behind in
+      let inside = answers .0 in
+      let fit = opens .fits .inside in
+      let ahead-time = read-time agrees (taken b) here (omega arith) (rw size at (looks .1)) (opens .next) in
+      let start-time = read-time agrees g there (omega arith) (omega arith) (opens .start) in
       record {
-        heads =
-            logic.answered-later (both-fit φ ψ L) falls (operands a b) (r .heads) some (g + (count + 1)) (omega arith) (omega arith);
-        answers =
-            record {
-              within = omega arith;
-              packed = packed-push (sat (until low high φ ψ) L) g count bits v h small (m .1) (r .answers .packed);
-            };
+        bound = λ i h l. shown-time-bound (opens .byte) (agrees .shows i h l);
+        waiting = λ i few l. start-time i (let m = answers .1 (suc i) few (omega arith) in omega arith);
+        ahead = λ i l h.
+            ⊎-elim
+            (λ m.
+            let e : i ≡ r .take = omega arith in
+            rw (e, le-ltb (r .take) (r .take) (omega arith), lt-ltb (r .take) (r .look) (looks .2 (omega arith))) (ahead-time (r .take) (looks .2 (omega arith))))
+            (λ m. let k = looks .0 in rw (lt-ltb i (r .take) m) (ahead-time i (omega arith)))
+            (le-or-lt (r .take) i);
+        none = λ e.
+            rw (le-ltb (r .take) (r .take) (omega arith), le-ltb (r .take) (r .look) (looks .3 (omega arith)), agrees .ends);
       }
 
-  pub walks-unknown : look-spec low high s closed (g + count) (at + took) last ≡ Unknown → took < n →
-      Walks low high s closed g at n left right from bits count took last →
-      Walks low high s closed g at n left right from bits count (took + 1) (take-spec s at took left right)
-  walks-unknown e h walks φ ψ L falls agrees a b start =
-      let r = walks φ ψ L falls agrees a b start in
-      let w = finds low high φ ψ s bound closed L g falls agrees (g + count) (at + took) (omega arith) (operands a b) last (r .heads) Unknown e in
-      let x = a .within in
-      let y = b .within in
-      let z = w .ahead in
-      let next : at + (took + 1) ≡ at + took + 1 = omega arith in
-      record {
-        heads =
-            rw next
-            (logic.taken-next (both-fit φ ψ L) falls (operands a b) w (omega arith)
-            (a .packed .same took h ∙ sym (is-number _))
-            (b .packed .same took h ∙ sym (is-number _))
-            (agrees .next (at + took) (omega arith) (omega (arith, fits a))));
-        answers = r .answers;
-      }
-
--- the last position taken, as the block has it
-abbrev pub last-of : List ℕ → Last
-last-of b = record { left = eqb (last-left b) 1; right = eqb (last-right b) 1; time = last-time b }
-
--- the stores of `walked`
-abbrev walked-stores : Walked → List ℕ → List Store
-walked-stores w b =
+-- what a step writes: the stores of `walked`
+abbrev walked-stores : Walked → (head waiting-head : ℕ) → List ℕ → List Store
+walked-stores w head waiting-head b =
     both-stores (w .took) b
-    (put 5 (answered b + w .count) ∷ put 6 (number (w .last .left)) ∷ put 7 (number (w .last .right)) ∷ put 8 (w .last .time) ∷ [])
-
--- the tests for a walk that has answered and taken nothing
-pub none-done : (count took : ℕ) → eqb count 0 && eqb took 0 ≡ true → (count ≡ 0) × (took ≡ 0)
-none-done count took e = let both = and-iff (eqb count 0) (eqb took 0) .0 e in (eqb-true count 0 (both .0), eqb-true took 0 (both .1))
-
-pub some-done : (count took : ℕ) → eqb count 0 && eqb took 0 ≡ false → count ≡ 0 → 0 < took
-some-done count zero e z = absurd (true≢false (sym (and-iff (eqb count 0) true .1 (eq-eqb count 0 z, refl)) ∙ e))
-some-done count (suc took) e z = omega arith
+    (put 5 (answered b + w .count) ∷
+    put 6 (number (w .last .left)) ∷
+    put 7 (number (w .last .right)) ∷
+    put 8 (w .last .time) ∷
+    put 11 head ∷
+    put 16 waiting-head ∷ [])
 
 -- an operand is wanted, and the block is as it was
-pub wanted-ends : (s b : List ℕ) (r : Step) → Wants b r → Ends true true s b r b
-wanted-ends s b (Batch bits count) t = absurd t
-wanted-ends s b Again t = absurd t
-wanted-ends s b Left t = (refl, refl, t)
-wanted-ends s b Right t = (refl, refl, t .1)
-wanted-ends s b Open t = refl
+pub wanted-ends : (v b : List ℕ) (r : Step) → Wants b r → Ends true true v b r b
+wanted-ends v b (Batch bits count) t = absurd t
+wanted-ends v b Again t = absurd t
+wanted-ends v b Left t = (refl, refl, t)
+wanted-ends v b Right t = (refl, refl, t .1)
+wanted-ends v b Open t = refl
 
--- records that are all positions
-reads : {closed : Bool} {s : List ℕ} {L : Log} {g : ℕ} → Agrees closed s L g → Reads closed (plain s) L g
-reads agrees = record { ends = agrees .ends; size = agrees .size; start = λ i h l. agrees .same i h l .time; next = λ i h l. agrees .same i h l .time }
+-- the test for a block that stands outside the log
+pub stands-outside : (total at g : ℕ) → ltb total at || ltb at g ≡ true → (total < at) ⊎ (at < g)
+stands-outside total at g e = ⊎-elim (λ t. inl (ltb-true total at t)) (λ t. inr (ltb-true at g t)) (or-iff (ltb total at) (ltb at g) .0 e)
 
--- a step on block b that has walked over n positions
-pub record Went (low high : ℕ) (s : List ℕ) (closed : Bool) (b : List ℕ) (n : ℕ) (w : Walked) : Type 0 where
-  pub room : 16 ≤ length b
-  pub byte : (i : ℕ) → getD s i 0 < 256
-  pub some : Available (taken b) (min (left-count b) (right-count b)) (record-count s) n
-  pub within : Limits (answered b) (taken b) n (w .bits) (w .count) (w .took) (last-of b) (w .last)
-  pub waiting : w .count < 64 → Waiting low high (plain s) closed (answered b) (taken b) n (w .count) (w .took) (w .last)
-  pub walks : Walks low high (plain s) closed (answered b) (taken b) n (left-bits b) (right-bits b) (last-of b) (w .bits) (w .count) (w .took) (w .last)
+pub stands-inside : (total at g : ℕ) → ltb total at || ltb at g ≡ false → (g ≤ at) × (at ≤ total)
+stands-inside total at g e = let t = or-false (ltb total at) (ltb at g) e in (ltb-false at g (t .1), ltb-false total at (t .0))
+  where
+    or-false : (x y : Bool) → x || y ≡ false → (x ≡ false) × (y ≡ false)
+    or-false true y e = absurd (true≢false e)
+    or-false false y e = (refl, e)
 
-module _ {low high : ℕ} {s : List ℕ} {closed : Bool} {b : List ℕ} {n : ℕ} {w : Walked} (went : Went low high s closed b n w) where
-  abbrev b′ : List ℕ
-  b′ = walked w b
+-- a step on block b that has walked over two windows
+pub record Went (low high most : ℕ) (v s b : List ℕ) (r : Room) (ahead : Window) (copy : List ℕ) (starts : Window) (waiting : List ℕ) (w : Walked) : Type 0 where
+  pub opens : Opens v s b r ahead copy starts waiting
+  pub clamp : most ≡ min high unbounded
+  pub walk :
+      Walk low most (starts-of starts s waiting) (ahead-of ahead s copy (r .take) (r .look) (closed v)) (taken b - answered b) (r .take) (left-bits b)
+      (right-bits b) (last-taken b) w
 
-  at : (k : ℕ) → word b′ k ≡ after (walked-stores w b) (word b) k
-  at = word-stores (walked-stores w b) b (omega arith) (went .room)
+module _ {low high most : ℕ} {v s b : List ℕ} {r : Room} {ahead : Window} {copy : List ℕ} {starts : Window} {waiting : List ℕ} {w : Walked}
+    (went : Went low high most v s b r ahead copy starts waiting w) where
+  abbrev opens : Opens v s b r ahead copy starts waiting
+  opens = went .opens
 
-  pub walked-onward : Onward 12 b b′
-  walked-onward = stores-onward (walked-stores w b) b (went .room) (omega arith) (omega arith) (omega arith)
+  took-some : w .took ≤ r .look
+  took-some = let most = went .walk .limits .most in let l = looks opens .0 in omega arith
 
-  -- the walk's end fits the block
-  pub put-back-fits : taken b ≤ record-count s → record-count s < 2 ^ 64 → answered b < 2 ^ 64 →
-      (16 ≤ length b) × (w .took ≤ left-count b) × (w .took ≤ right-count b) × (taken b + w .took < 2 ^ 64) ×
-      (answered b + w .count < 2 ^ 64)
-  put-back-fits h fit g =
-      let inside : taken b + w .took ≤ record-count s =
-      ⊎-elim (λ z. omega arith) (λ p. let i = went .some .inside p in omega arith) (le-or-lt n 0) in
-      (went .room, omega arith, omega arith, omega arith, omega arith)
+  answered-some : w .count ≤ r .answer
+  answered-some =
+      let l = went .walk .limits in
+      let most = l .most in
+      let behind = opens .behind in
+      let count = l .behind in
+      answers opens .1 (w .count) (l .few) (omega arith)
 
-  -- what is left to do falls with every position taken
-  pub took-ends : 0 < w .took → Ends true true s b Again b′
-  took-ends h = (less-to-do s b b′ (w .took) h (let i = went .some .inside (omega arith) in omega arith) (at 0), walked-onward)
+  -- what it has taken and answered can be written, and the heads moved on
+  pub put-back-fits : (17 ≤ length b) × (w .took ≤ left-count b) × (w .took ≤ right-count b) × (taken b + w .took < 2 ^ 64) × (answered b + w .count < 2 ^ 64)
+  put-back-fits =
+      let l = went .walk .limits in
+      let most = l .most in
+      let count = l .behind in
+      let behind = opens .behind in
+      let left = opens .fits .left in
+      let right = opens .fits .right in
+      let number = opens .fits .number in
+      (opens .room, omega arith, omega arith, omega arith, omega arith)
 
-  module _ (φ ψ : Formula) (L : Log) (g : ℕ) (falls : NeverFalls L) (agrees : Agrees closed s L g) (ready : Ready (until low high φ ψ) L g b) where
-    -- the first n positions of a buffer
-    first : {χ : Formula} {count bits : ℕ} → n ≤ count → Buffer χ L (taken b) count bits → Buffer χ L (taken b) n bits
-    first h x = let i = x .within in record { within = omega arith; packed = first-of n h x }
+  pub ahead-windowed : Windowed v s (head b) (w .took) ahead
+  ahead-windowed = (r .look, copy, took-some, opens .next)
 
-    lefts : Buffer φ L (taken b) n (left-bits b)
-    lefts = first (omega arith) (ready .buffers .0)
+  pub starts-windowed : Windowed v s (waiting-head b) (w .count) starts
+  starts-windowed = (r .answer, waiting, answered-some, opens .start)
 
-    rights : Buffer ψ L (taken b) n (right-bits b)
-    rights = first (omega arith) (ready .buffers .1)
+  module _ {h k : ℕ} (ahead-passed : Passed v s (head b) (w .took) ahead h) (starts-passed : Passed v s (waiting-head b) (w .count) starts k) where
+    abbrev b′ : List ℕ
+    b′ = walked w h k b
 
-    start : Reached low high φ ψ L g (taken b) 0 0 0 (last-of b)
-    start =
-        let r = ready .core .range in
+    at : (i : ℕ) → word b′ i ≡ after (walked-stores w h k b) (word b) i
+    at = let room = opens .room in word-stores (walked-stores w h k b) b (omega arith)
+
+    pub walked-onward : Onward 12 b b′
+    walked-onward =
+        let room = opens .room in
+        let on = ahead-passed .onward in
+        stores-onward (walked-stores w h k b) b (omega arith) (omega arith) (omega arith)
+
+    -- what is left to do falls with every position taken
+    pub took-ends : 0 < w .took → Ends true true v b Again b′
+    took-ends some =
+        let most = went .walk .limits .most in
+        let inside = opens .fits .inside in
+        (less-to-do v b b′ (w .took) some (omega arith) (at 0), walked-onward)
+
+  module _ (φ ψ : Formula) (L : Log) (g : ℕ) (falls : NeverFalls L) (agrees : Agrees v s L g) (ready : Ready (until low high φ ψ) L g b) where
+    -- the first positions of a buffer
+    first-some : {χ : Formula} {count bits : ℕ} → r .take ≤ count → Buffer χ L (taken b) count bits → Buffer χ L (taken b) (r .take) bits
+    first-some h x = let i = x .within in record { within = omega arith; packed = first-of (r .take) h x }
+
+    lefts : Buffer φ L (taken b) (r .take) (left-bits b)
+    lefts = first-some (opens .fits .left) (ready .buffers .0)
+
+    rights : Buffer ψ L (taken b) (r .take) (right-bits b)
+    rights = first-some (opens .fits .right) (ready .buffers .1)
+
+    begun : Reached low high φ ψ L g (taken b) 0 0 0 (last-taken b)
+    begun =
+        let range = ready .core .range in
         let i = ready .core .reached in
         let e : g + 0 ≡ g = omega arith in
         let f : taken b + 0 ≡ taken b = omega arith in
         record {
-          heads = rw (e, f, number-is (last-left b) (r .last-left), number-is (last-right b) (r .last-right)) (ready .core .own .1);
+          heads = rw (e, f, number-is (last-left b) (range .last-left), number-is (last-right b) (range .last-right)) (ready .core .own .1);
           answers = record { within = omega arith; packed = packed-none (sat (until low high φ ψ) L) g 0 };
         }
 
+    lead : taken b ≡ g + (taken b - answered b)
+    lead = let i = ready .core .own .0 in let behind = opens .behind in omega arith
+
+    seen : Reads (starts-of starts s waiting) (ahead-of ahead s copy (r .take) (r .look) (closed v)) L g (taken b) (r .take)
+    seen = reads opens agrees (ready .core .own .0) (ready .core .heads .0) (ready .core .heads .1)
+
     reached : Reached low high φ ψ L g (taken b) (w .bits) (w .count) (w .took) (w .last)
-    reached = (rw (ready .core .own .0) at (went .walks)) φ ψ L falls (reads agrees) lefts rights start
+    reached = went .walk .walks high φ ψ L g (taken b) (went .clamp) lead falls seen lefts rights begun
 
     -- the block after it
-    stands : Ready (until low high φ ψ) L (g + w .count) b′ × Moved (until low high φ ψ) b b′
-    stands =
-        let r = ready .core .range in
-        let x = reached .heads .ahead in
-        let y = reached .answers .within in
-        let i = ready .core .own .0 in
-        let k = lefts .within in
-        let l = number-lt (w .last .left) in
-        let m = number-lt (w .last .right) in
-        let t = went .within .bound (r .last-time) in
-        taken-both (until low high φ ψ) b (w .took) (g + w .count) b′ y
-        (omega (arith, at 0, at 1, at 3, at 5, at 6, at 7, at 8, at 9, at 10, fits lefts))
-        (at 5 ∙ ap (λ (q : ℕ). q + w .count) i, rw (at 0, at 6, at 7, at 8) (reached .heads))
-        (λ q. q) (omega arith) (omega arith)
-        (record { right = record { at = at 0; count = at 3; bits = at 4 }; count = at 1; bits = at 2 })
-        (ready .buffers .0) (ready .buffers .1)
+    module _ {h k : ℕ} (ahead-passed : Passed v s (head b) (w .took) ahead h) (starts-passed : Passed v s (waiting-head b) (w .count) starts k) where
+      abbrev b″ : List ℕ
+      b″ = walked w h k b
 
-    pub answers-some : 0 < w .count → Stepped (until low high φ ψ) L g b (Batch (w .bits) (w .count)) b′
-    answers-some h = (record { some = h; buffer = reached .answers }, stands .0, stands .1)
+      word-is : (i : ℕ) → word b″ i ≡ after (walked-stores w h k b) (word b) i
+      word-is = at ahead-passed starts-passed
 
-    pub takes-some : w .count ≡ 0 → Stepped (until low high φ ψ) L g b Again b′
-    takes-some e = let f : g + w .count ≡ g = omega arith in (rw f at (stands .0), stands .1)
+      -- the heads stand behind what was taken and answered
+      heads : Heads (until low high φ ψ) L (g + w .count) b″
+      heads =
+          let size = agrees .size in
+          let behind = opens .behind in
+          let i = ready .core .own .0 in
+          let inside = answers opens .0 in
+          let fit = opens .fits .inside in
+          let next = head-passed agrees (taken b) (ready .core .heads .0) (omega arith) (rw size at (looks opens .1)) (opens .next) (w .took) h took-some ahead-passed in
+          let start = head-passed agrees g (ready .core .heads .1) (omega arith) (omega arith) (opens .start) (w .count) k answered-some starts-passed in
+          (word-is 11 ∙ next ∙ ap (head-of L) (sym (word-is 0)), word-is 16 ∙ start)
+
+      stands : Ready (until low high φ ψ) L (g + w .count) b″ × Moved (until low high φ ψ) b b″
+      stands =
+          let range = ready .core .range in
+          let x = reached .heads .ahead in
+          let y = reached .answers .within in
+          let i = ready .core .own .0 in
+          let z = lefts .within in
+          let l = number-lt (w .last .left) in
+          let m = number-lt (w .last .right) in
+          let most = went .walk .limits .most in
+          let t = went .walk .limits .bound (range .last-time) in
+          let left = opens .fits .left in
+          let right = opens .fits .right in
+          taken-both (until low high φ ψ) b (w .took) (g + w .count) b″ y
+          (omega (arith, word-is 0, word-is 1, word-is 3, word-is 5, word-is 6, word-is 7, word-is 8, word-is 9, word-is 10, fits lefts))
+          (word-is 5 ∙ ap (λ (q : ℕ). q + w .count) i, rw (word-is 0, word-is 6, word-is 7, word-is 8) (reached .heads))
+          heads
+          (λ q. q)
+          (omega arith)
+          (omega arith)
+          (record { right = record { at = word-is 0; count = word-is 3; bits = word-is 4 }; count = word-is 1; bits = word-is 2 })
+          (ready .buffers .0)
+          (ready .buffers .1)
+
+      pub answers-some : 0 < w .count → Stepped (until low high φ ψ) L g b (Batch (w .bits) (w .count)) b″
+      answers-some some = (record { some = some; buffer = reached .answers }, stands .0, stands .1)
+
+      pub takes-some : w .count ≡ 0 → Stepped (until low high φ ψ) L g b Again b″
+      takes-some e = let f : g + w .count ≡ g = omega arith in (rw f at (stands .0), stands .1)
 
     -- with nothing to take, g stays open
     module _ (none : w .count ≡ 0) (nothing : w .took ≡ 0) where
       -- what is known of it
-      unknown : look-spec low high (plain s) closed (g + w .count) (taken b + w .took) (w .last) ≡ Unknown
-      unknown = rw (ready .core .own .0) at (went .waiting (omega arith) .unknown)
+      unknown : Waiting low most (starts-of starts s waiting) (ahead-of ahead s copy (r .take) (r .look) (closed v)) (taken b - answered b) (r .take) (w .count) (w .took) (w .last)
+      unknown = went .walk .waiting (omega arith)
+
+      behind : taken b + w .took ≤ both-settled φ ψ L
+      behind = let x = lefts .within in let y = rights .within in omega arith
+
+      sees : Sees L (g + w .count) (taken b + w .took) (starts-of starts s waiting (w .count)) (ahead-of ahead s copy (r .take) (r .look) (closed v) (w .took)) (leb (taken b - answered b + w .took) (w .count))
+      sees =
+          sees-log (starts-of starts s waiting) (ahead-of ahead s copy (r .take) (r .look) (closed v)) (taken b - answered b) (r .take) (w .count) (w .took)
+          (omega arith)
+          (went .walk .limits .most)
+          lead
+          (fits lefts)
+          seen
 
       -- on a closed log it is the end
-      at-end : both-settled φ ψ L ≡ taken b → L .closed ≡ true → settled-to (until low high φ ψ) L ≡ g
-      at-end e c =
-          let size = agrees .size in
+      at-last : both-settled φ ψ L ≡ taken b → L .closed ≡ true → settled-to (until low high φ ψ) L ≡ g
+      at-last e c =
           let ahead = ready .core .own .1 .ahead in
-          let is : closed ≡ true = sym (agrees .ends) ∙ c in
-          let past = unknown-ahead low high (plain s) (g + w .count) (taken b + w .took) (w .last) (rw is at unknown)
-          (omega (arith, settled-closed φ L c, settled-closed ψ L c)) in
-          omega (arith, settled-closed (until low high φ ψ) L c, settled-closed φ L c, settled-closed ψ L c)
+          let f = settled-closed φ L c in
+          let k = settled-closed ψ L c in
+          let past = none-waits low high most (went .clamp) φ ψ L falls sees behind (w .last) (reached .heads) (unknown .unknown) (c, omega arith) in
+          omega (arith, settled-closed (until low high φ ψ) L c)
 
       -- on an open one it waits
-      waiting : both-settled φ ψ L ≡ taken b → L .closed ≡ false → settled-to (until low high φ ψ) L ≡ g
-      waiting e o =
-          let r = ready .core .reached in
-          let behind : taken b + w .took ≤ both-settled φ ψ L = omega arith in
-          let waits =
-          finds low high φ ψ (plain s) (time-bound s (went .byte)) closed L g falls (reads agrees) (g + w .count) (taken b + w .took) (omega arith) behind (w .last) (reached .heads) Unknown unknown in
+      not-yet : both-settled φ ψ L ≡ taken b → L .closed ≡ false → settled-to (until low high φ ψ) L ≡ g
+      not-yet e o =
+          let i = ready .core .reached in
+          let finding = finds low high most (went .clamp) φ ψ L falls sees behind (w .last) (reached .heads) Unknown (unknown .unknown) in
           let never : g + w .count < settled-to (until low high φ ψ) L → ⊥ =
-          λ l. logic.stuck (both-fit φ ψ L) falls behind waits (omega arith) (until-open low high φ ψ L falls (g + w .count) o l) in
+          λ l. logic.stuck (both-fit φ ψ L) falls behind finding (omega arith) (until-open low high φ ψ L falls (g + w .count) o l) in
           omega arith
 
       none-left : both-settled φ ψ L ≡ taken b → settled-to (until low high φ ψ) L ≡ g
-      none-left e = by-closed L (at-end e) (waiting e)
+      none-left e = by-closed L (at-last e) (not-yet e)
 
       pub wants : (r : Step) → Wants b r → Stepped (until low high φ ψ) L g b r b
       wants (Batch bits count) t = absurd t
       wants Again t = absurd t
-      wants Left t = (refl, λ e. none-left (let r = ready .buffers .1 .within in omega arith))
-      wants Right t = (refl, λ e. none-left (let r = ready .buffers .0 .within in omega arith))
+      wants Left t = (refl, λ e. none-left (let x = ready .buffers .1 .within in omega arith))
+      wants Right t = (refl, λ e. none-left (let x = ready .buffers .0 .within in omega arith))
       wants Open t =
           let l = ready .buffers .0 in
-          let r = ready .buffers .1 in
-          let z = went .waiting (omega arith) .all in
+          let k = ready .buffers .1 in
+          let z = unknown .all in
           let f = l .packed .few in
-          let k = went .some .all (omega arith) (omega (arith, fits l, agrees .size)) in
+          let all = opens .fits .all (omega arith) (omega (arith, fits l, agrees .size)) in
           absurd (omega arith)

@@ -1,19 +1,23 @@
--- until's parts: what settles the next position to answer, and a walk that answers and takes many of them.
-use Prim.Native.Nat.{ℕ, _+_, _-_, _≤_, _<_, _^_, max}
+-- until's parts: what settles the next position to answer, and a walk that answers and takes many of them. Positions are counted here from
+-- the first that waits and from the first to take, which lies `lead` behind that; start and next are their times.
+use Prim.Native.Nat.{ℕ, _+_, _-_, _*_, _≤_, _<_, _^_, min}
 use mathlib.Core.Bool.{Bool, true, false, cond, _&&_, _||_}
 use mathlib.Core.Bool.{not as negate}
 use mathlib.Core.List.{List}
 use mathlib.Core.Path.{_≡_}
-use lib.ListN.{set}
-use lib.Dec.{leb, ltb}
-use Rattle.mtl.specs.Formula.{Formula}
+use lib.ListN.{length, set}
+use lib.Dec.{leb, ltb, eqb}
+use Rattle.mtl.specs.Formula.{Formula, unbounded}
 use Rattle.mtl.specs.Formula.Formula.{until as until-formula}
 use Rattle.mtl.specs.Log.{Log, NeverFalls}
 use Rattle.mtl.specs.Satisfaction.{sat}
 use Rattle.bits.specs.Packed.{bit, number}
 use Rattle.trace.specs.Format.{record-count, time-at}
-use Rattle.blocks.specs.Block.{left-count, right-count, answered, took-both, Until, Buffer}
+use Rattle.trace.specs.Window.{window-of}
+use Rattle.trace.specs.declared.window.Window.{Window}
+use Rattle.blocks.specs.Block.{taken, left-count, right-count, answered, last-left, last-right, last-time, took-both, Until, Buffer}
 use Rattle.until.specs.declared.Last.{Last}
+use Rattle.until.specs.declared.Room.{Room}
 use Rattle.until.specs.declared.Walked.{Walked}
 use Rattle.until.specs.declared.Settled.{Settled}
 use Rattle.until.specs.declared.Settled.the-variants.{Known, Unknown}
@@ -32,43 +36,33 @@ is-met low start last = last .right && leb low (last .time - start)
 abbrev pub is-over : (high start : ℕ) → Last → (next : ℕ) → Bool
 is-over high start last next = negate (last .left) || ltb high (next - start)
 
-abbrev pub settle-spec : (low high start : ℕ) → Last → (next : ℕ) → (ended : Bool) → Settled
-settle-spec low high start last next ended =
-    pick (is-met low start last || (is-over high start last next || ended)) (Known (is-met low start last)) Unknown
+abbrev pub settle-spec : (low high start : ℕ) → Last → (next : ℕ) → Settled
+settle-spec low high start last next =
+    pick (is-met low start last || is-over high start last next) (Known (is-met low start last)) Unknown
 
--- what the two heads read: how many positions there are, and their times, by position
-pub record Times : Type 0 where
-  pub total : ℕ
-  pub start : ℕ → ℕ
-  pub next : ℕ → ℕ
+-- the time that stands for the next position's where there is none: later than all where the log is closed, else not later than any
+abbrev pub time-of-none : (closed : Bool) → ℕ
+time-of-none closed = cond closed 8589934592 0
 
--- of records that are all positions
-abbrev pub plain : List ℕ → Times
-plain s = record { total = record-count s; start = time-at s; next = time-at s }
+-- the time of position i of n, and `after` for the one behind them
+abbrev pub next-of : (time : ℕ → ℕ) (n after i : ℕ) → ℕ
+next-of time n after i = cond (ltb i n) (time i) after
 
--- it is the log's, from position g on
-pub record Reads (closed : Bool) (s : Times) (L : Log) (g : ℕ) : Type 0 where
-  pub ends : L .closed ≡ closed
-  pub size : s .total ≡ L .size
-  pub start : (i : ℕ) → g ≤ i → i < L .size → s .start i ≡ L .time i
-  pub next : (i : ℕ) → g ≤ i → i < L .size → s .next i ≡ L .time i
+-- what is known of a position that waits, where the one `at` is the next to take
+abbrev pub look-spec : (low high : ℕ) (start next : ℕ → ℕ) (lead waiting at : ℕ) → Last → Settled
+look-spec low high start next lead waiting at last =
+    pick (leb (lead + at) waiting) Unknown (settle-spec low high (start waiting) last (next at))
 
--- the time of position p, or the last one's where the log has no position p
-abbrev pub next-time : Times → (p : ℕ) → Last → ℕ
-next-time s p last = cond (ltb p (s .total)) (s .next p) (last .time)
+-- position i out of the operands' words
+abbrev pub take-spec : (next : ℕ → ℕ) (i left right : ℕ) → Last
+take-spec next i left right = record { left = bit left i; right = bit right i; time = next i }
 
--- the log is closed and has no position p
-abbrev pub has-ended : Times → (closed : Bool) → (p : ℕ) → Bool
-has-ended s closed p = cond (ltb p (s .total)) false closed
-
--- what is known of position g, where p is the next to take
-abbrev pub look-spec : (low high : ℕ) → Times → (closed : Bool) → (g p : ℕ) → Last → Settled
-look-spec low high s closed g p last =
-    pick (leb p g) Unknown (settle-spec low high (s .start g) last (next-time s p last) (has-ended s closed p))
-
--- position i of those from `at` on, out of the operands' words
-abbrev pub take-spec : Times → (at i left right : ℕ) → Last
-take-spec s at i left right = record { left = bit left i; right = bit right i; time = s .next (at + i) }
+-- the times are those of the log's positions from g on, which wait, and of the n from `at` on, which may be taken, and the one behind them
+pub record Reads (start next : ℕ → ℕ) (L : Log) (g at n : ℕ) : Type 0 where
+  pub bound : (i : ℕ) → g ≤ i → i < L .size → L .time i < 2 ^ 32
+  pub waiting : (i : ℕ) → i < 64 → g + i < at + n → start i ≡ L .time (g + i)
+  pub ahead : (i : ℕ) → i ≤ n → at + i < L .size → next i ≡ L .time (at + i)
+  pub none : at + n ≡ L .size → next n ≡ time-of-none (L .closed)
 
 -- count positions from g on are answered, and `took` positions from `at` on are taken
 pub record Reached (low high : ℕ) (φ ψ : Formula) (L : Log) (g at bits count took : ℕ) (last : Last) : Type 0 where
@@ -76,35 +70,78 @@ pub record Reached (low high : ℕ) (φ ψ : Formula) (L : Log) (g at bits count
       Until low high (L .time) (sat φ L) (sat ψ L) (g + count) (at + took) (number (last .left)) (number (last .right)) (last .time)
   pub answers : Buffer (until-formula low high φ ψ) L g count bits
 
--- what a walk promises where it starts from a block that stands for the formula on some log
-abbrev pub Walks : (low high : ℕ) → Times → (closed : Bool) → (g at n left right : ℕ) → Last → (bits count took : ℕ) → Last → Type 0
-Walks low high s closed g at n left right from bits count took last =
-    (φ ψ : Formula) (L : Log) → NeverFalls L → Reads closed s L g → Buffer φ L at n left → Buffer ψ L at n right →
+-- what a walk promises where it starts from a block that stands for the formula on some log; `most` is high, or no upper end where high is
+-- even longer: no two times lie that far apart
+abbrev pub Walks : (low most : ℕ) (start next : ℕ → ℕ) (lead n left right : ℕ) → Last → (bits count took : ℕ) → Last → Type 0
+Walks low most start next lead n left right from bits count took last =
+    (high : ℕ) (φ ψ : Formula) (L : Log) (g at : ℕ) → most ≡ min high unbounded → at ≡ g + lead → NeverFalls L →
+    Reads start next L g at n → Buffer φ L at n left → Buffer ψ L at n right →
     Reached low high φ ψ L g at 0 0 0 from → Reached low high φ ψ L g at bits count took last
 
 -- what it promises on any words
-pub record Limits (g at n bits count took : ℕ) (from last : Last) : Type 0 where
+pub record Limits (lead n bits count took : ℕ) (from last : Last) : Type 0 where
   pub few : count ≤ 64
   pub small : bits < 2 ^ count
   pub most : took ≤ n
-  pub behind : g + count ≤ max g (at + took)
+  pub behind : count ≤ lead + took
   pub bound : from .time < 2 ^ 32 → last .time < 2 ^ 32
 
 -- where a walk ends with fewer than 64 answers: all n positions are taken, and the next to answer waits
-pub record Waiting (low high : ℕ) (s : Times) (closed : Bool) (g at n count took : ℕ) (last : Last) : Type 0 where
+pub record Waiting (low most : ℕ) (start next : ℕ → ℕ) (lead n count took : ℕ) (last : Last) : Type 0 where
   pub all : took ≡ n
-  pub unknown : look-spec low high s closed (g + count) (at + took) last ≡ Unknown
+  pub unknown : look-spec low most start next lead count took last ≡ Unknown
 
--- the block after a walk
-abbrev pub walked : Walked → List ℕ → List ℕ
-walked w b =
+-- a whole walk
+pub record Walk (low most : ℕ) (start next : ℕ → ℕ) (lead n left right : ℕ) (from : Last) (w : Walked) : Type 0 where
+  pub limits : Limits lead n (w .bits) (w .count) (w .took) from (w .last)
+  pub waiting : w .count < 64 → Waiting low most start next lead n (w .count) (w .took) (w .last)
+  pub walks : Walks low most start next lead n left right from (w .bits) (w .count) (w .took) (w .last)
+
+-- a window that has n records
+pub record Holds (w : Window) (s copy : List ℕ) (n : ℕ) : Type 0 where
+  pub inside : w .dense ≡ true → w .at * 8 ≤ length s
+  pub long : n ≤ record-count (window-of w s copy)
+
+-- the times that two windows show: of the positions that wait, and of the n to take and the one behind them, where the window has it
+abbrev pub starts-of : Window → (s copy : List ℕ) → ℕ → ℕ
+starts-of w s copy = time-at (window-of w s copy)
+
+abbrev pub ahead-of : Window → (s copy : List ℕ) (n end : ℕ) (closed : Bool) → ℕ → ℕ
+ahead-of w s copy n end closed =
+    next-of (time-at (window-of w s copy)) n (next-of (time-at (window-of w s copy)) end (time-of-none closed) n)
+
+-- the last position taken, as the block keeps it
+abbrev pub last-taken : List ℕ → Last
+last-taken b = record { left = eqb (last-left b) 1; right = eqb (last-right b) 1; time = last-time b }
+
+-- the block after a walk, with the two heads
+abbrev pub walked : Walked → (head waiting-head : ℕ) → List ℕ → List ℕ
+walked w head waiting-head b =
     set
+    (set
+    (set
     (set
     (set (set (took-both (w .took) b) 5 (answered b + w .count)) 6 (number (w .last .left)))
     7
     (number (w .last .right)))
     8
-    (w .last .time)
+    (w .last .time))
+    11
+    head)
+    16
+    waiting-head
+
+-- how far a step may go
+pub record Fits (b : List ℕ) (total : ℕ) (r : Room) : Type 0 where
+  pub left : r .take ≤ left-count b
+  pub right : r .take ≤ right-count b
+  pub few : r .take ≤ 64
+  pub inside : taken b + r .take ≤ total
+  pub number : taken b + r .take < 2 ^ 64
+  pub all : min (left-count b) (right-count b) ≤ 64 → taken b + min (left-count b) (right-count b) ≤ total →
+      r .take ≡ min (left-count b) (right-count b)
+  pub ahead : r .look ≡ min (r .take + 1) (total - taken b)
+  pub waiting : r .answer ≡ min (taken b - answered b + r .take) 64
 
 -- the operand whose buffer is empty; Open where neither is, which only forged words bring about
 abbrev pub Wants : List ℕ → Step → Type 0

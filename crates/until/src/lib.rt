@@ -1,17 +1,21 @@
 // until: two reading heads and no history.
 ghost use mathlib.Core.Path.{_≡_};
 ghost use mathlib.Core.Bool.{true};
-ghost use Prim.Native.Nat.{_+_, _≤_, _<_, _^_};
+ghost use Prim.Native.Nat.{_+_, _-_, _≤_, _<_, _^_, min};
 ghost use lib.ListN.{length};
 ghost use Rattle.mtl.specs.Formula.{Formula};
 ghost use Rattle.mtl.specs.Formula.Formula.{until};
-ghost use Rattle.trace.specs.Format.{record-count};
-ghost use Rattle.blocks.specs.Block.{taken, left-count, right-count, answered};
+ghost use Rattle.trace.specs.Format.{record-count, time-at};
+ghost use Rattle.trace.specs.View.{Numbered};
+ghost use Rattle.blocks.specs.Block.{taken, left-count, left-bits, right-count, right-bits, answered};
 ghost use Rattle.blocks.specs.Step.{Steps, Ends};
-ghost use Rattle.until.specs.Settle.{settle-spec, look-spec, take-spec, Walks, Limits, Waiting, walked, Wants, plain};
+ghost use Rattle.until.specs.Settle.{settle-spec, time-of-none, next-of, look-spec, take-spec, Walk, Holds, starts-of, ahead-of, last-taken, walked, Wants, Fits};
 use blocks::Step;
 use blocks::time;
 use blocks::word;
+use trace::Window;
+use trace::view;
+use trace::window;
 
 // What is known of the next position to answer.
 pub enum Settled {
@@ -34,71 +38,108 @@ pub struct Walked {
     last: Last,
 }
 
-// Whether the last position taken, the time of the next, or that none follows settles the position whose time is `start`.
-fn settle(low: u64, high: u64, start: u64, last: Last, next: u64, ended: bool) -> Settled
-    ensures { λ r. ⌜ r ≡ settle-spec low high start last next ended ⌝ }
+// How far a step may go: how many positions it may take, how many it looks at ahead, which is one more where the log has it, and how many
+// of those that wait it may answer.
+pub struct Room {
+    take: u64,
+    look: u64,
+    answer: u64,
+}
+
+// No two times lie further apart than this: a high above it is as good as this one.
+const LONGEST_GAP: u64 = 4294967295;
+
+// Whether the last position taken or the time of the next settles the position whose time is `start`.
+fn settle(low: u64, high: u64, start: u64, last: Last, next: u64) -> Settled
+    ensures { λ r. ⌜ r ≡ settle-spec low high start last next ⌝ }
 {
     let met = last.right & (low <= time::gap(start, last.time));
     let over = !last.left | (high < time::gap(start, next));
-    if met | (over | ended) {
+    if met | over {
         Settled::Known(met)
     } else {
         Settled::Unknown
     }
 }
 
-// What is known of position g, where `at` is the next to take. Where the log is closed and has no position `at`, none follows.
-fn look(low: u64, high: u64, records: &[u8], closed: bool, g: u64, at: u64, last: Last) -> Settled
-    requires { ⌜ at ≤ record-count (now records) ⌝ }
-    ensures { λ r. ⌜ r ≡ look-spec low high (plain (now (records .entry))) closed g at last ⌝ }
+// The time that stands for the next position's where there is none: later than all where the log is closed, else not later than any.
+fn time_of_none(closed: bool) -> u64
+    ensures { λ r. ⌜ r ≡ time-of-none closed ⌝ }
 {
-    if at <= g {
-        return Settled::Unknown;
-    }
-    let start = trace::time(records, g as usize);
-    if at < trace::count(records) as u64 {
-        let next = trace::time(records, at as usize);
-        return settle(low, high, start, last, next, false);
-    }
-    settle(low, high, start, last, last.time, closed)
+    if closed { 8589934592 } else { 0 }
 }
 
-// Position `at + i` out of the operands' words of answers.
-fn take(records: &[u8], at: u64, i: u64, left: u64, right: u64) -> Last
-    requires { ⌜ (at + i < record-count (now records)) × (i < 64) ⌝ }
-    ensures { λ r. ⌜ (r ≡ take-spec (plain (now (records .entry))) at i left right) × (r .time < 2 ^ 32) ⌝ }
+// The time of position i of so many in a window, and `none` for the one behind them.
+fn next_time(ahead: &[u8], i: u64, end: u64, none: u64) -> u64
+    requires { ⌜ end ≤ record-count (now ahead) ⌝ }
+    ensures { λ r. ⌜ r ≡ next-of (time-at (now (ahead .entry))) end none i ⌝ }
+{
+    if i < end {
+        trace::time(ahead, i as usize)
+    } else {
+        none
+    }
+}
+
+// Position i of the window out of the operands' words of answers.
+fn take(ahead: &[u8], i: u64, left: u64, right: u64) -> Last
+    requires { ⌜ (i < record-count (now ahead)) × (i < 64) ⌝ }
+    ensures { λ r. ⌜ (r ≡ take-spec (time-at (now (ahead .entry))) i left right) × (r .time < 2 ^ 32) ⌝ }
 {
     Last {
         left: bits::test(left, i),
         right: bits::test(right, i),
-        time: trace::time(records, (at + i) as usize),
+        time: trace::time(ahead, i as usize),
     }
 }
 
-// Answers positions from g on and takes positions from `at` on, until 64 are answered or one waits and all n are taken.
+// What is known of the position at record `waiting` of `starts`, where the one at record `at` of `ahead` is the next to take; `ahead`
+// begins `lead` positions behind, and behind its first n comes the time `after`.
+fn look(
+    low: u64,
+    high: u64,
+    starts: &[u8],
+    waiting: u64,
+    ahead: &[u8],
+    at: u64,
+    lead: u64,
+    n: u64,
+    after: u64,
+    last: Last,
+) -> Settled
+    requires { ⌜ (n ≤ record-count (now ahead)) × (lead + at < 2 ^ 64) × (waiting < lead + at → waiting < record-count (now starts)) ⌝ }
+    ensures { λ r. ⌜ r ≡ look-spec low high (time-at (now (starts .entry))) (next-of (time-at (now (ahead .entry))) n after) lead waiting at last ⌝ }
+{
+    if lead + at <= waiting {
+        return Settled::Unknown;
+    }
+    let start = trace::time(starts, waiting as usize);
+    settle(low, high, start, last, next_time(ahead, at, n, after))
+}
+
+// Answers the positions of `starts` and takes the first n of `ahead`, which begins `lead` positions behind, until 64 are answered or one waits
+// and all n are taken. Behind them comes the time `after`.
 fn walk(
     low: u64,
     high: u64,
-    records: &[u8],
-    closed: bool,
-    g: u64,
-    at: u64,
+    starts: &[u8],
+    ahead: &[u8],
+    lead: u64,
     n: u64,
+    after: u64,
     left: u64,
     right: u64,
     from: Last,
 ) -> Walked
-    requires { ⌜ (at + n ≤ record-count (now records)) × (n ≤ 64) ⌝ }
-    ensures { λ r. ⌜ Limits g at n (r .bits) (r .count) (r .took) from (r .last) ⌝ }
-    ensures { λ r. ⌜ (r .count < 64 → Waiting low high (plain (now (records .entry))) closed g at n (r .count) (r .took) (r .last)) ⌝ }
-    ensures { λ r. ⌜ Walks low high (plain (now (records .entry))) closed g at n left right from (r .bits) (r .count) (r .took) (r .last) ⌝ }
+    requires { ⌜ (n ≤ 64) × (n ≤ record-count (now ahead)) × (lead + n < 2 ^ 64) × (min (lead + n) 64 ≤ record-count (now starts)) ⌝ }
+    ensures { λ r. ⌜ Walk low high (time-at (now (starts .entry))) (next-of (time-at (now (ahead .entry))) n after) lead n left right from r ⌝ }
 {
     let mut last = from;
     let mut bits: u64 = 0;
     let mut count: u64 = 0;
     let mut took: u64 = 0;
     while count < 64 {
-        match look(low, high, records, closed, g + count, at + took, last) {
+        match look(low, high, starts, count, ahead, took, lead, n, after, last) {
             Settled::Known(holds) => {
                 bits = bits::push(bits, count, holds);
                 count += 1;
@@ -107,7 +148,7 @@ fn walk(
                 if took == n {
                     break;
                 }
-                last = take(records, at, took, left, right);
+                last = take(ahead, took, left, right);
                 took += 1;
             }
         }
@@ -120,10 +161,10 @@ fn walk(
     }
 }
 
-// Writes a walk's end back.
-fn put_back(block: &mut [u64], w: Walked)
-    requires { ⌜ (16 ≤ length (now block)) × (w .took ≤ left-count (now block)) × (w .took ≤ right-count (now block)) × (taken (now block) + w .took < 2 ^ 64) × (answered (now block) + w .count < 2 ^ 64) ⌝ }
-    ensures { λ _. ⌜ now (block .exit) ≡ walked w (now (block .entry)) ⌝ }
+// Writes a walk's end back, and the two reading heads.
+fn put_back(block: &mut [u64], w: Walked, ahead: u64, waiting: u64)
+    requires { ⌜ (17 ≤ length (now block)) × (w .took ≤ left-count (now block)) × (w .took ≤ right-count (now block)) × (taken (now block) + w .took < 2 ^ 64) × (answered (now block) + w .count < 2 ^ 64) ⌝ }
+    ensures { λ _. ⌜ now (block .exit) ≡ walked w ahead waiting (now (block .entry)) ⌝ }
 {
     let answered = block[word::ANSWERED] + w.count;
     blocks::take_both(block, w.took);
@@ -131,6 +172,8 @@ fn put_back(block: &mut [u64], w: Walked)
     block[word::LAST_LEFT] = bits::flag(w.last.left);
     block[word::LAST_RIGHT] = bits::flag(w.last.right);
     block[word::LAST_TIME] = w.last.time;
+    block[word::HEAD] = ahead;
+    block[word::WAITING_HEAD] = waiting;
 }
 
 // The operand whose buffer is empty; Open where neither is, which only forged words bring about.
@@ -147,43 +190,117 @@ fn wanted(block: &[u64]) -> Step
     Step::Open
 }
 
-// Walks over what both operands have answered, from the next position to answer and the next to take.
-pub fn step_until(low: u64, high: u64, records: &[u8], closed: bool, block: &mut [u64]) -> Step
+// The last position taken, as the block keeps it.
+fn last_of(block: &[u64]) -> Last
     requires { ⌜ 16 ≤ length (now block) ⌝ }
-    ensures { λ r. ⌜ Ends true true (now (records .entry)) (now (block .entry)) r (now (block .exit)) ⌝ }
-    ensures { λ r. ⌜ ((φ ψ : Formula) → Steps closed (until low high φ ψ) (now (records .entry)) (now (block .entry)) r (now (block .exit))) ⌝ }
+    ensures { λ r. ⌜ r ≡ last-taken (now (block .entry)) ⌝ }
 {
-    let at = block[word::TAKEN];
-    let total = trace::count(records) as u64;
-    if total < at {
-        return Step::Open;
-    }
-    let n = blocks::available(
-        at,
-        blocks::smaller(block[word::LEFT_COUNT], block[word::RIGHT_COUNT]),
-        total,
-    );
-    let last = Last {
+    Last {
         left: block[word::LAST_LEFT] == 1,
         right: block[word::LAST_RIGHT] == 1,
         time: block[word::LAST_TIME],
-    };
-    let w = walk(
+    }
+}
+
+// Walks over n positions of the window ahead, of which there are `end`.
+fn walk_windows<'a>(
+    low: u64,
+    high: u64,
+    records: &'a [u8],
+    starts: Window,
+    waiting: &'a [u8],
+    ahead: Window,
+    copy: &'a [u8],
+    n: u64,
+    end: u64,
+    closed: bool,
+    block: &[u64],
+) -> Walked
+    requires { ⌜ (16 ≤ length (now block)) × (n ≤ 64) × (n ≤ end) × (taken (now block) - answered (now block) + n < 2 ^ 64) ⌝ }
+    requires { ⌜ Holds ahead (now records) (now copy) end × Holds starts (now records) (now waiting) (min (taken (now block) - answered (now block) + n) 64) ⌝ }
+    ensures { λ r. ⌜ Walk low high (starts-of starts (now (records .entry)) (now (waiting .entry))) (ahead-of ahead (now (records .entry)) (now (copy .entry)) n end closed) (taken (now (block .entry)) - answered (now (block .entry))) n (left-bits (now (block .entry))) (right-bits (now (block .entry))) (last-taken (now (block .entry))) r ⌝ }
+{
+    let next = window::read(ahead, records, copy);
+    let after = next_time(next, n, end, time_of_none(closed));
+    walk(
         low,
         high,
-        records,
-        closed,
-        block[word::ANSWERED],
-        at,
+        window::read(starts, records, waiting),
+        next,
+        time::gap(block[word::ANSWERED], block[word::TAKEN]),
         n,
+        after,
         block[word::LEFT_BITS],
         block[word::RIGHT_BITS],
-        last,
-    );
-    if (w.count == 0) & (w.took == 0) {
-        return wanted(block);
+        last_of(block),
+    )
+}
+
+// How far a step may go on a log of `total` positions: it takes those that both operands have answered.
+fn room_of(block: &[u64], total: u64) -> Room
+    requires { ⌜ (16 ≤ length (now block)) × (answered (now block) ≤ taken (now block)) × (taken (now block) ≤ total) ⌝ }
+    ensures { λ r. ⌜ Fits (now (block .entry)) total r ⌝ }
+{
+    let at = block[word::TAKEN];
+    let both = blocks::smaller(block[word::LEFT_COUNT], block[word::RIGHT_COUNT]);
+    let take = blocks::available(at, both, total);
+    Room {
+        take,
+        look: blocks::smaller(take + 1, total - at),
+        answer: blocks::smaller(at - block[word::ANSWERED] + take, 64),
     }
-    put_back(block, w);
+}
+
+// Walks over what both operands have answered, from the next position to answer and the next to take.
+pub fn step_until(
+    low: u64,
+    high: u64,
+    records: &[u8],
+    view: &[u64; 4],
+    copy: &mut [u8; 520],
+    waiting: &mut [u8; 520],
+    block: &mut [u64],
+) -> Step
+    requires { ⌜ (17 ≤ length (now block)) × (length (now copy) ≡ 520) × (length (now waiting) ≡ 520) × Numbered (now view) (now records) ⌝ }
+    ensures { λ r. ⌜ Ends true true (now (view .entry)) (now (block .entry)) r (now (block .exit)) ⌝ }
+    ensures { λ r. ⌜ ((φ ψ : Formula) → Steps (until low high φ ψ) (now (view .entry)) (now (records .entry)) (now (block .entry)) r (now (block .exit))) ⌝ }
+    ensures { λ _. ⌜ (length (now (copy .exit)) ≡ 520) × (length (now (waiting .exit)) ≡ 520) ⌝ }
+{
+    let at = block[word::TAKEN];
+    let total = view[view::TOTAL];
+    if (total < at) | (at < block[word::ANSWERED]) {
+        return Step::Open;
+    }
+    let room = room_of(block, total);
+    let head = block[word::HEAD];
+    let waiting_head = block[word::WAITING_HEAD];
+    let ahead = window::open(records, view, head, room.look, copy);
+    let starts = window::open(records, view, waiting_head, room.answer, waiting);
+    let closed = view[view::CLOSED] == 1;
+    let w = walk_windows(
+        low,
+        blocks::smaller(high, LONGEST_GAP),
+        records,
+        starts,
+        waiting,
+        ahead,
+        copy,
+        room.take,
+        room.look,
+        closed,
+        block,
+    );
+    if w.count == 0 {
+        if w.took == 0 {
+            return wanted(block);
+        }
+    }
+    put_back(
+        block,
+        w,
+        window::pass(head, ahead, records, view, w.took),
+        window::pass(waiting_head, starts, records, view, w.count),
+    );
     if w.count == 0 {
         return Step::Again;
     }

@@ -1,10 +1,11 @@
 -- The log that the call writes keeps most seconds waiting.
 -- Assumes nothing.
 use Prim.Native.Nat.{ℕ, zero, suc, _+_, _-_, _≤_, _<_, _%_, _^_, min}
-use mathlib.Core.Bool.{true}
+use mathlib.Core.Bool.{Bool, true, false}
+use mathlib.Core.List.{List}
 use mathlib.Core.Logic.{_⊎_, inl, inr, ⊎-elim}
-use mathlib.Core.Path.{_≡_, refl, sym, ap, subst, _∙_}
-use native.Mathlib.Nat.{div-eq-of-lt, one-le-pow, pow-suc}
+use mathlib.Core.Path.{_≡_, refl, sym, ap, _∙_}
+use native.Mathlib.Nat.{zero-add, div-eq-of-lt, one-le-pow, pow-suc}
 use native.Mathlib.Omega.{arith}
 use lib.Dec.{eqb}
 use borrow.Author.Tests.{leb-true, le-leb, ne-eqb}
@@ -17,9 +18,11 @@ use Rattle.mtl.proofs.Bounded.{le-or-lt, true-and-false}
 use Rattle.mtl.proofs.Until.{until-answered, progress-letter, UntilSettledYes, UntilSettledNo}
 use Rattle.mtl.proofs.Reach.{reach-answered}
 use Rattle.bits.specs.Packed.{bit}
-use Rattle.trace.proofs.Making.{records-count, time-back, events-back, made-well, made-ordered}
+use Rattle.trace.specs.Format.{time-at, has-letter, records-of}
+use Rattle.trace.specs.Log.{log-of}
+use Rattle.trace.proofs.Making.{records-count, time-back, events-back, made-well, made-plain, made-ordered}
 use Rattle.worst.specs.Waiting.{waiting, is-open, new-value, open-times}
-use Rattle.worst.specs.Written.{time-of, events-of, worst}
+use Rattle.worst.specs.Written.{time-of, events-of, worst-bytes, worst}
 use Rattle.worst.specs.Refusal.{worst-refusal}
 use Rattle.worst.specs.Most.{most, MostWaiting}
 use Rattle.worst.proofs.Outcome.{accepted}
@@ -55,14 +58,23 @@ alone (suc k) =
 
 -- the written log
 module _ (low high n : ℕ) (ok : high ≤ 3600) where
+  -- every record is a position
+  abbrev records : List ℕ
+  records = records-of (worst-bytes high n)
+
+  plain : worst high n ≡ log-of false records
+  plain = ap (λ (skips : Bool). log-of skips records) (made-plain (time-of high) events-of n)
+
   size : worst high n .size ≡ n
-  size = records-count (time-of high) events-of n
+  size = ap (λ (L : Log). L .size) plain ∙ records-count (time-of high) events-of n
 
   time : (i : ℕ) → i < n → worst high n .time i ≡ min i high
-  time i h = time-back (time-of high) events-of n i h (omega arith)
+  time i h = ap (λ (L : Log). L .time i) plain ∙ ap (time-at records) (zero-add i) ∙ time-back (time-of high) events-of n i h (omega arith)
 
   letters : (i k : ℕ) → i < n → worst high n .letters i k ≡ eqb k 0
-  letters i k h = ap (λ (e : ℕ). bit e k) (events-back (time-of high) events-of n i h (omega arith)) ∙ alone k
+  letters i k h =
+      ap (λ (L : Log). L .letters i k) plain ∙ ap (has-letter records k) (zero-add i) ∙
+      ap (λ (e : ℕ). bit e k) (events-back (time-of high) events-of n i h (omega arith)) ∙ alone k
 
   never-falls : NeverFalls (worst high n)
   never-falls i j le h =
@@ -107,7 +119,7 @@ most-waiting low high n lent z =
       time = time low high n ok;
       letters = letters low high n ok;
       reached = reached low high n ok;
-      no-more = λ L is falls. subst (λ (k : ℕ). open-times (waiting low high) L ≤ most high k) is (no-more low high (λ u. omega arith) L falls);
+      no-more = λ L few falls. omega (arith, no-more low high (λ u. omega arith) L falls);
       well-formed = made-well (time-of high) events-of n (a .few);
       ordered = made-ordered (time-of high) events-of n (λ i h. omega arith) (λ i j le h. omega arith);
     }

@@ -20,8 +20,8 @@ pub record MostWaiting (low high n : ℕ) : Type 0 where
   pub letters : (i k : ℕ) → i < n → worst high n .letters i k ≡ eqb k 0
   -- it has the most
   pub reached : open-times (waiting low high) (worst high n) ≡ most high n
-  -- "no log of n records whose times never fall has more"
-  pub no-more : (L : Log) → L .size ≡ n → NeverFalls L → open-times (waiting low high) L ≤ most high n
+  -- "no log of n records whose times never fall has more": of so many records no more are positions
+  pub no-more : (L : Log) → L .size ≤ n → NeverFalls L → open-times (waiting low high) L ≤ most high n
   -- with a fresh checkpoint it meets neither 12 nor 14
   pub well-formed : malformed (worst-bytes high n) ≡ false
-  pub ordered : disordered (records-of (worst-bytes high n)) 0 0 0 ≡ false
+  pub ordered : disordered (records-of (worst-bytes high n)) 0 0 ≡ false

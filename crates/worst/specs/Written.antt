@@ -2,7 +2,7 @@
 use Prim.Native.Nat.{ℕ, min, _^_}
 use mathlib.Core.List.{List}
 use Rattle.mtl.specs.Log.{Log}
-use Rattle.trace.specs.Format.{records-of}
+use Rattle.trace.specs.Format.{records-of, skips-of}
 use Rattle.trace.specs.Log.{log-of}
 use Rattle.trace.specs.Making.{log-bytes}
 
@@ -20,4 +20,4 @@ worst-bytes high n = log-bytes (time-of high) events-of n
 
 -- the log of the logic that they are
 abbrev pub worst : (high n : ℕ) → Log
-worst high n = log-of (records-of (worst-bytes high n))
+worst high n = log-of (skips-of (worst-bytes high n)) (records-of (worst-bytes high n))

@@ -1,9 +1,9 @@
 //! Records per second of the checker against document 002's algorithm in plain Rust and against a pass that only reads
-//! the records, as ratios of one run; several formulas in one run against runs of one; growth with records, entries and
-//! calls; bytes of state.
+//! the records, as ratios of one run; several formulas in one run against runs of one; logs with service records against
+//! the same logs without them; growth with records, entries and calls; bytes of state.
 //!
 //! `cargo run --release --offline -p bench`, or with `-- quick` for a shorter run, `-- formulas` for the comparison of several
-//! formulas alone. It prints tables in Markdown.
+//! formulas alone, `-- service` for that of service records. It prints tables in Markdown.
 
 mod multihead;
 
@@ -233,6 +233,58 @@ fn several_formulas(records: usize, rounds: usize) {
     println!();
 }
 
+/// A version 2 log with service records, and the same log without them.
+struct Visited {
+    jobs: [Job; 2],
+    sheets: [Vec<u8>; 2],
+}
+
+impl Visited {
+    fn new(entries: &[Entry], log: &[Record], is_service: fn(usize) -> bool) -> Visited {
+        let mark = |(at, &record): (usize, &Record)| if is_service(at) { record.as_service() } else { record };
+        let with: Vec<Record> = log.iter().enumerate().map(mark).collect();
+        let without = log::positions(2, &with);
+        let job = |log: Vec<Record>| Job { file: log::encode_as(2, &log), ..Job::new(entries, &log) };
+        Visited { jobs: [with, without].map(job), sheets: Default::default() }
+    }
+
+    /// What a row of the table has behind its names.
+    fn row(&mut self, calls: usize, rounds: usize) -> String {
+        let mut times: [Vec<f64>; 2] = Default::default();
+        // The first round has memory to be found, and is not counted. Each side is the first in every other round.
+        for round in 0..=rounds {
+            for side in [round % 2, 1 - round % 2] {
+                let time = self.jobs[side].in_calls(calls, &mut self.sheets[side]);
+                times[side].extend((round > 0).then_some(time));
+            }
+            assert!(self.sheets[0] == self.sheets[1], "the verdicts differ");
+        }
+        let ratio = Spread::of(times[0].iter().zip(&times[1]).map(|(with, without)| with / without).collect()).text(2);
+        let [with, without] = times.map(|all| Spread::of(all.into_iter().map(|time| time * 1e3).collect()).text(2));
+        format!("{calls} | {with} | {without} | {ratio} | {} equal |", self.sheets[0].len())
+    }
+}
+
+/// Logs with service records against the same logs without them.
+fn service_visits(records: usize, rounds: usize) {
+    println!("## Service records, {records} records, {rounds} rounds\n");
+    println!("Milliseconds of processor time, middle of the rounds (least to most). A ratio is of one round's two times: above");
+    println!("1, the log with service records takes longer than the same log without them.\n");
+    println!("| rule | log | service records | calls | with | without | with / without | verdicts |");
+    println!("|---|---|---|---|---|---|---|---|");
+    for (rule_name, entries) in rules::all() {
+        for (log_name, log) in rules::logs(records) {
+            for (visits, is_service) in rules::visits() {
+                let mut both = Visited::new(&entries, &log, is_service);
+                for calls in [1, records / 100] {
+                    println!("| {rule_name} | {log_name} | {visits} | {}", both.row(calls, rounds));
+                }
+            }
+        }
+    }
+    println!();
+}
+
 fn middle(rounds: usize, work: impl FnMut(usize) -> f64) -> Spread {
     Spread::of((0..rounds).map(work).collect())
 }
@@ -304,8 +356,12 @@ fn main() {
     if std::env::args().any(|word| word == "formulas") {
         return several_formulas(records, rounds);
     }
+    if std::env::args().any(|word| word == "service") {
+        return service_visits(records, rounds);
+    }
     rates(records, rounds);
     several_formulas(records, rounds);
+    service_visits(records, rounds);
     growth_with_records(records, rounds);
     growth_with_entries(records / 10, rounds);
     growth_with_calls(records, rounds.min(5));

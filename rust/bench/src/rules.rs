@@ -71,3 +71,12 @@ pub fn logs(records: usize) -> Vec<(&'static str, Vec<Record>)> {
         ("noise", random::log(&mut Random::new(2), shape(1, 3))),
     ]
 }
+
+/// Whether the record of this number is a service record.
+type IsService = fn(usize) -> bool;
+
+/// Where service records stand, each way with a name: in runs of 300, one record in a hundred, as visits leave them; and
+/// one in fifty, each by itself.
+pub fn visits() -> [(&'static str, IsService); 2] {
+    [("in runs of 300, one in 100", |at| at % 30_000 >= 29_700), ("each by itself, one in 50", |at| at % 50 == 49)]
+}

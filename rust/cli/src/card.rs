@@ -8,7 +8,7 @@
 
 use crate::disk::{Disk, Lock};
 use crate::saved::{checksum, Saved, Unreadable};
-use havdrims::{close, measure, open, resume, status, summary, tally, Refusal, Status, Summary, Tally};
+use havdrims::{close, measure, open, resume, status, summary, tally, text, Refusal, Status, Summary, Tally};
 use std::fmt;
 use std::io::{self, ErrorKind};
 
@@ -51,12 +51,19 @@ pub enum Fault {
         given: u64,
         words: u64,
     },
+    /// The file counts more service records than its words leave room for.
+    PointServices {
+        services: u64,
+        others: u64,
+    },
     AnotherRule,
     SheetShort {
         given: u64,
         has: u64,
     },
     SheetDamaged,
+    /// The log has more positions than it can have if its open records are those of the evenings before.
+    LogAltered,
     Refused(Refusal),
     /// An operation failed before the checkpoint was replaced: no further verdict counts.
     Disk {
@@ -100,11 +107,15 @@ impl fmt::Display for Fault {
             Fault::PointCounts { given, words } => {
                 write!(f, "the file `point` is damaged: it says {given} verdicts, its words {words}")
             }
+            Fault::PointServices { services, others } => {
+                write!(f, "the file `point` is damaged: it says {services} service records where {others} records have no verdict")
+            }
             Fault::AnotherRule => write!(f, "the file `rule.krl` is not the rule that this card was made for"),
             Fault::SheetShort { given, has } => {
                 write!(f, "the file `sheet` has {has} verdicts, but {given} were given")
             }
             Fault::SheetDamaged => write!(f, "the file `sheet` is damaged: its checksum does not fit"),
+            Fault::LogAltered => write!(f, "service records that may not be overwritten yet were altered"),
             Fault::Refused(refusal) => write!(f, "{refusal}"),
             Fault::Disk { doing, fault } => write!(f, "cannot {doing}: {fault}"),
             Fault::Unsure { doing, fault } => {
@@ -159,7 +170,7 @@ pub fn new(disk: &mut impl Disk, number: u64, rule: &[u8]) -> Result<(), Fault> 
     // The names of these files, and the folder's own, before that of the checkpoint, with which the card begins.
     disk.sync_folder().map_err(failed("sync the folder"))?;
     disk.sync_parent().map_err(failed("sync the folder above"))?;
-    let saved = Saved { card: number, rule: checksum(rule), given: 0, sheet: checksum(b""), words };
+    let saved = Saved { card: number, rule: checksum(rule), given: 0, sheet: checksum(b""), services: 0, words };
     write_point(disk, &saved)?;
     disk.rename(NEW_POINT, POINT).map_err(failed("put the point in its place"))?;
     disk.sync_folder().map_err(Fault::MadeUnsure)
@@ -220,8 +231,7 @@ pub struct Card<'a, D: Disk> {
     words: Vec<u64>,
     /// The verdicts that the checkpoint counts.
     verdicts: Vec<u8>,
-    pub summary: Summary,
-    pub status: Status,
+    pub so_far: SoFar,
 }
 
 /// What one evening, or a closing, gave.
@@ -233,9 +243,30 @@ pub struct Evening {
     pub new: u64,
     /// Their yes and no, formula by formula.
     pub counts: Tally,
-    /// All evenings together.
+    /// The service records among the records that were new.
+    pub passed_over: u64,
+    pub so_far: SoFar,
+}
+
+/// All evenings together.
+#[derive(Clone, Copy, Debug, PartialEq, Eq)]
+pub struct SoFar {
     pub summary: Summary,
     pub status: Status,
+    /// The service records among the records seen.
+    pub services: u64,
+}
+
+impl SoFar {
+    /// The positions of the records seen.
+    pub fn positions(&self) -> u64 {
+        self.status.seen - self.services
+    }
+
+    /// The positions that have no verdict yet.
+    pub fn open(&self) -> u64 {
+        self.positions() - self.status.given
+    }
 }
 
 impl<'a, D: Disk> Card<'a, D> {
@@ -277,7 +308,12 @@ impl<'a, D: Disk> Card<'a, D> {
         if saved.given != status.given {
             return Err(Fault::PointCounts { given: saved.given, words: status.given });
         }
-        Ok(Card { disk, number, rule, words: saved.words, verdicts, summary, status })
+        let others = status.seen - status.given;
+        if saved.services > others {
+            return Err(Fault::PointServices { services: saved.services, others });
+        }
+        let so_far = SoFar { summary, status, services: saved.services };
+        Ok(Card { disk, number, rule, words: saved.words, verdicts, so_far })
     }
 
     pub fn verdicts(&self) -> &[u8] {
@@ -286,7 +322,7 @@ impl<'a, D: Disk> Card<'a, D> {
 
     /// The number of formulas of the card's rule: so many answers has a verdict.
     pub fn formulas(&self) -> usize {
-        self.summary.no().len()
+        self.so_far.summary.no().len()
     }
 
     /// Carries on with the log as far as it goes, or closes it, until caught up. When this returns, the verdicts and the
@@ -308,18 +344,24 @@ impl<'a, D: Disk> Card<'a, D> {
         let first = self.verdicts.len() as u64;
         let summary = summary(&self.rule, &words).map_err(Fault::Refused)?;
         let status = status(&self.rule, &words).map_err(Fault::Refused)?;
-        self.save(&new, words)?;
-        (self.summary, self.status) = (summary, status);
-        Ok(Evening { first, new: new.len() as u64, counts, summary, status })
+        // Only the new records: those seen before were counted, and may be overwritten.
+        let passed_over = text::services(log, self.so_far.status.seen as usize) as u64;
+        let so_far = SoFar { summary, status, services: self.so_far.services + passed_over };
+        if so_far.services > status.seen - status.given {
+            return Err(Fault::LogAltered);
+        }
+        self.save(&new, words, so_far.services)?;
+        self.so_far = so_far;
+        Ok(Evening { first, new: new.len() as u64, counts, passed_over, so_far })
     }
 
     /// Saves further verdicts, and the checkpoint that counts them. It does so too where nothing is new: what is there may
     /// be of a run that was killed before it could sync.
-    fn save(&mut self, new: &[u8], words: Vec<u64>) -> Result<(), Fault> {
+    fn save(&mut self, new: &[u8], words: Vec<u64>, services: u64) -> Result<(), Fault> {
         let before = self.verdicts.len();
         self.verdicts.extend(new);
         let (given, sheet) = (self.verdicts.len() as u64, checksum(&self.verdicts));
-        let saved = Saved { card: self.number, rule: checksum(&self.rule), given, sheet, words };
+        let saved = Saved { card: self.number, rule: checksum(&self.rule), given, sheet, services, words };
         let written = write_sheet(self.disk, before as u64, new).and_then(|()| write_point(self.disk, &saved));
         if written.is_err() {
             // The checkpoint is as it was. What was written besides does not count, and is taken away if that can be.

@@ -1,9 +1,9 @@
 //! The commands: their words, their help, and what each prints.
 
-use crate::card::{self, Card, Evening, Fault};
+use crate::card::{self, Card, Evening, Fault, SoFar};
 use crate::convert;
 use crate::disk::Folder;
-use havdrims::{Refusal, Status, Summary};
+use havdrims::Refusal;
 use std::fmt::{Display, Write};
 use std::hash::{BuildHasher, RandomState};
 use std::path::Path;
@@ -44,7 +44,7 @@ const COMMANDS: [Command; 11] = [
         does: "make the folder CARD for one kiosk",
         more: "\
 RULE is a .krl file, or a text such as 'not e2 or e0 until[0,90] e1'. Several of them, with up to eight formulas, are
-judged together: a record has its verdicts when every formula has answered it. The folder must not be there yet, or be
+judged together: a position has its verdicts when every formula has answered it. The folder must not be there yet, or be
 empty; if making it was cut short, it can be made again.",
         run: |words| match words {
             [folder, rules @ ..] if !rules.is_empty() => Some(new(folder, rules)),
@@ -58,7 +58,9 @@ empty; if making it was cut short, it can be made again.",
         more: "\
 LOG is the kiosk's whole log, a .klg file. Its records before the one that the last evening named may be overwritten,
 the others not. The new verdicts go into the card's sheet. Once this command has said so, and not before, the records
-that it names may be overwritten. A run that was cut, for whatever reason, is simply repeated.",
+that it names may be overwritten. A run that was cut, for whatever reason, is simply repeated.
+In a log of version 2 service records are passed over: they are no positions and get no verdict. It is said how many
+there were, the verdicts are then counted in positions, and what may be overwritten in records all the same.",
         run: |words| match words {
             [folder, log] => Some(carry_on(false, folder, log)),
             _ => None,
@@ -69,7 +71,7 @@ that it names may be overwritten. A run that was cut, for whatever reason, is si
         words: "CARD LOG",
         does: "the month's end: no record will follow",
         more: "\
-LOG is as for evening. Every remaining record gets its verdict on the log as it ends. From then on the card is closed:
+LOG is as for evening. Every remaining position gets its verdict on the log as it ends. From then on the card is closed:
 it can be closed again with the same log, but takes no further records.",
         run: |words| match words {
             [folder, log] => Some(carry_on(true, folder, log)),
@@ -81,8 +83,8 @@ it can be closed again with the same log, but takes no further records.",
         words: "CARD",
         does: "print how many verdicts were given, how many no, and the latest",
         more: "\
-A card with several formulas has a line for each of them. The card is not changed. Commands that only read it may run
-beside each other.",
+A card with several formulas has a line for each of them. Where service records were passed over it is said how many,
+and the latest no is a position. The card is not changed. Commands that only read it may run beside each other.",
         run: |words| match words {
             [folder] => Some(summarized(folder)),
             _ => None,
@@ -91,11 +93,12 @@ beside each other.",
     Command {
         name: "sheet",
         words: "CARD [--csv] [--from N]",
-        does: "print the verdicts, a line for each record",
+        does: "print the verdicts, a line for each position",
         more: "\
-A line has the record's number and then a word, yes or no, for each formula of the rule. --csv prints them for a
-spreadsheet, under the line `position,verdict`; where there are several formulas each has its column, as in
-`position,formula 0,formula 1`. --from N begins with record N. The card is not changed.",
+A line has the position's number and then a word, yes or no, for each formula of the rule. Positions are numbered from 0
+over the records that are no service records: where the log has none, a position is the record of the same number.
+--csv prints them for a spreadsheet, under the line `position,verdict`; where there are several formulas each has its
+column, as in `position,formula 0,formula 1`. --from N begins with position N. The card is not changed.",
         run: sheet,
     },
     Command {
@@ -126,7 +129,8 @@ they are judged together. RULE is the .krl file to be written.",
         does: "write the log file that a text describes",
         more: "\
 TEXT is a file with a line for each record, the seconds and then the letters, as in `12 e0 e3` or `12 none`.
-What follows a # is passed over.",
+What follows a # is passed over. The line `version 2` before the first record says that the log is of version 2: then
+`12 service` is a service record, which is no position.",
         run: |words| match words {
             [text, log] => Some(convert::to_log(text, log)),
             _ => None,
@@ -136,7 +140,7 @@ What follows a # is passed over.",
         name: "to-text",
         words: "LOG",
         does: "print a log file as text",
-        more: "LOG is a .klg file.",
+        more: "LOG is a .klg file. A log of version 2 begins with the line `version 2`.",
         run: |words| match words {
             [log] => Some(convert::to_text(log)),
             _ => None,
@@ -249,7 +253,10 @@ fn unchanged(folder: &str, log: &str, fault: &Fault) -> Failure {
         Fault::Refused(Refusal::PointClosed) => (folder, "The month is closed: the card takes no further records. "),
         Fault::Refused(Refusal::FewerRecords) => (log, "Is this the whole log? "),
         Fault::Refused(Refusal::TimeFalls) => (log, "Is this the log of another kiosk? "),
-        Fault::Refused(_) => (log, ""),
+        Fault::Refused(Refusal::OtherVersion) => {
+            (log, "A card keeps to the version of its first log; a log of another version needs a card of its own. ")
+        }
+        Fault::Refused(_) | Fault::LogAltered => (log, ""),
         _ => (folder, ""),
     };
     Failure::fault(name, format!("{fault}\n{hint}{UNCHANGED}"))
@@ -257,20 +264,34 @@ fn unchanged(folder: &str, log: &str, fault: &Fault) -> Failure {
 
 /// An evening in plain words.
 fn told(evening: &Evening) -> String {
-    let Evening { first, new, counts, summary, status } = evening;
+    let Evening { first, new, counts, passed_over, so_far } = evening;
     let which = match new {
         0 => "no new verdict".to_string(),
-        1 => format!("record {first}"),
-        _ => format!("records {first} to {}", first + new - 1),
+        1 => format!("{} {first}", position(so_far)),
+        _ => format!("{}s {first} to {}", position(so_far), first + new - 1),
     };
     let counts = counts.yes().iter().zip(counts.no()).map(|(yes, no)| format!("{yes} yes, {no} no"));
     let given = if *new == 0 { format!("{which}\n") } else { by_formula(&which, ": ", counts.collect()) };
-    let released = match status.wanted {
+    let passed_over = match passed_over {
+        0 => String::new(),
+        1 => "1 service record passed over\n".to_string(),
+        _ => format!("{passed_over} service records passed over\n"),
+    };
+    let released = match so_far.status.wanted {
         0 => "no record may be overwritten yet".to_string(),
         1 => "record 0 may be overwritten".to_string(),
         wanted => format!("records 0 to {} may be overwritten", wanted - 1),
     };
-    format!("{given}{}{released}\n", so_far(summary, status))
+    format!("{given}{passed_over}{}{released}\n", all(so_far))
+}
+
+/// What has a verdict: where no service record was seen every record is a position, and has its number.
+fn position(so_far: &SoFar) -> &'static str {
+    if so_far.services == 0 {
+        "record"
+    } else {
+        "position"
+    }
 }
 
 /// What there is to say of each formula: of one alone, behind what stands first; of several, a line each below it.
@@ -283,20 +304,25 @@ fn by_formula(first: &str, between: &str, said: Vec<String>) -> String {
 }
 
 /// All evenings together.
-fn so_far(summary: &Summary, status: &Status) -> String {
-    let Status { given, seen, closed, .. } = status;
-    let latest =
-        |record: &Option<u64>| record.map_or(String::new(), |record| format!(", the latest at record {record}"));
+fn all(so_far: &SoFar) -> String {
+    let SoFar { summary, status, services } = so_far;
+    let position = position(so_far);
+    let latest = |at: &Option<u64>| at.map_or(String::new(), |at| format!(", the latest at {position} {at}"));
     let counts = summary.no().iter().zip(summary.latest()).map(|(no, at)| format!("{no} no{}", latest(at)));
-    let counts = by_formula(&format!("so far: {given} verdicts"), ", ", counts.collect());
-    let ended = if *closed { ", and the card is closed" } else { "" };
-    format!("{counts}open: {} of {seen} records{ended}\n", seen - given)
+    let counts = by_formula(&format!("so far: {} verdicts", status.given), ", ", counts.collect());
+    let ended = if status.closed { ", and the card is closed" } else { "" };
+    let open = format!("open: {} of {} {position}s{ended}\n", so_far.open(), so_far.positions());
+    let service = match services {
+        0 => String::new(),
+        _ => format!("service: {services} of {} records\n", status.seen),
+    };
+    format!("{counts}{open}{service}")
 }
 
 fn summarized(folder: &str) -> Answer {
     let mut disk = Folder::new(Path::new(folder));
     let card = Card::open(&mut disk, false).map_err(|fault| Failure::fault(folder, fault))?;
-    Ok(so_far(&card.summary, &card.status))
+    Ok(all(&card.so_far))
 }
 
 /// The words of `sheet`.

@@ -80,7 +80,11 @@ pub fn to_log(path: &str, log: &str) -> Answer {
     let typed = String::from_utf8(bytes).map_err(|_| Failure::fault(path, "not a text"))?;
     let bytes = text::log_from_text(&typed).map_err(|fault| Failure::Fault(format!("{path}, {fault}")))?;
     write(log, &bytes)?;
-    Ok(format!("{log}: {} records\n", (bytes.len() - 8) / 8))
+    let services = match text::services(&bytes, 0) {
+        0 => String::new(),
+        number => format!(", {number} of them service"),
+    };
+    Ok(format!("{log}: {} records{services}\n", (bytes.len() - 8) / 8))
 }
 
 pub fn to_text(path: &str) -> Answer {

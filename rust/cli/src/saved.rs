@@ -2,10 +2,10 @@
 //! docs/FORMATS.md lists its bytes.
 
 /// The header of every such file.
-const HEADER: [u8; 8] = *b"KPT\x00\x01\x00\x00\x00";
+const HEADER: [u8; 8] = *b"KPT\x00\x02\x00\x00\x00";
 
 /// Bytes besides the words.
-const FRAME: usize = 48;
+const FRAME: usize = 56;
 
 /// The FNV-1a checksum of some bytes. Bytes of which a single one differs never have the same.
 pub fn checksum(bytes: &[u8]) -> u64 {
@@ -23,6 +23,8 @@ pub struct Saved {
     pub given: u64,
     /// The checksum of these verdicts.
     pub sheet: u64,
+    /// The service records among the records seen. The checkpoint does not count them, and they may be overwritten.
+    pub services: u64,
     pub words: Vec<u64>,
 }
 
@@ -40,7 +42,7 @@ pub enum Unreadable {
 impl Saved {
     pub fn encode(&self) -> Vec<u8> {
         let mut bytes = HEADER.to_vec();
-        let numbers = [self.card, self.rule, self.given, self.sheet];
+        let numbers = [self.card, self.rule, self.given, self.sheet, self.services];
         bytes.extend(numbers.iter().chain(&self.words).flat_map(|number| number.to_be_bytes()));
         bytes.extend(checksum(&bytes).to_be_bytes());
         bytes
@@ -63,7 +65,8 @@ impl Saved {
             return Err(Unreadable::Damaged);
         }
         let words = numbers.split_off(FRAME / 8 - 1);
-        Ok(Saved { card: numbers[1], rule: numbers[2], given: numbers[3], sheet: numbers[4], words })
+        let [_, card, rule, given, sheet, services] = numbers[..] else { return Err(Unreadable::Damaged) };
+        Ok(Saved { card, rule, given, sheet, services, words })
     }
 }
 
@@ -82,7 +85,7 @@ mod tests {
     #[test]
     fn there_and_back_and_every_damaged_byte() {
         for words in [vec![], vec![7], vec![u64::MAX, 0, 1 << 63]] {
-            let saved = Saved { card: 5, rule: 6, given: 7, sheet: 8, words };
+            let saved = Saved { card: 5, rule: 6, given: 7, sheet: 8, services: 9, words };
             let bytes = saved.encode();
             assert_eq!(bytes.len(), FRAME + 8 * saved.words.len());
             assert_eq!(Saved::decode(&bytes), Ok(saved));

@@ -1,6 +1,6 @@
 //! Worked cases, document 01's and those of the requests: one rule, one log and its verdicts; and lists of calls.
 
-use crate::log::Record;
+use crate::log::{self, Record};
 use crate::rule::{self, Entry, NEXT, NO_END, PREVIOUS, SINCE, UNTIL};
 
 /// One rule over one log.
@@ -8,8 +8,21 @@ pub struct Case {
     pub name: &'static str,
     /// The rule's bytes.
     pub rule: Vec<u8>,
+    /// The log's version.
+    pub version: u16,
     pub records: Vec<Record>,
     pub verdicts: Vec<u8>,
+}
+
+impl Case {
+    /// The log's bytes.
+    pub fn log(&self) -> Vec<u8> {
+        log::encode_as(self.version, &self.records)
+    }
+
+    pub fn positions(&self) -> Vec<Record> {
+        log::positions(self.version, &self.records)
+    }
 }
 
 fn records(all: &[(u32, &[u32])]) -> Vec<Record> {
@@ -41,7 +54,12 @@ pub fn several_words(since: u32) -> Vec<u8> {
 }
 
 fn case(name: &'static str, entries: &[Entry], log: &[(u32, &[u32])], verdicts: &[u8]) -> Case {
-    Case { name, rule: rule::encode(entries), records: records(log), verdicts: verdicts.to_vec() }
+    Case { name, rule: rule::encode(entries), version: 1, records: records(log), verdicts: verdicts.to_vec() }
+}
+
+/// The same with a log of version 2.
+fn visited(name: &'static str, entries: &[Entry], log: &[(u32, &[u32])], verdicts: &[u8]) -> Case {
+    Case { version: 2, ..case(name, entries, log, verdicts) }
 }
 
 /// The same with a version 2 rule of these formulas.
@@ -51,10 +69,67 @@ fn several(name: &'static str, formulas: &[Vec<Entry>], log: &[(u32, &[u32])], v
 
 /// All of them.
 pub fn all() -> Vec<Case> {
-    [document_01(), endless_next(), empty_rule(), sooner_previous(), several_formulas()].into_iter().flatten().collect()
+    let of_requests = [endless_next(), empty_rule(), sooner_previous(), several_formulas(), service_visits()];
+    document_01().into_iter().chain(of_requests.into_iter().flatten()).collect()
 }
 
 const P1: [(u32, &[u32]); 6] = [(10, &[0]), (11, &[0]), (11, &[]), (12, &[0]), (13, &[1]), (20, &[0])];
+
+/// A service record, with letter 1, which would settle P1's until if it were a position.
+const TEST_PRINT: &[u32] = &[1, 31];
+
+/// P1's records with a test print before all, one in the middle of second 11, one in second 12 and one behind all, so late
+/// that it would settle the last position.
+const P1_VISITED: [(u32, &[u32]); 10] = [
+    (9, TEST_PRINT),
+    (10, &[0]),
+    (11, &[0]),
+    (11, TEST_PRINT),
+    (11, &[]),
+    (12, &[0]),
+    (12, TEST_PRINT),
+    (13, &[1]),
+    (20, &[0]),
+    (30, TEST_PRINT),
+];
+
+/// Request 10: "a record with letter 31 is a service record and no position: it is skipped by every operator".
+fn service_visits() -> Vec<Case> {
+    let p1 = p1_entries();
+    let p1_verdicts = [0, 0, 0, 1, 1];
+    let [before, middle, between, behind] = [0, 3, 6, 9].map(|kept| {
+        let all = P1_VISITED.iter().enumerate();
+        all.filter(|&(at, r)| at == kept || r.1 != TEST_PRINT).map(|(_, &r)| r).collect::<Vec<_>>()
+    });
+    let [e0, e1, service] = [0, 1, 31].map(Entry::letter);
+    let previous = |high| [e0, Entry::timed(PREVIOUS, 0, high)];
+    let next = |high| [e0, Entry::timed(NEXT, 0, high)];
+    let since = [e0, e1, Entry::timed(SINCE, 0, 9)];
+    let neighbours: [(u32, &[u32]); 3] = [(1, &[0]), (2, TEST_PRINT), (3, &[0])];
+    let alone: [(u32, &[u32]); 2] = [(5, &[31]), (6, TEST_PRINT)];
+    vec![
+        visited("P1 with a service record before all", &p1, &before, &p1_verdicts),
+        visited("P1 with a service record in the middle of a second", &p1, &middle, &p1_verdicts),
+        visited("P1 with a service record between two", &p1, &between, &p1_verdicts),
+        visited("P1 with a service record behind all", &p1, &behind, &p1_verdicts),
+        visited("P1 with all four", &p1, &P1_VISITED, &p1_verdicts),
+        case("the middle one as version 1", &p1, &middle, &[1, 1, 1, 0, 1, 1]),
+        case("all four as version 1", &p1, &P1_VISITED, &[1, 1, 1, 1, 0, 1, 1, 1, 0, 1]),
+        visited("P1's records as version 2", &p1, &P1, &p1_verdicts),
+        visited("service records alone", &p1, &alone, &[]),
+        visited("service records alone, an empty rule", &[], &alone, &[]),
+        visited("no record, version 2", &p1, &[], &[]),
+        visited("an empty rule over positions", &[], &neighbours, &[1, 1]),
+        visited("previous stands before a service record", &previous(2), &neighbours, &[0, 1]),
+        visited("the gap to the position before, not to the service record", &previous(1), &neighbours, &[0, 0]),
+        visited("next stands behind a service record", &next(2), &neighbours, &[1]),
+        visited("the gap to the next position, not to the service record", &next(1), &neighbours, &[0]),
+        visited("since passes over a service record", &since, &[(1, &[1]), (2, &[31]), (3, &[0])], &[1, 1]),
+        visited("since takes no service record as its start", &since, &neighbours, &[0, 0]),
+        visited("letter 31 is at no position", &[service], &neighbours, &[0, 0]),
+        case("letter 31 as version 1", &[service], &neighbours, &[0, 1, 0]),
+    ]
+}
 
 /// P1's until and its not.
 fn p1_and_its_not() -> Vec<Vec<Entry>> {
@@ -168,6 +243,14 @@ pub fn closed() -> Vec<Case> {
         case("an empty rule closed", &[], &[(5, &[]), (5, &[0])], &[1, 1]),
         several("P1's until and its not closed", &p1_and_its_not(), &P1, &[2, 2, 2, 1, 1, 2]),
         several("a letter and P5 closed", &[vec![Entry::letter(0)], next.to_vec()], &p5, &[2, 1, 1]),
+        visited("P1 with service records closed", &p1, &P1_VISITED, &[0, 0, 0, 1, 1, 0]),
+        visited(
+            "P5 with service records behind all closed",
+            &next,
+            &[&p5[..], &[(9, &[0, 31]), (9, &[31])]].concat(),
+            &[1, 0, 0],
+        ),
+        visited("service records alone closed", &p1, &[(5, &[31]), (6, &[1, 31])], &[]),
     ]
 }
 
@@ -222,8 +305,8 @@ fn document_01() -> Vec<Case> {
 /// One call of a list.
 pub struct Call {
     pub closing: bool,
-    /// What the call brings.
-    pub log: Vec<Record>,
+    /// What the call brings: the log's bytes.
+    pub log: Vec<u8>,
     /// The length of its sheet.
     pub sheet: usize,
     /// Its verdicts, and whether there are more; or its refusal.
@@ -247,6 +330,8 @@ pub struct List {
 /// A call as it is written down.
 struct Step {
     closing: bool,
+    /// Another version than the list's.
+    version: Option<u16>,
     records: usize,
     replaced: Option<(usize, Record)>,
     sheet: usize,
@@ -260,6 +345,7 @@ struct Step {
 fn resume(n: usize) -> Step {
     Step {
         closing: false,
+        version: None,
         records: n,
         replaced: None,
         sheet: 100,
@@ -275,6 +361,11 @@ fn close(n: usize) -> Step {
 }
 
 impl Step {
+    /// Brings the log as one of this version.
+    fn of_version(self, version: u16) -> Step {
+        Step { version: Some(version), ..self }
+    }
+
     fn with_record(self, at: usize, time: u32, letters: u32) -> Step {
         Step { replaced: Some((at, Record { time, letters })), ..self }
     }
@@ -316,7 +407,12 @@ const ONES: Record = Record { time: u32::MAX, letters: u32::MAX };
 
 /// Before each call the records before the first wanted are overwritten with ones.
 fn list<const N: usize>(name: &'static str, entries: &[Entry], records: &[Record], steps: [Step; N]) -> List {
-    list_of(name, rule::encode(entries), 1, records, steps)
+    list_of(name, rule::encode(entries), 1, 1, records, steps)
+}
+
+/// The same with a log of version 2.
+fn visited_list<const N: usize>(name: &'static str, entries: &[Entry], records: &[Record], steps: [Step; N]) -> List {
+    list_of(name, rule::encode(entries), 1, 2, records, steps)
 }
 
 /// The same with a version 2 rule of these formulas.
@@ -326,13 +422,14 @@ fn several_list<const N: usize>(
     records: &[Record],
     steps: [Step; N],
 ) -> List {
-    list_of(name, rule::encode_several(formulas), formulas.len(), records, steps)
+    list_of(name, rule::encode_several(formulas), formulas.len(), 1, records, steps)
 }
 
 fn list_of<const N: usize>(
     name: &'static str,
     rule: Vec<u8>,
     formulas: usize,
+    version: u16,
     records: &[Record],
     steps: [Step; N],
 ) -> List {
@@ -347,6 +444,7 @@ fn list_of<const N: usize>(
         for (formula, count, latest) in step.no {
             no[formula] = (count, Some(latest));
         }
+        let log = log::encode_as(step.version.unwrap_or(version), &log);
         Call { closing: step.closing, log, sheet: step.sheet, gives: step.gives, wanted, no: no.clone() }
     });
     List { name, rule, records: records.to_vec(), calls: calls.into() }
@@ -437,6 +535,60 @@ pub fn lists() -> Vec<List> {
         close(3).sheet(1).gives_and_more(&[1]).wanted(2).no_of(1, 2, 1),
         close(3).gives(&[1]).wanted(3).no_of(1, 3, 2),
     ];
+    // One service record before all, one in second 11, one in second 12 and one behind all.
+    let visited = records(&P1_VISITED);
+    let visit_by_visit = [
+        resume(1).wanted(1),
+        resume(1).of_version(1).refused(22),
+        resume(1).of_version(3).refused(12),
+        resume(0).of_version(1).refused(22),
+        resume(0).refused(13),
+        resume(4),
+        resume(5).gives(&[0, 0, 0]).wanted(5).no(3, 2),
+        resume(7),
+        resume(8).sheet(1).gives_and_more(&[1]).wanted(7),
+        resume(9).gives(&[1]).wanted(8),
+        resume(10),
+        close(9).of_version(1).refused(22),
+        close(10).gives(&[0]).wanted(10).no(4, 5),
+        close(10).of_version(1).refused(22),
+        resume(10).of_version(1).refused(20),
+        close(10),
+    ];
+    let added_service = [
+        close(9).sheet(5).gives_and_more(&[0, 0, 0, 1, 1]).wanted(8).no(3, 2),
+        close(10).refused(21),
+        close(9).gives(&[0]).wanted(9).no(4, 5),
+        close(10).refused(21),
+    ];
+    let service_times = [
+        resume(9).sheet(3).gives_and_more(&[0, 0, 0]).wanted(5).no(3, 2),
+        // record 6 is a service record, after the first wanted
+        resume(9).with_record(6, 14, 1 << 31).refused(14),
+        resume(9).with_record(6, 11, 1 << 31).refused(14),
+        resume(9).sheet(0).gives_and_more(&[]),
+        resume(10).with_record(9, 19, 1 << 31).refused(14),
+        resume(10).gives(&[1, 1]).wanted(8),
+    ];
+    let alone = records(&[(5, &[31]), (6, TEST_PRINT), (6, &[31])]);
+    let nothing_but_service =
+        [resume(2).wanted(2), resume(3).with_record(2, 5, 1 << 31).refused(14), resume(3).wanted(3), close(3)];
+    let none_then_version_1 =
+        [resume(0), resume(3).of_version(2).refused(22), resume(3).gives(&[0, 0, 0]).wanted(3).no(3, 2)];
+    let none_then_version_2 = [close(0).sheet(0), close(0).of_version(1).refused(22), close(0)];
+    // The neighbour of the second position stands before two service records.
+    let looking_back = records(&[(1, &[0]), (2, &[31]), (2, TEST_PRINT), (3, &[0]), (4, &[31]), (5, &[])]);
+    let kept_over_service = [
+        resume(2).gives(&[0]).no(1, 0),
+        resume(3),
+        resume(3).with_record(0, 3, 1).refused(14),
+        // records 0 to 2 may be overwritten, record 3 not yet
+        resume(5).gives(&[1]).wanted(3),
+        resume(6).with_record(3, 5, 1).refused(14),
+        resume(6).gives(&[1]).wanted(5),
+        close(6),
+    ];
+    let once = [Entry::letter(0), previous];
     let e0 = vec![Entry::letter(0)];
     let back = [e0.clone(), twice.to_vec(), [e0.as_slice(), &[previous]].concat()];
     let kept_for_the_deepest = [
@@ -454,6 +606,13 @@ pub fn lists() -> Vec<List> {
         (2..8).fold(step, |step, formula| step.no_of(formula, latest + 1, latest))
     });
     vec![
+        visited_list("P1, visit by visit", &p1, &visited, visit_by_visit),
+        visited_list("21 by an added service record", &p1, &visited, added_service),
+        visited_list("14 by the time of a service record", &p1, &visited, service_times),
+        visited_list("service records alone", &p1, &alone, nothing_but_service),
+        visited_list("the neighbour before service records is kept", &once, &looking_back, kept_over_service),
+        list("the version is that of a log without records", &p1, &seven, none_then_version_1),
+        visited_list("and of a closing without records", &p1, &visited, none_then_version_2),
         several_list("P1's until and its not, P1 and P2", &p1_and_its_not(), &seven, two_days),
         several_list("an open until holds a letter back", &[e0, p1.clone()], &p7, held_back),
         several_list("the first wanted is by the deepest formula", &back, &six, kept_for_the_deepest),

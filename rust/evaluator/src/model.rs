@@ -1,7 +1,8 @@
 //! A point as document 01 describes it, and what each call must answer.
 
-use crate::log::{self, Record};
+use crate::log::{self, Log, Record};
 use crate::rule::{self, Rule, MOST_FORMULAS};
+use crate::{linear, reading};
 
 /// "A point holds a copy of its rule, the verdicts given d, the records seen, and the last time seen."
 #[derive(Clone, Debug)]
@@ -13,6 +14,10 @@ pub struct Point {
     pub last: u32,
     /// The records at the first closing that was not refused.
     pub closed: Option<usize>,
+    /// The log's version at "the last carry on or closing with this point that was not refused".
+    pub version: Option<u16>,
+    /// The seen records that hold positions.
+    pub places: Vec<usize>,
 }
 
 /// "The count of no among verdicts given and the position of the latest, or none", one of each per formula.
@@ -39,6 +44,20 @@ pub struct Resumed {
     pub more: bool,
 }
 
+/// Above this many positions the linear evaluator stands in for the plain one.
+const PLAIN_POSITIONS: usize = 400;
+
+/// The verdicts of a log with these positions: of one that is closed, or of one that may grow.
+pub fn verdicts(closing: bool, rule: &Rule, positions: &[Record]) -> Vec<u8> {
+    let evaluate = match (closing, positions.len() <= PLAIN_POSITIONS) {
+        (false, true) => reading::verdicts,
+        (false, false) => linear::verdicts,
+        (true, true) => reading::closed_verdicts,
+        (true, false) => linear::closed_verdicts,
+    };
+    evaluate(rule, positions)
+}
+
 /// Weigh: words needed and reach.
 pub fn measure(bytes: &[u8]) -> Result<(u64, u64), u32> {
     rule::parse(bytes).map(|r| (r.words, r.reach))
@@ -54,7 +73,8 @@ pub fn open(bytes: &[u8], lent_words: usize) -> Result<Point, u32> {
     if rule::parse(bytes)?.words > lent_words as u64 {
         return Err(9);
     }
-    Ok(Point { rule: bytes.to_vec(), sheet: Vec::new(), seen: 0, last: 0, closed: None })
+    let (sheet, places) = (Vec::new(), Vec::new());
+    Ok(Point { rule: bytes.to_vec(), sheet, seen: 0, last: 0, closed: None, version: None, places })
 }
 
 /// Tally: the count of no and of yes, one of each per formula. "Tally takes the number of formulas, and 15 is met by a bit
@@ -110,48 +130,48 @@ impl Point {
         Ok(Status { given, seen, wanted, closed: self.closed.is_some() })
     }
 
-    /// The rule and the records of a carry on or a closing that is not refused, else its refusal. "The order of checks is
+    /// The rule and the log of a carry on or a closing that is not refused, else its refusal. "The order of checks is
     /// carry on's. 20 when carry on is given a closed point, after 11; 21 when closing is repeated with more records than
-    /// at its first call that was not refused, after 13."
-    pub fn check(
-        &self,
-        closing: bool,
-        bytes: &[u8],
-        log: &[u8],
-        lent_words: usize,
-    ) -> Result<(Rule, Vec<Record>), u32> {
+    /// at its first call that was not refused, after 13." "22 when the log's version differs from that of the last carry
+    /// on or closing with this point that was not refused, after 12."
+    pub fn check(&self, closing: bool, bytes: &[u8], log: &[u8], lent_words: usize) -> Result<(Rule, Log), u32> {
         let rule = self.check_rule(bytes, lent_words)?;
         if !closing && self.closed.is_some() {
             return Err(20);
         }
-        let records = log::parse(log)?;
-        if records.len() < self.seen {
+        let log = log::parse(log)?;
+        if self.version.is_some_and(|last| last != log.version) {
+            return Err(22);
+        }
+        if log.records.len() < self.seen {
             return Err(13);
         }
-        if closing && self.closed.is_some_and(|at_first| records.len() > at_first) {
+        if closing && self.closed.is_some_and(|at_first| log.records.len() > at_first) {
             return Err(21);
         }
-        if self.time_falls(&rule, &records) {
+        if self.time_falls(&rule, &log.records) {
             return Err(14);
         }
-        Ok((rule, records))
+        Ok((rule, log))
     }
 
-    /// "The first still wanted, which is d less k (0 when d is below k)": the records before it may be overwritten.
+    /// "The first record wanted is the one that holds the first position still wanted, or the record after all seen where
+    /// no seen record holds it": the records before it may be overwritten. The first position still wanted "is d less k (0
+    /// when d is below k)".
     pub fn wanted(&self, rule: &Rule) -> usize {
-        self.given().saturating_sub(rule.depth)
+        let position = self.given().saturating_sub(rule.depth);
+        self.places.get(position).copied().unwrap_or(self.seen)
     }
 
     /// "Some record after position d has a time below that of the record before it, or the first new record's
-    /// time is below the last time seen", where by request 2 the first record still wanted stands for position d.
+    /// time is below the last time seen", where the first record still wanted stands for position d.
     fn time_falls(&self, rule: &Rule, records: &[Record]) -> bool {
         let after_wanted = (self.wanted(rule) + 1..records.len()).any(|p| records[p].time < records[p - 1].time);
         let first_new = records.get(self.seen).is_some_and(|r| r.time < self.last);
         after_wanted || first_new
     }
 
-    /// Carry on, or a closing. `verdicts` gives the verdicts of the untouched log as far as this call brings it, closed
-    /// if this is a closing.
+    /// Carry on, or a closing. `untouched` has the records of the untouched log, as far as this call brings it or further.
     pub fn carry_on(
         &mut self,
         closing: bool,
@@ -159,21 +179,29 @@ impl Point {
         log: &[u8],
         lent_words: usize,
         sheet_length: usize,
-        verdicts: impl FnOnce(&Rule, usize) -> Vec<u8>,
+        untouched: &[Record],
     ) -> Result<Resumed, u32> {
-        let (rule, records) = self.check(closing, bytes, log, lent_words)?;
-        let all = verdicts(&rule, records.len());
+        let (rule, Log { version, records }) = self.check(closing, bytes, log, lent_words)?;
+        let untouched = &untouched[..records.len()];
+        let all = verdicts(closing, &rule, &log::positions(version, untouched));
         let d = self.given();
         let c = (all.len() - d).min(sheet_length);
         let written = all[d..d + c].to_vec();
         self.sheet.extend(&written);
+        self.note(closing, version, &records, log::places(version, untouched));
+        Ok(Resumed { verdicts: written, more: all.len() > d + c })
+    }
+
+    /// What an accepted call notes of its log, but for the verdicts.
+    pub fn note(&mut self, closing: bool, version: u16, records: &[Record], places: Vec<usize>) {
         if records.len() > self.seen {
             self.last = records[records.len() - 1].time;
         }
         self.seen = records.len();
+        self.version = Some(version);
+        self.places = places;
         if closing {
             self.closed = Some(records.len());
         }
-        Ok(Resumed { verdicts: written, more: all.len() > d + c })
     }
 }

@@ -63,7 +63,8 @@ pub fn entries(r: &mut Random, shape: RuleShape, size: usize) -> Vec<Entry> {
         return Vec::new();
     }
     if size == 1 {
-        return vec![Entry::letter(r.below(shape.letters) as u8)];
+        let letter = if r.one_in(16) { 31 } else { r.below(shape.letters) };
+        return vec![Entry::letter(letter as u8)];
     }
     let unary = [NOT, NOT, PREVIOUS, NEXT];
     let binary = [OR, OR, SINCE, SINCE, UNTIL, UNTIL, UNTIL];
@@ -182,6 +183,31 @@ pub fn log(r: &mut Random, shape: LogShape) -> Vec<Record> {
         time = time.saturating_add(step);
     }
     all
+}
+
+/// Gives some of the records letter 31: none to nine in ten of them, one by one or in runs. In a log of version 2 these are
+/// service records.
+pub fn visit(r: &mut Random, records: &mut [Record]) {
+    let hundredths = r.pick(&[0, 1, 5, 20, 50, 90]);
+    let longest = r.pick(&[1, 1, 3, 20, 100]);
+    let mut at = 0;
+    while at < records.len() {
+        let end = records.len().min(at + r.from_to(1, longest));
+        if r.below(100) < hundredths {
+            records[at..end].iter_mut().for_each(|record| *record = record.as_service());
+        }
+        at = end;
+    }
+}
+
+/// A log of either version, its version first; in version 1 letter 31 is a letter like the others.
+pub fn any_log(r: &mut Random, shape: LogShape) -> (u16, Vec<Record>) {
+    let version = r.pick(&[1, 2, 2]);
+    let mut records = log(r, shape);
+    if version == 2 || r.one_in(2) {
+        visit(r, &mut records);
+    }
+    (version, records)
 }
 
 /// A small rule shape and a log shape that suits it; one log in twenty may have five times as many records.

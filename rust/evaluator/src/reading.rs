@@ -1,6 +1,7 @@
 //! The plain reading and the settling rules, each written as document 01 writes it.
 //!
-//! Times of the log must never fall. Nothing here is fast: since and until take up to the cube of the log.
+//! A log is its positions here: service records are taken out before. Times must never fall. Nothing here is fast: since
+//! and until take up to the cube of the log.
 
 use crate::log::Record;
 use crate::rule::{Entry, Rule, LETTER, NEXT, NOT, OR, PREVIOUS, SINCE, UNTIL};

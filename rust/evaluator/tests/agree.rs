@@ -7,7 +7,7 @@ use evaluator::random::{self, Random};
 use evaluator::rule::{self, Rule, NO_REACH};
 use evaluator::{linear, model, reading};
 
-/// A random rule of either version, and a log.
+/// A random rule of either version, and a log: its positions.
 fn drawn(seed: u64, entries: usize, records: usize) -> (Rule, Vec<Record>) {
     let mut r = Random::new(seed);
     let (rule_shape, log_shape) = random::shapes(&mut r, entries, records);
@@ -75,7 +75,8 @@ fn lengthening_keeps_answers() {
     }
 }
 
-/// "For rules without next, position i is answered whenever the last record lies more than the reach after i."
+/// "For rules without next, position i is answered whenever the last record lies more than the reach after i", where the
+/// last position stands for the last record.
 #[test]
 fn reach_bounds_the_wait() {
     let mut checked = 0;
@@ -96,30 +97,38 @@ fn reach_bounds_the_wait() {
     println!("{checked} positions beyond the reach");
 }
 
-/// The model's list of calls gives, laid end to end, the verdicts of one run; those of a closing, if closings end it.
+/// The model's list of calls gives, laid end to end, the verdicts of one run; those of a closing, if closings end it. Its
+/// log has service records.
 #[test]
 fn calls_laid_end_to_end_are_one_run() {
+    let mut service = 0;
     for seed in 0..2_000 {
-        let (rule, log) = drawn(seed, 8, 40);
-        let mut r = Random::new(!seed);
-        let bytes = rule::encode_as(rule.version, &rule.entries);
+        let mut r = Random::new(seed);
+        let (rule_shape, log_shape) = random::shapes(&mut r, 8, 40);
+        let bytes = random::rule(&mut r, rule_shape);
+        let rule = rule::parse(&bytes).unwrap();
+        let (version, records) = random::any_log(&mut r, log_shape);
+        let positions = log::positions(version, &records);
+        service += records.len() - positions.len();
         let words = rule.words as usize;
         let mut point = model::open(&bytes, words).unwrap();
         let call = |point: &mut Point, closing: bool, n: usize, sheet: usize| {
-            let verdicts = if closing { reading::closed_verdicts } else { reading::verdicts };
-            let evaluate = |rule: &Rule, n: usize| verdicts(rule, &log[..n]);
-            point.carry_on(closing, &bytes, &log::encode(&log[..n]), words, sheet, evaluate).unwrap().more
+            let log = log::encode_as(version, &records[..n]);
+            point.carry_on(closing, &bytes, &log, words, sheet, &records).unwrap().more
         };
         // A list that does not catch up is closed as well.
         let (mut n, mut more, catches_up) = (0, true, !r.one_in(3));
-        while n < log.len() || (more && catches_up) {
-            n = r.from_to(n, log.len());
+        while n < records.len() || (more && catches_up) {
+            n = r.from_to(n, records.len());
             more = call(&mut point, false, n, r.below(6));
         }
-        let one_run = reading::verdicts(&rule, &log);
-        assert!(one_run.starts_with(&point.sheet), "seed {seed}: {rule:?} {log:?}");
-        assert!(!catches_up || one_run == point.sheet, "seed {seed}: {rule:?} {log:?}");
+        let one_run = reading::verdicts(&rule, &positions);
+        assert!(one_run.starts_with(&point.sheet), "seed {seed}: {rule:?} {records:?}");
+        assert!(!catches_up || one_run == point.sheet, "seed {seed}: {rule:?} {records:?}");
         while call(&mut point, true, n, r.below(6)) {}
-        assert_eq!(point.sheet, reading::closed_verdicts(&rule, &log), "seed {seed}: {rule:?} {log:?}");
+        assert_eq!(point.sheet, reading::closed_verdicts(&rule, &positions), "seed {seed}: {rule:?} {records:?}");
+        // Where nothing is wanted any more, the first wanted is the record after all.
+        assert!(rule.depth > 0 || point.wanted(&rule) == records.len(), "seed {seed}: {rule:?} {records:?}");
     }
+    assert!(service > 5_000, "{service} service records");
 }

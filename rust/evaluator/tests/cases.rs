@@ -1,16 +1,15 @@
 //! Document 01's worked cases, evaluated.
 
-use evaluator::log;
 use evaluator::model::Summary;
-use evaluator::rule::{self, Entry, Rule, NEXT, NO_END, NO_REACH};
+use evaluator::rule::{self, Entry, NEXT, NO_END, NO_REACH};
 use evaluator::{cases, linear, model, reading};
 
 #[test]
 fn worked_cases() {
     for case in cases::all() {
         let rule = rule::parse(&case.rule).unwrap();
-        assert_eq!(reading::verdicts(&rule, &case.records), case.verdicts, "{}", case.name);
-        assert_eq!(linear::verdicts(&rule, &case.records), case.verdicts, "{}", case.name);
+        assert_eq!(reading::verdicts(&rule, &case.positions()), case.verdicts, "{}", case.name);
+        assert_eq!(linear::verdicts(&rule, &case.positions()), case.verdicts, "{}", case.name);
     }
 }
 
@@ -18,8 +17,8 @@ fn worked_cases() {
 fn closed_cases() {
     for case in cases::closed() {
         let rule = rule::parse(&case.rule).unwrap();
-        assert_eq!(reading::closed_verdicts(&rule, &case.records), case.verdicts, "{}", case.name);
-        assert_eq!(linear::closed_verdicts(&rule, &case.records), case.verdicts, "{}", case.name);
+        assert_eq!(reading::closed_verdicts(&rule, &case.positions()), case.verdicts, "{}", case.name);
+        assert_eq!(linear::closed_verdicts(&rule, &case.positions()), case.verdicts, "{}", case.name);
     }
 }
 
@@ -38,9 +37,7 @@ fn worked_lists() {
         let words = rule.words as usize;
         let mut point = model::open(&bytes, words).unwrap();
         for (at, call) in list.calls.iter().enumerate() {
-            let verdicts = if call.closing { reading::closed_verdicts } else { reading::verdicts };
-            let evaluate = |rule: &Rule, n: usize| verdicts(rule, &list.records[..n]);
-            let got = point.carry_on(call.closing, &bytes, &log::encode(&call.log), words, call.sheet, evaluate);
+            let got = point.carry_on(call.closing, &bytes, &call.log, words, call.sheet, &list.records);
             assert_eq!(got.map(|given| (given.verdicts, given.more)), call.gives, "{}, call {at}", list.name);
             assert_eq!(point.wanted(&rule), call.wanted, "{}, call {at}", list.name);
             let summary = point.summary(&bytes, words).unwrap();

@@ -3,10 +3,10 @@
 //! Each case is a folder with a rule and a log in which the program is run. All that it prints is compared with what
 //! the evaluator makes of the same bytes, and the first line with the one that the case names.
 
-use evaluator::log::{self, Record};
+use evaluator::log::{self, Log, Record};
 use evaluator::random::{self, Random};
 use evaluator::rule::{self, Entry, NEXT, NO_END, UNTIL};
-use evaluator::{cases, linear, model};
+use evaluator::{cases, model};
 use std::collections::BTreeMap;
 use std::io::Write;
 use std::path::{Path, PathBuf};
@@ -78,12 +78,11 @@ fn run(name: &str, files: &Files) -> String {
 }
 
 /// The run on the evaluator: open, then carry on with a sheet of 8,191 bytes; verdicts given, the number of formulas, and
-/// records.
+/// records: "the printed total" counts every record.
 fn full_run(rule: &[u8], log: &[u8]) -> Result<(Vec<u8>, usize, usize), u32> {
     let mut point = model::open(rule, POINT_WORDS)?;
-    let (decoded, records) = point.check(false, rule, log, POINT_WORDS)?;
-    let verdicts = |rule: &rule::Rule, n: usize| linear::verdicts(rule, &records[..n]);
-    let resumed = point.carry_on(false, rule, log, POINT_WORDS, MOST_RECORDS, verdicts)?;
+    let (decoded, Log { records, .. }) = point.check(false, rule, log, POINT_WORDS)?;
+    let resumed = point.carry_on(false, rule, log, POINT_WORDS, MOST_RECORDS, &records)?;
     Ok((resumed.verdicts, decoded.formulas(), records.len()))
 }
 
@@ -153,7 +152,7 @@ fn worked_cases() {
     let mut outcomes = Outcomes::default();
     for (i, case) in cases::all().iter().enumerate() {
         let first = format!("verdicts {} of {}", case.verdicts.len(), case.records.len());
-        let files = files(&case.rule, &log::encode(&case.records));
+        let files = files(&case.rule, &case.log());
         outcomes.says(&format!("worked-{i}"), &files, &first);
     }
     // letter 2 is nowhere, so the inner until is no at all six; letter 0 fails at 2 and at 4, and position 5 is open
@@ -238,13 +237,17 @@ fn refused_logs() -> Vec<(Vec<u8>, u32)> {
         (p1[..7].to_vec(), 12),
         (with(0, b'k'), 12),
         (with(3, 1), 12),
-        (with(4, 2), 12),
+        (with(3, 2), 12),
+        (with(4, 0), 12),
+        (with(4, 3), 12),
         (with(5, 1), 12),
         (with(6, 1), 12),
         (with(7, 1), 12),
         (falls(&[1, 0]), 14),
         (falls(&[5, 6, 7, 6]), 14),
         (falls(&[u32::MAX, 0]), 14),
+        // by the time of a service record
+        (log::encode_as(2, &[(5, 0), (4, log::SERVICE), (5, 0)].map(|(time, letters)| Record { time, letters })), 14),
     ];
     logs.extend((9..16).map(|length| (p1[..length].to_vec(), 12)));
     logs
@@ -278,6 +281,7 @@ fn absent_and_empty_files() {
     outcomes.says("empty-rule", &Files { rule: Some(vec![]), log }, "refused 1");
     outcomes.says("empty-log", &Files { rule, log: Some(vec![]) }, "refused 12");
     outcomes.says("no-record", &files(&p1_rule(), &log::HEADER), "verdicts 0 of 0");
+    outcomes.says("no-record-version-2", &files(&p1_rule(), &log::header(2)), "verdicts 0 of 0");
     outcomes.print("kiosk: absent and empty files");
 }
 
@@ -285,6 +289,28 @@ fn absent_and_empty_files() {
 fn to_length(mut bytes: Vec<u8>, length: usize) -> Vec<u8> {
     bytes.resize(length, 0);
     bytes
+}
+
+/// "The printed total" counts every record: P1's with service records between, and service records alone.
+#[test]
+fn service_records() {
+    let mut outcomes = Outcomes::default();
+    let all = cases::all();
+    let named = |name: &str| all.iter().find(|case| case.name == name).expect(name);
+    let visited = named("P1 with all four");
+    outcomes.says("visited", &files(&visited.rule, &visited.log()), "verdicts 5 of 10");
+    let p1 = "verdicts 5 of 10\n0 no\n1 no\n2 no\n3 yes\n4 yes\n";
+    assert_eq!(expected(&files(&visited.rule, &visited.log())), p1);
+    let as_version_1 = files(&visited.rule, &log::encode(&visited.records));
+    outcomes.says("visited-as-version-1", &as_version_1, "verdicts 10 of 10");
+    let alone = named("service records alone");
+    outcomes.says("service-alone", &files(&alone.rule, &alone.log()), "verdicts 0 of 2");
+    // as many records as the program takes, every second one of them a service record
+    let mut most = log::parse(&steady(MOST_RECORDS as u32)).unwrap().records;
+    most.iter_mut().skip(1).step_by(2).for_each(|record| *record = record.as_service());
+    let letter = rule::encode(&[Entry::letter(1)]);
+    outcomes.says("most-visited", &files(&letter, &log::encode_as(2, &most)), "verdicts 4096 of 8191");
+    outcomes.print("kiosk: service records");
 }
 
 /// A log of so many records, one a second, with letter 0 in all and letter 1 in every third.
@@ -331,7 +357,8 @@ fn random_days() {
         let mut r = Random::new(seed);
         let (rule_shape, log_shape) = random::shapes(&mut r, 20, 200);
         let mut rule = random::rule(&mut r, rule_shape);
-        let mut log = log::encode(&random::log(&mut r, log_shape));
+        let (version, records) = random::any_log(&mut r, log_shape);
+        let mut log = log::encode_as(version, &records);
         match r.below(4) {
             0 => random::damage(&mut r, &mut rule),
             1 => random::damage(&mut r, &mut log),

@@ -6,6 +6,9 @@
 //! words that the caller lends and keeps. A record that has its verdict is not read again, but for the last few where
 //! the rule looks back with previous, so the kiosk may overwrite it.
 //!
+//! In a version 2 log a record with letter 31 is a service record: it is no position and gets no verdict, and every
+//! operator skips it. Positions are numbered from 0 over the other records. In a version 1 log every record is a position.
+//!
 //! A version 2 rule has up to eight formulas, which are judged in one run: a verdict is then a byte with an answer, a bit,
 //! for each of them.
 //!
@@ -48,7 +51,7 @@
 //! assert_eq!((counts.no(), counts.yes()), (&[1][..], &[2][..]));
 //! let so_far = summary(rule, &checkpoint)?;
 //! assert_eq!(so_far.no(), [1]); // the same without any sheet: one no,
-//! assert_eq!(so_far.latest(), [Some(0)]); // at record 0
+//! assert_eq!(so_far.latest(), [Some(0)]); // at position 0
 //! # Ok(())
 //! # }
 //! ```
@@ -77,7 +80,7 @@ pub const MOST_FORMULAS: usize = 8;
 pub struct Needs {
     /// The 64-bit words that a checkpoint of the rule takes: 16 to 8,192, and 16 for a rule without entries alone.
     pub words: usize,
-    /// A position is answered once the last record lies more than so many seconds after it; none for a rule with
+    /// A position is answered once the last one lies more than so many seconds after it; none for a rule with
     /// next. Of several formulas it is the largest.
     pub reach: Option<u32>,
 }
@@ -116,9 +119,10 @@ impl Summary {
 pub struct Status {
     /// The verdicts given with it, all calls together.
     pub given: u64,
-    /// The records that the last accepted call brought.
+    /// The records that the last accepted call brought, service records included.
     pub seen: u64,
-    /// The first record still wanted: all records before it may be overwritten.
+    /// The first record still wanted: the one that holds the first position still wanted, or the record after all seen
+    /// where none of them holds it. All records before it may be overwritten.
     pub wanted: u64,
     /// A closing was accepted.
     pub closed: bool,
@@ -175,9 +179,34 @@ pub fn open(rule: &[u8], checkpoint: &mut [u64]) -> Result<(), Refusal> {
 /// is the answer of formula k, counted from 0, and a position has its verdict once all of them have answered it.
 ///
 /// The log is the whole log from its header on; records before the first still wanted, which [`status`] gives, may have
-/// been overwritten with any bytes. That record is the number of verdicts given with this checkpoint so far, less k, or 0
-/// where it is below k, k being the largest number of previous entries on a path from a formula's last entry to a letter.
-/// Refusals: 1 to 11, then 20 if the checkpoint is closed, then 12 to 14.
+/// been overwritten with any bytes. The first position still wanted is the number of verdicts given with this checkpoint so
+/// far, less k, or 0 where it is below k, k being the largest number of previous entries on a path from a formula's last
+/// entry to a letter; the first record still wanted is the one that holds it, or the record after all seen where none of
+/// them does. A service record gets no verdict: its time matters to refusal 14 alone.
+///
+/// Refusals: 1 to 11, then 20 if the checkpoint is closed, then 12, 22 if the log is of another version than that of the
+/// last accepted call with this checkpoint, 13 and 14.
+///
+/// ```
+/// use havdrims::{measure, open, parse, resume, status, text, Refusal, MOST_RULE};
+///
+/// # fn main() -> Result<(), Refusal> {
+/// let mut buffer = [0; MOST_RULE];
+/// let size = parse(b"prev[0,5] e0", &mut buffer)?;
+/// let rule = &buffer[..size];
+/// let mut checkpoint = vec![0; measure(rule)?.words];
+/// open(rule, &mut checkpoint)?;
+///
+/// let log = text::log_from_text("version 2\n10 e0\n11 service\n12 none\n13 service\n").unwrap();
+/// let mut sheet = [7; 4];
+/// assert_eq!(resume(rule, &log, &mut checkpoint, &mut sheet)?.verdicts, 2); // records 0 and 2 are positions 0 and 1
+/// assert_eq!(sheet, [0, 1, 7, 7]);
+/// assert_eq!(status(rule, &checkpoint)?.wanted, 2); // position 1 is still looked back at
+/// let first = text::log_from_text("10 e0\n11 e31\n12 none\n13 e31\n").unwrap();
+/// assert_eq!(resume(rule, &first, &mut checkpoint, &mut sheet), Err(Refusal::OtherVersion));
+/// # Ok(())
+/// # }
+/// ```
 pub fn resume(rule: &[u8], log: &[u8], checkpoint: &mut [u64], sheet: &mut [u8]) -> Result<Resumed, Refusal> {
     carry_on(ffi::havdrims_resume, rule, log, checkpoint, sheet)
 }
@@ -207,7 +236,7 @@ pub fn resume(rule: &[u8], log: &[u8], checkpoint: &mut [u64], sheet: &mut [u8])
 /// # }
 /// ```
 ///
-/// Refusals: 1 to 13, then 21, then 14.
+/// Refusals: 1 to 12, then 22, 13, 21 and 14; 13 and 21 count service records too.
 pub fn close(rule: &[u8], log: &[u8], checkpoint: &mut [u64], sheet: &mut [u8]) -> Result<Resumed, Refusal> {
     carry_on(ffi::havdrims_close, rule, log, checkpoint, sheet)
 }
@@ -254,8 +283,9 @@ fn carry_on(
     Ok(Resumed { verdicts: given as usize, more: more == 1 })
 }
 
-/// For each formula, the count of no among all verdicts given with a checkpoint, and the position of the latest: what
-/// [`tally`] and a scan would give over all of them, laid end to end, without the sheets. Refusals: 1 to 11.
+/// For each formula, the count of no among all verdicts given with a checkpoint, and the position of the latest (not its
+/// record, where service records stand before it): what [`tally`] and a scan would give over all of them, laid end to end,
+/// without the sheets. Refusals: 1 to 11.
 pub fn summary(rule: &[u8], checkpoint: &[u64]) -> Result<Summary, Refusal> {
     // No count is so large: what is written, one number for each formula, is told from what is not.
     let (mut no, mut latest) = ([u64::MAX; MOST_FORMULAS], [u64::MAX; MOST_FORMULAS]);

@@ -36,12 +36,13 @@ pub enum Refusal {
     LogRoom,
     PointClosed,
     MoreRecords,
+    OtherVersion,
     Settings = 26,
 }
 
 /// Every refusal, in the order of their numbers, with the paper's words. Number 3 no longer occurs: it was that of a
 /// rule without entries.
-const SENTENCES: [(Refusal, &str); 21] = [
+const SENTENCES: [(Refusal, &str); 22] = [
     (Refusal::RuleMark, "The rule is shorter than 8 bytes or lacks its mark."),
     (Refusal::RuleVersion, "The rule's version is not 1 or 2."),
     (Refusal::RuleLength, "The count is above 128, a spare byte is not zero, or the length is not 8 + 10 × count."),
@@ -80,11 +81,15 @@ const SENTENCES: [(Refusal, &str); 21] = [
     (Refusal::LogRoom, "The number of records is above 1,000,000 or the lent buffer is under 8 + 8 × n bytes."),
     (Refusal::PointClosed, "Carry on is given a closed point."),
     (Refusal::MoreRecords, "Closing is repeated with more records than at its first call that was not refused."),
+    (
+        Refusal::OtherVersion,
+        "The log's version differs from that of the last carry on or closing with this point that was not refused.",
+    ),
     (Refusal::Settings, "A setting, the seconds or the seed is outside its range or the lent log buffer is short."),
 ];
 
 impl Refusal {
-    /// The paper's number: 1 to 21 but for 3, or 26.
+    /// The paper's number: 1 to 22 but for 3, or 26.
     pub fn number(self) -> u32 {
         self as u32
     }
@@ -125,7 +130,7 @@ mod tests {
     #[test]
     fn numbers_and_sentences() {
         let numbers: Vec<u32> = (0..40).filter(|&number| Refusal::from_number(number).is_some()).collect();
-        assert_eq!(numbers, [1, 2, 4, 5, 6, 7, 8, 9, 10, 11, 12, 13, 14, 15, 16, 17, 18, 19, 20, 21, 26]);
+        assert_eq!(numbers, [1, 2, 4, 5, 6, 7, 8, 9, 10, 11, 12, 13, 14, 15, 16, 17, 18, 19, 20, 21, 22, 26]);
         assert_eq!(numbers.len(), SENTENCES.len());
         for (number, (refusal, sentence)) in numbers.into_iter().zip(SENTENCES) {
             assert_eq!(refusal.number(), number);

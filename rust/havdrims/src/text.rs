@@ -11,15 +11,27 @@
 //!
 //! A letter is `e0` to `e31`, or its number alone. `none`, or nothing behind the seconds, is a record without
 //! letters. Empty lines, and what follows a `#`, are passed over.
+//!
+//! A line `version 2` before the first record says that the log is of version 2, which knows service records. The word
+//! `service` makes a record one: it is letter 31, and is shown so.
+//!
+//! ```text
+//! version 2
+//! 10 e0
+//! 11 service
+//! ```
 
 use crate::{measure, Refusal};
 use std::fmt::Write;
 
-const LOG_HEADER: [u8; 8] = *b"KLG\x00\x01\x00\x00\x00";
+/// The header of a log, by its version less 1.
+const LOG_HEADERS: [[u8; 8]; 2] = [*b"KLG\x00\x01\x00\x00\x00", *b"KLG\x00\x02\x00\x00\x00"];
 /// The header of a version 2 rule, but for its number of entries.
 const RULE_HEADER: [u8; 8] = *b"KRL\x00\x02\x00\x00\x00";
 const MOST_RECORDS: usize = 1_000_000;
 const NO_END: u32 = u32::MAX;
+/// The letter of a service record, from version 2 on.
+const SERVICE: u32 = 31;
 
 /// What [`formula`] shows of a rule without entries.
 pub const EMPTY: &str = "empty: every position is yes";
@@ -31,19 +43,28 @@ pub const EMPTY: &str = "empty: every position is yes";
 /// assert_eq!(log, *b"KLG\x00\x01\x00\x00\x00\x00\x00\x00\x0A\x00\x00\x00\x01\x00\x00\x00\x0B\x00\x00\x00\x00");
 /// ```
 pub fn log_from_text(text: &str) -> Result<Vec<u8>, String> {
-    let mut log = LOG_HEADER.to_vec();
-    let mut before = 0;
+    let mut log = LOG_HEADERS[0].to_vec();
+    let (mut before, mut versions) = (0, 0);
     for (at, line) in text.lines().enumerate() {
-        let line = line.split('#').next().unwrap_or("");
-        let mut parts = line.split_whitespace();
-        let Some(seconds) = parts.next() else { continue };
-        let (time, letters) = record(seconds, parts).map_err(|fault| format!("line {}: {fault}", at + 1))?;
+        let words: Vec<&str> = line.split('#').next().unwrap_or("").split_whitespace().collect();
+        let Some((&first, words)) = words.split_first() else { continue };
+        let faulty = |fault: String| format!("line {}: {fault}", at + 1);
+        if first == "version" {
+            if log.len() > 8 || versions > 0 {
+                return Err(faulty("the version stands once, before the first record".to_string()));
+            }
+            versions += 1;
+            log = header(words).ok_or_else(|| faulty("a log's version is 1 or 2".to_string()))?.to_vec();
+            continue;
+        }
+        let services = log.starts_with(&LOG_HEADERS[1]);
+        let (time, letters) = record(first, words, services).map_err(faulty)?;
         if time < before {
-            return Err(format!("line {}: second {time} comes after second {before}", at + 1));
+            return Err(faulty(format!("second {time} comes after second {before}")));
         }
         before = time;
         if log.len() == 8 + 8 * MOST_RECORDS {
-            return Err(format!("line {}: a log has at most 1,000,000 records", at + 1));
+            return Err(faulty("a log has at most 1,000,000 records".to_string()));
         }
         log.extend(time.to_be_bytes());
         log.extend(letters.to_be_bytes());
@@ -51,13 +72,27 @@ pub fn log_from_text(text: &str) -> Result<Vec<u8>, String> {
     Ok(log)
 }
 
-fn record<'a>(seconds: &str, parts: impl Iterator<Item = &'a str>) -> Result<(u32, u32), String> {
+/// The header of the version that these words say.
+fn header(words: &[&str]) -> Option<[u8; 8]> {
+    match words {
+        ["1"] => Some(LOG_HEADERS[0]),
+        ["2"] => Some(LOG_HEADERS[1]),
+        _ => None,
+    }
+}
+
+/// A record's time and event set, in a log that has service records or not.
+fn record(seconds: &str, words: &[&str], services: bool) -> Result<(u32, u32), String> {
     let time = seconds.parse().map_err(|_| format!("`{seconds}` is no number of seconds up to 4294967295"))?;
     let mut letters = 0;
-    for part in parts.filter(|&part| part != "none") {
-        let number: u32 = part.strip_prefix('e').unwrap_or(part).parse().unwrap_or(32);
+    for &word in words.iter().filter(|&&word| word != "none") {
+        let number: u32 = match word {
+            "service" if services => SERVICE,
+            "service" => return Err("`service` needs the line `version 2` before the first record".to_string()),
+            _ => word.strip_prefix('e').unwrap_or(word).parse().unwrap_or(32),
+        };
         if number > 31 {
-            return Err(format!("`{part}` is no letter: letters are e0 to e31"));
+            return Err(format!("`{word}` is no letter: letters are e0 to e31"));
         }
         letters |= 1 << number;
     }
@@ -66,20 +101,39 @@ fn record<'a>(seconds: &str, parts: impl Iterator<Item = &'a str>) -> Result<(u3
 
 /// A log as text, or refusal 12.
 pub fn log_to_text(log: &[u8]) -> Result<String, Refusal> {
-    let records = log.strip_prefix(&LOG_HEADER).ok_or(Refusal::LogFormat)?;
+    let version = LOG_HEADERS.iter().position(|header| log.starts_with(header)).ok_or(Refusal::LogFormat)?;
+    let (services, records) = (version == 1, &log[8..]);
     if records.len() % 8 != 0 || records.len() > 8 * MOST_RECORDS {
         return Err(Refusal::LogFormat);
     }
-    let mut text = String::new();
+    let mut text = String::from(if services { "version 2\n" } else { "" });
     for record in records.chunks_exact(8) {
         let (time, letters) = (be32(record), be32(&record[4..]));
         let _ = write!(text, "{time}");
         for letter in (0..32).filter(|letter| letters >> letter & 1 == 1) {
-            let _ = write!(text, " e{letter}");
+            let _ = match letter {
+                SERVICE if services => write!(text, " service"),
+                _ => write!(text, " e{letter}"),
+            };
         }
         text.push_str(if letters == 0 { " none\n" } else { "\n" });
     }
     Ok(text)
+}
+
+/// How many of a log's records from this one on are service records: none in a log of version 1.
+///
+/// ```
+/// use havdrims::text::{log_from_text, services};
+///
+/// let log = log_from_text("version 2\n10 service\n11 e0\n12 e0 service\n").unwrap();
+/// assert_eq!((services(&log, 0), services(&log, 1)), (2, 1));
+/// let log = log_from_text("10 e31\n").unwrap();
+/// assert_eq!(services(&log, 0), 0);
+/// ```
+pub fn services(log: &[u8], from: usize) -> usize {
+    let records = log.strip_prefix(&LOG_HEADERS[1]).unwrap_or_default().chunks_exact(8);
+    records.skip(from).filter(|record| be32(&record[4..]) >> SERVICE & 1 == 1).count()
 }
 
 fn be32(bytes: &[u8]) -> u32 {

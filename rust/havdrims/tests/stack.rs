@@ -140,38 +140,42 @@ fn every_call_on_a_small_stack() {
     let shape = LogShape { records: 400, letters: 4, hold: 3, step: 2, start: 7 };
     let mut records = random::log(&mut Random::new(1), shape);
     records.last_mut().unwrap().time += 9_000;
-    let file = log::encode(&records);
+    let mut visited = records.clone();
+    visited.iter_mut().skip(3).step_by(7).for_each(|record| *record = record.as_service());
+    let logs = [(1, records), (2, visited)]
+        .map(|(version, records)| (log::encode_as(version, &records), log::positions(version, &records)));
     let mut most = [0; 8];
     let version_1: Vec<Vec<u8>> = rules().iter().map(|entries| rule::encode(entries)).collect();
     // The same of version 2, where 8 words more are not too many.
     let version_2 = rules().into_iter().map(|entries| rule::encode_as(2, &entries));
     let version_2 = version_2.filter(|bytes| rule::parse(bytes).is_ok()).collect();
-    for bytes in [version_1, version_2, eight_formulas()].concat() {
-        let (needs, measuring) = on_small_stack(|| measure(&bytes));
+    let rules = [version_1, version_2, eight_formulas()].concat();
+    for (bytes, (file, positions)) in rules.iter().flat_map(|bytes| logs.iter().map(move |log| (bytes, log))) {
+        let (needs, measuring) = on_small_stack(|| measure(bytes));
         let words = needs.unwrap().words;
-        assert_eq!(words as u64, model::measure(&bytes).unwrap().0);
+        assert_eq!(words as u64, model::measure(bytes).unwrap().0);
         let mut point = vec![0; words];
-        let (opened, opening) = on_small_stack(|| open(&bytes, &mut point));
+        let (opened, opening) = on_small_stack(|| open(bytes, &mut point));
         opened.unwrap();
-        let rule = rule::parse(&bytes).unwrap();
-        let settled = reading::verdicts(&rule, &records).len();
-        let verdicts = reading::closed_verdicts(&rule, &records);
-        let mut sheet = vec![7; records.len()];
-        let (resumed, resuming) = on_small_stack(|| resume(&bytes, &file, &mut point, &mut sheet));
+        let rule = rule::parse(bytes).unwrap();
+        let settled = reading::verdicts(&rule, positions).len();
+        let verdicts = reading::closed_verdicts(&rule, positions);
+        let mut sheet = vec![7; positions.len()];
+        let (resumed, resuming) = on_small_stack(|| resume(bytes, file, &mut point, &mut sheet));
         assert_eq!(resumed, Ok(Resumed { verdicts: settled, more: false }));
-        let (closed, closing) = on_small_stack(|| close(&bytes, &file, &mut point, &mut sheet[settled..]));
+        let (closed, closing) = on_small_stack(|| close(bytes, file, &mut point, &mut sheet[settled..]));
         assert_eq!(closed, Ok(Resumed { verdicts: verdicts.len() - settled, more: false }));
         assert_eq!(sheet, verdicts);
-        let (number, counting) = on_small_stack(|| formulas(&bytes));
+        let (number, counting) = on_small_stack(|| formulas(bytes));
         assert_eq!(number, Ok(rule.formulas()));
         let (counts, tallying) = on_small_stack(|| tally(&verdicts, rule.formulas()));
         let counts = counts.unwrap();
         let expected = model::tally(&verdicts, rule.formulas() as u64);
         assert_eq!(Ok((counts.no().to_vec(), counts.yes().to_vec())), expected);
-        let (summed, summing) = on_small_stack(|| summary(&bytes, &point));
+        let (summed, summing) = on_small_stack(|| summary(bytes, &point));
         let (summed, expected) = (summed.unwrap(), model::summed(&verdicts, rule.formulas()));
         assert_eq!((summed.no(), summed.latest()), (&expected.no[..], &expected.latest[..]));
-        let (state, stating) = on_small_stack(|| status(&bytes, &point));
+        let (state, stating) = on_small_stack(|| status(bytes, &point));
         assert_eq!(state.map(|state| state.given), Ok(verdicts.len() as u64));
         let now = [measuring, counting, opening, resuming, closing, summing, stating, tallying];
         for (most, now) in most.iter_mut().zip(now) {

@@ -3,7 +3,7 @@
 use evaluator::random::{self, LogShape, Random, RuleShape};
 use evaluator::rule::{self, Entry, NEXT, NO_END, PREVIOUS, SINCE, UNTIL};
 use evaluator::{cases, log};
-use havdrims::text::{formula, joined, log_from_text, log_to_text, EMPTY};
+use havdrims::text::{formula, joined, log_from_text, log_to_text, services, EMPTY};
 use havdrims::{parse, Refusal, MOST_RULE};
 
 const P1: &str = "10 e0\n11 e0\n11 none\n12 e0\n13 e1\n20 e0\n";
@@ -38,11 +38,46 @@ fn faults_name_their_line() {
 #[test]
 fn damaged_logs_are_refused() {
     for file in
-        [&b""[..], b"KLG", b"KLG\x00\x02\x00\x00\x00", b"KLG\x00\x01\x00\x00\x01", b"KLG\x00\x01\x00\x00\x00\x07"]
+        [&b""[..], b"KLG", b"KLG\x00\x03\x00\x00\x00", b"KLG\x00\x01\x00\x00\x01", b"KLG\x00\x01\x00\x00\x00\x07"]
     {
         assert_eq!(log_to_text(file), Err(Refusal::LogFormat));
     }
     assert_eq!(log_to_text(&log::HEADER).unwrap(), "");
+}
+
+const SERVED: &str = "version 2\n10 e0\n10 service\n11 e0 e3 service\n12 none\n";
+
+#[test]
+fn logs_of_version_2() {
+    let file = log_from_text(SERVED).unwrap();
+    assert_eq!(file[..8], *b"KLG\x00\x02\x00\x00\x00");
+    assert_eq!(file[16..32], [0, 0, 0, 10, 128, 0, 0, 0, 0, 0, 0, 11, 128, 0, 0, 9]);
+    assert_eq!(log_to_text(&file).unwrap(), SERVED);
+    assert_eq!((services(&file, 0), services(&file, 2), services(&file, 3), services(&file, 9)), (2, 1, 0, 0));
+    // other ways to type it; letter 31 by its name too
+    let typed = "\n# the visit\n version  2 # of the log\n10 0\n10 31\n11 service 3 service e0\n12\n";
+    assert_eq!(log_from_text(typed).unwrap(), file);
+    // the same records as version 1, where letter 31 is a letter
+    let plain = SERVED.replace("version 2", "version 1").replace("service", "e31");
+    let first = log_from_text(&plain).unwrap();
+    assert_eq!((&first[..5], &first[8..]), (&b"KLG\x00\x01"[..], &file[8..]));
+    assert_eq!(log_to_text(&first).unwrap(), plain.replace("version 1\n", ""));
+    assert_eq!(services(&first, 0), 0);
+    assert_eq!(log_to_text(&log_from_text("version 2").unwrap()).unwrap(), "version 2\n");
+}
+
+#[test]
+fn faults_of_a_version() {
+    let fault = |text: &str| log_from_text(text).unwrap_err();
+    assert_eq!(fault("1 e0\n2 service\n"), "line 2: `service` needs the line `version 2` before the first record");
+    assert!(fault("version 1\n2 service\n").starts_with("line 2: `service` needs"));
+    for text in ["1 e0\nversion 2\n", "version 2\nversion 2\n"] {
+        assert_eq!(fault(text), "line 2: the version stands once, before the first record");
+    }
+    for text in ["version", "version 3", "version 0", "version two", "version 2 2", "version e2"] {
+        assert_eq!(fault(text), "line 1: a log's version is 1 or 2", "{text}");
+    }
+    assert_eq!(fault("version 2\n5 service\n4 e0\n"), "line 3: second 4 comes after second 5");
 }
 
 #[test]
@@ -52,6 +87,9 @@ fn random_logs_come_back() {
         let shape = LogShape { records: r.below(60), letters: 32, hold: 1, step: 1 << 28, start: r.draw() as u32 };
         let file = log::encode(&random::log(&mut r, shape));
         assert_eq!(log_from_text(&log_to_text(&file).unwrap()).unwrap(), file);
+        let mut second = file;
+        second[4] = 2;
+        assert_eq!(log_from_text(&log_to_text(&second).unwrap()).unwrap(), second);
     }
 }
 

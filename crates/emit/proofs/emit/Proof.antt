@@ -1,9 +1,8 @@
--- `emit` meets its contract: what `give` and `hold` promise for the rule's formulas, and the log's end noted.
-use Prim.Native.Nat.{_≤_}
+-- `emit` meets its contract: what `give` promises for the rule's formulas, and the log noted.
 use borrow.Author.Needs.{needs}
-use mathlib.Core.Path.{_≡_, refl, _∙_}
+use mathlib.Core.Path.{refl}
 use native.Mathlib.Omega.{arith}
-use lib.ListN.{length, length-set}
+use lib.ListN.{length}
 use Rattle.engine.proofs.Rows.{zeros}
 use Rattle.emit.specs.Code.{Fits}
 use Rattle.emit.proofs.Emitting.{fits-of, emitted}
@@ -17,86 +16,49 @@ laid : (d : tie.After-lay-tops) →
 laid d =
     let s = d .before .before .before .before .before .before .before .before in
     let a = s .args in
-    fits-of (a .entries) (a .count) (a .t3) (a .number) (a .most) (a .base) (a .words .now) (d .before .before .before .lay-out .last .1 .1 .0) (d .lay-tops .result) (s .pre)
-    (s .pre .the-formulas) (s .pre .ended) (d .lay-tops .ensures (s .pre .the-formulas) (s .pre .ended))
+    fits-of (a .entries) (a .count) (a .t3) (a .number) (a .most) (a .base) (a .depth) (a .records .now) (a .words .now) (d .before .before .before .lay-out .last .1 .1 .0)
+    (d .lay-tops .result) (s .pre) (s .pre .the-formulas) (s .pre .ended) (d .lay-tops .ensures (s .pre .the-formulas) (s .pre .ended))
 
 lay-out-requires : tie.Need-lay-out-requires
-lay-out-requires c κs =
-    let s = c .before .before .before .before in
-    (s .pre .few, s .pre .well-formed, refl, zeros 1024)
+lay-out-requires c κs = let p = c .before .before .before .before .pre in (p .few, p .well-formed, refl, zeros 1024)
+
+view-of-requires : tie.Need-view-of-requires
+view-of-requires c κs = let p = c .before .before .before .before .before .before .before .before .before .pre in (omega (arith, p .size, p .header .0), p .given)
 
 give-requires : tie.Need-give-requires
 give-requires c κs =
-    let s = c .before .before .before .before .before .before .before .before .before .before .before .before in
-    record {
-      fits = (s .args .base, s .pre .the-formulas, laid (c .before .before .before .before), s .pre .header .2);
-      formulas = s .pre .formulas;
-      small = s .pre .small;
-      given = s .pre .given;
-      noes = s .pre .noes;
-    }
+    let s = c .before .before .before .before .before .before .before .before .before .before .before .before .before .before .before .before .before in
+    let p = s .pre in (
+      record {
+        fits = (s .args .base, p .the-formulas, laid (c .before .before .before .before .before .before .before .before .before), p .header .2);
+        formulas = p .formulas;
+        small = p .small;
+        given = p .given;
+        noes = p .noes;
+      },
+      refl,
+      refl,
+      rw (c .before .before .before .before .before .before .before .view-of .ensures) (omega (arith, p .wanted, p .records)),
+    )
 
-hold-requires : tie.Need-hold-requires
-hold-requires c κs =
-    let s = c .before .before .before .before .before .before .before .before .before .before .before .before .before .before .before .before .before .before .before .before in
-    (s .args .base, s .pre .the-formulas, rw (c .before .before .before .before .before .before .before .give .kept .1 .1 .1 .1 .1 .1 .0) (laid (c .before .before .before .before .before .before .before .before .before .before .before .before)))
-
-slice-read-last-time : tie.Need-slice-read-last-time
-slice-read-last-time c = let s = c .before .before .before .before .before .before .before .before .before .before .before .before .before .before .before .before .before .before .before .before .before .before .before .before in omega (arith, c .before .before .before .hold .kept .1 .1 .1 .1 .1 .0, c .before .before .before .before .before .before .before .before .before .before .before .give .kept .1 .1 .1 .1 .1 .1 .0, s .pre .size, s .pre .header .0)
-
-slice-read-last-time-2 : tie.Need-slice-read-last-time-2
-slice-read-last-time-2 c = let s = c .before .before .before .before .before .before .before .before .before .before .before .before .before .before .before .before .before .before .before .before .before .before .before .before .before in omega (arith, c .before .before .before .before .hold .kept .1 .1 .1 .1 .1 .0, c .before .before .before .before .before .before .before .before .before .before .before .before .give .kept .1 .1 .1 .1 .1 .1 .0, s .pre .size, s .pre .header .0)
-
-slice-write-words : tie.Need-slice-write-words
-slice-write-words c = let s = c .before .before .before .before .before .before .before .before .before .before .before .before .before .before .before .before .before .before .before .before .before .before .before .before .before .before in omega (arith, c .before .before .before .before .before .hold .kept .1 .1 .1 .1 .1 .0, c .before .before .before .before .before .before .before .before .before .before .before .before .before .give .kept .1 .1 .1 .1 .1 .1 .0, s .pre .size, s .pre .header .0)
-
-slice-write-words-2 : tie.Need-slice-write-words-2
-slice-write-words-2 c = simp length-set (let s = c .before .before .before .before .before .before .before .before .before .before .before .before .before .before .before .before .before .before .before .before .before .before .before .before .before .before .before in omega (arith, c .before .before .before .before .before .before .hold .kept .1 .1 .1 .1 .1 .0, c .before .before .before .before .before .before .before .before .before .before .before .before .before .before .give .kept .1 .1 .1 .1 .1 .1 .0, s .pre .size, s .pre .header .0))
-
-closed-with-requires : tie.Need-closed-with-requires
-closed-with-requires c κs = let few = c .before .before .before .before .before .before .before .before .before .before .before .before .before .before .before .before .before .before .before .before .before .before .before .before .before .before .before .good .1 .1 .1 .1 .1 .1 .0 .1 in omega (arith, c .count .ensures)
-
-slice-write-words-3 : tie.Need-slice-write-words-3
-slice-write-words-3 c = simp length-set (let s = c .before .before .before .before .before .before .before .before .before .before .before .before .before .before .before .before .before .before .before .before .before .before .before .before .before .before .before .before in omega (arith, c .before .before .before .before .before .before .before .hold .kept .1 .1 .1 .1 .1 .0, c .before .before .before .before .before .before .before .before .before .before .before .before .before .before .before .give .kept .1 .1 .1 .1 .1 .1 .0, s .pre .size, s .pre .header .0))
-
-same-length : tie.Need-same-length
-same-length c = simp length-set (c .before .before .before .before .before .before .before .hold .kept .1 .1 .1 .1 .1 .0 ∙ c .before .before .before .before .before .before .before .before .before .before .before .before .before .before .before .give .kept .1 .1 .1 .1 .1 .1 .0)
+note-requires : tie.Need-note-requires
+note-requires c κs =
+    let s = c .before .before .before .before .before .before .before .before .before .before .before .before .before .before .before .before .before .before .before .before .before .before .before .before in
+    let p = s .pre in
+    let g = c .before .before .before .before .before .before .give .ensures (s .args .base) (p .the-formulas) (laid (c .before .before .before .before .before .before .before .before .before .before .before .before .before .before .before .before)) (p .header .2) in
+    (omega (arith, g .words-length, p .size, p .header .0), omega (arith, g .frame .header 7 (omega arith) (λ e. omega arith), p .wanted))
 
 returns : tie.Need-returns
-returns c fs ended =
-    let s = c .before .before .before .before .before .before .before .before .before .before .before .before .before .before .before .before .before .before .before .before .before .before .before .before .before .before .before .before in
+returns c fs ended deep =
+    let s = c .before .before .before .before .before .before .before .before .before .before .before .before .before .before .before .before .before .before .before .before .before .before .before .before .before .before .before in
     let a = s .args in
-    let g = c .before .before .before .before .before .before .before .before .before .before .before .before .before .before .before .give in
-    let h = c .before .before .before .before .before .before .before .hold in
-    let d = c .before .before .before .before .before .before .before .before .before .before .before .before .before .before .before .before .before .before .before .before in
-    let fits = fits-of (a .entries) (a .count) (a .t3) (a .number) (a .most) (a .base) (a .words .now) (d .before .before .before .lay-out .last .1 .1 .0) (d .lay-tops .result) (s .pre)
-    fs ended (d .lay-tops .ensures fs ended) in
-    emitted
-    (a .records .now)
-    (a .closed)
-    (a .words .now)
-    (a .sheet .now)
-    (g .result)
-    (g .last .1 .1 .1 .1 .1 .1 .0)
-    (g .last .1 .1 .1 .1 .1 .1 .1 .0)
-    (h .result)
-    (h .last .1 .1 .1 .1 .1 .0)
-    (c .before .before .last-time .result)
-    (c .before .count .result)
-    (c .closed-with .result)
-    _
-    fits
-    (s .pre .header .2)
-    (s .pre .formulas)
-    (s .pre .small .0)
-    (λ i. c .before .before .before .before .before .before .before .before .before .before .before .before .before .before .before .before .before .before .before .before .before .before .before .before .before .before .before .shared-slice-known .given i .fits)
-    (g .ensures (a .base) fs fits (s .pre .header .2))
-    (h .ensures (a .base) fs (rw (g .kept .1 .1 .1 .1 .1 .1 .0) fits))
-    (c .before .before .last-time .ensures)
-    (c .before .count .ensures)
-    (c .closed-with .ensures)
-    refl
-    refl
+    let g = c .before .before .before .before .before .before .before .before .before .give in
+    let y = c .before .before .note in
+    let fits = fits-of (a .entries) (a .count) (a .t3) (a .number) (a .most) (a .base) (a .depth) (a .records .now) (a .words .now) (c .before .before .before .before .before .before .before .before .before .before .before .before .before .before .before .before .before .before .before .before .before .before .lay-out .last .1 .1 .0)
+    (c .before .before .before .before .before .before .before .before .before .before .before .before .before .before .before .before .before .before .before .lay-tops .result) (s .pre) fs ended (c .before .before .before .before .before .before .before .before .before .before .before .before .before .before .before .before .before .before .before .lay-tops .ensures fs ended) in
+    emitted (a .skips) (a .closed) (a .records .now) (a .words .now) (a .sheet .now) (g .result) (g .last .1 .1 .1 .1 .1 .1 .1 .1 .0)
+    (g .last .1 .1 .1 .1 .1 .1 .1 .1 .1 .0) (y .last .1 .1 .1 .1 .0) fits (λ i. c .before .before .before .before .before .before .before .before .before .before .before .before .before .before .before .before .before .before .before .before .before .before .before .before .before .before .shared-slice-known .given i .fits)
+    (rw (c .before .before .before .before .before .before .before .before .before .before .before .before .before .before .before .before .before .view-of .ensures, deep) at (g .ensures (a .base) fs fits (s .pre .header .2))) (rw (c .before .before .before .before .before .before .before .before .before .before .before .before .before .before .before .before .before .view-of .ensures, deep) at (y .ensures))
 
 pub emit-spec : {M : Type 1} → statement M
 emit-spec =
@@ -104,16 +66,9 @@ emit-spec =
     (tie.spec
     lay-out-requires
     (λ c κs. search needs)
+    view-of-requires
     give-requires
-    hold-requires
-    slice-read-last-time
-    slice-read-last-time-2
-    (λ c κs. search needs)
-    slice-write-words
-    (λ c κs. search needs)
-    slice-write-words-2
-    closed-with-requires
-    slice-write-words-3
-    same-length
+    note-requires
+    (λ c. search needs)
     (λ c. search needs)
     returns)

@@ -1,57 +1,61 @@
 -- `hold` meets its contract. The invariant: the first k formulas were asked, and `least` is what each of them holds at least.
-use Prim.Native.Nat.{ℕ, _-_, _≤_, min, zero-le}
+use Prim.Native.Nat.{ℕ, _-_, _≤_, zero-le}
 use borrow.Author.Needs.{needs}
-use mathlib.Core.Path.{_≡_, refl, ap, _∙_}
+use mathlib.Core.Path.{_≡_, refl, _∙_}
 use mathlib.Core.List.{List}
 use native.Mathlib.Omega.{arith}
 use lib.ListN.{length}
 use Rattle.mtl.specs.Formula.{Formula}
-use Rattle.blocks.specs.Block.{word}
 use Rattle.emit.specs.Code.{Fits}
 use Rattle.emit.proofs.Holding.{Asked, asked-none, one-more, all-asked}
 use Rattle.emit.proofs.hold.Statement.{statement}
 use Rattle.emit.proofs.hold.Tie as tie
 
 abbrev Inv-loop : tie.InvT-loop
-Inv-loop table tops number records closed words₀ least₀ k₀ words least k =
-    (k ≤ number) × (length words ≡ length words₀) ×
-    ((base : ℕ) (fs : List Formula) → Fits table tops base number fs (length words₀) → Asked base fs records closed words₀ k least words)
+Inv-loop table tops number records view copy₀ waiting₀ words₀ least₀ k₀ copy waiting words least k =
+    (k ≤ number) × (length words ≡ length words₀) × (length copy ≡ 520) × (length waiting ≡ 520) ×
+    ((base : ℕ) (fs : List Formula) → Fits table tops base number fs (length words₀) → Asked base fs view records words₀ k least words)
 
 abbrev μ-loop : tie.MeasureT-loop
-μ-loop table tops number records closed words₀ least₀ k₀ words least k = number - k
+μ-loop table tops number records view copy₀ waiting₀ words₀ least₀ k₀ copy waiting words least k = number - k
 
 slice-read-not-given : tie.Need-slice-read-not-given Inv-loop μ-loop
-slice-read-not-given c = let f = c .before .before .before .pre .2 in omega (arith, f .header, f .all)
+slice-read-not-given c = let f = c .before .before .before .pre .0 .2 in omega (arith, f .header, f .all)
 
 loop-holds : tie.Need-loop-holds Inv-loop μ-loop
 loop-holds c =
-    let a = c .before .before .before .before .before .args in
-    (zero-le, refl, λ base fs fits. asked-none base fs (a .records .now) (a .closed) (a .words .now) _ (c .not-given .ensures ∙ ap (λ (n : ℕ). min (n - word (a .words .now) 1) 64) (c .before .count .ensures)))
+    let s = c .before .before .before .before .before in
+    let a = s .args in
+    (zero-le, refl, s .pre .1, s .pre .2, λ base fs fits. asked-none base fs (a .view .now) (a .records .now) (a .words .now) _ (c .not-given .ensures))
 
 hold-one-requires : tie.Need-hold-one-requires Inv-loop μ-loop
 hold-one-requires c κs =
-    let s = c .before .before .before .before .before .before .before .before in
-    (omega arith, (s .pre .0, s .pre .1, rw (c .before .before .loop .inv .1) (s .pre .2)))
+    let p = c .before .before .before .before .before .before .before .before .before .before .pre in
+    let l = c .before .before .before .before .loop in
+    let f = p .0 in
+    (omega arith, (f .0, f .1, rw (l .inv .1) (f .2)), l .inv .2, l .inv .3, p .3)
 
 loop-again : tie.Need-loop-again Inv-loop μ-loop
 loop-again c =
-    let s = c .before .before .before .before .before .before .before .before .before .before .before .before in
-    let l = c .before .before .before .before .before .before .loop in
-    let h = c .before .before .before .hold-one in
-    let below = c .before .before .before .before .before .before in (
+    let l = c .before .before .before .before .before .before .before .before .loop in
+    let h = c .before .before .before .hold-one in (
       omega arith,
-      h .kept .1 .1 .1 .1 .1 .1 .0 ∙ l .inv .1,
+      h .kept .1 .1 .1 .1 .1 .1 .1 .1 .0 ∙ l .inv .1,
+      h .ensures .1 .0,
+      h .ensures .1 .1,
       λ base fs fits.
           rw (c .smaller .ensures)
-          (one-more (fits .header) (l .inv .2 base fs fits) (h .result) (h .last .1 .1 .1 .1 .1 .1 .0) (omega (arith, fits .laid .number))
-          (h .ensures base fs (rw (l .inv .1) fits) (omega (arith, fits .laid .number)))),
+          (one-more (fits .header) (l .inv .4 base fs fits) (h .result) (h .last .1 .1 .1 .1 .1 .1 .1 .1 .0) (omega (arith, fits .laid .number))
+          (h .ensures .0 base fs (rw (l .inv .1) fits) (omega (arith, fits .laid .number)))),
     )
 
 same-length : tie.Need-same-length Inv-loop μ-loop
 same-length c = c .before .loop .inv .1
 
 returns : tie.Need-returns Inv-loop μ-loop
-returns c base fs fits = all-asked (omega (arith, fits .laid .number)) (c .before .loop .inv .2 base fs fits)
+returns c =
+    let l = c .before .loop in
+    (λ base fs fits. all-asked (omega (arith, fits .laid .number)) (l .inv .4 base fs fits), (l .inv .2, l .inv .3))
 
 pub hold-spec : {M : Type 1} → statement M
 hold-spec =
@@ -60,7 +64,7 @@ hold-spec =
     Inv-loop
     μ-loop
     slice-read-not-given
-    (λ c κs. search needs)
+    (λ c. search needs)
     (λ c κs. search needs)
     loop-holds
     hold-one-requires

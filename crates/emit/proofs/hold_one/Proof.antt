@@ -14,7 +14,7 @@ mul-count c =
     let s = c .before .before .before in
     let a = s .args in
     let m = may-ask (a .table .now) (a .tops .now) (a .number) (a .k) (length (a .words .now)) (s .pre .0) (s .pre .1) in
-    let most = s .good .1 .1 .1 .1 .1 .1 .0 .1 in
+    let most = s .good .1 .1 .1 .1 .1 .1 .1 .1 .0 .1 in
     record { fits = omega (arith, m .4, c .place .ensures) }
 
 slice-read-count : tie.Need-slice-read-count
@@ -25,41 +25,48 @@ slice-read-count c =
     omega (arith, m .4, c .before .place .ensures)
 
 returns : tie.Need-returns
-returns c base fs fits h =
-    let a = c .before .before .before .before .before .args in
-    let held = c .before .before .place .ensures in
-    already (a .records .now) (a .closed) (a .k) (a .words .now) _ fits h (ap (word (a .words .now)) held) (omega arith)
+returns c =
+    let s = c .before .before .before .before .before in
+    let a = s .args in (
+      λ base fs fits h.
+          already (a .view .now) (a .records .now) (a .k) (a .words .now) _ fits h (ap (word (a .words .now)) (c .before .before .place .ensures)) (omega arith),
+      (s .pre .2, s .pre .3),
+    )
 
 ask-requires : tie.Need-ask-requires
 ask-requires c κs =
-    let s = c .before .before .before .before .before .before .before .before .before in
+    let s = c .before .before .before .before .before .before .before .before .before .before .before in
     let a = s .args in
     let m = may-ask (a .table .now) (a .tops .now) (a .number) (a .k) (length (a .words .now)) (s .pre .0) (s .pre .1) in
-    rw (c .before .before .before .place2 .ensures, c .before .before .place3 .ensures, c .before .place4 .ensures, c .before .before .before .before .before .before .place .ensures) m
+    rw (c .before .before .before .before .before .place2 .ensures, c .before .before .before .before .place3 .ensures, c .before .before .before .place4 .ensures, c .before .before .before .before .before .before .before .before .place .ensures)
+    (m .0, m .1, m .2, m .3, m .4, s .pre .2, s .pre .3, s .pre .4)
 
 mul-result : tie.Need-mul-result
 mul-result c =
-    let s = c .before .before .before .before .before .before .before .before .before .before .before .before in
+    let s = c .before .before .before .before .before .before .before .before .before .before .before .before .before .before in
     let a = s .args in
     let m = may-ask (a .table .now) (a .tops .now) (a .number) (a .k) (length (a .words .now)) (s .pre .0) (s .pre .1) in
-    let most = s .good .1 .1 .1 .1 .1 .1 .0 .1 in
-    record { fits = omega (arith, m .4, c .before .before .before .before .before .before .before .before .before .place .ensures) }
+    let most = s .good .1 .1 .1 .1 .1 .1 .1 .1 .0 .1 in
+    record { fits = omega (arith, m .4, c .before .before .before .before .before .before .before .before .before .before .before .place .ensures) }
 
 slice-read-result : tie.Need-slice-read-result
 slice-read-result c =
-    let s = c .before .before .before .before .before .before .before .before .before .before .before .before .before in
+    let s = c .before .before .before .before .before .before .before .before .before .before .before .before .before .before .before in
     let a = s .args in
     let m = may-ask (a .table .now) (a .tops .now) (a .number) (a .k) (length (a .words .now)) (s .pre .0) (s .pre .1) in
-    omega (arith, m .4, c .before .before .before .ask .kept, c .before .before .before .before .before .before .before .before .before .before .place .ensures)
+    omega (arith, m .4, c .before .before .before .ask .kept, c .before .before .before .before .before .before .before .before .before .before .before .before .place .ensures)
 
 returns-2 : tie.Need-returns-2
-returns-2 c base fs fits h =
-    let a = c .before .before .before .before .before .before .before .before .before .before .before .before .before .args in
+returns-2 c =
+    let a = c .before .before .before .before .before .before .before .before .before .before .before .before .before .before .before .args in
     let y = c .before .before .before .ask in
-    let held = c .before .before .before .before .before .before .before .before .before .before .place .ensures in
-    asked-holds (a .records .now) (a .closed) (a .k) (a .words .now) (y .result) _ (y .last .1 .1 .1 .1 .1 .1 .1 .0) fits h
-    (ap (word (a .words .now)) (sym held) ∙ omega arith) (ap (word (y .last .1 .1 .1 .1 .1 .1 .1 .0)) held)
-    (rw (c .before .before .before .before .before .before .before .place2 .ensures, c .before .before .before .before .before .before .place3 .ensures, c .before .before .before .before .before .place4 .ensures, held) at (y .ensures))
+    let held = c .before .before .before .before .before .before .before .before .before .before .before .before .place .ensures in
+    let ws′ = y .last .1 .1 .1 .1 .1 .1 .1 .1 .1 .0 in (
+      λ base fs fits h.
+          asked-holds (a .view .now) (a .records .now) (a .k) (a .words .now) (y .result) _ ws′ fits h (ap (word (a .words .now)) (sym held) ∙ omega arith)
+          (ap (word ws′) held) (rw (c .before .before .before .before .before .before .before .before .before .place2 .ensures, c .before .before .before .before .before .before .before .before .place3 .ensures, c .before .before .before .before .before .before .before .place4 .ensures, held) at (y .ensures .0)),
+      y .ensures .1,
+    )
 
 pub hold-one-spec : {M : Type 1} → statement M
 hold-one-spec =

@@ -1,15 +1,19 @@
 -- `resume_or_close` meets its contract: a refusal has written nothing, and an accepted call lends `emit` the words that the rule needs.
 use borrow.Author.Needs.{needs}
-use mathlib.Core.Path.{_≡_, sym, _∙_}
+use mathlib.Core.Path.{_≡_, sym, ap, _∙_}
 use native.Mathlib.Omega.{arith}
 use lib.ListN.{length}
 use Rattle.rule.specs.Entries.{version, count, decoded}
 use Rattle.rule.proofs.Headers.{Decoded, few-to-decode, measured-once}
+use Rattle.rule.proofs.Spans.{header-least}
+use Rattle.trace.specs.View.{from-record}
+use Rattle.checkpoint.specs.Checkpoint.{first-wanted}
 use Rattle.checkpoint.specs.Refusal.{point-refusal}
 use Rattle.checkpoint.specs.Code.{sized-of, checked-by}
 use Rattle.checkpoint.specs.declared.check.Sized.the-variants.{Words}
 use Rattle.checkpoint.proofs.Sizes.{Enough, enough, sized-is, is-decoded, is-version, fits-in}
 use Rattle.checkpoint.proofs.Checks.{stopped, failed, passed}
+use Rattle.monitor.specs.Resume.{wanted-records}
 use Rattle.monitor.proofs.Resuming.{resume-refused, resume-given, ready-of}
 use Rattle.monitor.proofs.resume_or_close.Statement.{statement}
 use Rattle.monitor.proofs.resume_or_close.Tie as tie
@@ -104,24 +108,51 @@ ends-of-requires c κs =
       few-to-decode _ _ (c .before .before .before .before .before .before .before .before .before .before .before .before .check-header .ensures),
     )
 
+depth-requires : tie.Need-depth-requires
+depth-requires c κs =
+    omega (
+      arith,
+      c .before .before .before .before .before .before .before .before .before .before .before .before .before .before .count .ensures,
+      few-to-decode _ _ (c .before .before .before .before .before .before .before .before .before .before .before .before .before .before .before .before .check-header .ensures),
+    )
+
+-- the first wanted record is among the words
+slice-read-from-record : tie.Need-slice-read-from-record
+slice-read-from-record c =
+    let s = c .before .before .before .before .before .before .before .before .before .before .before .before in
+    let e = fit s in
+    omega (arith, header-least (version (c .before .before .before .before .before .before .before .before .before .before .before .before .before .before .before .before .before .before .before .before .before .before .before .before .args .rule .now)))
+
+-- the records are handed over from there on
+handed : (d : tie.After-from-record) →
+    let a = d .before .before .before .before .before .before .before .before .before .before .before .before .before .before .before .before .before .before .before .before .before .before .before .before .before .args in
+    d .from-record .result .now ≡ wanted-records (a .log .now) (a .point .now)
+handed d =
+    let a = d .before .before .before .before .before .before .before .before .before .before .before .before .before .before .before .before .before .before .before .before .before .before .before .before .before .args in
+    d .from-record .ensures ∙ ap (from-record (first-wanted (a .point .now))) (d .before .before .records .ensures)
+
 part-emit-end : tie.Need-part-emit-end
-part-emit-end c = let e = fit (c .before .before .before .before .before .before .before .before .before .before) in omega arith
+part-emit-end c = let e = fit (c .before .before .before .before .before .before .before .before .before .before .before .before .before .before) in omega arith
 
 emit-requires : tie.Need-emit-requires
 emit-requires c κs =
-    let a = c .before .before .before .before .before .before .before .before .before .before .before .before .before .before .before .before .before .before .before .before .before .before .before .before .args in
-    let s = c .before .before .before .before .before .before .before .before .before .before .before .before in
-    let ends = c .before .before .before .before .before .before .ends-of in
-    rw (c .before .before .before .before .most-of .ensures, c .before .before .before .header-words .ensures)
+    let a = c .before .before .before .before .before .before .before .before .before .before .before .before .before .before .before .before .before .before .before .before .before .before .before .before .before .before .before .before .args in
+    let s = c .before .before .before .before .before .before .before .before .before .before .before .before .before .before .before .before in
+    let ends = c .before .before .before .before .before .before .before .before .before .before .ends-of in
+    let depth = c .before .before .before .before .before .before .depth in
+    let records = c .before .before .before in
+    rw (c .before .before .before .before .before .before .before .before .most-of .ensures, c .before .before .before .before .before .before .before .header-words .ensures)
     (ready-of (a .closing) (a .rule .now) (a .log .now) (a .point .now) _ _ _ (ends .result) (s .sized .given .0 .0) (words-of s) (version-for s) (decoded-for s)
-    (ends .ensures) (none-of (c .before .before .before .before .before .before .before)))
+    (ends .ensures) (none-of (c .before .before .before .before .before .before .before .before .before .before .before)) (depth .result) (depth .ensures) (records .from-record .result .now) (handed records))
 
 returns-3 : tie.Need-returns-3
 returns-3 c =
-    let a = c .before .before .before .before .before .before .before .before .before .before .before .before .before .before .before .before .before .before .before .before .before .before .before .before .before .before .before .before .before .args in
-    let s = c .before .before .before .before .before .before .before .before .before .before .before .before .before .before .before .before .before in
-    let ends = c .before .before .before .before .before .before .before .before .before .before .before .ends-of in
-    let records = c .before .before .before .before .before .before .before .records in
+    let a = c .before .before .before .before .before .before .before .before .before .before .before .before .before .before .before .before .before .before .before .before .before .before .before .before .before .before .before .before .before .before .before .before .before .args in
+    let s = c .before .before .before .before .before .before .before .before .before .before .before .before .before .before .before .before .before .before .before .before .before in
+    let ends = c .before .before .before .before .before .before .before .before .before .before .before .before .before .before .before .ends-of in
+    let records = c .before .before .before .before .before .before .before .before in
+    let depth = c .before .before .before .before .before .before .before .before .before .before .before .depth in
+    let skips = c .before .before .before .before .before .before .before .skips in
     let y = c .before .before .before .before .emit in
     resume-given
     (a .closing)
@@ -137,14 +168,18 @@ returns-3 c =
     (version-for s)
     (decoded-for s)
     (ends .ensures)
-    (none-of (c .before .before .before .before .before .before .before .before .before .before .before .before))
+    (none-of (c .before .before .before .before .before .before .before .before .before .before .before .before .before .before .before .before))
+    (depth .result)
+    (depth .ensures)
     (a .sheet .now)
-    (records .result .now)
+    (records .from-record .result .now)
+    (skips .result)
     (y .result)
-    (y .last .1 .1 .1 .1 .1 .1 .1 .1 .0)
-    (y .last .1 .1 .1 .1 .1 .1 .1 .1 .1 .0)
-    (records .ensures)
-    (rw (c .before .before .before .before .before .before .before .before .before .most-of .ensures, c .before .before .before .before .before .before .before .before .header-words .ensures) at (y .ensures))
+    (y .last .1 .1 .1 .1 .1 .1 .1 .1 .1 .1 .0)
+    (y .last .1 .1 .1 .1 .1 .1 .1 .1 .1 .1 .1 .0)
+    (handed records)
+    (skips .ensures)
+    (rw (c .before .before .before .before .before .before .before .before .before .before .before .before .before .most-of .ensures, c .before .before .before .before .before .before .before .before .before .before .before .before .header-words .ensures) at (y .ensures))
 
 pub resume-or-close-spec : {M : Type 1} → statement M
 resume-or-close-spec =
@@ -168,6 +203,10 @@ resume-or-close-spec =
     returns-2
     ends-of-requires
     (λ c κs. search needs)
+    (λ c κs. search needs)
+    depth-requires
+    (λ c κs. search needs)
+    slice-read-from-record
     (λ c κs. search needs)
     (λ c κs. search needs)
     (λ c. search needs)

@@ -5,13 +5,12 @@ use mathlib.Core.Path.{_≡_, sym, _∙_}
 use native.Mathlib.Omega.{arith}
 use lib.ListN.{length}
 use Rattle.rule.specs.Entries.{version}
-use Rattle.rule.proofs.Headers.{Decoded, few-to-decode}
+use Rattle.rule.proofs.Headers.{few-to-decode}
 use Rattle.rule.proofs.Spans.{header-least}
 use Rattle.checkpoint.specs.Code.{checked-by}
 use Rattle.checkpoint.specs.Refusal.{summary-refusal}
-use Rattle.checkpoint.proofs.Sizes.{is-decoded, is-version}
 use Rattle.checkpoint.proofs.Checks.{fails-with, passed}
-use Rattle.checkpoint.proofs.Checks.{covers, own-is, is-accepted, has-room}
+use Rattle.checkpoint.proofs.Checks.{covers, own-is, has-room}
 use Rattle.monitor.proofs.Summarizing.{status-refused, status-told}
 use Rattle.monitor.proofs.status.Statement.{statement}
 use Rattle.monitor.proofs.status.Tie as tie
@@ -33,21 +32,7 @@ fine : (d : tie.After-enum-told) →
     summary-refusal (a .rule .now) (a .point .now) ≡ 0
 fine d = passed _ (sym (d .enum-told .given .1) ∙ checked-for (d .before .before))
 
--- the version is the rule's, and so are the entries
-version-for : (d : tie.After-enum-told) → d .before .before .before .before .before .before .version .result ≡ version (d .before .before .before .before .before .before .before .before .before .before .args .rule .now)
-version-for d =
-    let a = d .before .before .before .before .before .before .before .before .before .before .args in
-    is-version _ _ _ (d .before .before .before .before .before .before .before .check-header .ensures) (d .before .before .before .before .before .before .version .ensures)
-    (is-accepted (a .rule .now) (a .point .now) (fine d))
-
-decoded-for : (d : tie.After-enum-told) →
-    Decoded (d .before .before .before .before .before .before .before .before .before .before .args .rule .now) (d .before .before .before .before .decode .result) (d .before .before .before .before .before .count .result)
-decoded-for d =
-    let a = d .before .before .before .before .before .before .before .before .before .before .args in
-    is-decoded (a .rule .now) _ _ _ (d .before .before .before .before .before .before .before .check-header .ensures) (d .before .before .before .before .before .count .ensures)
-    (d .before .before .before .before .decode .ensures) (is-accepted (a .rule .now) (a .point .now) (fine d))
-
--- and the words that the rule needs are lent
+-- the words that the rule needs are lent
 room : (d : tie.After-enum-told) → 16 ≤ length (d .before .before .before .before .before .before .before .before .before .before .args .point .now)
 room d =
     let a = d .before .before .before .before .before .before .before .before .before .before .args in
@@ -73,20 +58,11 @@ returns c =
     status-refused (a .rule .now) (a .point .now) (c .number .result)
     (fails-with _ (d .check-own .result) (n .0 .0) (c .number .result) (checked-for d) (n .1) (c .number .ensures))
 
-first-wanted-requires : tie.Need-first-wanted-requires
-first-wanted-requires c κs =
-    omega (
-      arith,
-      c .before .before .before .before .before .before .before .count .ensures,
-      few-to-decode _ _ (c .before .before .before .before .before .before .before .before .before .check-header .ensures),
-    )
-
 returns-2 : tie.Need-returns-2
 returns-2 c =
     let a = c .before .before .before .before .before .before .before .before .before .before .before .before .before .before .args in
     let told = c .before .before .before .before in
-    let first = c .before .first-wanted in
-    status-told (a .rule .now) (a .point .now) (fine told) _ (version-for told) _ _ (decoded-for told) (first .result) (first .ensures)
+    status-told (a .rule .now) (a .point .now) (fine told)
 
 pub status-spec : {M : Type 1} → statement M
 status-spec =
@@ -104,6 +80,6 @@ status-spec =
     returns
     (λ c. omega (arith, room (c .before)))
     (λ c. omega (arith, room (c .before .before)))
-    first-wanted-requires
+    (λ c. omega (arith, room (c .before .before .before)))
     (λ c. omega (arith, room (c .before .before .before .before)))
     returns-2)

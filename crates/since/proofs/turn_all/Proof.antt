@@ -4,17 +4,17 @@ use native.Mathlib.Omega.{arith}
 use mathlib.Core.Path.{_≡_, refl, _∙_}
 use lib.ListN.{length}
 use borrow.Author.Needs.{needs}
-use Rattle.trace.specs.Format.{times-from}
+use Rattle.trace.specs.Format.{time-at}
 use Rattle.since.proofs.Turn.{Turning, turning-none, turning-next}
 use Rattle.since.proofs.turn_all.Statement.{statement}
 use Rattle.since.proofs.turn_all.Tie as tie
 
 abbrev Inv-loop : tie.InvT-loop
-Inv-loop low high records from n left right block₀ cells answers₀ i₀ block answers i =
-    (i ≤ n) × (length block ≡ length block₀) × Turning low high (times-from records from) left right block₀ i answers block
+Inv-loop low high window n left right block₀ cells answers₀ i₀ block answers i =
+    (i ≤ n) × (length block ≡ length block₀) × Turning low high (time-at window) left right block₀ i answers block
 
 abbrev μ-loop : tie.MeasureT-loop
-μ-loop low high records from n left right block₀ cells answers₀ i₀ block answers i = n - i
+μ-loop low high window n left right block₀ cells answers₀ i₀ block answers i = n - i
 
 cells-for-requires : tie.Need-cells-for-requires Inv-loop μ-loop
 cells-for-requires c κs = search needs
@@ -22,10 +22,7 @@ cells-for-requires c κs = search needs
 loop-holds : tie.Need-loop-holds Inv-loop μ-loop
 loop-holds c =
     let a = c .before .before .before .args in
-    (omega arith, refl, turning-none (a .low) (a .high) (times-from (a .records .now) (a .from)) (a .left) (a .right) (a .block .now))
-
-add-time : tie.Need-add-time Inv-loop μ-loop
-add-time c = search needs
+    (omega arith, refl, turning-none (a .low) (a .high) (time-at (a .window .now)) (a .left) (a .right) (a .block .now))
 
 time-requires : tie.Need-time-requires Inv-loop μ-loop
 time-requires c κs = search needs
@@ -58,7 +55,7 @@ loop-again c =
       omega arith,
       turn .kept .1 .1 .1 .1 .1 .1 .0 ∙ l .inv .1,
       rw (c .push .ensures .0)
-          (turning-next (a .low) (a .high) (times-from (a .records .now) (a .from)) (a .left) (a .right) (a .block .now) (l .i) (l .answers) (l .block) (l .inv .2) (omega arith)
+          (turning-next (a .low) (a .high) (time-at (a .window .now)) (a .left) (a .right) (a .block .now) (l .i) (l .answers) (l .block) (l .inv .2) (omega arith)
           (c .before .before .before .before .before .before .before .before .before .before .cells-for .result)
           (c .before .before .before .before .before .before .before .before .before .before .cells-for .ensures .0)
           (c .before .before .before .before .before .before .before .time .result)
@@ -81,8 +78,7 @@ returns c =
     let a = c .before .before .before .before .before .args in
     let l = c .before .loop in
     let e : l .i ≡ a .n = omega arith in
-    let t = rw e at (l .inv .2) in
-    (t .rings, t .packed)
+    (rw e at (l .inv .2)) .turns
 
 pub turn-all-spec : {M : Type 1} → statement M
 turn-all-spec =
@@ -92,7 +88,6 @@ turn-all-spec =
     μ-loop
     cells-for-requires
     loop-holds
-    add-time
     time-requires
     test-requires
     test-requires-2

@@ -1,13 +1,24 @@
 -- `until::step_until` meets its contract, by the laws of UntilSteps: an operand wanted; positions taken; positions answered.
 -- Assumes nothing.
+use Prim.Native.Nat.{_≤_, _<_}
 use native.Mathlib.Omega.{arith}
+use mathlib.Core.Logic.{⊎-elim}
+use mathlib.Core.Path.{_≡_, refl}
+use lib.ListN.{length}
 use borrow.Author.Needs.{needs}
-use Rattle.blocks.proofs.Words.{available}
+use Rattle.trace.specs.View.{total}
+use Rattle.blocks.specs.Block.{taken, answered}
 use Rattle.until.proofs.UntilSteps.{
+  Opens,
   Went,
-  none-done,
-  some-done,
+  stands-outside,
+  stands-inside,
+  walk-fits,
+  ahead-holds,
+  starts-holds,
   put-back-fits,
+  ahead-windowed,
+  starts-windowed,
   walked-onward,
   wanted-ends,
   took-ends,
@@ -18,57 +29,119 @@ use Rattle.until.proofs.UntilSteps.{
 use Rattle.until.proofs.step_until.Statement.{statement}
 use Rattle.until.proofs.step_until.Tie as tie
 
--- what is known after the walk
-went : (c : tie.After-walk) →
-    let a = c .before .before .before .before .before .before .before .before .before .before .before .before .before .before .before .before .args in
-    Went (a .low) (a .high) (a .records .now) (a .closed) (a .block .now) (c .before .before .before .before .before .before .before .available .result) (c .walk .result)
-went c =
-    let k = c .before .before .before .before .before .before .before in
+-- what is known after the windows were opened
+opened : (c : tie.After-open2) →
+    let a = c .before .before .before .before .before .before .before .before .before .before .before .before .before .before .args in
+    Opens (a .view .now) (a .records .now) (a .block .now) (c .before .before .before .before .before .before .room-of .result) (c .before .before .«open» .result) (c .before .before .«open» .last .1 .1 .1 .1 .0) (c .open2 .result)
+    (c .open2 .last .1 .1 .1 .1 .0)
+opened c =
+    let k = c .before .before .before .before .before .before in
+    let a = k .before .before .before .before .before .before .before .before in
     record {
-      room = c .before .before .before .before .before .before .before .before .before .before .before .before .before .before .before .before .pre;
-      byte = λ i. c .before .before .before .before .before .before .before .before .before .before .before .before .before .before .before .shared-slice-known .given i .fits;
-      some = available _ _ _ _ (rw (k .before .smaller .ensures, k .before .before .before .before .before .count .ensures) at (k .available .ensures));
-      within = c .walk .ensures .0;
-      waiting = c .walk .ensures .1 .0;
-      walks = c .walk .ensures .1 .1;
+      room = a .pre .0;
+      byte = λ i. k .before .before .before .before .before .before .before .shared-slice-known .given i .fits;
+      behind = stands-inside _ _ _ (k .before .before .if1 .left) .0;
+      fits = k .room-of .ensures;
+      next = c .before .before .«open» .ensures;
+      start = c .open2 .ensures;
     }
+
+-- what is known after the walk
+went : (c : tie.After-walk-windows) →
+    let o = c .before .before .before .before .before .before .before .before in
+    let a = o .before .before .before .before .before .before .before .before .before .before .before .before .before .before .args in
+    Went (a .low) (a .high) (c .before .before .before .before .before .before .smaller .result) (a .view .now) (a .records .now) (a .block .now) (o .before .before .before .before .before .before .room-of .result) (o .before .before .«open» .result)
+    (o .before .before .«open» .last .1 .1 .1 .1 .0)
+    (o .open2 .result)
+    (o .open2 .last .1 .1 .1 .1 .0)
+    (c .walk-windows .result)
+went c =
+    record {
+      opens = opened (c .before .before .before .before .before .before .before .before);
+      clamp = c .before .before .before .before .before .before .smaller .ensures;
+      walk = c .walk-windows .ensures;
+    }
+
+-- the copies keep their lengths
+copies : (c : tie.After-open2) → (length (c .before .before .«open» .last .1 .1 .1 .1 .0) ≡ 520) × (length (c .open2 .last .1 .1 .1 .1 .0) ≡ 520)
+copies c = let o = opened c in (o .next .room, o .start .room)
+
+returns-outside : tie.Need-returns
+returns-outside c =
+    let begin = c .before .before .before .before .before .before in
+    let a = begin .args in
+    let outside = stands-outside (total (a .view .now)) (taken (a .block .now)) (answered (a .block .now)) (c .if1 .taken) in (
+      refl,
+      (
+        λ φ ψ L g falls agrees ready.
+            let size = agrees .size in
+            let at = ready .core .range .at in
+            let i = ready .core .own .0 in
+            let ahead = ready .core .own .1 .ahead in
+            absurd (⊎-elim (λ h. omega arith) (λ h. omega arith) outside),
+        (begin .pre .1, begin .pre .2),
+      ),
+    )
+
+room-of-requires : tie.Need-room-of-requires
+room-of-requires c κs =
+    let room = c .before .before .before .before .before .before .before .pre .0 in
+    let longer : 16 ≤ length (c .before .before .before .before .before .before .before .args .block .now) = omega arith in
+    let inside = stands-inside _ _ _ (c .before .if1 .left) in
+    (longer, inside .0, inside .1)
+
+walk-requires : tie.Need-walk-windows-requires
+walk-requires c κs = let o = opened (c .before .before .before .before .before .before .before) in (walk-fits o, (ahead-holds o, starts-holds o))
 
 returns-wanted : tie.Need-returns-2
 returns-wanted c =
-    let k = c .before .before .before .before .before in
-    let a = k .before .before .before .before .before .before .before .before .before .before .before .before .before .before .before .before .args in
-    let t = c .wanted in
-    let e = none-done (k .walk .result .count) (k .walk .result .took) (c .before .before .if2 .taken) in (
-      wanted-ends (a .records .now) (a .block .now) (t .result) (t .ensures),
-      λ φ ψ L g falls agrees ready. wants (went k) φ ψ L g falls agrees ready (e .0) (e .1) (t .result) (t .ensures),
+    let k = c .before .before .before .before .before .before in
+    let a = k .before .before .before .before .before .before .before .before .before .before .before .before .before .before .before .before .before .before .before .before .before .before .args in
+    let t = c .wanted in (
+      wanted-ends (a .view .now) (a .block .now) (t .result) (t .ensures),
+      (
+        λ φ ψ L g falls agrees ready.
+            wants (went k) φ ψ L g falls agrees ready (c .before .before .before .before .if2 .taken) (c .before .before .if3 .taken) (t .result) (t .ensures),
+        copies (k .before .before .before .before .before .before .before .before),
+      ),
     )
 
+pass-ahead : tie.Need-pass-requires
+pass-ahead c κs = (c .before .before .before .before .before .before .before .before .before .before .before .before .before .before .before .before .before .before .before .before .before .before .before .before .before .pre .3, ahead-windowed (went (c .before .before .before)))
+
+pass-starts : tie.Need-pass-requires-2
+pass-starts c κs = (c .before .before .before .before .before .before .before .before .before .before .before .before .before .before .before .before .before .before .before .before .before .before .before .before .before .before .pre .3, starts-windowed (went (c .before .before .before .before)))
+
 put-back-requires : tie.Need-put-back-requires
-put-back-requires c κs =
-    let k = c .before .before .before .before in
-    let l = k .before .before .before .before .before .before .before .before .before .before .before in
-    let a = l .before .before .before .before .before in
-    put-back-fits (went k)
-    (rw (l .before .count .ensures) at (l .if1 .left))
-    (omega arith)
-    (k .before .slice-known10 .given 5 .fits)
+put-back-requires c κs = put-back-fits (went (c .before .before .before .before .before))
 
 returns-took : tie.Need-returns-3
 returns-took c =
     let p = c .before .before .before .before in
-    let k = p .before .before .before .before .before in
+    let k = p .before .before .before .before .before .before in
+    let none = c .if4 .taken in
+    let some : 0 < k .walk-windows .result .took =
+    ⊎-elim (λ t. let l = t .2 .left in omega arith) (λ t. let l = t .left in absurd (omega arith)) (p .before .before .before .before .if2 .came) in
     rw (p .put-back .ensures) (
-      took-ends (went k) (some-done (k .walk .result .count) (k .walk .result .took) (p .before .before .if2 .left) (c .if3 .taken)),
-      λ φ ψ L g falls agrees ready. takes-some (went k) φ ψ L g falls agrees ready (c .if3 .taken),
+      took-ends (went k) (p .before .before .pass .ensures) (p .before .pass2 .ensures) some,
+      (
+        λ φ ψ L g falls agrees ready.
+            takes-some (went k) φ ψ L g falls agrees ready (p .before .before .pass .ensures) (p .before .pass2 .ensures) none,
+        copies (k .before .before .before .before .before .before .before .before),
+      ),
     )
 
 returns-answers : tie.Need-returns-4
 returns-answers c =
     let p = c .before .before .before .before in
-    let k = p .before .before .before .before .before in
+    let k = p .before .before .before .before .before .before in
     rw (p .put-back .ensures) (
-      walked-onward (went k),
-      λ φ ψ L g falls agrees ready. answers-some (went k) φ ψ L g falls agrees ready (omega arith),
+      walked-onward (went k) (p .before .before .pass .ensures) (p .before .pass2 .ensures),
+      (
+        λ φ ψ L g falls agrees ready.
+            answers-some (went k) φ ψ L g falls agrees ready (p .before .before .pass .ensures) (p .before .pass2 .ensures) (omega arith),
+        copies (k .before .before .before .before .before .before .before .before),
+      ),
     )
 
 pub step-until-spec : {M : Type 1} → statement M
@@ -76,22 +149,22 @@ step-until-spec =
     tie.close
     (tie.spec
     (λ c. search needs)
-    (λ c κs. search needs)
     (λ c. search needs)
     (λ c. search needs)
-    (λ c. search needs)
-    (λ c κs. search needs)
-    (λ c κs. search needs)
-    (λ c. search needs)
-    (λ c. search needs)
-    (λ c. search needs)
-    (λ c. search needs)
+    returns-outside
+    room-of-requires
     (λ c. search needs)
     (λ c. search needs)
     (λ c κs. search needs)
     (λ c κs. search needs)
+    (λ c. search needs)
+    (λ c κs. search needs)
+    walk-requires
+    (λ c κs. walk-fits (went (c .before .before .before .before .before) .opens) .0)
     (λ c. search needs)
     returns-wanted
+    pass-ahead
+    pass-starts
     put-back-requires
     (λ c. search needs)
     returns-took

@@ -1,25 +1,27 @@
--- `until::walk` meets its contract. The loop's invariant is its promise, by the laws of UntilSteps. Assumes nothing.
+-- `until::walk` meets its contract. The loop's invariant is its promise, by the laws of UntilWalk. Assumes nothing.
 use Prim.Native.Nat.{_+_, _-_}
 use native.Mathlib.Omega.{arith}
-use mathlib.Core.Path.{sym, _∙_}
+use mathlib.Core.Path.{_≡_, sym, _∙_}
 use borrow.Author.Needs.{needs}
-use Rattle.trace.proofs.Laws.{time-bound}
-use Rattle.until.specs.Settle.{Limits, Walks, plain}
-use Rattle.until.proofs.UntilSteps.{known-behind, walks-known, walks-unknown}
+use borrow.Author.Tests.{lt-ltb}
+use Rattle.trace.specs.Format.{time-at}
+use Rattle.until.specs.Settle.{Limits, Walks, next-of}
+use Rattle.until.proofs.UntilWalk.{known-behind, walks-known, walks-unknown}
 use Rattle.until.proofs.walk.Statement.{statement}
 use Rattle.until.proofs.walk.Tie as tie
 
 abbrev Inv-loop : tie.InvT-loop
-Inv-loop low high records closed g at n left right last₀ bits₀ count₀ took₀ last bits count took =
-    Limits g at n bits count took last₀ last × Walks low high (plain records) closed g at n left right last₀ bits count took last
+Inv-loop low high starts ahead lead n after left right last₀ bits₀ count₀ took₀ last bits count took =
+    Limits lead n bits count took last₀ last ×
+    Walks low high (time-at starts) (next-of (time-at ahead) n after) lead n left right last₀ bits count took last
 
 abbrev μ-loop : tie.MeasureT-loop
-μ-loop low high records closed g at n left right last₀ bits₀ count₀ took₀ last bits count took = (n - took) + (64 - count)
+μ-loop low high starts ahead lead n after left right last₀ bits₀ count₀ took₀ last bits count took = (n - took) + (64 - count)
 
 loop-holds : tie.Need-loop-holds Inv-loop μ-loop
 loop-holds c = (
   record { few = omega arith; small = omega arith; most = omega arith; behind = omega arith; bound = λ h. h },
-  λ φ ψ L falls agrees left right start. start,
+  λ high φ ψ L g at clamp behind falls reads left right begun. begun,
 )
 
 loop-again : tie.Need-loop-again Inv-loop μ-loop
@@ -27,10 +29,12 @@ loop-again c =
     let k = c .before .before in
     let q = k .before .before in
     let l = q .before .before .loop in
-    let a = q .before .before .before .before .args in
+    let a = q .before .before .before .before .before .args in
     let w = l .inv .0 in
+    let start = time-at (a .starts .now) in
+    let next = next-of (time-at (a .ahead .now)) (a .n) (a .after) in
     let e = sym (q .look .ensures) ∙ k .holds .given .1 in
-    let some = known-behind (a .low) (a .high) (plain (a .records .now)) (a .closed) (a .g + l .count) (a .at + l .took) (l .last) (k .holds .given .0 .0) e in (
+    let some = known-behind (a .low) (a .high) start next (a .lead) (l .count) (l .took) (l .last) (k .holds .given .0 .0) e in (
       record {
         few = omega arith;
         small = c .push .ensures .1;
@@ -39,15 +43,11 @@ loop-again c =
         bound = w .bound;
       },
       rw (c .push .ensures .0)
-          (walks-known (a .low) (a .high) (plain (a .records .now)) (time-bound (a .records .now) (λ i. q .before .before .before .shared-slice-known .given i .fits)) (a .closed) (a .g) (a .at) (a .n) (a .left) (a .right) (a .from)
-          (l .bits)
-          (l .count)
-          (l .took)
-          (l .last)
+          (walks-known (a .low) (a .high) start next (a .lead) (a .n) (a .left) (a .right) (a .from) (l .bits) (l .count) (l .took) (l .last)
+          (omega arith)
           (w .most)
           (k .holds .given .0 .0)
           e
-          (omega arith)
           (w .small)
           (l .inv .1)),
     )
@@ -57,16 +57,16 @@ loop-again-2 c =
     let k = c .before .before in
     let q = k .before .before in
     let l = q .before .before .loop in
-    let a = q .before .before .before .before .args in
+    let a = q .before .before .before .before .before .args in
     let w = l .inv .0 in
-    let t = c .take .ensures in (
+    let start = time-at (a .starts .now) in
+    let next = next-of (time-at (a .ahead .now)) (a .n) (a .after) in
+    let t = c .take .ensures in
+    let here : next (l .took) ≡ time-at (a .ahead .now) (l .took) = simp (lt-ltb (l .took) (a .n) (omega arith)) in (
       record { few = w .few; small = w .small; most = omega arith; behind = omega arith; bound = λ h. t .1 },
-      rw (t .0)
-          (walks-unknown (a .low) (a .high) (plain (a .records .now)) (time-bound (a .records .now) (λ i. q .before .before .before .shared-slice-known .given i .fits)) (a .closed) (a .g) (a .at) (a .n) (a .left) (a .right) (a .from)
-          (l .bits)
-          (l .count)
-          (l .took)
-          (l .last)
+      rw (t .0, ← here)
+          (walks-unknown (a .low) (a .high) start next (a .lead) (a .n) (a .left) (a .right) (a .from) (l .bits) (l .count) (l .took) (l .last)
+          (omega arith)
           (w .most)
           (sym (q .look .ensures) ∙ k .enum-told .given .1)
           (omega arith)
@@ -74,14 +74,18 @@ loop-again-2 c =
     )
 
 returns-full : tie.Need-returns Inv-loop μ-loop
-returns-full c = let l = c .before .loop in (l .inv .0, (λ h. absurd (omega arith), l .inv .1))
+returns-full c = let l = c .before .loop in record { limits = l .inv .0; waiting = λ h. absurd (omega arith); walks = l .inv .1 }
 
 returns-waiting : tie.Need-returns-2 Inv-loop μ-loop
 returns-waiting c =
     let k = c .before in
     let q = k .before .before in
     let l = q .before .before .loop in
-    (l .inv .0, (λ h. record { all = c .if1 .taken; unknown = sym (q .look .ensures) ∙ k .enum-told .given .1 }, l .inv .1))
+    record {
+      limits = l .inv .0;
+      waiting = λ h. record { all = c .if1 .taken; unknown = sym (q .look .ensures) ∙ k .enum-told .given .1 };
+      walks = l .inv .1;
+    }
 
 pub walk-spec : {M : Type 1} → statement M
 walk-spec =
@@ -90,9 +94,7 @@ walk-spec =
     Inv-loop
     μ-loop
     loop-holds
-    (λ c. search needs)
-    (λ c. search needs)
-    (λ c κs. search needs)
+    (λ c κs. (omega arith, omega arith, λ h. omega arith))
     (λ c. search needs)
     (λ c κs. search needs)
     (λ c. search needs)

@@ -1,7 +1,7 @@
 //! Nothing is lost, whatever happens: weeks of one card on a simulated disk, cut at every single operation.
 //!
 //! Each evening the log has grown, and the records that the evening before has released are overwritten: exactly these.
-//! In the end the sheet is that of the plain evaluator on the untouched log.
+//! In the end the sheet is that of the plain evaluator on the untouched log. Some weeks have service records.
 
 mod disk;
 
@@ -25,6 +25,8 @@ struct Day {
 struct Week {
     rule: Vec<u8>,
     untouched: Vec<Record>,
+    /// The log's version.
+    version: u16,
     days: Vec<Day>,
 }
 
@@ -32,20 +34,25 @@ impl Week {
     fn new(r: &mut Random) -> Week {
         let (rule_shape, log_shape) = random::shapes(r, 8, 30);
         let rule = random::rule(r, rule_shape);
-        let untouched = random::log(r, log_shape);
+        let (version, untouched) = random::any_log(r, log_shape);
         let mut ends: Vec<usize> = (0..r.from_to(1, 6)).map(|_| r.from_to(0, untouched.len())).collect();
         ends.sort();
         let last = ends[ends.len() - 1];
         let mut days: Vec<Day> = ends.into_iter().map(|records| Day { records, closing: false }).collect();
         days.extend((0..r.below(3)).map(|_| Day { records: last, closing: true }));
-        Week { rule, untouched, days }
+        Week { rule, untouched, version, days }
+    }
+
+    /// The positions of this day's log.
+    fn positions(&self, day: Day) -> Vec<Record> {
+        log::positions(self.version, &self.untouched[..day.records])
     }
 
     /// The sheet after this day.
     fn sheet_of(&self, day: Day) -> Vec<u8> {
         let rule = rule::parse(&self.rule).unwrap();
         let verdicts = if day.closing { reading::closed_verdicts } else { reading::verdicts };
-        verdicts(&rule, &self.untouched[..day.records])
+        verdicts(&rule, &self.positions(day))
     }
 
     /// The sheet in the end.
@@ -65,7 +72,7 @@ struct Run<'a> {
 
 impl<'a> Run<'a> {
     fn new(week: &'a Week, seed: u64) -> Run<'a> {
-        let file = log::encode(&week.untouched);
+        let file = log::encode_as(week.version, &week.untouched);
         Run { week, disk: Simulated::new(seed), file, r: Random::new(!seed) }
     }
 
@@ -80,7 +87,7 @@ impl<'a> Run<'a> {
 
     /// The command has ended well: what it released is overwritten.
     fn overwrite(&mut self, evening: &Evening) {
-        let released = &mut self.file[8..8 + 8 * evening.status.wanted as usize];
+        let released = &mut self.file[8..8 + 8 * evening.so_far.status.wanted as usize];
         self.r.fill(released);
     }
 
@@ -94,6 +101,7 @@ impl<'a> Run<'a> {
 
     fn evening_again(&mut self, day: Day) {
         let evening = self.evening(day).unwrap_or_else(|fault| panic!("{fault}: {:?}", self.week));
+        assert_eq!(evening.so_far.services, (day.records - self.week.positions(day).len()) as u64, "{:?}", self.week);
         self.overwrite(&evening);
     }
 

@@ -26,6 +26,29 @@ fn logs_as_text() {
 }
 
 #[test]
+fn logs_of_version_2_as_text() {
+    let place = Place::new();
+    let text = "version 2\n10 e0\n11 service\n11 e1 service\n12 none\n";
+    fs::write(place.path("day.txt"), text).unwrap();
+    assert_eq!(place.ok(&["to-log", "day.txt", "day.klg"]), "day.klg: 4 records, 2 of them service\n");
+    assert_eq!(place.ok(&["to-text", "day.klg"]), text);
+    fs::write(place.path("none.txt"), "version 2\n10 e0\n").unwrap();
+    assert_eq!(place.ok(&["to-log", "none.txt", "none.klg"]), "none.klg: 1 records\n");
+    assert_eq!(place.ok(&["to-text", "none.klg"]), "version 2\n10 e0\n");
+    // the same records as version 1: letter 31 is a letter
+    let mut bytes = fs::read(place.path("day.klg")).unwrap();
+    bytes[4] = 1;
+    fs::write(place.path("first.klg"), bytes).unwrap();
+    assert_eq!(place.ok(&["to-text", "first.klg"]), "10 e0\n11 e31\n11 e1 e31\n12 none\n");
+    fs::write(place.path("bad.txt"), "10 e0\n11 service\n").unwrap();
+    let said = place.fails(1, &["to-log", "bad.txt", "bad.klg"]);
+    assert_eq!(said, "bad.txt, line 2: `service` needs the line `version 2` before the first record\n");
+    assert!(!place.path("bad.klg").exists());
+    fs::write(place.path("third.klg"), b"KLG\x00\x03\x00\x00\x00").unwrap();
+    assert_eq!(place.fails(1, &["to-text", "third.klg"]), format!("third.klg: {}\n", Refusal::LogFormat));
+}
+
+#[test]
 fn rules_as_formulas() {
     let place = Place::new();
     assert_eq!(place.ok(&["rule", "e0 until[0,2] e1", "typed.krl"]), "typed.krl: 3 entries\n");

@@ -37,6 +37,11 @@ fn logs_that_are_refused() {
     let mut other = whole.clone();
     other[8 + 8 * 13..].fill(0);
     evening(&other, Refusal::TimeFalls, "Is this the log of another kiosk? ");
+    // a log of the other version
+    let mut second = whole.clone();
+    second[4] = 2;
+    let hint = "A card keeps to the version of its first log; a log of another version needs a card of its own. ";
+    evening(&second, Refusal::OtherVersion, hint);
     // no log
     evening(&whole[..whole.len() - 1], Refusal::LogFormat, "");
     evening(b"", Refusal::LogFormat, "");
@@ -151,7 +156,7 @@ fn damaged_cards() {
     damage("point", &|bytes| bytes.truncate(1_000), point);
     damage("point", &|bytes| bytes.extend([0; 8]), point);
     damage("point", &|bytes| bytes.clear(), "the file `point` is not that of a card");
-    damage("point", &|bytes| bytes[4] = 2, "the file `point` is of another version of this program");
+    damage("point", &|bytes| bytes[4] = 1, "the file `point` is of another version of this program");
     let digit = |bytes: &mut Vec<u8>| bytes[14] = if bytes[14] == b'0' { b'1' } else { b'0' };
     damage("card.txt", &digit, "the file `point` belongs to another card");
     let card = "the file `card.txt` is damaged: it does not hold the card's number";
@@ -174,6 +179,8 @@ fn damaged_cards() {
     damage("point", &saved(|saved| saved.words[2] = 0), &range);
     let fewer = |saved: &mut Saved| (saved.given, saved.sheet) = (4, checksum(&[1; 4]));
     damage("point", &saved(fewer), "the file `point` is damaged: it says 4 verdicts, its words 12");
+    let services = "the file `point` is damaged: it says 3 service records where 2 records have no verdict";
+    damage("point", &saved(|saved| saved.services = 3), services);
 }
 
 /// A point that was copied from another card with the same rule and the same log.

@@ -3,6 +3,7 @@
 mod convert;
 mod faults;
 mod killed;
+mod service;
 mod week;
 
 use std::collections::BTreeMap;

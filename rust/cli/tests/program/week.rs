@@ -41,11 +41,11 @@ fn split(line: &str) -> Vec<String> {
 fn the_weeks_of_the_readme() {
     let place = Place::new();
     fs::create_dir_all(place.path("examples/day")).unwrap();
-    for name in ["day.klg", "tuesday.klg"] {
+    for name in ["day.klg", "tuesday.klg", "visit.klg"] {
         fs::copy(example(name), place.path(&format!("examples/day/{name}"))).unwrap();
     }
     let shown = shown();
-    assert_eq!(shown.iter().map(Vec::len).collect::<Vec<_>>(), [6, 3]);
+    assert_eq!(shown.iter().map(Vec::len).collect::<Vec<_>>(), [6, 3, 3]);
     for (line, output) in shown.into_iter().flatten() {
         let words = split(&line);
         let words: Vec<&str> = words.iter().map(String::as_str).collect();
@@ -56,7 +56,7 @@ fn the_weeks_of_the_readme() {
 #[test]
 fn the_texts_of_the_examples_are_their_logs() {
     let place = Place::new();
-    for name in ["day", "tuesday"] {
+    for name in ["day", "tuesday", "visit"] {
         let text = example(&format!("{name}.txt"));
         place.ok(&["to-log", text.to_str().unwrap(), "made.klg"]);
         let log = fs::read(example(&format!("{name}.klg"))).unwrap();

@@ -8,6 +8,7 @@
 //! several ENTRY..      the same, of version 2   words W reach R, or refused N
 //! log HEX              the verdicts of a log    A and A digits, 1 for yes, 0 for no; or refused N (1 to 8, 12, 14)
 //! records RECORD..     the same, typed          as for log
+//! visited RECORD..     the same, of version 2   as for log: A positions, service records, those with letter 31, left out
 //! close                the last log, closed     as for log: N and N digits
 //! tally HEX            a sheet                  no N yes Y, or refused 15
 //! tally HEX FORMULAS   that of a version 2 rule the same, once for each formula
@@ -28,12 +29,9 @@
 //! digits for each of them: with `several e0 e1 until[0,2] e0 e1 until[0,2] not` the same records give `5 00011 11100`.
 
 use evaluator::log::{self, Record};
+use evaluator::model;
 use evaluator::rule::{self, Entry, NEXT, NO_END, PREVIOUS, SINCE, UNTIL};
-use evaluator::{linear, model, reading};
 use std::io::{self, BufRead, Write};
-
-/// Above this many records the linear evaluator stands in for the plain one.
-const PLAIN_RECORDS: usize = 400;
 
 fn unhex(digits: &str) -> Result<Vec<u8>, String> {
     let digits = if digits == "-" { "" } else { digits };
@@ -93,14 +91,8 @@ fn measured(rule: &[u8]) -> String {
 fn judged(closing: bool, rule: &[u8], log: &[u8]) -> String {
     match model::open(rule, 8192).and_then(|fresh| fresh.check(closing, rule, log, 8192)) {
         Err(n) => format!("refused {n}"),
-        Ok((rule, records)) => {
-            let evaluate = match (closing, records.len() <= PLAIN_RECORDS) {
-                (false, true) => reading::verdicts,
-                (false, false) => linear::verdicts,
-                (true, true) => reading::closed_verdicts,
-                (true, false) => linear::closed_verdicts,
-            };
-            let all = evaluate(&rule, &records);
+        Ok((rule, log)) => {
+            let all = model::verdicts(closing, &rule, &log::positions(log.version, &log.records));
             let digit = |byte: u8, k: usize| if byte >> k & 1 == 1 { '1' } else { '0' };
             let digits = |k: usize| all.iter().map(|&byte| digit(byte, k)).collect::<String>();
             let formulas: Vec<String> = (0..rule.formulas()).map(digits).collect();
@@ -128,6 +120,7 @@ fn answer(line: &str, rule: &mut Vec<u8>, log: &mut Vec<u8>) -> Result<String, S
         "several" => *rule = rule::encode_as(2, &words().map(entry).collect::<Result<Vec<_>, _>>()?),
         "log" => *log = unhex(rest.trim())?,
         "records" => *log = log::encode(&words().map(record).collect::<Result<Vec<_>, _>>()?),
+        "visited" => *log = log::encode_as(2, &words().map(record).collect::<Result<Vec<_>, _>>()?),
         "close" => return Ok(judged(true, rule, log)),
         "tally" => {
             let (sheet, formulas) = rest.split_once(' ').unwrap_or((rest, "1"));

@@ -14,9 +14,9 @@ fn fresh(rule: &[u8]) -> Vec<u64> {
 #[test]
 fn worked_cases() {
     for case in cases::all() {
-        let rule = case.rule;
+        let (log, rule) = (case.log(), case.rule);
         let mut sheet = [7; 100];
-        let got = resume(&rule, &log::encode(&case.records), &mut fresh(&rule), &mut sheet).unwrap();
+        let got = resume(&rule, &log, &mut fresh(&rule), &mut sheet).unwrap();
         let c = case.verdicts.len();
         assert_eq!(got, Resumed { verdicts: c, more: false }, "{}", case.name);
         assert_eq!(sheet[..c], case.verdicts, "{}", case.name);
@@ -31,9 +31,9 @@ fn worked_cases() {
 #[test]
 fn closed_cases() {
     for case in cases::closed() {
-        let rule = case.rule;
+        let (log, rule) = (case.log(), case.rule);
         let mut sheet = [7; 100];
-        let got = close(&rule, &log::encode(&case.records), &mut fresh(&rule), &mut sheet).unwrap();
+        let got = close(&rule, &log, &mut fresh(&rule), &mut sheet).unwrap();
         let c = case.verdicts.len();
         assert_eq!(got, Resumed { verdicts: c, more: false }, "{}", case.name);
         assert_eq!(sheet[..c], case.verdicts, "{}", case.name);
@@ -48,7 +48,7 @@ fn worked_lists() {
         for (at, call) in list.calls.iter().enumerate() {
             let mut sheet = vec![7; call.sheet];
             let function = if call.closing { close } else { resume };
-            let got = function(&rule, &log::encode(&call.log), &mut point, &mut sheet);
+            let got = function(&rule, &call.log, &mut point, &mut sheet);
             let got = got.map(|given| (sheet[..given.verdicts].to_vec(), given.more)).map_err(Refusal::number);
             assert_eq!(got, call.gives, "{}, call {at}", list.name);
             let c = got.map_or(0, |(verdicts, _)| verdicts.len());

@@ -3,13 +3,13 @@
 use crate::calls::{hex, side, Call, Checkpoint};
 use crate::lists::Kiosk;
 use crate::runner::{cases, Counts};
-use evaluator::log;
+use evaluator::log::{self, Log};
 use evaluator::model::Summary;
 use evaluator::random::{self, Random};
 use evaluator::rule::{self, Rule, MOST_FORMULAS, NO_END, SINCE, UNTIL};
 
 /// The number of the checkpoint's format.
-const FORMAT: u64 = 6;
+const FORMAT: u64 = 7;
 
 /// The first word of a checkpoint of this format.
 fn mark(format: u64) -> u64 {
@@ -22,6 +22,12 @@ const SEEN: usize = 2;
 const LAST: usize = 3;
 const RULE: usize = 4;
 const CLOSED: usize = 5;
+const VERSION: usize = 6;
+const WANTED: usize = 7;
+
+/// The word of a block, or of an until's, that holds a record.
+const HEAD: usize = 11;
+const WAITING_HEAD: usize = 16;
 
 /// The words of a checkpoint before its first block.
 fn header(rule: &Rule) -> usize {
@@ -73,19 +79,23 @@ fn refusal(rule: &Rule, words: &[u64]) -> Option<u32> {
         let (no, latest) = (words[no], words[latest]);
         no <= given && latest <= given && (no == 0) == (latest == 0)
     };
-    let block = |&(at, ring): &(usize, u64)| {
+    let block = |(&(at, ring), e): (&(usize, u64), &rule::Entry)| {
         let word = |k: usize| words[at + k];
         let taken = word(0) <= seen && word(1) <= 64 && word(3) <= 64 && word(5) <= seen;
         let last = word(6) <= 1 && word(7) <= 1 && word(8) < 1 << 32;
         let held = word(12) <= 64 && given + word(12) <= seen;
-        taken && last && word(9) <= ring && word(10) <= ring && held
+        let heads = word(HEAD) <= seen && (e.kind != UNTIL || word(WAITING_HEAD) <= seen);
+        taken && last && word(9) <= ring && word(10) <= ring && heads && held
     };
+    let fresh = seen == 0 && words[CLOSED] == 0;
     let in_range = given <= seen
         && seen <= 1_000_000
         && words[LAST] < 1 << 32
         && (words[CLOSED] == 0 || words[CLOSED] == seen + 1)
+        && (words[VERSION] == 1 || words[VERSION] == 2 || (words[VERSION] == 0 && fresh))
+        && words[WANTED] <= seen
         && counts(rule).iter().all(counted)
-        && blocks.iter().all(block);
+        && blocks.iter().zip(&rule.entries).all(block);
     (!in_range).then_some(11)
 }
 
@@ -162,7 +172,7 @@ fn forged_points() {
             let expected = refusal(&rule::parse(&kiosk.rule).unwrap(), &words);
             let early = Some(number).filter(|n| [10, 11].contains(n));
             assert_eq!([early, summary.err(), status.err()], [expected; 3], "{}point {words:?}", kiosk.story);
-            let possible = [0, 10, 11, 13, 14, if closing { 21 } else { 20 }].contains(&number);
+            let possible = [0, 10, 11, 13, 14, 22, if closing { 21 } else { 20 }].contains(&number);
             assert!(possible, "refused {number}\n{}point {words:?}\nlog {}", kiosk.story, hex(&log));
         }
     };
@@ -232,6 +242,42 @@ fn forged_versions_and_held_answers() {
     cases("forged_versions_and_held_answers", 10_000, body, |counted| names.iter().all(|name| counted.get(name) > 0));
 }
 
+/// The word of the log's version, that of the first wanted record, and the words of the reading heads.
+#[test]
+fn forged_records() {
+    let body = |r: &mut Random, counted: &mut Counts| {
+        let (mut kiosk, n) = used(r);
+        let rule = rule::parse(&kiosk.rule).unwrap();
+        let mut words = kiosk.point.words().to_vec();
+        let seen = words[SEEN];
+        let mut heads = vec![WANTED];
+        for (&(at, _), e) in blocks(&rule).iter().zip(&rule.entries) {
+            heads.push(at + HEAD);
+            heads.extend((e.kind == UNTIL).then_some(at + WAITING_HEAD));
+        }
+        if r.one_in(4) {
+            words[VERSION] = r.pick(&[0, 1, 2, 3, 1 << 32 | 1, u64::MAX]);
+        } else {
+            for _ in 0..r.from_to(1, heads.len()) {
+                let near = [0, 1, seen.saturating_sub(1), seen, seen, seen + 1, r.draw(), u64::MAX];
+                let of = if r.one_in(3) { &near[..] } else { &near[..5] };
+                words[r.pick(&heads)] = r.pick(of);
+            }
+        }
+        kiosk.point.set(&words, side(r));
+        let n = r.from_to(n, if kiosk.model.closed.is_some() { n } else { kiosk.untouched.len() });
+        let closing = kiosk.model.closed.is_some() || r.one_in(3);
+        let call = Call { closing, rule: &kiosk.rule, need: kiosk.need, words: words.len(), side: side(r) };
+        let got = kiosk.point.resume(&call, &kiosk.brought(n), &vec![5; r.below(200)]).err();
+        let other_version = words[VERSION] == 3 - u64::from(kiosk.version);
+        let expected = refusal(&rule, &words).or(other_version.then_some(22));
+        assert_eq!(got, expected, "{}point {words:?}", kiosk.story);
+        counted.returned(got.unwrap_or(0));
+    };
+    let names = ["accepted", "refused 11", "refused 22"];
+    cases("forged_records", 30_000, body, |counted| names.iter().all(|name| counted.get(name) > 0));
+}
+
 /// The word that says at how many records the point was closed: 0, or one more than the records seen.
 #[test]
 fn forged_closings() {
@@ -247,6 +293,8 @@ fn forged_closings() {
         let expected = match words[CLOSED] {
             0 => 0,
             closed if closed != seen + 1 => 11,
+            // an accepted closing has noted the log's version
+            _ if words[VERSION] == 0 => 11,
             _ if closing => 0,
             _ => 20,
         };
@@ -312,13 +360,15 @@ fn altered_open_records() {
             assert_eq!(number, expected.err().unwrap_or(0), "{}", kiosk.story);
             counts.returned(number);
             let Ok(given) = got else { continue };
-            let records = log::parse(&log).unwrap();
+            let Log { version, records } = log::parse(&log).unwrap();
+            // Which of the records from the first wanted on are positions is what the altered log says.
+            let before = kiosk.model.given().saturating_sub(rule::parse(&kiosk.rule).unwrap().depth);
+            let open = log::places(version, &records[wanted..]).into_iter().map(|at| wanted + at);
+            let places = std::iter::repeat_n(0, before).chain(open).collect();
             kiosk.model.sheet.extend(&given.verdicts);
-            if records.len() > kiosk.model.seen {
-                kiosk.model.last = records[records.len() - 1].time;
-            }
-            kiosk.model.seen = records.len();
-            kiosk.model.closed = closing.then_some(records.len());
+            kiosk.model.note(closing, version, &records, places);
+            let status = kiosk.point.status(&kiosk.rule, length, side(r));
+            assert_eq!(status, kiosk.model.status(&kiosk.rule, length), "{}", kiosk.story);
         }
     };
     cases("altered_open_records", 40_000, body, |counts| counts.get("accepted") > 0);

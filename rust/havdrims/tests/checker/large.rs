@@ -51,23 +51,31 @@ fn rules() -> Vec<(&'static str, Vec<u8>)> {
     all
 }
 
-fn long_log(seed: u64, hold: usize, step: u32) -> Vec<Record> {
+/// A log, and its version. In version 2 it has service records: visits of 300 records, and one in fifty besides.
+fn long_log(version: u16, seed: u64, hold: usize, step: u32) -> Vec<Record> {
     let shape = LogShape { records: MILLION, letters: 4, hold, step, start: 7 };
-    random::log(&mut Random::new(seed), shape)
+    let mut records = random::log(&mut Random::new(seed), shape);
+    let is_service = |at: usize| version == 2 && (at % 30_000 < 300 || at % 50 == 49);
+    let service = records.iter_mut().enumerate().filter(|(at, _)| is_service(*at));
+    service.for_each(|(_, record)| *record = record.as_service());
+    records
 }
 
-/// The verdicts, the point's words and the summary of a fresh point carried on to the end of the log, or closed there.
-fn expected(closing: bool, rule: &[u8], records: &[Record]) -> (Vec<u8>, usize, Summary) {
+/// The verdicts, the point's words and the summary of a fresh point carried on to the end of a log with these positions, or
+/// closed there.
+fn expected(closing: bool, rule: &[u8], positions: &[Record]) -> (Vec<u8>, usize, Summary) {
     let rule = rule::parse(rule).unwrap();
     let verdicts = if closing { linear::closed_verdicts } else { linear::verdicts };
-    let all = verdicts(&rule, records);
+    let all = verdicts(&rule, positions);
     let summary = model::summed(&all, rule.formulas());
     (all, rule.words as usize, summary)
 }
 
-/// The bytes of the records that may be overwritten once so many verdicts are given.
-fn free(rule: &[u8], given: usize) -> Range<usize> {
-    let wanted = given.saturating_sub(rule::parse(rule).unwrap().depth);
+/// The bytes of the records that may be overwritten once so many verdicts are given and so many records seen; `places` has
+/// the log's records that hold positions.
+fn free(rule: &[u8], places: &[usize], given: usize, seen: usize) -> Range<usize> {
+    let position = given.saturating_sub(rule::parse(rule).unwrap().depth);
+    let wanted = places.get(position).copied().unwrap_or(seen).min(seen);
     8..8 + 8 * wanted
 }
 
@@ -80,11 +88,11 @@ fn open(rule: &[u8], need: usize) -> Checkpoint {
 #[test]
 fn million_records_in_one_call() {
     for (name, rule) in rules() {
-        for (closing, seed, hold, step) in [(false, 1, 40, 2), (true, 2, 1, 3)] {
-            let records = long_log(seed, hold, step);
-            let (all, need, summary) = expected(closing, &rule, &records);
+        for (version, closing, seed, hold, step) in [(1, false, 1, 40, 2), (1, true, 2, 1, 3), (2, false, 3, 20, 2)] {
+            let records = long_log(version, seed, hold, step);
+            let (all, need, summary) = expected(closing, &rule, &log::positions(version, &records));
             let mut log = Lent::new(8 + 8 * MILLION);
-            log.place(&log::encode(&records), Side::Right);
+            log.place(&log::encode_as(version, &records), Side::Right);
             log.read_only_if(true);
             let call = Call { closing, rule: &rule, need, words: need, side: Side::Right };
             let mut point = open(&rule, need);
@@ -104,13 +112,15 @@ fn million_records_in_one_call() {
 
 #[test]
 fn million_records_in_a_thousand_calls() {
-    for (name, rule) in rules() {
-        let records = long_log(3, 20, 2);
-        let (all, need, summary) = expected(true, &rule, &records);
+    let both = rules().into_iter().flat_map(|(name, rule)| [1, 2].map(|version| (version, name, rule.clone())));
+    for (version, name, rule) in both {
+        let records = long_log(version, 3, 20, 2);
+        let places = log::places(version, &records);
+        let (all, need, summary) = expected(true, &rule, &log::positions(version, &records));
         let mut point = open(&rule, need);
         let mut log = Lent::new(8 + 8 * MILLION);
-        log.place(&log::encode(&records), Side::Left);
-        let mut written: Vec<u8> = Vec::new();
+        log.place(&log::encode_as(version, &records), Side::Left);
+        let (mut written, mut freed): (Vec<u8>, usize) = (Vec::new(), 8);
         let begun = Instant::now();
         // A thousand calls, and at the end two closings.
         for n in (1..=1_002).map(|k| (1_000 * k).min(MILLION)) {
@@ -120,26 +130,41 @@ fn million_records_in_a_thousand_calls() {
             // Now and then the sheet is too short for all that is settled.
             let length = if n % 7_000 == 0 { 300 } else { 5_000 };
             let given = point.resume_in_place(&call, &mut log, &vec![3; length]).unwrap();
-            let before = free(&rule, written.len()).end;
             written.extend(given.verdicts);
-            log.bytes_mut()[before..free(&rule, written.len()).end].fill(0xFF);
+            let end = free(&rule, &places, written.len(), n).end;
+            log.bytes_mut()[freed..end].fill(0xFF);
+            freed = end;
         }
         let seconds = begun.elapsed().as_secs_f64();
-        assert!(written == all, "{name}");
-        assert_eq!(point.summary(&rule, need, Side::Left), Ok(summary), "{name}");
-        say(&format!("million_records_in_a_thousand_calls: {name}, {} verdicts ({seconds:.2} s)", written.len()));
+        assert!(written == all, "{name}, version {version}");
+        assert_eq!(point.summary(&rule, need, Side::Left), Ok(summary), "{name}, version {version}");
+        let verdicts = written.len();
+        say(&format!(
+            "million_records_in_a_thousand_calls: {name}, version {version}, {verdicts} verdicts ({seconds:.2} s)"
+        ));
     }
 }
 
 #[test]
 fn too_many_records() {
     let rule = rule::encode(&letters(&[0]));
-    let mut file = log::HEADER.to_vec();
-    file.resize(8 + 8 * (MILLION + 1), 0);
     let call = Call { closing: false, rule: &rule, need: 32, words: 32, side: Side::Right };
+    for version in [1, 2] {
+        let mut file = log::header(version).to_vec();
+        file.resize(8 + 8 * (MILLION + 1), 0);
+        assert_eq!(open(&rule, 32).resume(&call, &file, &[]), Err(12));
+        file.truncate(8 + 8 * MILLION);
+        assert!(open(&rule, 32).resume(&call, &file, &[]).unwrap().more);
+    }
+    // "Refusals 12, 13 and 21 count every record": service records alone, one too many.
+    let service = Record { time: 0, letters: log::SERVICE };
+    let mut file = log::encode_as(2, &vec![service; MILLION + 1]);
     assert_eq!(open(&rule, 32).resume(&call, &file, &[]), Err(12));
     file.truncate(8 + 8 * MILLION);
-    assert!(open(&rule, 32).resume(&call, &file, &[]).unwrap().more);
+    let mut point = open(&rule, 32);
+    assert!(!point.resume(&call, &file, &[3]).unwrap().more);
+    let status = point.status(&rule, 32, Side::Left).unwrap();
+    assert_eq!((status.given, status.seen, status.wanted), (0, MILLION as u64, MILLION as u64));
 }
 
 /// Rules of 128 entries and rules of up to 8,192 words, with one formula or several.
@@ -209,9 +234,14 @@ fn largest_rules() {
             records.iter_mut().enumerate().for_each(|(i, m)| m.time = shape.start.saturating_add(i as u32));
             records.iter_mut().for_each(|m| m.letters |= 3);
         }
-        let (all, need, _) = expected(true, &rule, &records);
+        let version = r.pick(&[1, 2]);
+        if version == 2 {
+            random::visit(r, &mut records);
+        }
+        let places = log::places(version, &records);
+        let (all, need, _) = expected(true, &rule, &log::positions(version, &records));
         let mut point = open(&rule, need);
-        let mut file = log::encode(&records);
+        let mut file = log::encode_as(version, &records);
         let (mut n, mut written) = (0, Vec::new());
         let mut more = true;
         while more || n < records.len() {
@@ -223,7 +253,7 @@ fn largest_rules() {
             let given = point.resume(&call, &file[..8 + 8 * n], &sheet).unwrap();
             more = given.more;
             written.extend(given.verdicts);
-            file[free(&rule, written.len())].fill(r.pick(&[0, 255]));
+            file[free(&rule, &places, written.len(), n)].fill(r.pick(&[0, 255]));
         }
         assert!(written == all, "{}", hex(&rule));
         counts.add("verdicts", all.len());
@@ -247,10 +277,10 @@ fn latest_times() {
         let mut times: Vec<u32> = (0..n).map(|_| r.pick(&points)).collect();
         times.sort();
         let records: Vec<Record> = times.iter().map(|&time| Record { time, letters: r.draw() as u32 }).collect();
-        let closing = r.one_in(2);
-        let (all, need, _) = expected(closing, &rule, &records);
+        let (closing, version) = (r.one_in(2), r.pick(&[1, 2]));
+        let (all, need, _) = expected(closing, &rule, &log::positions(version, &records));
         let call = Call { closing, rule: &rule, need, words: need, side: side(r) };
-        let given = open(&rule, need).resume(&call, &log::encode(&records), &vec![3; n]).unwrap();
+        let given = open(&rule, need).resume(&call, &log::encode_as(version, &records), &vec![3; n]).unwrap();
         assert!(!given.more);
         assert_eq!(given.verdicts, all, "{} {records:?}", hex(&rule));
         counts.add("verdicts", all.len());

@@ -1,11 +1,12 @@
-//! Lists of calls: growth, overwriting, closings, refused calls between, sheets of all lengths, words behind the need.
+//! Lists of calls: growth, overwriting, service records, closings, refused calls between, sheets of all lengths, words behind
+//! the need.
 
 use crate::calls::{hex, side, Call, Checkpoint, Given};
 use crate::runner::{cases, Counts};
 use evaluator::log::{self, Record};
 use evaluator::model::{self, Point};
-use evaluator::random::{self, Random, RuleShape};
-use evaluator::{reading, rule};
+use evaluator::random::{self, LogShape, Random, RuleShape};
+use evaluator::rule;
 use std::fmt;
 
 /// A rule, an untouched log with the bytes that the kiosk has left of it, a point, and the model of that point.
@@ -13,6 +14,8 @@ pub struct Kiosk {
     pub rule: Vec<u8>,
     pub shape: RuleShape,
     pub need: usize,
+    /// The log's version.
+    pub version: u16,
     pub untouched: Vec<Record>,
     /// The whole log; records before the first still wanted may be overwritten.
     pub file: Vec<u8>,
@@ -37,8 +40,9 @@ struct Step {
 
 impl Story {
     pub fn add(&mut self, closing: bool, rule: &[u8], log: &[u8], words: usize, sheet: usize, before: &Point) {
-        let (d, seen, last, closed) = (before.given(), before.seen, before.last, before.closed);
-        let point = format!("d {d}, seen {seen}, last {last}, closed {closed:?}");
+        let (d, seen, last, closed, version) =
+            (before.given(), before.seen, before.last, before.closed, before.version);
+        let point = format!("d {d}, seen {seen}, last {last}, closed {closed:?}, version {version:?}");
         self.0.push(Step { closing, rule: rule.to_vec(), log: log.to_vec(), words, sheet, point });
     }
 }
@@ -59,24 +63,30 @@ impl Kiosk {
     pub fn new(r: &mut Random, most_entries: usize, most_records: usize) -> Kiosk {
         let (shape, log_shape) = random::shapes(r, most_entries, most_records);
         let rule = random::rule(r, shape);
-        let untouched = random::log(r, log_shape);
-        Kiosk::with(r, rule, shape, untouched)
+        let (version, untouched) = random::any_log(r, log_shape);
+        Kiosk::with(r, rule, shape, version, untouched)
     }
 
     /// This rule and this log.
-    fn with(r: &mut Random, rule: Vec<u8>, shape: RuleShape, untouched: Vec<Record>) -> Kiosk {
-        let file = log::encode(&untouched);
+    fn with(r: &mut Random, rule: Vec<u8>, shape: RuleShape, version: u16, untouched: Vec<Record>) -> Kiosk {
+        let file = log::encode_as(version, &untouched);
         let need = model::measure(&rule).unwrap().0 as usize;
         let words: Vec<u64> = (0..need + r.pick(&[0, 0, 1, 7, 600])).map(|_| r.draw()).collect();
         let mut point = Checkpoint::new(&words, side(r));
         point.open(&rule, need, side(r)).unwrap();
         let model = model::open(&rule, words.len()).unwrap();
-        Kiosk { rule, shape, need, untouched, file, point, model, story: Story::default() }
+        Kiosk { rule, shape, need, version, untouched, file, point, model, story: Story::default() }
     }
 
     /// The first n records as the file has them now.
     pub fn brought(&self, n: usize) -> Vec<u8> {
         self.file[..8 + 8 * n].to_vec()
+    }
+
+    /// The verdicts of one run over the first n records: of a closing, or of a carry on.
+    fn one_run(&self, closing: bool, n: usize) -> Vec<u8> {
+        let positions = log::positions(self.version, &self.untouched[..n]);
+        model::verdicts(closing, &rule::parse(&self.rule).unwrap(), &positions)
     }
 
     /// The first record still wanted.
@@ -103,9 +113,7 @@ impl Kiosk {
         let Brought { closing, rule, log, words, sheet } = &brought;
         let (closing, words) = (*closing, *words);
         self.story.add(closing, rule, log, words, sheet.len(), &self.model);
-        let untouched = &self.untouched;
-        let evaluate = |rule: &rule::Rule, n: usize| one_run(closing, rule, &untouched[..n]);
-        let expected = self.model.carry_on(closing, rule, log, words, sheet.len(), evaluate);
+        let expected = self.model.carry_on(closing, rule, log, words, sheet.len(), &self.untouched);
         let expected = expected.map(|e| Given { verdicts: e.verdicts, more: e.more });
         let call = Call { closing, rule, need: self.need, words, side: side(r) };
         let got = self.point.resume(&call, log, sheet);
@@ -163,11 +171,18 @@ impl Kiosk {
         if r.one_in(4) {
             words = r.pick(&[0, 1, self.need / 2, self.need - 1]);
         }
-        match r.below(5) {
+        match r.below(6) {
             0 => random::damage(r, &mut log),
             1 => {
                 let at = r.below(8);
                 log[at] ^= 1 << r.below(8);
+            }
+            4 => {
+                // another version, with another fault behind it now and then
+                log[3..5].copy_from_slice(&r.pick(&[0u16, 1, 2, 1, 2, 3, 256, 257, 512]).to_be_bytes());
+                if r.one_in(3) {
+                    log.truncate(8 + 8 * r.from_to(0, n));
+                }
             }
             2 => log.truncate(8 + 8 * self.model.seen.saturating_sub(r.from_to(1, 3))),
             3 if n > 0 => {
@@ -205,15 +220,6 @@ struct Brought {
     sheet: Vec<u8>,
 }
 
-/// The verdicts of one run: of a closing, or of a carry on.
-pub fn one_run(closing: bool, rule: &rule::Rule, records: &[Record]) -> Vec<u8> {
-    if closing {
-        reading::closed_verdicts(rule, records)
-    } else {
-        reading::verdicts(rule, records)
-    }
-}
-
 /// Random lists; laid end to end their verdicts are those of one run.
 #[test]
 fn lists() {
@@ -225,7 +231,7 @@ fn lists() {
         for _ in 0..r.from_to(0, 14) {
             if r.one_in(3) {
                 kiosk.overwrite(r);
-                let kept = kiosk.model.given() - kiosk.wanted();
+                let kept = kiosk.model.given().min(rule::parse(&kiosk.rule).unwrap().depth);
                 counts.add("kept for previous", kept);
                 counts.add("kept for one of several formulas", if formulas > 1 { kept } else { 0 });
             }
@@ -246,11 +252,13 @@ fn lists() {
             counts.add("closings with more", usize::from(closed && given.more));
             counts.add("of empty rules", if kiosk.rule.len() == 8 { given.verdicts.len() } else { 0 });
             counts.add("of several formulas", if formulas > 1 { given.verdicts.len() } else { 0 });
+            let service = n - kiosk.model.places.len();
+            counts.add("of logs with service records", if service > 0 { given.verdicts.len() } else { 0 });
+            counts.add("service records alone", usize::from(service > 0 && service == n));
             written.extend(given.verdicts);
             caught_up = Some(!given.more);
         }
-        let rule = rule::parse(&kiosk.rule).unwrap();
-        let one_run = one_run(closed, &rule, &kiosk.untouched[..n]);
+        let one_run = kiosk.one_run(closed, n);
         assert!(one_run.starts_with(&written), "{}", kiosk.story);
         if let Some(caught_up) = caught_up {
             assert_eq!(caught_up, one_run.len() == written.len(), "{}", kiosk.story);
@@ -265,8 +273,10 @@ fn lists() {
             "kept for one of several formulas",
             "of closings",
             "closings with more",
+            "of logs with service records",
+            "service records alone",
         ];
-        let reached = names.iter().all(|name| counts.get(name) > 0) && met(20) && met(21);
+        let reached = names.iter().all(|name| counts.get(name) > 0) && (20..=22).all(met);
         (1..=14).all(|n| met(n) || [3, 8, 11].contains(&n)) && reached
     };
     cases("lists", 30_000, body, shown);
@@ -277,16 +287,15 @@ fn lists() {
 fn sheets_of_all_lengths() {
     let body = |r: &mut Random, counts: &mut Counts| {
         let start = Kiosk::new(r, 7, 20);
-        let rule = rule::parse(&start.rule).unwrap();
         let closing = r.one_in(2);
-        let all = one_run(closing, &rule, &start.untouched);
-        let several = rule.formulas() > 1;
+        let all = start.one_run(closing, start.untouched.len());
+        let several = model::formulas(&start.rule).unwrap() > 1;
         let fresh = start.point.words().to_vec();
         let mut kiosk = start;
         for length in 0..=all.len() + 2 {
             kiosk.point.set(&fresh, side(r));
             kiosk.model = model::open(&kiosk.rule, fresh.len()).unwrap();
-            kiosk.file = log::encode(&kiosk.untouched);
+            kiosk.file = log::encode_as(kiosk.version, &kiosk.untouched);
             let mut written = Vec::new();
             let mut next = length;
             loop {
@@ -308,9 +317,13 @@ fn sheets_of_all_lengths() {
     cases("sheets_of_all_lengths", 1_500, body, |counts| counts.get("of several formulas") > 0);
 }
 
+/// A log of a list of calls: its version and its records.
+type Untouched = (u16, Vec<Record>);
+
 /// A random list over a log, with overwriting; in the end it is closed if so said. All its verdicts.
-fn verdicts_of_a_list(r: &mut Random, rule: Vec<u8>, shape: RuleShape, untouched: &[Record], closing: bool) -> Vec<u8> {
-    let mut kiosk = Kiosk::with(r, rule, shape, untouched.to_vec());
+fn verdicts_of_a_list(r: &mut Random, rule: Vec<u8>, shape: RuleShape, log: &Untouched, closing: bool) -> Vec<u8> {
+    let (version, untouched) = log;
+    let mut kiosk = Kiosk::with(r, rule, shape, *version, untouched.to_vec());
     let (mut n, mut written) = (0, Vec::new());
     for _ in 0..r.from_to(1, 6) {
         n = r.from_to(n, untouched.len());
@@ -329,7 +342,7 @@ fn each_bit_is_the_verdict_of_its_formula_alone() {
     let body = |r: &mut Random, counts: &mut Counts| {
         let (shape, log_shape) = random::shapes(r, 10, 40);
         let rule = random::rule(r, shape);
-        let untouched = random::log(r, log_shape);
+        let untouched = random::any_log(r, log_shape);
         let closing = r.one_in(2);
         let together = verdicts_of_a_list(r, rule.clone(), shape, &untouched, closing);
         let decoded = rule::parse(&rule).unwrap();
@@ -344,4 +357,57 @@ fn each_bit_is_the_verdict_of_its_formula_alone() {
     };
     let shown = |counts: &Counts| counts.get("bits of several formulas") > 0;
     cases("each_bit_is_the_verdict_of_its_formula_alone", 5_000, body, shown);
+}
+
+/// Logs of up to 1,500 records, nine in ten of which may be service records: windows of 64 positions that are copied, and
+/// runs longer than a window.
+#[test]
+fn long_visits() {
+    let body = |r: &mut Random, counts: &mut Counts| {
+        let (shape, log_shape) = random::shapes(r, 8, 40);
+        let rule = random::rule(r, shape);
+        let long = LogShape { records: r.from_to(300, 1_500), ..log_shape };
+        let mut untouched = random::log(r, long);
+        random::visit(r, &mut untouched);
+        let total = untouched.len();
+        let mut kiosk = Kiosk::with(r, rule, shape, 2, untouched);
+        let (mut n, mut closed, mut written) = (0, false, Vec::new());
+        for _ in 0..r.from_to(1, 6) {
+            n = if closed { n } else { r.from_to(n, total) };
+            closed = closed || r.one_in(6);
+            let given = kiosk.accepted(r, closed, n);
+            counts.returned(0);
+            counts.add("verdicts", given.verdicts.len());
+            counts.add("service records", n - kiosk.model.places.len());
+            written.extend(given.verdicts);
+            kiosk.overwrite(r);
+        }
+        assert!(kiosk.one_run(closed, n).starts_with(&written), "{}", kiosk.story);
+    };
+    cases("long_visits", 2_000, body, |counts| {
+        counts.get("verdicts") > 100_000 && counts.get("service records") > 100_000
+    });
+}
+
+/// "It is skipped by every operator": a log with service records has the verdicts of the log without them, in every list of
+/// calls.
+#[test]
+fn service_records_leave_no_trace() {
+    let body = |r: &mut Random, counts: &mut Counts| {
+        let (shape, log_shape) = random::shapes(r, 10, 60);
+        let rule = random::rule(r, shape);
+        let mut records = random::log(r, log_shape);
+        random::visit(r, &mut records);
+        let alone = log::positions(2, &records);
+        counts.add("service records", records.len() - alone.len());
+        let closing = r.one_in(2);
+        let with = verdicts_of_a_list(r, rule.clone(), shape, &(2, records), closing);
+        let alone = (r.pick(&[1, 2]), alone);
+        let without = verdicts_of_a_list(r, rule.clone(), shape, &alone, closing);
+        let both = with.len().min(without.len());
+        assert_eq!(with[..both], without[..both], "{}", hex(&rule));
+        counts.add("verdicts", both);
+    };
+    let shown = |counts: &Counts| counts.get("verdicts") > 10_000 && counts.get("service records") > 10_000;
+    cases("service_records_leave_no_trace", 5_000, body, shown);
 }

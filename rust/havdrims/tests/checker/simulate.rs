@@ -53,7 +53,7 @@ fn compare(settings: Settings, seconds: u32, seed: u32, buffer: &[u8], side: Sid
 
 /// "After every second the three sum to the arrivals counted from the log", and the log is one that carry on accepts.
 fn whole(simulated: &Simulated) {
-    let records = log::parse(&simulated.log).expect("a log without fault");
+    let records = log::parse(&simulated.log).expect("a log without fault").records;
     let arrivals = records.iter().filter(|record| record.letters >> 2 & 1 == 1).count() as u64;
     assert_eq!(simulated.finished + simulated.printing + simulated.waiting, arrivals);
     assert!(records.iter().enumerate().all(|(at, record)| record.time as usize == at));
@@ -85,7 +85,7 @@ fn random_kiosks() {
         if let Ok(simulated) = given {
             whole(&simulated);
             counts.add("prints finished", simulated.finished as usize);
-            let went_off = log::parse(&simulated.log).unwrap();
+            let went_off = log::parse(&simulated.log).unwrap().records;
             let went_off = went_off.windows(2).filter(|pair| pair[0].letters & 1 > pair[1].letters & 1);
             counts.add("heads gone off", went_off.count());
         }

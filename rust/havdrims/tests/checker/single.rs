@@ -1,7 +1,6 @@
 //! Single calls: measure, open, tally, and one carry on or closing from a fresh point.
 
 use crate::calls::{self, hex, side, Call, Checkpoint};
-use crate::lists::one_run;
 use crate::runner::{cases, Counts};
 use evaluator::log;
 use evaluator::random::{self, Random, RuleShape};
@@ -109,25 +108,25 @@ fn one_call() {
     let body = |r: &mut Random, counts: &mut Counts| {
         let (rule_shape, log_shape) = random::shapes(r, 14, 60);
         let rule = random::rule(r, rule_shape);
-        let mut records = random::log(r, log_shape);
+        let (version, mut records) = random::any_log(r, log_shape);
         if r.one_in(20) && records.len() > 1 {
             let at = r.from_to(1, records.len() - 1);
             records[at].time = records[at - 1].time.saturating_sub(1);
         }
-        let mut file = log::encode(&records);
+        let version = if r.one_in(20) { r.pick(&[0, 3, 4, 0x0100, 0x0102, 0x0200]) } else { version };
+        let mut file = log::encode_as(version, &records);
         if r.one_in(10) {
             random::damage(r, &mut file);
         }
         let need = model::measure(&rule).unwrap().0 as usize;
         let mut point = Checkpoint::new(&vec![0; need], side(r));
         point.open(&rule, need, side(r)).unwrap();
-        let mut expected = model::open(&rule, need).unwrap();
+        let mut model = model::open(&rule, need).unwrap();
         // A damaged log that is not refused is simply another log.
-        let brought = log::parse(&file).unwrap_or_default();
+        let brought = log::parse(&file).map_or(Vec::new(), |log| log.records);
         let sheet = vec![7; brought.len() + r.below(2)];
         let closing = r.one_in(3);
-        let evaluate = |rule: &rule::Rule, _| one_run(closing, rule, &brought);
-        let expected = expected.carry_on(closing, &rule, &file, need, sheet.len(), evaluate);
+        let expected = model.carry_on(closing, &rule, &file, need, sheet.len(), &brought);
         let call = Call { closing, rule: &rule, need, words: need, side: side(r) };
         let got = point.resume(&call, &file, &sheet);
         counts.returned(expected.as_ref().err().copied().unwrap_or(0));
@@ -136,9 +135,13 @@ fn one_call() {
         if let Ok(given) = got {
             counts.add("verdicts", given.verdicts.len());
             counts.add("yes", given.verdicts.iter().map(|&byte| byte.count_ones() as usize).sum());
+            counts.add("service records", brought.len() - model.places.len());
         }
+        let status = point.status(&rule, need, side(r));
+        assert_eq!(status, model.status(&rule, need), "rule {}\nlog {}", hex(&rule), hex(&file));
     };
-    cases("one_call", 60_000, body, |counts| all_refused(counts, 12..=12) && counts.get("refused 14") > 0);
+    let met = |counts: &Counts| counts.get("refused 14") > 0 && counts.get("service records") > 0;
+    cases("one_call", 60_000, body, |counts| all_refused(counts, 12..=12) && met(counts));
 }
 
 /// A length of 0 lets the pointer be null.

@@ -78,7 +78,8 @@ fn no_small_log_keeps_more() {
                     found = found.max(times);
                 });
                 assert_eq!(found, most, "{low} to {high}, {n} records");
-                let written = log::parse(&worst_log(low, high, n as u64, room_for(n), Side::Right).unwrap()).unwrap();
+                let written =
+                    log::parse(&worst_log(low, high, n as u64, room_for(n), Side::Right).unwrap()).unwrap().records;
                 assert_eq!(open_times(&reading::verdicts(&rule, &written), &written), most);
             }
         }
@@ -134,7 +135,7 @@ fn no_verdict_is_settled() {
             let given = resume(&bytes, &log, &mut checkpoint, &mut sheet).unwrap();
             assert_eq!((given.verdicts, given.more), (0, false), "{low} to {high}, {n} records");
             assert!(sheet.iter().all(|&b| b == 7));
-            let records = log::parse(&log).unwrap();
+            let records = log::parse(&log).unwrap().records;
             assert_eq!(open_times(&linear::verdicts(&rule, &records), &records), n.min(near + 1));
         }
     }

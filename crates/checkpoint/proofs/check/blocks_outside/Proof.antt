@@ -25,19 +25,23 @@ loop-holds c = (walk-start _ _ _, refl, refl, refl)
 room : (c : tie.In-loop Inv-loop μ-loop) → c .before .loop .at + 16 ≤ length (c .before .before .before .before .before .args .point .now)
 room c = omega (arith, walk-room (c .before .loop .inv .0) (omega arith))
 
+-- and so do the words behind it that are its own
+waiting-fits-requires : tie.Need-waiting-fits-requires Inv-loop μ-loop
+waiting-fits-requires c κs = omega (arith, walk-on (c .before .before .before .before .loop .inv .0) (omega arith) _ refl .1)
+
 add-at : tie.Need-add-at Inv-loop μ-loop
 add-at c =
-    let i = c .before .before .before .before .before .loop in
+    let i = c .before .before .before .before .before .before .loop in
     omega (arith, walk-on (i .inv .0) (omega arith) _ (c .own-words .ensures .0) .1)
 
 loop-again : tie.Need-loop-again Inv-loop μ-loop
 loop-again c =
-    let i = c .before .before .before .before .before .loop in
-    let a = c .before .before .before .before .before .before .before .before .before .args in (
+    let i = c .before .before .before .before .before .before .loop in
+    let a = c .before .before .before .before .before .before .before .before .before .before .args in (
       walk-on (i .inv .0) (omega arith) _ (c .own-words .ensures .0) .0,
       refl,
       refl,
-      simp (i .inv .3, c .before .block-fits .ensures, i .inv .0 .begins, c .before .before .cells .ensures) (sym (any-more (i .k) (block-outside (a .base) (a .t2) (a .point .now)))),
+      simp (i .inv .3, c .before .waiting-fits .ensures, c .before .before .block-fits .ensures, i .inv .0 .begins, c .before .before .before .cells .ensures) (sym (any-more (i .k) (block-outside (a .base) (a .t2) (a .point .now)))),
     )
 
 returns : tie.Need-returns Inv-loop μ-loop
@@ -56,6 +60,7 @@ blocks-outside-spec =
     (λ c. search needs)
     (λ c κs. search needs)
     (λ c κs. room (c .before .before))
+    waiting-fits-requires
     (λ c κs. search needs)
     add-at
     (λ c. search needs)

@@ -12,7 +12,7 @@ slice-read-if1 : tie.Need-slice-read-if1
 slice-read-if1 c = search needs
 
 returns : tie.Need-returns
-returns c = ((refl, refl, c .if1 .taken), λ closed φ L g falls agrees ready. (refl, λ e. settled-not L φ ∙ e ∙ ready .core .own))
+returns c = ((refl, refl, c .if1 .taken), λ s φ L g falls agrees ready. (refl, λ e. settled-not L φ ∙ e ∙ ready .core .own))
 
 slice-read-available : tie.Need-slice-read-available
 slice-read-available c = search needs
@@ -20,14 +20,14 @@ slice-read-available c = search needs
 slice-read-available-2 : tie.Need-slice-read-available-2
 slice-read-available-2 c = search needs
 
-count-requires : tie.Need-count-requires
-count-requires c κs = search needs
+element-copy-out-available : tie.Need-element-copy-out-available
+element-copy-out-available c = search needs
 
 available-requires : tie.Need-available-requires
 available-requires c κs = search needs
 
 returns-2 : tie.Need-returns-2
-returns-2 c = (refl, λ closed φ L g falls agrees ready. absurd (omega (arith, all-of agrees (ready .buffers) (c .before .available .result) (rw (c .before .before .count .ensures) at (c .before .available .ensures)))))
+returns-2 c = (refl, λ s φ L g falls agrees ready. absurd (omega (arith, all-of agrees (ready .buffers) (c .before .available .result) (c .before .available .ensures .0))))
 
 slice-read-bits : tie.Need-slice-read-bits
 slice-read-bits c = search needs
@@ -40,12 +40,13 @@ same-length c = search needs
 
 returns-3 : tie.Need-returns-3
 returns-3 c =
-    let start = c .before .before .before .before .before .before .before .before .before .before .before .before .before .before in (
-      rw (c .before .before .take-right .ensures) (right-onward (c .before .before .before .before .before .before .available .result) (start .args .block .now) (start .pre)),
-      λ closed φ L g falls agrees ready.
+    let start = c .before .before .before .before .before .before .before .before .before .before .before .before .before in
+    let b = start .args .block .now in
+    let n = c .before .before .before .before .before .before .available .result in (
+      rw (c .before .before .take-right .ensures) (right-onward n b (start .pre)),
+      λ s φ L g falls agrees ready.
           rw (c .before .before .take-right .ensures)
-          (not-batch (start .args .records .now) (start .args .block .now) (start .pre) (c .before .before .before .before .before .before .available .result) (omega arith) L g
-          φ (omega arith) (c .before .before .before .before .slice-known5 .given 4 .fits) ready),
+          (not-batch (start .args .view .now) b (start .pre) n (omega arith) L g φ (omega arith) (c .before .before .before .before .slice-known5 .given 4 .fits) ready),
     )
 
 pub step-not-spec : {M : Type 1} → statement M
@@ -56,7 +57,7 @@ step-not-spec =
     returns
     slice-read-available
     slice-read-available-2
-    count-requires
+    element-copy-out-available
     available-requires
     returns-2
     slice-read-bits

@@ -8,141 +8,116 @@ use mathlib.Core.List.{[], _∷_}
 use mathlib.Core.Path.{_≡_, refl}
 use lib.Dec.{leb, ltb}
 use borrow.Author.Needs.{needs}
-use borrow.Author.Tests.{leb-false, ltb-false}
 use Rattle.mtl.proofs.Closing.{settled-previous}
-use Rattle.trace.specs.Format.{record-count}
-use Rattle.trace.proofs.Laws.{neither}
+use Rattle.trace.specs.View.{total}
 use Rattle.blocks.specs.Block.{taken, right-count, answered}
 use Rattle.blocks.proofs.Words.{put, stores-onward}
-use Rattle.operators.proofs.Simple.{answered-onward, previous-open, previous-first, previous-batch}
+use Rattle.operators.proofs.Simple.{answered-onward, not-open, previous-open, previous-first, previous-batch}
 use Rattle.operators.proofs.neighbour.step_previous.Statement.{statement}
 use Rattle.operators.proofs.neighbour.step_previous.Tie as tie
-
--- the next position to answer lies in the log, and no later one is taken
-not-open : (at g total : ℕ) → leb total g || ltb g at ≡ false → (g < total) × (at ≤ g)
-not-open at g total e = let (some, behind) = neither (leb total g) (ltb g at) .0 e in (leb-false total g some, ltb-false g at behind)
 
 -- what is taken where some positions are buffered
 some-taken : (at g total count n : ℕ) → leb total g || ltb g at ≡ false → (count ≡ 0 → ⊥) → n ≡ min (min count (total - g)) 64 →
     (at ≤ g) × (0 < n) × (n ≤ count) × (n ≤ 64) × (g + n ≤ total)
-some-taken at g total count n e some is = omega (arith, not-open at g total e, pos-of-ne-zero some)
+some-taken at g total count n e some is = omega (arith, not-open total g g at e, pos-of-ne-zero some)
 
 -- some positions are answered, not the first: their operand's answers are buffered, and they lie within the log
 taking : (c : tie.After-available) →
-    let start = c .before .before .before .before .before .before .before .before .before .before .before in
-    let b = start .args .block .now in
+    let a = c .before .before .before .before .before .before .before .before .before .before .before .args in
+    let b = a .block .now in
     let n = c .available .result in
-    (0 < answered b) ×
-    ((taken b ≤ answered b) × (0 < n) × (n ≤ right-count b) × (n ≤ 64) × (answered b + n ≤ record-count (start .args .records .now)))
+    (0 < answered b) × ((taken b ≤ answered b) × (0 < n) × (n ≤ right-count b) × (n ≤ 64) × (answered b + n ≤ total (a .view .now)))
 taking c =
-    let start = c .before .before .before .before .before .before .before .before .before .before .before in
-    let b = start .args .block .now in
-    let total = c .before .before .before .before .before .before .before .count .ensures in (
+    let a = c .before .before .before .before .before .before .before .before .before .before .before .args in
+    let b = a .block .now in (
       pos-of-ne-zero (c .before .before .before .before .if2 .left),
-      some-taken (taken b) (answered b) (record-count (start .args .records .now)) (right-count b) (c .available .result)
-          (rw total at (c .before .before .before .before .before .if1 .left))
-          (c .before .before .if3 .left)
-          (rw total at (c .available .ensures)),
+      some-taken (taken b) (answered b) (total (a .view .now)) (right-count b) (c .available .result) (c .before .before .before .before .before .if1 .left) (c .before .before .if3 .left)
+          (c .available .ensures .0),
     )
 
-slice-read-g : tie.Need-slice-read-g
-slice-read-g c = search needs
-
-count-requires : tie.Need-count-requires
-count-requires c κs = search needs
-
-slice-read-if1 : tie.Need-slice-read-if1
-slice-read-if1 c = search needs
-
-returns : tie.Need-returns
-returns c =
-    let start = c .before .before .before .before .before .before in (
+returns-open : tie.Need-returns
+returns-open c =
+    let start = c .before .before .before .before .before .before in
+    let a = start .args in (
       refl,
-      λ closed φ L g falls agrees ready.
-          previous-open (start .args .records .now) (start .args .block .now) (start .args .low) (start .args .high) φ L g agrees ready
-          (rw (c .before .before .count .ensures) at (c .if1 .taken)),
+      (
+        λ φ L g falls agrees ready. previous-open (a .view .now) (a .block .now) (a .low) (a .high) φ L g agrees ready (c .if1 .taken),
+        start .pre .1,
+      ),
     )
 
-slice-write-block : tie.Need-slice-write-block
-slice-write-block c = search needs
-
-same-length : tie.Need-same-length
-same-length c = search needs
-
-returns-2 : tie.Need-returns-2
-returns-2 c =
+returns-first : tie.Need-returns-2
+returns-first c =
     let start = c .before .before .before .before .before .before .before in
-    let b = start .args .block .now in
-    let first = not-open (taken b) (answered b) (record-count (start .args .records .now)) (rw (c .before .before .before .count .ensures) at (c .before .if1 .left)) in (
-      stores-onward (put 5 _ ∷ []) b (start .pre) (omega arith) (omega arith) (omega (arith, c .if2 .taken)),
-      λ closed φ L g falls agrees ready.
-          previous-first (start .args .records .now) (start .args .block .now) (start .pre) (omega arith) (c .if2 .taken) (start .args .low) (start .args .high)
-          φ L g agrees ready,
+    let a = start .args in
+    let b = a .block .now in
+    let left = not-open (total (a .view .now)) (answered b) (answered b) (taken b) (c .before .if1 .left) in (
+      stores-onward (put 5 1 ∷ []) b (omega arith) (omega arith) (omega arith),
+      (
+        λ φ L g falls agrees ready.
+            previous-first (a .view .now) b (start .pre .0) (omega arith) (c .if2 .taken) (a .low) (a .high) φ L g agrees ready,
+        start .pre .1,
+      ),
     )
 
-slice-read-if3 : tie.Need-slice-read-if3
-slice-read-if3 c = search needs
+returns-right : tie.Need-returns-3
+returns-right c =
+    let start = c .before .before .before .before .before .before .before .before .before in
+    let a = start .args in
+    let past = pos-of-ne-zero (c .before .before .if2 .left) in (
+      (refl, refl, c .if3 .taken),
+      (
+        λ φ L g falls agrees ready. (
+          refl,
+          λ e. let reached = ready .core .reached in let own = ready .core .own in omega (arith, settled-previous L (a .low) (a .high) φ),
+        ),
+        start .pre .1,
+      ),
+    )
 
-returns-3 : tie.Need-returns-3
-returns-3 c =
-    let past = pos-of-ne-zero (c .before .before .if2 .left) in
-    ((refl, refl, c .if3 .taken), λ closed φ L g falls agrees ready. (refl, λ e. let reached = ready .core .reached in let own = ready .core .own in omega (arith, settled-previous L (c .before .before .before .before .before .before .before .before .before .args .low) (c .before .before .before .before .before .before .before .before .before .args .high) φ)))
-
-slice-read-available : tie.Need-slice-read-available
-slice-read-available c = search needs
-
-available-requires : tie.Need-available-requires
-available-requires c κs = search needs
-
-near-requires : tie.Need-near-requires
-near-requires c κs = omega (arith, taking c)
-
-slice-read-bits : tie.Need-slice-read-bits
-slice-read-bits c = search needs
-
-take-right-requires : tie.Need-take-right-requires
-take-right-requires c κs = omega (arith, taking (c .before .before .before), c .before .before .before .before .before .before .before .before .before .before .count .ensures)
+take-near-requires : tie.Need-take-near-requires
+take-near-requires c κs =
+    let pre = c .before .before .before .before .before .before .before .before .before .before .before .before .before .pre in
+    let (past, (behind, some, most, few, inside)) = taking (c .before .before) in
+    let fits = c .before .before .available .ensures .1 in
+    (pre .0, pre .1, pre .2, few, most, omega arith)
 
 add-block : tie.Need-add-block
-add-block c = omega (arith, taking (c .before .before .before .before .before .before), c .before .before .before .before .before .before .before .before .before .before .before .before .before .count .ensures)
+add-block c = omega (arith, c .before .before .before .before .before .available .ensures .1)
 
-slice-write-block-2 : tie.Need-slice-write-block-2
-slice-write-block-2 c = search needs
-
-same-length-2 : tie.Need-same-length-2
-same-length-2 c = search needs
-
-returns-4 : tie.Need-returns-4
-returns-4 c =
-    let start = c .before .before .before .before .before .before .before .before .before .before .before .before .before .before .before .before .before in
-    let near = c .before .before .before .before .before .near in
-    let (past, (behind, some, most, few, inside)) = taking (c .before .before .before .before .before .before) in (
-      rw (c .before .before .take-right .ensures) (answered-onward (c .before .before .before .before .before .before .available .result) (start .args .block .now) (start .pre)),
-      λ closed φ L g falls agrees ready.
-          rw (c .before .before .take-right .ensures)
-          (previous-batch (start .args .records .now) (start .args .block .now) (start .pre) (c .before .before .before .before .before .before .available .result) some L g (start .args .low) (start .args .high)
-          φ most agrees (near .result) past inside (near .ensures) ready),
+returns-batch : tie.Need-returns-4
+returns-batch c =
+    let start = c .before .before .before .before .before .before .before .before .before .before .before .before .before .before .before .before in
+    let a = start .args in
+    let b = a .block .now in
+    let n = c .before .before .before .before .before .available .result in
+    let took = c .before .before .take-near .ensures .0 in
+    let (past, (behind, some, most, few, inside)) = taking (c .before .before .before .before .before) in (
+      rw (took .words) (answered-onward n _ b (start .pre .0) (took .onward)),
+      (
+        λ φ L g falls agrees ready.
+            rw (took .words) (previous-batch (a .view .now) b (start .pre .0) n some L g (a .low) (a .high) φ most took agrees past inside ready),
+        c .before .before .take-near .ensures .1,
+      ),
     )
 
 pub step-previous-spec : {M : Type 1} → statement M
 step-previous-spec =
     tie.close
     (tie.spec
-    slice-read-g
-    count-requires
-    slice-read-if1
-    returns
-    slice-write-block
-    same-length
-    returns-2
-    slice-read-if3
-    returns-3
-    slice-read-available
-    available-requires
-    near-requires
-    slice-read-bits
-    take-right-requires
+    (λ c. search needs)
+    (λ c. search needs)
+    (λ c. search needs)
+    returns-open
+    (λ c. search needs)
+    (λ c. search needs)
+    returns-first
+    (λ c. search needs)
+    returns-right
+    (λ c. search needs)
+    (λ c κs. search needs)
+    take-near-requires
     add-block
-    slice-write-block-2
-    same-length-2
-    returns-4)
+    (λ c. search needs)
+    (λ c. search needs)
+    returns-batch)

@@ -1,0 +1,2 @@
+-- Neighbour is the promise of an inner function.
+pub mod Neighbour

@@ -1,0 +1,29 @@
+-- `trace::window::is_dense` meets its contract: the tests on the count decide whether the records are there.
+-- Assumes nothing.
+use Prim.Native.Nat.{_+_}
+use native.Mathlib.Omega.{arith}
+use borrow.Author.Needs.{needs}
+use borrow.Author.Tests.{le-leb, lt-leb}
+use Rattle.trace.specs.Format.{record-count}
+use Rattle.trace.proofs.window.is_dense.Statement.{statement}
+use Rattle.trace.proofs.window.is_dense.Tie as tie
+
+returns : tie.Need-returns
+returns c = let a = c .before .before .before .args in rw (lt-leb (a .from + a .n) (record-count (a .records .now)) (omega arith))
+
+returns-2 : tie.Need-returns-2
+returns-2 c = let a = c .before .before .before .before .args in rw (lt-leb (a .from + a .n) (record-count (a .records .now)) (omega arith))
+
+returns-3 : tie.Need-returns-3
+returns-3 c =
+    let a = c .before .before .before .before .before .before .args in
+    rw (c .before .if3 .taken, le-leb (a .from + a .n) (record-count (a .records .now)) (omega arith), c .has-service .ensures)
+
+returns-4 : tie.Need-returns-4
+returns-4 c =
+    let a = c .before .before .before .before .before .args in
+    rw (c .if3 .left, le-leb (a .from + a .n) (record-count (a .records .now)) (omega arith))
+
+pub is-dense-spec : {M : Type 1} → statement M
+is-dense-spec =
+    tie.close (tie.spec (λ c κs. search needs) returns returns-2 (λ c κs. search needs) returns-3 returns-4)

@@ -1,0 +1,49 @@
+-- What a call knows of its log, and the part of the records that the reading heads are handed: those from record `first` on. Records
+-- before it may have been overwritten.
+use Prim.Native.Nat.{ℕ, _+_, _-_, _*_, _<_, _^_, max}
+use mathlib.Core.Bool.{Bool}
+use mathlib.Core.Path.{_≡_}
+use mathlib.Core.List.{List, [], _∷_}
+use lib.ListN.{getD, drop}
+use lib.Dec.{eqb}
+use Rattle.mtl.specs.Log.{Log, head-of}
+use Rattle.bits.specs.Packed.{number}
+use Rattle.trace.specs.Format.{record-count, time-at, has-letter}
+use Rattle.trace.specs.Positions.{place, before}
+
+-- "The log's part from byte 8 on .. passed to the record readers": of the records those from record `first` on
+abbrev pub from-record : (first : ℕ) → List ℕ → List ℕ
+from-record first s = drop (first * 8) s
+
+-- a view's four numbers: the record with which the slice begins; how many positions the log has, those before the slice included; whether
+-- service records are passed over in the slice, which is needed only where one lies there; whether the log is closed
+abbrev pub first : List ℕ → ℕ
+first v = getD v 0 0
+
+abbrev pub total : List ℕ → ℕ
+total v = getD v 1 0
+
+abbrev pub skips : List ℕ → Bool
+skips v = eqb (getD v 2 0) 1
+
+abbrev pub closed : List ℕ → Bool
+closed v = eqb (getD v 3 0) 1
+
+-- the view of a slice that begins with record `first`, before which stand q positions
+abbrev pub view-of : (first q : ℕ) (skips closed : Bool) → List ℕ → List ℕ
+view-of from q skipping ended s = from ∷ (q + before skipping s (record-count s)) ∷ number skipping ∷ number ended ∷ []
+
+-- a head at record r, in a slice that begins with record `first`: what lies before was passed, or is service records
+abbrev pub in-slice : (first r : ℕ) → ℕ
+in-slice first r = max r first - first
+
+-- the slice shows position i of the log, which the head of position i finds
+pub record Shows (skips : Bool) (s : List ℕ) (first : ℕ) (L : Log) (i : ℕ) : Type 0 where
+  pub inside : place skips s (in-slice first (head-of L i)) 0 < record-count s
+  pub time : time-at s (place skips s (in-slice first (head-of L i)) 0) ≡ L .time i
+  pub letters : (k : ℕ) → has-letter s k (place skips s (in-slice first (head-of L i)) 0) ≡ L .letters i k
+  pub place : L .place i ≡ first + place skips s (in-slice first (head-of L i)) 0
+
+-- no record's number wraps
+abbrev pub Numbered : (v s : List ℕ) → Type 0
+Numbered v s = first v + record-count s < 2 ^ 64
