@@ -9,12 +9,18 @@
 extern "C" {
 #endif
 
+/* The version of this header and of the archive that it belongs to, as a number to compare: 0.1.0 is 100. */
+#define HAVDRIMS_VERSION_MAJOR 0
+#define HAVDRIMS_VERSION_MINOR 1
+#define HAVDRIMS_VERSION_PATCH 0
+#define HAVDRIMS_VERSION (HAVDRIMS_VERSION_MAJOR * 10000 + HAVDRIMS_VERSION_MINOR * 100 + HAVDRIMS_VERSION_PATCH)
+
 /*
  * For all calls:
  *
- * The result is 0 if the call was accepted, otherwise the number of its refusal, the first of the list below that
- * applies. A refused call changes nothing: every buffer keeps its bytes and words, and so do the numbers behind
- * the last pointers.
+ * The result is 0 if the call was accepted, otherwise the number of its refusal: of those that stand at the call, the
+ * first, in the order in which they stand there, that applies. A refused call changes nothing: every buffer keeps its
+ * bytes and words, and so do the numbers behind the pointers.
  *
  * The caller owns every buffer, before, during and after the call. The library allocates nothing, keeps no pointer
  * and has no state of its own: all that it knows between two calls is in the point. Calls on different points may
@@ -22,65 +28,148 @@ extern "C" {
  * whatever the rule, and one with HAVDRIMS_PARSE_STACK bytes that one too.
  *
  * A length counts the elements of its buffer: bytes, or 64-bit words for a point. A buffer of length 0 is not
- * touched, and its pointer may be null. Words are aligned as uint64_t is.
+ * touched, and its pointer may be null. Words are aligned as uint64_t is. A pointer without a length is never null; each
+ * call says to how many numbers it points.
  *
- * The last two pointers of measure, resume and close, the last of formulas, parse and worst_log, and the last four of status
- * and of simulate each point to a number of the caller's and are never null. Nor are the last two of summary and of tally,
- * each of which points to HAVDRIMS_MOST_FORMULAS numbers: the first of them, as many as there are formulas, are written,
- * number k for formula k, and the others are kept.
- *
- * What a call writes (point, sheet, a rule or log that it makes, the numbers behind its last pointers) shares no byte with
+ * What a call writes (point, sheet, a rule or log that it makes, the numbers behind its pointers) shares no byte with
  * anything else that the call is given. What it only reads may overlap.
+ *
+ * A point's words are the library's own, in the byte order of the machine: save them and hand them back as they are.
+ * docs/FORMATS.md has a form for a file, with a mark and a checksum, which examples/c/week.c writes and reads. A point of
+ * another format, as a library of another version may have written, is refused with 10.
+ */
+
+/*
+ * The bytes of a rule. Numbers wider than a byte are big-endian here and in a log.
+ *
+ *     0 to 2      'K' 'R' 'L'
+ *     3, 4        version: 1 for one formula, 2 for one to eight
+ *     5           number of entries, 0 to 128
+ *     6, 7        0
+ *     8 + 10 * k  entry k: kind (1 byte), letter (1 byte), low (4 bytes), high (4 bytes)
+ *
+ * Kinds: 0 letter, 1 not, 2 or, 3 previous, 4 next, 5 since, 6 until. An operator stands behind its operands, the left one
+ * before the right one. Only a letter uses the letter, 0 to 31; only kinds 3 to 6 use low and high, 0 to 3,600 seconds, where
+ * a high of FF FF FF FF, but not of until, means no upper end. Unused fields are 0. A rule of version 1 without entries says
+ * yes at every position. In version 2 the entries of formula 0 come first, then those of formula 1, and so on: so the
+ * entries of several rules, as havdrims_parse writes them, behind one header of version 2 are a rule with all their
+ * formulas (examples/c/week.c has the code).
+ *
+ * "e0 until[0,2] e1", letter 0 until letter 1, within 0 to 2 seconds:
+ *
+ *     4b 52 4c 00 01 03 00 00        KRL, version 1, 3 entries
+ *     00 00 00 00 00 00 00 00 00 00  letter 0
+ *     00 01 00 00 00 00 00 00 00 00  letter 1
+ *     06 00 00 00 00 00 00 00 00 02  until, 0 to 2 seconds
+ */
+
+/*
+ * The bytes of a log.
+ *
+ *     0 to 2      'K' 'L' 'G'
+ *     3, 4        version, 1 or 2
+ *     5 to 7      0
+ *     8 + 8 * i   record i: time in seconds (4 bytes), event set (4 bytes)
+ *
+ * Letter k stands in a record if the bit worth 2 to the k is set in its event set. No time lies below the one before it; many
+ * may be the same. There are at most HAVDRIMS_MOST_RECORDS records.
  *
  * In a log of version 1 every record is a position. In one of version 2 a record with letter 31 is a service record: no
  * position, skipped by every operator, without a verdict. Positions are numbered from 0 over the other records.
  *
- * The formats of rule, log and sheet are those of docs/FORMATS.md. A point's words are the library's own, in the
- * byte order of the machine: save them and hand them back as they are.
- * A point of another format, as a library of another version may have written, is refused with 10.
+ * Three records, the second of them a service record:
+ *
+ *     4b 4c 47 00 02 00 00 00  KLG, version 2
+ *     00 00 00 0a 00 00 00 01  second 10, letter 0
+ *     00 00 00 0b 80 00 00 00  second 11, service
+ *     00 00 00 0c 00 00 00 03  second 12, letters 0 and 1
  */
 
-/* Why a call is refused. */
+/* Why a call is refused. havdrims_refusal_text, below, says what each means. */
 enum havdrims_refusal {
-    HAVDRIMS_RULE_MARK = 1,       /* the rule is shorter than 8 bytes or lacks its mark */
-    HAVDRIMS_RULE_VERSION = 2,    /* the rule's version is not 1 or 2 */
-                                  /* 3 no longer occurs: a rule without entries says yes at every position */
-    HAVDRIMS_RULE_LENGTH = 4,     /* the count is above 128, a spare byte is not zero, or the length is not
-                                     8 + 10 * count */
-    HAVDRIMS_ENTRY_FIELD = 5,     /* some kind is above 6, some letter above 31, or some unused field not zero */
-    HAVDRIMS_INTERVAL = 6,        /* some low or finite high is above 3,600, some low is above its high, or until has
-                                     no upper end */
-    HAVDRIMS_SHAPE = 7,           /* some entry lacks an operand, or the whole leaves other than one formula (version 1,
-                                     unless the count is 0) or other than one to eight formulas (version 2) */
-    HAVDRIMS_TOO_MANY_WORDS = 8,  /* the need is above 8,192 words */
-    HAVDRIMS_SHORT_POINT = 9,     /* the lent point is shorter than the need */
-    HAVDRIMS_FOREIGN_POINT = 10,  /* the point does not begin as a point of this library with a copy of this rule */
-    HAVDRIMS_POINT_RANGE = 11,    /* a word of the point is outside its range (docs/CHECKPOINT.md); a point that this
-                                     library left never meets this where no record from the first still wanted on was
-                                     altered */
-    HAVDRIMS_LOG_FORMAT = 12,     /* the log is shorter than 8 bytes, its mark or spare bytes are wrong, its version is
-                                     not 1 or 2, its length less 8 is no multiple of 8, or it has more than 1,000,000
-                                     records, service records included */
-    HAVDRIMS_FEWER_RECORDS = 13,  /* the log has fewer records than the point has seen, service records included */
-    HAVDRIMS_TIME_FALLS = 14,     /* some record after the first still wanted has a time below that of the record
-                                     before it, or the first new record's time is below the last time seen; service
-                                     records are records here too */
-    HAVDRIMS_SHEET_BYTE = 15,     /* a sheet given to tally has a byte with a bit beyond the number of formulas, or that
-                                     number is outside 1 to 8 */
-    HAVDRIMS_UNKNOWN_WORD = 16,   /* a word, sign or form of number of a text is unknown, or it has more than 1,024
-                                     bytes */
-    HAVDRIMS_NOT_DERIVED = 17,    /* the grammar does not derive the text */
-    HAVDRIMS_SHORT_RULE = 18,     /* the lent rule buffer is short */
-    HAVDRIMS_LOG_ROOM = 19,       /* the number of records is above 1,000,000, or the lent log buffer is under
-                                     8 + 8 * records bytes */
-    HAVDRIMS_POINT_CLOSED = 20,   /* resume is given a closed point */
-    HAVDRIMS_MORE_RECORDS = 21,   /* closing is repeated with more records than at its first call that was not
-                                     refused, service records included */
-    HAVDRIMS_OTHER_VERSION = 22,  /* the log's version differs from that of the last resume or close with this point that
-                                     was not refused */
-    HAVDRIMS_SETTINGS = 26        /* a setting, the seconds or the seed given to simulate is outside its range, or the
-                                     lent log buffer is short */
+    HAVDRIMS_RULE_MARK = 1,
+    HAVDRIMS_RULE_VERSION = 2,
+    /* 3 no longer occurs: a rule without entries says yes at every position */
+    HAVDRIMS_RULE_LENGTH = 4,
+    HAVDRIMS_ENTRY_FIELD = 5,
+    HAVDRIMS_INTERVAL = 6,
+    HAVDRIMS_SHAPE = 7,
+    HAVDRIMS_TOO_MANY_WORDS = 8,
+    HAVDRIMS_SHORT_POINT = 9,
+    HAVDRIMS_FOREIGN_POINT = 10,
+    HAVDRIMS_POINT_RANGE = 11,
+    HAVDRIMS_LOG_FORMAT = 12,
+    HAVDRIMS_FEWER_RECORDS = 13,
+    HAVDRIMS_TIME_FALLS = 14,
+    HAVDRIMS_SHEET_BYTE = 15,
+    HAVDRIMS_UNKNOWN_WORD = 16,
+    HAVDRIMS_NOT_DERIVED = 17,
+    HAVDRIMS_SHORT_RULE = 18,
+    HAVDRIMS_LOG_ROOM = 19,
+    HAVDRIMS_POINT_CLOSED = 20,
+    HAVDRIMS_MORE_RECORDS = 21,
+    HAVDRIMS_OTHER_VERSION = 22,
+    HAVDRIMS_SETTINGS = 26
 };
+
+/* What a call's result means. Never null, also for a number that this header does not know. */
+static inline const char *havdrims_refusal_text(uint32_t number) {
+    switch (number) {
+    case 0:
+        return "accepted";
+    case HAVDRIMS_RULE_MARK:
+        return "the rule is shorter than 8 bytes or lacks its mark";
+    case HAVDRIMS_RULE_VERSION:
+        return "the rule's version is not 1 or 2";
+    case HAVDRIMS_RULE_LENGTH:
+        return "the count is above 128, a spare byte is not zero, or the length is not 8 + 10 * count";
+    case HAVDRIMS_ENTRY_FIELD:
+        return "some kind is above 6, some letter above 31, or some unused field not zero";
+    case HAVDRIMS_INTERVAL:
+        return "some low or finite high is above 3,600, some low is above its high, or until has no upper end";
+    case HAVDRIMS_SHAPE:
+        return "some entry lacks an operand, or the whole leaves other than one formula (version 1, unless the count is 0) "
+               "or other than one to eight formulas (version 2)";
+    case HAVDRIMS_TOO_MANY_WORDS:
+        return "the need is above 8,192 words";
+    case HAVDRIMS_SHORT_POINT:
+        return "the lent point is shorter than the need";
+    case HAVDRIMS_FOREIGN_POINT:
+        return "the point does not begin as a point of this library with a copy of this rule";
+    /* docs/CHECKPOINT.md has the ranges. A point that this library left never meets this where no record from the first
+       still wanted on was altered. */
+    case HAVDRIMS_POINT_RANGE:
+        return "a word of the point is outside its range";
+    case HAVDRIMS_LOG_FORMAT:
+        return "the log is shorter than 8 bytes, its mark or spare bytes are wrong, its version is not 1 or 2, its length "
+               "less 8 is no multiple of 8, or it has more than 1,000,000 records, service records included";
+    case HAVDRIMS_FEWER_RECORDS:
+        return "the log has fewer records than the point has seen, service records included";
+    case HAVDRIMS_TIME_FALLS:
+        return "some record after the first still wanted has a time below that of the record before it, or the first new "
+               "record's time is below the last time seen, service records included";
+    case HAVDRIMS_SHEET_BYTE:
+        return "a sheet given to tally has a byte with a bit beyond the number of formulas, or that number is outside 1 to 8";
+    case HAVDRIMS_UNKNOWN_WORD:
+        return "a word, sign or form of number of the text is unknown, or it has more than 1,024 bytes";
+    case HAVDRIMS_NOT_DERIVED:
+        return "the grammar does not derive the text";
+    case HAVDRIMS_SHORT_RULE:
+        return "the lent rule buffer is short";
+    case HAVDRIMS_LOG_ROOM:
+        return "the number of records is above 1,000,000, or the lent log buffer is under 8 + 8 * records bytes";
+    case HAVDRIMS_POINT_CLOSED:
+        return "resume is given a closed point";
+    case HAVDRIMS_MORE_RECORDS:
+        return "closing is repeated with more records than at its first call that was not refused, service records included";
+    case HAVDRIMS_OTHER_VERSION:
+        return "the log's version differs from that of the last resume or close with this point that was not refused";
+    case HAVDRIMS_SETTINGS:
+        return "a setting, the seconds or the seed is outside its range, or the lent log buffer is short";
+    default:
+        return "a refusal that this header does not know";
+    }
+}
 
 /* No position of the rule is sure to be answered after any time: the reach of a rule with next. */
 #define HAVDRIMS_NO_REACH UINT64_C(4294967295)
@@ -88,8 +177,11 @@ enum havdrims_refusal {
 /* No position: what havdrims_summary gives as the latest no where there is none. */
 #define HAVDRIMS_NONE UINT64_MAX
 
-/* The most formulas of a rule, and the numbers to which the last two pointers of havdrims_summary and havdrims_tally point. */
+/* The most formulas of a rule. */
 #define HAVDRIMS_MOST_FORMULAS 8
+
+/* The most records of a log, service records included. */
+#define HAVDRIMS_MOST_RECORDS 1000000
 
 /* The most words that a point can need. */
 #define HAVDRIMS_MOST_WORDS 8192
@@ -107,16 +199,18 @@ enum havdrims_refusal {
 /*
  * Weighs a rule of rule_len bytes.
  *
- * *words becomes the number of words that a point of this rule needs, 16 to 8,192. *reach becomes the rule's reach
- * in seconds: a position has its verdict, at the latest, once the log has one more than that much later; or
- * HAVDRIMS_NO_REACH. Of several formulas it is the largest.
+ * words   points to one number, which becomes the number of words that a point of this rule needs, 16 to 8,192.
+ * reach   points to one number, which becomes the rule's reach in seconds: a position has its verdict, at the latest,
+ *         once the log has one more than that much later; or HAVDRIMS_NO_REACH. Of several formulas it is the largest.
  *
  * Refusals: 1 to 8.
  */
 uint32_t havdrims_measure(const uint8_t *rule, size_t rule_len, uint64_t *words, uint64_t *reach);
 
 /*
- * Counts the formulas of a rule: *formulas becomes 1 to 8. A rule of version 1 has one, also where it has no entries.
+ * Counts the formulas of a rule.
+ *
+ * formulas   points to one number, which becomes 1 to 8. A rule of version 1 has one, also where it has no entries.
  *
  * Refusals: 1 to 8.
  */
@@ -144,14 +238,14 @@ uint32_t havdrims_open(const uint8_t *rule, size_t rule_len, uint64_t *point, si
  * point   as open or the last accepted call left it. It becomes the point to carry on from. Words behind the need
  *         are kept.
  * sheet   takes the verdicts. Its bytes behind them are kept. It may be of any length, 0 included.
+ * given   points to one number, which becomes the number of verdicts written.
+ * more    points to one number, which becomes 1 if the log settles further positions, for which the sheet had no room, and
+ *         0 if the point has caught up.
  *
  * The first position still wanted is the number of verdicts given with this point so far, less k, or 0 where it is below
  * k: k is the largest number of previous entries on a path from a formula's last entry to a letter. So a rule without
  * previous wants the positions that have no verdict yet, and no others. The first record still wanted is the one that holds
  * this position, or the record after all seen where none of them holds it. havdrims_status gives it.
- *
- * *given becomes the number of verdicts written. *more becomes 1 if the log settles further positions, for which the
- * sheet had no room, and 0 if the point has caught up.
  *
  * Refusals: 1 to 11, then 20, 12, 22, 13, 14. An accepted call fixes the log's version for those that follow (22), also one
  * that brings no record.
@@ -164,9 +258,10 @@ uint32_t havdrims_resume(const uint8_t *rule, size_t rule_len, const uint8_t *lo
  * Closes the month: says that no record will follow the log. Every remaining position gets its verdict on the log as it
  * ends: an until whose end never came is no, and so is next at the last position.
  *
- * It writes and answers as havdrims_resume does, and is called again where the sheet had no room for all; records before
- * the first still wanted may be overwritten between. The first closing that is not refused closes the point, whatever
- * the length of its sheet: from then on havdrims_resume is refused with 20, and a closing with more records with 21.
+ * Its parameters are those of havdrims_resume, `given` and `more` included, each of which points to one number. It writes and
+ * answers as havdrims_resume does, and is called again where the sheet had no room for all; records before the first still
+ * wanted may be overwritten between. The first closing that is not refused closes the point, whatever the length of its sheet:
+ * from then on havdrims_resume is refused with 20, and a closing with more records with 21.
  *
  * Refusals: 1 to 12, then 22, 13, 21, 14.
  */
@@ -175,10 +270,14 @@ uint32_t havdrims_close(const uint8_t *rule, size_t rule_len, const uint8_t *log
                         uint64_t *given, uint64_t *more);
 
 /*
- * What the point itself knows of the verdicts given with it, all calls together: for each formula k of the rule no[k] becomes
- * the count of its no among them, and latest[k] the position of its latest no, or HAVDRIMS_NONE. They are what
- * havdrims_tally and a scan would give over the verdicts of all calls laid end to end: a position is not the number of its
- * record where service records stand before it. The point is not changed.
+ * What the point itself knows of the verdicts given with it, all calls together: what havdrims_tally and a scan would give over
+ * the verdicts of all calls laid end to end. The point is not changed.
+ *
+ * no       points to HAVDRIMS_MOST_FORMULAS numbers: no[k], for each formula k of the rule, becomes the count of its no among
+ *          these verdicts. The numbers for further formulas are kept.
+ * latest   points to HAVDRIMS_MOST_FORMULAS numbers: latest[k], for each formula k of the rule, becomes the position of its
+ *          latest no, or HAVDRIMS_NONE. The numbers for further formulas are kept. A position is not the number of its record
+ *          where service records stand before it.
  *
  * Refusals: 1 to 11.
  */
@@ -186,10 +285,14 @@ uint32_t havdrims_summary(const uint8_t *rule, size_t rule_len, const uint64_t *
                           uint64_t *no, uint64_t *latest);
 
 /*
- * How far a point has come: *given becomes the number of verdicts given with it, all calls together, *seen the number of
- * records that the last accepted call brought, service records included, *wanted the first record still wanted, as above, a
- * record's number and not a position's: all records before it may be overwritten. *closed becomes 1 if the point is closed
- * and else 0. The point is not changed.
+ * How far a point has come. The point is not changed.
+ *
+ * given    points to one number, which becomes the number of verdicts given with the point, all calls together.
+ * seen     points to one number, which becomes the number of records that the last accepted call brought, service records
+ *          included.
+ * wanted   points to one number, which becomes the first record still wanted, as above, a record's number and not a position's:
+ *          all records before it may be overwritten.
+ * closed   points to one number, which becomes 1 if the point is closed and else 0.
  *
  * Refusals: 1 to 11.
  */
@@ -197,9 +300,13 @@ uint32_t havdrims_status(const uint8_t *rule, size_t rule_len, const uint64_t *p
                          uint64_t *given, uint64_t *seen, uint64_t *wanted, uint64_t *closed);
 
 /*
- * Counts the verdicts of a sheet of sheet_len bytes, for a rule with so many formulas, 1 to 8: for each formula k no[k]
- * becomes the number of bytes in which bit k is 0, yes[k] that of bytes in which it is 1. Give it the verdicts alone, not the
- * rest of the sheet.
+ * Counts the verdicts of a sheet of sheet_len bytes, for a rule with so many formulas, 1 to 8. Give it the verdicts alone, not
+ * the rest of the sheet.
+ *
+ * no    points to HAVDRIMS_MOST_FORMULAS numbers: no[k], for each formula k, becomes the number of bytes in which bit k is 0.
+ *       The numbers for further formulas are kept.
+ * yes   points to HAVDRIMS_MOST_FORMULAS numbers: yes[k], for each formula k, becomes the number of bytes in which bit k is 1.
+ *       The numbers for further formulas are kept.
  *
  * Refusal: 15.
  */
@@ -213,7 +320,7 @@ uint32_t havdrims_tally(const uint8_t *sheet, size_t sheet_len, uint64_t formula
  * then since and until, grouping to the right, then or, grouping to the left; round brackets override. prev, next,
  * since and until carry [low,high] in seconds, inf as high meaning no upper end. docs/FORMATS.md has the grammar.
  *
- * *written becomes the number of bytes written.
+ * written   points to one number, which becomes the number of bytes written.
  *
  * Refusals, in this order: 16, 17, then 4 (more than 128 entries), 6, 8, and 18.
  */
@@ -225,9 +332,8 @@ uint32_t havdrims_parse(const uint8_t *text, size_t text_len, uint8_t *rule, siz
  * open records of any log of `records` records can have: the smaller of `records` and high + 1. Record i has letter 0
  * alone, and as its time the smaller of i and high.
  *
- * log      takes the log, header included. Its bytes behind the log are kept.
- *
- * *written becomes the log's length, 8 + 8 * records bytes.
+ * log       takes the log, header included. Its bytes behind the log are kept.
+ * written   points to one number, which becomes the log's length, 8 + 8 * records bytes.
  *
  * Refusals: 6 for the interval, as of an until in a rule; then 19.
  */
@@ -248,9 +354,12 @@ uint32_t havdrims_worst_log(uint32_t low, uint32_t high, uint64_t records, uint8
  * In the log letter 0 stands in a second that ends with a warm head, letter 1 where a print begins, letter 2 where a
  * customer joins, and letter 3 where a print ends.
  *
- * *written becomes the log's length in bytes, *finished the number of prints that ended, *printing 1 if a print goes
- * on at the end and else 0, *waiting the number of customers whose print has not begun. The last three sum to the
- * customers who joined.
+ * written      points to one number, which becomes the log's length in bytes
+ * finished     points to one number, which becomes the number of prints that ended
+ * printing     points to one number, which becomes 1 if a print goes on at the end and else 0
+ * waiting      points to one number, which becomes the number of customers whose print has not begun
+ *
+ * The last three sum to the customers who joined.
  *
  * Refusal: 26.
  */

@@ -7,8 +7,8 @@
 //! from there: it writes the same bytes again.
 
 use crate::disk::{Disk, Lock};
-use crate::saved::{checksum, Saved, Unreadable};
-use havdrims::{close, measure, open, resume, status, summary, tally, text, Refusal, Status, Summary, Tally};
+use havdrims::save::{checksum, Saved, Unreadable};
+use havdrims::{close, measure, open, resume, status, summary, tally, Log, Refusal, Status, Summary, Tally};
 use std::fmt;
 use std::io::{self, ErrorKind};
 
@@ -170,7 +170,7 @@ pub fn new(disk: &mut impl Disk, number: u64, rule: &[u8]) -> Result<(), Fault> 
     // The names of these files, and the folder's own, before that of the checkpoint, with which the card begins.
     disk.sync_folder().map_err(failed("sync the folder"))?;
     disk.sync_parent().map_err(failed("sync the folder above"))?;
-    let saved = Saved { card: number, rule: checksum(rule), given: 0, sheet: checksum(b""), services: 0, words };
+    let saved = Saved { owner: number, rule: checksum(rule), given: 0, sheet: checksum(b""), services: 0, words };
     write_point(disk, &saved)?;
     disk.rename(NEW_POINT, POINT).map_err(failed("put the point in its place"))?;
     disk.sync_folder().map_err(Fault::MadeUnsure)
@@ -289,7 +289,7 @@ impl<'a, D: Disk> Card<'a, D> {
         let saved = Saved::decode(&read(POINT, "read the file `point`")?).map_err(Fault::PointUnreadable)?;
         let rule = read(RULE, "read the file `rule.krl`")?;
         let mut verdicts = read(SHEET, "read the file `sheet`")?;
-        if saved.card != number {
+        if saved.owner != number {
             return Err(Fault::PointOfAnotherCard);
         }
         if saved.rule != checksum(&rule) {
@@ -345,7 +345,8 @@ impl<'a, D: Disk> Card<'a, D> {
         let summary = summary(&self.rule, &words).map_err(Fault::Refused)?;
         let status = status(&self.rule, &words).map_err(Fault::Refused)?;
         // Only the new records: those seen before were counted, and may be overwritten.
-        let passed_over = text::services(log, self.so_far.status.seen as usize) as u64;
+        let log = Log::new(log).map_err(Fault::Refused)?;
+        let passed_over = log.services(self.so_far.status.seen as usize) as u64;
         let so_far = SoFar { summary, status, services: self.so_far.services + passed_over };
         if so_far.services > status.seen - status.given {
             return Err(Fault::LogAltered);
@@ -361,7 +362,7 @@ impl<'a, D: Disk> Card<'a, D> {
         let before = self.verdicts.len();
         self.verdicts.extend(new);
         let (given, sheet) = (self.verdicts.len() as u64, checksum(&self.verdicts));
-        let saved = Saved { card: self.number, rule: checksum(&self.rule), given, sheet, services, words };
+        let saved = Saved { owner: self.number, rule: checksum(&self.rule), given, sheet, services, words };
         let written = write_sheet(self.disk, before as u64, new).and_then(|()| write_point(self.disk, &saved));
         if written.is_err() {
             // The checkpoint is as it was. What was written besides does not count, and is taken away if that can be.

@@ -2,12 +2,11 @@
 
 use crate::command::Failure;
 use crate::disk::read_file;
-use havdrims::{formulas, measure, parse, simulate, text, worst_log, Refusal, Settings, MOST_FORMULAS, MOST_RULE};
+use havdrims::{formulas, measure, parse, simulate, text, worst_log};
+use havdrims::{Log, Refusal, Settings, MOST_FORMULAS, MOST_RECORDS, MOST_RULE};
 use std::str::FromStr;
 use std::{fs, io};
 
-/// The most records of a log.
-const MOST_RECORDS: usize = 1_000_000;
 /// The most bytes of a log.
 const MOST_LOG: usize = 8 + 8 * MOST_RECORDS;
 
@@ -79,12 +78,13 @@ pub fn to_log(path: &str, log: &str) -> Answer {
     let bytes = fs::read(path).map_err(|fault| Failure::fault(path, fault))?;
     let typed = String::from_utf8(bytes).map_err(|_| Failure::fault(path, "not a text"))?;
     let bytes = text::log_from_text(&typed).map_err(|fault| Failure::Fault(format!("{path}, {fault}")))?;
+    let made = Log::new(&bytes).map_err(|refusal| Failure::fault(path, refusal))?;
     write(log, &bytes)?;
-    let services = match text::services(&bytes, 0) {
+    let services = match made.services(0) {
         0 => String::new(),
         number => format!(", {number} of them service"),
     };
-    Ok(format!("{log}: {} records{services}\n", (bytes.len() - 8) / 8))
+    Ok(format!("{log}: {} records{services}\n", made.len()))
 }
 
 pub fn to_text(path: &str) -> Answer {

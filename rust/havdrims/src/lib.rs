@@ -12,6 +12,9 @@
 //! A version 2 rule has up to eight formulas, which are judged in one run: a verdict is then a byte with an answer, a bit,
 //! for each of them.
 //!
+//! [`Monitor`] keeps a rule and its checkpoint together, and takes a [`Rule`] and a [`Log`], which were looked at once: it is what
+//! most programs want. Beneath it are the calls on slices, for those that lend their own memory.
+//!
 //! The calls: [`measure`] (weigh), [`open`], [`resume`] (carry on), [`close`] at the month's end, [`summary`],
 //! [`status`] and [`tally`]; [`formulas`], which counts those of a rule; [`parse`], which writes a rule that is typed as
 //! text; and [`worst_log`] and [`simulate`], which write logs to try a kiosk or its settings with. Each yields its result
@@ -19,9 +22,12 @@
 //! None of them allocates, and a thread with [`MOST_STACK`] bytes of stack can make every call but `parse`, which takes
 //! [`PARSE_STACK`].
 //!
+//! The crate does without `std`, and without its feature `alloc`, which is on by default, it allocates nothing: then it has the calls
+//! on slices, [`Log`] and [`Refusal`].
+//!
 //! # Example
 //!
-//! Letter 0 until letter 1, within two seconds, over a log that grows:
+//! With the calls on slices: letter 0 until letter 1, within two seconds, over a log that grows:
 //!
 //! ```
 //! use havdrims::{measure, open, parse, resume, summary, tally, Refusal, MOST_RULE};
@@ -56,11 +62,30 @@
 //! # }
 //! ```
 
+#![cfg_attr(not(test), no_std)]
+#![warn(missing_docs)]
+
+#[cfg(feature = "alloc")]
+extern crate alloc;
+
 pub mod ffi;
+mod log;
+#[cfg(feature = "alloc")]
+mod monitor;
 mod refusal;
+#[cfg(feature = "alloc")]
+mod rule;
+#[cfg(feature = "alloc")]
+pub mod save;
+#[cfg(feature = "alloc")]
 pub mod text;
 
+pub use log::{Log, Record, MOST_RECORDS};
+#[cfg(feature = "alloc")]
+pub use monitor::{Answers, LoadError, Monitor, Verdict, Verdicts};
 pub use refusal::Refusal;
+#[cfg(feature = "alloc")]
+pub use rule::Rule;
 
 /// The most bytes of stack that a call other than [`parse`] needs, whatever the rule: measured and tested on x86-64
 /// Linux, not proved.
@@ -74,6 +99,9 @@ pub const MOST_RULE: usize = 1_288;
 
 /// The most formulas of a rule.
 pub const MOST_FORMULAS: usize = 8;
+
+/// The most words that a checkpoint needs.
+pub const MOST_WORDS: usize = 8_192;
 
 /// What a rule needs.
 #[derive(Clone, Copy, Debug, PartialEq, Eq)]
@@ -149,6 +177,14 @@ impl Tally {
 }
 
 /// Reads a rule and gives the words that its checkpoint needs, and its reach. Refusals: 1 to 8.
+///
+/// ```
+/// use havdrims::{measure, Needs, Refusal};
+///
+/// let letter = b"KRL\x00\x01\x01\x00\x00\x00\x05\x00\x00\x00\x00\x00\x00\x00\x00"; // e5
+/// assert_eq!(measure(letter), Ok(Needs { words: 32, reach: Some(0) }));
+/// assert_eq!(measure(&letter[..17]), Err(Refusal::RuleLength));
+/// ```
 pub fn measure(rule: &[u8]) -> Result<Needs, Refusal> {
     let (mut words, mut reach) = (0, 0);
     // SAFETY: the pointers and lengths are those of a slice and of two numbers, none of which overlap.
@@ -159,6 +195,16 @@ pub fn measure(rule: &[u8]) -> Result<Needs, Refusal> {
 }
 
 /// The number of formulas of a rule: 1 to 8, and 1 for version 1, a rule without entries included. Refusals: 1 to 8.
+///
+/// ```
+/// use havdrims::{formulas, Refusal};
+///
+/// let two = b"KRL\x00\x02\x02\x00\x00\
+///     \x00\x05\x00\x00\x00\x00\x00\x00\x00\x00\
+///     \x00\x06\x00\x00\x00\x00\x00\x00\x00\x00"; // e5, and e6
+/// assert_eq!(formulas(two), Ok(2));
+/// assert_eq!(formulas(b"KRL\x00\x02\x00\x00\x00"), Err(Refusal::Shape)); // version 2 with no formula
+/// ```
 pub fn formulas(rule: &[u8]) -> Result<usize, Refusal> {
     let mut number = 0;
     // SAFETY: the pointers and the length are those of a slice and of a number, which do not overlap.
@@ -168,6 +214,18 @@ pub fn formulas(rule: &[u8]) -> Result<usize, Refusal> {
 }
 
 /// Writes a fresh checkpoint for a rule. Words beyond the need are kept. Refusals: 1 to 9.
+///
+/// ```
+/// use havdrims::{open, Refusal};
+///
+/// let empty = b"KRL\x00\x01\x00\x00\x00"; // yes at every position; 16 words
+/// let mut checkpoint = [7; 17];
+/// assert_eq!(open(empty, &mut checkpoint[..15]), Err(Refusal::ShortPoint));
+/// assert_eq!(checkpoint, [7; 17]);
+/// open(empty, &mut checkpoint)?;
+/// assert_eq!(checkpoint[16], 7);
+/// # Ok::<(), Refusal>(())
+/// ```
 pub fn open(rule: &[u8], checkpoint: &mut [u64]) -> Result<(), Refusal> {
     // SAFETY: the pointers and lengths are those of two slices, the second of them borrowed for this call alone.
     let number = unsafe { ffi::havdrims_open(rule.as_ptr(), rule.len(), checkpoint.as_mut_ptr(), checkpoint.len()) };
@@ -286,6 +344,19 @@ fn carry_on(
 /// For each formula, the count of no among all verdicts given with a checkpoint, and the position of the latest (not its
 /// record, where service records stand before it): what [`tally`] and a scan would give over all of them, laid end to end,
 /// without the sheets. Refusals: 1 to 11.
+///
+/// ```
+/// use havdrims::{open, resume, summary, text, Refusal, Rule};
+///
+/// let rule: Rule = "not e0".parse()?;
+/// let mut checkpoint = vec![0; rule.needs().words];
+/// open(rule.as_bytes(), &mut checkpoint)?;
+/// let log = text::log_from_text("10 none\n11 e0\n12 e0\n13 none\n").unwrap();
+/// resume(rule.as_bytes(), &log, &mut checkpoint, &mut [0; 8])?;
+/// let so_far = summary(rule.as_bytes(), &checkpoint)?;
+/// assert_eq!((so_far.no(), so_far.latest()), (&[2][..], &[Some(2)][..]));
+/// # Ok::<(), Refusal>(())
+/// ```
 pub fn summary(rule: &[u8], checkpoint: &[u64]) -> Result<Summary, Refusal> {
     // No count is so large: what is written, one number for each formula, is told from what is not.
     let (mut no, mut latest) = ([u64::MAX; MOST_FORMULAS], [u64::MAX; MOST_FORMULAS]);
@@ -301,6 +372,19 @@ pub fn summary(rule: &[u8], checkpoint: &[u64]) -> Result<Summary, Refusal> {
 }
 
 /// How far a checkpoint has come, and from which record on it still wants the log. Refusals: 1 to 11.
+///
+/// ```
+/// use havdrims::{open, resume, status, text, Refusal, Rule, Status};
+///
+/// let rule: Rule = "e0 until[0,2] e1".parse()?;
+/// let mut checkpoint = vec![0; rule.needs().words];
+/// open(rule.as_bytes(), &mut checkpoint)?;
+/// let log = text::log_from_text("10 e0\n13 e0\n14 e0\n").unwrap();
+/// resume(rule.as_bytes(), &log, &mut checkpoint, &mut [0; 8])?;
+/// let now = status(rule.as_bytes(), &checkpoint)?;
+/// assert_eq!(now, Status { given: 1, seen: 3, wanted: 1, closed: false }); // record 0 may be overwritten
+/// # Ok::<(), Refusal>(())
+/// ```
 pub fn status(rule: &[u8], checkpoint: &[u64]) -> Result<Status, Refusal> {
     let (mut given, mut seen, mut wanted, mut closed) = (0, 0, 0, 0);
     // SAFETY: the pointers and lengths are those of two slices and of four numbers. The numbers overlap nothing.
@@ -370,6 +454,15 @@ pub fn parse(text: &[u8], rule: &mut [u8]) -> Result<usize, Refusal> {
 /// within `low` to `high` seconds": none of them is settled, and they have as many distinct times as the open records
 /// of such a log can have, the smaller of `records` and `high` + 1. Gives the log's length, 8 + 8 × `records` bytes;
 /// the bytes behind are kept. Refusals: 6 for the interval, and 19.
+///
+/// ```
+/// use havdrims::{text, worst_log, Refusal};
+///
+/// let mut log = [0; 32];
+/// assert_eq!(worst_log(0, 1, 3, &mut log), Ok(32));
+/// assert_eq!(text::log_to_text(&log).unwrap(), "0 e0\n1 e0\n1 e0\n");
+/// assert_eq!(worst_log(0, 1, 4, &mut log), Err(Refusal::LogRoom));
+/// ```
 pub fn worst_log(low: u32, high: u32, records: u64, log: &mut [u8]) -> Result<usize, Refusal> {
     let mut written = 0;
     // SAFETY: the pointers and the length are those of a slice and of a number, which do not overlap.

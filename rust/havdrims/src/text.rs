@@ -21,50 +21,123 @@
 //! 11 service
 //! ```
 
-use crate::{measure, Refusal};
-use std::fmt::Write;
+use crate::log::{be32, HEADERS, SERVICE};
+use crate::{measure, Log, Refusal, MOST_RECORDS};
+use alloc::format;
+use alloc::string::{String, ToString};
+use alloc::vec::Vec;
+use core::error::Error;
+use core::fmt::{self, Write};
+use core::num::ParseIntError;
 
-/// The header of a log, by its version less 1.
-const LOG_HEADERS: [[u8; 8]; 2] = [*b"KLG\x00\x01\x00\x00\x00", *b"KLG\x00\x02\x00\x00\x00"];
 /// The header of a version 2 rule, but for its number of entries.
 const RULE_HEADER: [u8; 8] = *b"KRL\x00\x02\x00\x00\x00";
-const MOST_RECORDS: usize = 1_000_000;
 const NO_END: u32 = u32::MAX;
-/// The letter of a service record, from version 2 on.
-const SERVICE: u32 = 31;
 
 /// What [`formula`] shows of a rule without entries.
 pub const EMPTY: &str = "empty: every position is yes";
 
+/// What is wrong with a text that should say a log, and where.
+#[derive(Clone, Debug, PartialEq, Eq)]
+pub struct TextError {
+    /// Its line, counted from 1.
+    pub line: usize,
+    /// What is wrong there.
+    pub fault: TextFault,
+}
+
+/// What is wrong with a line.
+#[derive(Clone, Debug, PartialEq, Eq)]
+#[non_exhaustive]
+pub enum TextFault {
+    /// A second version, or one behind a record.
+    VersionPlace,
+    /// A version that is not 1 or 2.
+    Version,
+    /// A first word that is no number of seconds.
+    Seconds {
+        /// The word.
+        word: String,
+        /// Why it is none.
+        source: ParseIntError,
+    },
+    /// A word that is no letter.
+    Letter {
+        /// The word.
+        word: String,
+    },
+    /// A service record in a log of version 1.
+    Service,
+    /// A time below the one before it.
+    Falls {
+        /// The time in this line.
+        time: u32,
+        /// That of the record before.
+        before: u32,
+    },
+    /// More than [`MOST_RECORDS`] records.
+    TooMany,
+}
+
+impl fmt::Display for TextError {
+    fn fmt(&self, f: &mut fmt::Formatter<'_>) -> fmt::Result {
+        write!(f, "line {}: ", self.line)?;
+        match &self.fault {
+            TextFault::VersionPlace => write!(f, "the version stands once, before the first record"),
+            TextFault::Version => write!(f, "a log's version is 1 or 2"),
+            TextFault::Seconds { word, .. } => write!(f, "`{word}` is no number of seconds up to 4294967295"),
+            TextFault::Letter { word } => write!(f, "`{word}` is no letter: letters are e0 to e31"),
+            TextFault::Service => write!(f, "`service` needs the line `version 2` before the first record"),
+            TextFault::Falls { time, before } => write!(f, "second {time} comes after second {before}"),
+            TextFault::TooMany => write!(f, "a log has at most 1,000,000 records"),
+        }
+    }
+}
+
+impl Error for TextError {
+    fn source(&self) -> Option<&(dyn Error + 'static)> {
+        match &self.fault {
+            TextFault::Seconds { source, .. } => Some(source),
+            _ => None,
+        }
+    }
+}
+
 /// The bytes of the log that the text describes, or what is wrong and in which line.
 ///
 /// ```
-/// let log = havdrims::text::log_from_text("10 e0\n11 none\n").unwrap();
+/// use havdrims::text::{log_from_text, TextFault};
+///
+/// let log = log_from_text("10 e0\n11 none\n").unwrap();
 /// assert_eq!(log, *b"KLG\x00\x01\x00\x00\x00\x00\x00\x00\x0A\x00\x00\x00\x01\x00\x00\x00\x0B\x00\x00\x00\x00");
+///
+/// let wrong = log_from_text("10 e0\n9 none\n").unwrap_err();
+/// assert_eq!((wrong.line, &wrong.fault), (2, &TextFault::Falls { time: 9, before: 10 }));
+/// assert_eq!(wrong.to_string(), "line 2: second 9 comes after second 10");
 /// ```
-pub fn log_from_text(text: &str) -> Result<Vec<u8>, String> {
-    let mut log = LOG_HEADERS[0].to_vec();
+pub fn log_from_text(text: &str) -> Result<Vec<u8>, TextError> {
+    let mut log = HEADERS[0].to_vec();
     let (mut before, mut versions) = (0, 0);
     for (at, line) in text.lines().enumerate() {
         let words: Vec<&str> = line.split('#').next().unwrap_or("").split_whitespace().collect();
         let Some((&first, words)) = words.split_first() else { continue };
-        let faulty = |fault: String| format!("line {}: {fault}", at + 1);
+        let faulty = |fault: TextFault| TextError { line: at + 1, fault };
         if first == "version" {
             if log.len() > 8 || versions > 0 {
-                return Err(faulty("the version stands once, before the first record".to_string()));
+                return Err(faulty(TextFault::VersionPlace));
             }
             versions += 1;
-            log = header(words).ok_or_else(|| faulty("a log's version is 1 or 2".to_string()))?.to_vec();
+            log = header(words).ok_or_else(|| faulty(TextFault::Version))?.to_vec();
             continue;
         }
-        let services = log.starts_with(&LOG_HEADERS[1]);
+        let services = log.starts_with(&HEADERS[1]);
         let (time, letters) = record(first, words, services).map_err(faulty)?;
         if time < before {
-            return Err(faulty(format!("second {time} comes after second {before}")));
+            return Err(faulty(TextFault::Falls { time, before }));
         }
         before = time;
         if log.len() == 8 + 8 * MOST_RECORDS {
-            return Err(faulty("a log has at most 1,000,000 records".to_string()));
+            return Err(faulty(TextFault::TooMany));
         }
         log.extend(time.to_be_bytes());
         log.extend(letters.to_be_bytes());
@@ -75,24 +148,24 @@ pub fn log_from_text(text: &str) -> Result<Vec<u8>, String> {
 /// The header of the version that these words say.
 fn header(words: &[&str]) -> Option<[u8; 8]> {
     match words {
-        ["1"] => Some(LOG_HEADERS[0]),
-        ["2"] => Some(LOG_HEADERS[1]),
+        ["1"] => Some(HEADERS[0]),
+        ["2"] => Some(HEADERS[1]),
         _ => None,
     }
 }
 
 /// A record's time and event set, in a log that has service records or not.
-fn record(seconds: &str, words: &[&str], services: bool) -> Result<(u32, u32), String> {
-    let time = seconds.parse().map_err(|_| format!("`{seconds}` is no number of seconds up to 4294967295"))?;
+fn record(seconds: &str, words: &[&str], services: bool) -> Result<(u32, u32), TextFault> {
+    let time = seconds.parse().map_err(|source| TextFault::Seconds { word: seconds.to_string(), source })?;
     let mut letters = 0;
     for &word in words.iter().filter(|&&word| word != "none") {
         let number: u32 = match word {
             "service" if services => SERVICE,
-            "service" => return Err("`service` needs the line `version 2` before the first record".to_string()),
+            "service" => return Err(TextFault::Service),
             _ => word.strip_prefix('e').unwrap_or(word).parse().unwrap_or(32),
         };
         if number > 31 {
-            return Err(format!("`{word}` is no letter: letters are e0 to e31"));
+            return Err(TextFault::Letter { word: word.to_string() });
         }
         letters |= 1 << number;
     }
@@ -100,44 +173,28 @@ fn record(seconds: &str, words: &[&str], services: bool) -> Result<(u32, u32), S
 }
 
 /// A log as text, or refusal 12.
+///
+/// ```
+/// use havdrims::text::log_to_text;
+///
+/// let log = b"KLG\x00\x02\x00\x00\x00\x00\x00\x00\x0A\x00\x00\x00\x03\x00\x00\x00\x0B\x80\x00\x00\x00";
+/// assert_eq!(log_to_text(log).unwrap(), "version 2\n10 e0 e1\n11 service\n");
+/// ```
 pub fn log_to_text(log: &[u8]) -> Result<String, Refusal> {
-    let version = LOG_HEADERS.iter().position(|header| log.starts_with(header)).ok_or(Refusal::LogFormat)?;
-    let (services, records) = (version == 1, &log[8..]);
-    if records.len() % 8 != 0 || records.len() > 8 * MOST_RECORDS {
-        return Err(Refusal::LogFormat);
-    }
+    let log = Log::new(log)?;
+    let services = log.version() == 2;
     let mut text = String::from(if services { "version 2\n" } else { "" });
-    for record in records.chunks_exact(8) {
-        let (time, letters) = (be32(record), be32(&record[4..]));
-        let _ = write!(text, "{time}");
-        for letter in (0..32).filter(|letter| letters >> letter & 1 == 1) {
+    for record in log.records() {
+        let _ = write!(text, "{}", record.seconds);
+        for letter in (0..32).filter(|letter| record.letters >> letter & 1 == 1) {
             let _ = match letter {
                 SERVICE if services => write!(text, " service"),
                 _ => write!(text, " e{letter}"),
             };
         }
-        text.push_str(if letters == 0 { " none\n" } else { "\n" });
+        text.push_str(if record.letters == 0 { " none\n" } else { "\n" });
     }
     Ok(text)
-}
-
-/// How many of a log's records from this one on are service records: none in a log of version 1.
-///
-/// ```
-/// use havdrims::text::{log_from_text, services};
-///
-/// let log = log_from_text("version 2\n10 service\n11 e0\n12 e0 service\n").unwrap();
-/// assert_eq!((services(&log, 0), services(&log, 1)), (2, 1));
-/// let log = log_from_text("10 e31\n").unwrap();
-/// assert_eq!(services(&log, 0), 0);
-/// ```
-pub fn services(log: &[u8], from: usize) -> usize {
-    let records = log.strip_prefix(&LOG_HEADERS[1]).unwrap_or_default().chunks_exact(8);
-    records.skip(from).filter(|record| be32(&record[4..]) >> SERVICE & 1 == 1).count()
-}
-
-fn be32(bytes: &[u8]) -> u32 {
-    u32::from_be_bytes([bytes[0], bytes[1], bytes[2], bytes[3]])
 }
 
 /// How tightly a formula binds: or, then since and until, then the words with one operand, then a letter.

@@ -3,8 +3,8 @@
 use evaluator::random::{self, LogShape, Random, RuleShape};
 use evaluator::rule::{self, Entry, NEXT, NO_END, PREVIOUS, SINCE, UNTIL};
 use evaluator::{cases, log};
-use havdrims::text::{formula, joined, log_from_text, log_to_text, services, EMPTY};
-use havdrims::{parse, Refusal, MOST_RULE};
+use havdrims::text::{formula, joined, log_from_text, log_to_text, EMPTY};
+use havdrims::{parse, Log, Refusal, MOST_RULE};
 
 const P1: &str = "10 e0\n11 e0\n11 none\n12 e0\n13 e1\n20 e0\n";
 
@@ -25,7 +25,7 @@ fn other_ways_to_type_a_log() {
 
 #[test]
 fn faults_name_their_line() {
-    let fault = |text: &str| log_from_text(text).unwrap_err();
+    let fault = |text: &str| log_from_text(text).unwrap_err().to_string();
     assert_eq!(fault("1 e0\nx e0\n"), "line 2: `x` is no number of seconds up to 4294967295");
     assert!(fault("4294967296 e0").starts_with("line 1: `4294967296`"));
     assert!(fault("-1 e0").starts_with("line 1: `-1`"));
@@ -53,7 +53,8 @@ fn logs_of_version_2() {
     assert_eq!(file[..8], *b"KLG\x00\x02\x00\x00\x00");
     assert_eq!(file[16..32], [0, 0, 0, 10, 128, 0, 0, 0, 0, 0, 0, 11, 128, 0, 0, 9]);
     assert_eq!(log_to_text(&file).unwrap(), SERVED);
-    assert_eq!((services(&file, 0), services(&file, 2), services(&file, 3), services(&file, 9)), (2, 1, 0, 0));
+    let services = |from| Log::new(&file).unwrap().services(from);
+    assert_eq!((services(0), services(2), services(3), services(9)), (2, 1, 0, 0));
     // other ways to type it; letter 31 by its name too
     let typed = "\n# the visit\n version  2 # of the log\n10 0\n10 31\n11 service 3 service e0\n12\n";
     assert_eq!(log_from_text(typed).unwrap(), file);
@@ -62,13 +63,13 @@ fn logs_of_version_2() {
     let first = log_from_text(&plain).unwrap();
     assert_eq!((&first[..5], &first[8..]), (&b"KLG\x00\x01"[..], &file[8..]));
     assert_eq!(log_to_text(&first).unwrap(), plain.replace("version 1\n", ""));
-    assert_eq!(services(&first, 0), 0);
+    assert_eq!(Log::new(&first).unwrap().services(0), 0);
     assert_eq!(log_to_text(&log_from_text("version 2").unwrap()).unwrap(), "version 2\n");
 }
 
 #[test]
 fn faults_of_a_version() {
-    let fault = |text: &str| log_from_text(text).unwrap_err();
+    let fault = |text: &str| log_from_text(text).unwrap_err().to_string();
     assert_eq!(fault("1 e0\n2 service\n"), "line 2: `service` needs the line `version 2` before the first record");
     assert!(fault("version 1\n2 service\n").starts_with("line 2: `service` needs"));
     for text in ["1 e0\nversion 2\n", "version 2\nversion 2\n"] {

@@ -1,7 +1,7 @@
 //! What can go wrong, each with its words, exit status 1, and the card unchanged.
 
 use crate::{contents, ended, Place, RULE};
-use cli::saved::{checksum, Saved};
+use havdrims::save::{checksum, Saved};
 use havdrims::Refusal;
 use std::fs::{self, File, Permissions};
 use std::io::{self, ErrorKind};
