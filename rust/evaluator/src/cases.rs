@@ -541,6 +541,7 @@ pub fn lists() -> Vec<List> {
         resume(1).wanted(1),
         resume(1).of_version(1).refused(22),
         resume(1).of_version(3).refused(12),
+        resume(1).of_version(0).refused(12),
         resume(0).of_version(1).refused(22),
         resume(0).refused(13),
         resume(4),
@@ -573,8 +574,12 @@ pub fn lists() -> Vec<List> {
     let alone = records(&[(5, &[31]), (6, TEST_PRINT), (6, &[31])]);
     let nothing_but_service =
         [resume(2).wanted(2), resume(3).with_record(2, 5, 1 << 31).refused(14), resume(3).wanted(3), close(3)];
-    let none_then_version_1 =
-        [resume(0), resume(3).of_version(2).refused(22), resume(3).gives(&[0, 0, 0]).wanted(3).no(3, 2)];
+    let none_then_version_1 = [
+        resume(0),
+        resume(3).of_version(2).refused(22),
+        resume(3).of_version(3).refused(12),
+        resume(3).gives(&[0, 0, 0]).wanted(3).no(3, 2),
+    ];
     let none_then_version_2 = [close(0).sheet(0), close(0).of_version(1).refused(22), close(0)];
     // The neighbour of the second position stands before two service records.
     let looking_back = records(&[(1, &[0]), (2, &[31]), (2, TEST_PRINT), (3, &[0]), (4, &[31]), (5, &[])]);
