@@ -5,8 +5,9 @@ use mathlib.Core.List.{List, _++_}
 use native.Mathlib.Omega.{arith}
 use lib.ListN.{length, getD, length-append}
 use Rattle.bits.specs.Packed.{bit}
-use Rattle.report.specs.Report.{ascii, decimal, first-line, word, words, line, lines}
-use Rattle.report.proofs.Decimals.{four-digits}
+use Rattle.decimal.specs.Text.{ascii, decimal, word}
+use Rattle.report.specs.Report.{first-line, words, line, lines}
+use Rattle.decimal.proofs.Decimals.{four-digits}
 
 pub short-first-line : (given records : ℕ) → given < 10000 → records < 10000 → length (first-line given records) ≤ 22
 unfolding ascii

@@ -13,7 +13,8 @@ use Rattle.rule.specs.Refusal.{header-refusal, entries-refusal}
 use Rattle.trace.specs.Positions.{passing, spot, positions}
 use Rattle.verdicts.specs.Bytes.{byte-of}
 use Rattle.emit.specs.Verdicts.{verdicts}
-use Rattle.report.specs.Report.{ascii, decimal-in, decimal, words, lines, report}
+use Rattle.decimal.specs.Text.{ascii, decimal-in, decimal}
+use Rattle.report.specs.Report.{words, lines, report}
 
 -- "Rule: letter 0, letter 1, until 0 to 2; 38 bytes"
 abbrev pub rule : List ℕ

@@ -1,32 +1,15 @@
 -- The text that the program prints (document 01, "A full run"), from the bytes of a rule and of a log alone.
-use Prim.Native.Nat.{ℕ, zero, suc, _+_, _/_, _%_}
-use Prim.Native.Char.{code}
-use Prim.Native.String.{String}
-use Prim.Native.String.{[] as no-more, _∷_ as _then_}
+use Prim.Native.Nat.{ℕ, zero, suc}
 use mathlib.Core.Bool.{Bool, false, cond, _||_}
-use mathlib.Core.Path.{_≡_}
-use mathlib.Core.List.{List, [], _∷_, _++_}
-use lib.ListN.{length, getD, take, drop}
+use mathlib.Core.List.{List, [], _++_}
+use lib.ListN.{length, getD}
 use lib.Dec.{ltb, eqb}
 use Rattle.bits.specs.Packed.{bit}
 use Rattle.rule.specs.Refusal.{first, before, refusal}
 use Rattle.trace.specs.Format.{record-count, records-of, malformed}
 use Rattle.trace.specs.Order.{disordered}
+use Rattle.decimal.specs.Text.{ascii, decimal, word}
 use Rattle.emit.specs.Verdicts.{formulas-of, columns, all-verdicts}
-
--- the bytes of a text; every character here is ASCII, one byte
-unfoldable pub ascii : String → List ℕ
-ascii no-more = []
-ascii (c then s) = code c ∷ ascii s
-
--- a number in decimal, in at most so many places: the digits of its tenth, where it has one, and its last digit
-unfoldable pub decimal-in : (places n : ℕ) → List ℕ
-decimal-in zero n = []
-decimal-in (suc k) n = cond (ltb n 10) [] (decimal-in k (n / 10)) ++ ((48 + n % 10) ∷ [])
-
--- n + 1 places are enough for n
-abbrev pub decimal : ℕ → List ℕ
-decimal n = decimal-in (suc n) n
 
 -- "A refusal prints `refused` and its number."
 abbrev pub refused-text : ℕ → List ℕ
@@ -35,10 +18,6 @@ refused-text number = ascii "refused " ++ decimal number ++ ascii "\n"
 -- "The first line has verdicts given and records": service records, too (document 02, paper 10)
 abbrev pub first-line : (given records : ℕ) → List ℕ
 first-line given records = ascii "verdicts " ++ decimal given ++ ascii " of " ++ decimal records ++ ascii "\n"
-
--- one space, and yes or no
-abbrev pub word : (holds : Bool) → List ℕ
-word holds = cond holds (ascii " yes") (ascii " no")
 
 -- "the words on a printed line become one per formula": those of the first n bits of a verdict, "in rule order from 0"
 unfoldable pub words : (verdict n : ℕ) → List ℕ
@@ -75,9 +54,3 @@ run-text rule log =
 
 abbrev pub report : (rule log : List ℕ) → List ℕ
 report rule log = cond (too-long rule log) (ascii "too long\n") (run-text rule log)
-
--- a call that writes bytes into a lent text from one place on, and gives the place behind them: "the bytes behind what a call
--- writes are kept", and so are those before
-pub record Writes (text : List ℕ) (from : ℕ) (bytes : List ℕ) (to : ℕ) (text′ : List ℕ) : Type 0 where
-  pub ends : to ≡ from + length bytes
-  pub content : text′ ≡ take from text ++ bytes ++ drop to text

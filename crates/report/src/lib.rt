@@ -4,7 +4,8 @@ ghost use Prim.Native.Nat.{_+_, _*_, _≤_, _<_};
 ghost use lib.ListN.{length};
 ghost use Rattle.rule.specs.Refusal.{refusal};
 ghost use Rattle.emit.specs.Verdicts.{formulas-of, columns};
-ghost use Rattle.report.specs.Report.{decimal, refused-text, first-line, word, words, line, lines, too-long, report as Report·report, Writes};
+ghost use Rattle.decimal.specs.Text.{Writes};
+ghost use Rattle.report.specs.Report.{refused-text, first-line, words, line, lines, too-long, report as Report·report};
 use monitor::FormulaCount;
 use monitor::Opened;
 use monitor::Resumed;
@@ -16,37 +17,14 @@ fn is_too_long(rule: &[u8], log: &[u8]) -> bool
     (65536 < rule.len()) | (65536 < log.len())
 }
 
-// Writes bytes into the text from `at` on, and gives where they end.
-fn put(bytes: &[u8], text: &mut [u8], at: usize) -> usize
-    requires { ⌜ at + length (now bytes) ≤ length (now text) ⌝ }
-    ensures { λ r. ⌜ Writes (now (text .entry)) at (now (bytes .entry)) r (now (text .exit)) ⌝ }
-{
-    let mut i: usize = 0;
-    while i < bytes.len() {
-        text[at + i] = bytes[i];
-        i += 1;
-    }
-    at + bytes.len()
-}
-
-// A number in decimal.
-fn put_number(n: usize, text: &mut [u8], at: usize) -> usize
-    requires { ⌜ at + length (decimal n) ≤ length (now text) ⌝ }
-    ensures { λ r. ⌜ Writes (now (text .entry)) at (decimal n) r (now (text .exit)) ⌝ }
-{
-    let mut digits = [0u8; 20];
-    let count = io::decimal(n as u64, &mut digits);
-    put(&digits[..count], text, at)
-}
-
 // `refused` and the number.
 fn put_refused(number: u32, text: &mut [u8]) -> usize
     requires { ⌜ 19 ≤ length (now text) ⌝ }
     ensures { λ r. ⌜ Writes (now (text .entry)) 0 (refused-text number) r (now (text .exit)) ⌝ }
 {
-    let word = put(b"refused ", text, 0);
-    let at = put_number(number as usize, text, word);
-    put(b"\n", text, at)
+    let word = decimal::put(b"refused ", text, 0);
+    let at = decimal::put_number(number as usize, text, word);
+    decimal::put(b"\n", text, at)
 }
 
 // The first line: verdicts given and records, each of four digits at most.
@@ -54,23 +32,11 @@ fn put_counts(given: usize, records: usize, text: &mut [u8]) -> usize
     requires { ⌜ (given < 10000) × (records < 10000) × (22 ≤ length (now text)) ⌝ }
     ensures { λ r. ⌜ Writes (now (text .entry)) 0 (first-line given records) r (now (text .exit)) ⌝ }
 {
-    let verdicts = put(b"verdicts ", text, 0);
-    let first = put_number(given, text, verdicts);
-    let of = put(b" of ", text, first);
-    let second = put_number(records, text, of);
-    put(b"\n", text, second)
-}
-
-// One space, and yes or no.
-fn put_word(holds: bool, text: &mut [u8], at: usize) -> usize
-    requires { ⌜ at + 4 ≤ length (now text) ⌝ }
-    ensures { λ r. ⌜ Writes (now (text .entry)) at (word holds) r (now (text .exit)) ⌝ }
-{
-    if holds {
-        put(b" yes", text, at)
-    } else {
-        put(b" no", text, at)
-    }
+    let verdicts = decimal::put(b"verdicts ", text, 0);
+    let first = decimal::put_number(given, text, verdicts);
+    let of = decimal::put(b" of ", text, first);
+    let second = decimal::put_number(records, text, of);
+    decimal::put(b"\n", text, second)
 }
 
 // The word of each formula, in rule order.
@@ -82,7 +48,7 @@ fn put_words(verdict: u8, columns: usize, text: &mut [u8], from: usize) -> usize
     let mut left = columns;
     while 0 < left {
         let k = columns - left;
-        at = put_word(bits::test(verdict as u64, k as u64), text, at);
+        at = decimal::put_word(bits::test(verdict as u64, k as u64), text, at);
         left -= 1;
     }
     at
@@ -93,9 +59,9 @@ fn put_line(position: usize, columns: usize, verdict: u8, text: &mut [u8], at: u
     requires { ⌜ (position < 10000) × (columns ≤ 8) × (at + 37 ≤ length (now text)) ⌝ }
     ensures { λ r. ⌜ Writes (now (text .entry)) at (line position columns verdict) r (now (text .exit)) ⌝ }
 {
-    let first = put_number(position, text, at);
+    let first = decimal::put_number(position, text, at);
     let behind = put_words(verdict, columns, text, first);
-    put(b"\n", text, behind)
+    decimal::put(b"\n", text, behind)
 }
 
 // A line for each verdict.
@@ -129,7 +95,7 @@ pub fn report(rule: &[u8], log: &[u8], text: &mut [u8; 303089]) -> usize
     ensures { λ r. ⌜ Writes (now (text .entry)) 0 (Report·report (now (rule .entry)) (now (log .entry))) r (now (text .exit)) ⌝ }
 {
     if is_too_long(rule, log) {
-        return put(b"too long\n", text, 0);
+        return decimal::put(b"too long\n", text, 0);
     }
     let mut point = [0u64; 8192];
     let opened = monitor::open(rule, &mut point);

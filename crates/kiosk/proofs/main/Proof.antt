@@ -6,7 +6,7 @@ use mathlib.Core.Path.{sym, ap}
 use mathlib.Core.List.{List, _++_}
 use lib.ListN.{length, take, drop, length-append}
 use lib.Seq.{length-take-le}
-use Rattle.report.specs.Report.{Writes}
+use Rattle.decimal.specs.Text.{Writes}
 use Rattle.kiosk.proofs.main.Statement.{statement}
 use Rattle.kiosk.proofs.main.Tie as tie
 

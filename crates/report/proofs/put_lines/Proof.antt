@@ -3,8 +3,9 @@ use Prim.Native.Nat.{ℕ, suc, _+_, _-_, _≤_}
 use mathlib.Core.Path.{_≡_, refl, _∙_, subst}
 use native.Mathlib.Omega.{arith}
 use lib.ListN.{length}
-use Rattle.report.specs.Report.{lines, Writes}
-use Rattle.report.proofs.Texts.{writes-none, writes-more}
+use Rattle.decimal.specs.Text.{Writes}
+use Rattle.report.specs.Report.{lines}
+use Rattle.decimal.proofs.Texts.{writes-none, writes-more}
 use Rattle.report.proofs.Lines.{short-lines}
 use Rattle.report.proofs.put_lines.Statement.{statement}
 use Rattle.report.proofs.put_lines.Tie as tie

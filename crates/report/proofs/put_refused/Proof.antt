@@ -3,9 +3,9 @@ use borrow.Author.Needs.{needs}
 use Prim.Native.Nat.{_+_, _≤_}
 use native.Mathlib.Omega.{arith}
 use lib.ListN.{length}
-use Rattle.report.specs.Report.{ascii, decimal}
-use Rattle.report.proofs.Texts.{writes-more}
-use Rattle.report.proofs.Decimals.{ten-digits}
+use Rattle.decimal.specs.Text.{ascii, decimal}
+use Rattle.decimal.proofs.Texts.{writes-more}
+use Rattle.decimal.proofs.Decimals.{ten-digits}
 use Rattle.report.proofs.put_refused.Statement.{statement}
 use Rattle.report.proofs.put_refused.Tie as tie
 

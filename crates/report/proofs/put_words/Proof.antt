@@ -3,8 +3,9 @@ use Prim.Native.Nat.{ℕ, suc, _+_, _-_, _≤_}
 use mathlib.Core.Path.{_≡_, refl, sym, _∙_, subst}
 use native.Mathlib.Omega.{arith}
 use lib.ListN.{length}
-use Rattle.report.specs.Report.{words, Writes}
-use Rattle.report.proofs.Texts.{writes-none, writes-more}
+use Rattle.decimal.specs.Text.{Writes}
+use Rattle.report.specs.Report.{words}
+use Rattle.decimal.proofs.Texts.{writes-none, writes-more}
 use Rattle.report.proofs.Lines.{short-words}
 use Rattle.report.proofs.put_words.Statement.{statement}
 use Rattle.report.proofs.put_words.Tie as tie

@@ -9,8 +9,9 @@ use lib.ListN.{length, take}
 use lib.Seq.{length-take-le}
 use Rattle.trace.specs.Format.{record-count, records-of}
 use Rattle.emit.specs.Verdicts.{formulas-of, columns}
-use Rattle.report.specs.Report.{ascii, first-line, lines, too-long, Writes}
-use Rattle.report.proofs.Texts.{writes-more}
+use Rattle.decimal.specs.Text.{ascii, Writes}
+use Rattle.report.specs.Report.{first-line, lines, too-long}
+use Rattle.decimal.proofs.Texts.{writes-more}
 use Rattle.report.proofs.Lines.{short-first-line}
 use Rattle.report.proofs.Runs.{Ran, eight-columns, not-opened, not-resumed, resumed}
 use Rattle.report.proofs.report.Statement.{statement}

@@ -9,7 +9,7 @@ use lib.ListN.{length, take, length-append}
 use borrow.Author.Tests.{lt-ltb, le-ltb}
 use Rattle.io.specs.Digits.{glyph, digits, Fewest}
 use Rattle.mtl.proofs.Bounded.{le-or-lt}
-use Rattle.report.specs.Report.{decimal-in, decimal}
+use Rattle.decimal.specs.Text.{decimal-in, decimal}
 
 -- a number of one digit, and one of more
 one-digit : (k n : ℕ) → n < 10 → decimal-in (suc k) n ≡ (48 + n % 10) ∷ []

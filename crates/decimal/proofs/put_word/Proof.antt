@@ -1,8 +1,8 @@
--- `report::put_word` meets its contract: each way writes its word.
+-- `decimal::put_word` meets its contract: each way writes its word.
 use borrow.Author.Needs.{needs}
-use Rattle.report.specs.Report.{ascii}
-use Rattle.report.proofs.put_word.Statement.{statement}
-use Rattle.report.proofs.put_word.Tie as tie
+use Rattle.decimal.specs.Text.{ascii}
+use Rattle.decimal.proofs.put_word.Statement.{statement}
+use Rattle.decimal.proofs.put_word.Tie as tie
 
 slice-aggregate-put : tie.Need-slice-aggregate-put
 slice-aggregate-put c = search needs

@@ -1,13 +1,13 @@
--- `report::put` meets its contract. The loop's invariant: i bytes are copied, and the text is else as it was.
+-- `decimal::put` meets its contract. The loop's invariant: i bytes are copied, and the text is else as it was.
 use Prim.Native.Nat.{ℕ, suc, _+_, _-_, _≤_}
 use mathlib.Core.List.{List}
 use mathlib.Core.Path.{_≡_, refl, ap, _∙_}
 use native.Mathlib.Omega.{arith}
 use lib.ListN.{length, getD, set, length-set}
 use lib.Seq.{paste, paste-zero, paste-suc}
-use Rattle.report.proofs.Texts.{writes-all}
-use Rattle.report.proofs.put.Statement.{statement}
-use Rattle.report.proofs.put.Tie as tie
+use Rattle.decimal.proofs.Texts.{writes-all}
+use Rattle.decimal.proofs.put.Statement.{statement}
+use Rattle.decimal.proofs.put.Tie as tie
 
 abbrev Inv-loop : tie.InvT-loop
 Inv-loop bytes text₀ at i₀ text i = (i ≤ length bytes) × (length text ≡ length text₀) × (text ≡ paste text₀ at bytes i)

@@ -5,7 +5,7 @@ use mathlib.Core.List.{List, [], _++_, append-assoc, append-nil}
 use native.Mathlib.Omega.{arith}
 use lib.ListN.{length, take, drop, length-append, take-append-drop}
 use lib.Seq.{paste, take-all, length-take-le, take-at, drop-at, drop-drop}
-use Rattle.report.specs.Report.{Writes}
+use Rattle.decimal.specs.Text.{Writes}
 
 -- nothing written
 pub writes-none : (t : List ℕ) (from : ℕ) → Writes t from [] from t

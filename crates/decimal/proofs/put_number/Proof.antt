@@ -1,12 +1,12 @@
--- `report::put_number` meets its contract: the digits are those that `io::decimal` gives.
+-- `decimal::put_number` meets its contract: the digits are those that `io::decimal` gives.
 use borrow.Author.Needs.{needs}
 use Prim.Native.Nat.{_+_, _≤_}
 use mathlib.Core.Path.{_≡_}
 use lib.ListN.{length, take}
-use Rattle.report.specs.Report.{decimal}
-use Rattle.report.proofs.Decimals.{decimal-of}
-use Rattle.report.proofs.put_number.Statement.{statement}
-use Rattle.report.proofs.put_number.Tie as tie
+use Rattle.decimal.specs.Text.{decimal}
+use Rattle.decimal.proofs.Decimals.{decimal-of}
+use Rattle.decimal.proofs.put_number.Statement.{statement}
+use Rattle.decimal.proofs.put_number.Tie as tie
 
 -- what is put is the number's decimal
 spelled : (d : tie.After-decimal) → take (d .decimal .result) (d .decimal .last .1 .0) ≡ decimal (d .before .before .before .args .n)
