@@ -31,7 +31,7 @@ extern "C" {
  * touched, and its pointer may be null. Words are aligned as uint64_t is. A pointer without a length is never null; each
  * call says to how many numbers it points.
  *
- * What a call writes (point, sheet, a rule or log that it makes, the numbers behind its pointers) shares no byte with
+ * What a call writes (point, sheet, a rule or log that it makes or trims, the numbers behind its pointers) shares no byte with
  * anything else that the call is given. What it only reads may overlap.
  *
  * A point's words are the library's own, in the byte order of the machine: save them and hand them back as they are.
@@ -67,15 +67,21 @@ extern "C" {
  * The bytes of a log.
  *
  *     0 to 2      'K' 'L' 'G'
- *     3, 4        version, 1 or 2
+ *     3, 4        version, 1 to 3
  *     5 to 7      0
- *     8 + 8 * i   record i: time in seconds (4 bytes), event set (4 bytes)
+ *     8 + 8 * i   versions 1 and 2: record i: time in seconds (4 bytes), event set (4 bytes)
+ *
+ *     8 to 15     version 3: the number of records dropped, n
+ *     16 + 8 * i  version 3: record n + i, likewise
  *
  * Letter k stands in a record if the bit worth 2 to the k is set in its event set. No time lies below the one before it; many
- * may be the same. There are at most HAVDRIMS_MOST_RECORDS records.
+ * may be the same. There are at most HAVDRIMS_MOST_RECORDS records, dropped ones included.
  *
- * In a log of version 1 every record is a position. In one of version 2 a record with letter 31 is a service record: no
+ * In a log of version 1 every record is a position. From version 2 on a record with letter 31 is a service record: no
  * position, skipped by every operator, without a verdict. Positions are numbered from 0 over the other records.
+ *
+ * A log of version 3 is what havdrims_trim leaves of one of version 2: its first records are no longer there. The others keep
+ * their numbers, as records and as positions. New records are added at its end as to any log.
  *
  * Three records, the second of them a service record:
  *
@@ -83,6 +89,14 @@ extern "C" {
  *     00 00 00 0a 00 00 00 01  second 10, letter 0
  *     00 00 00 0b 80 00 00 00  second 11, service
  *     00 00 00 0c 00 00 00 03  second 12, letters 0 and 1
+ */
+
+/*
+ * The same log trimmed, once records 0 and 1 are no longer wanted:
+ *
+ *     4b 4c 47 00 03 00 00 00  KLG, version 3
+ *     00 00 00 00 00 00 00 02  2 records dropped
+ *     00 00 00 0c 00 00 00 03  record 2: second 12, letters 0 and 1
  */
 
 /* Why a call is refused. havdrims_refusal_text, below, says what each means. */
@@ -109,6 +123,9 @@ enum havdrims_refusal {
     HAVDRIMS_POINT_CLOSED = 20,
     HAVDRIMS_MORE_RECORDS = 21,
     HAVDRIMS_OTHER_VERSION = 22,
+    HAVDRIMS_TRIM_VERSION = 23,
+    HAVDRIMS_RECORD_DROPPED = 24,
+    HAVDRIMS_SHORT_LOG = 25,
     HAVDRIMS_SETTINGS = 26
 };
 
@@ -141,10 +158,11 @@ static inline const char *havdrims_refusal_text(uint32_t number) {
     case HAVDRIMS_POINT_RANGE:
         return "a word of the point is outside its range";
     case HAVDRIMS_LOG_FORMAT:
-        return "the log is shorter than 8 bytes, its mark or spare bytes are wrong, its version is not 1 or 2, its length "
-               "less 8 is no multiple of 8, or it has more than 1,000,000 records, service records included";
+        return "the log is shorter than 8 bytes, or 16 in version 3, its mark or spare bytes are wrong, its version is not 1 "
+               "to 3, its length less 8 is no multiple of 8, or it has more than 1,000,000 records, service records and "
+               "dropped ones included";
     case HAVDRIMS_FEWER_RECORDS:
-        return "the log has fewer records than the point has seen, service records included";
+        return "the log has fewer records than the point has seen, service records and dropped ones included";
     case HAVDRIMS_TIME_FALLS:
         return "some record after the first still wanted has a time below that of the record before it, or the first new "
                "record's time is below the last time seen, service records included";
@@ -161,9 +179,17 @@ static inline const char *havdrims_refusal_text(uint32_t number) {
     case HAVDRIMS_POINT_CLOSED:
         return "resume is given a closed point";
     case HAVDRIMS_MORE_RECORDS:
-        return "closing is repeated with more records than at its first call that was not refused, service records included";
+        return "closing is repeated with more records than at its first call that was not refused, service records and "
+               "dropped ones included";
     case HAVDRIMS_OTHER_VERSION:
-        return "the log's version differs from that of the last resume or close with this point that was not refused";
+        return "the log's version differs from that of the last resume or close with this point that was not refused, and "
+               "the two are not 2 and 3";
+    case HAVDRIMS_TRIM_VERSION:
+        return "a log of version 1 is to be trimmed";
+    case HAVDRIMS_RECORD_DROPPED:
+        return "the log has dropped the first record still wanted or one after it";
+    case HAVDRIMS_SHORT_LOG:
+        return "the lent buffer for the trimmed log is short";
     case HAVDRIMS_SETTINGS:
         return "a setting, the seconds or the seed is outside its range, or the lent log buffer is short";
     default:
@@ -180,7 +206,7 @@ static inline const char *havdrims_refusal_text(uint32_t number) {
 /* The most formulas of a rule. */
 #define HAVDRIMS_MOST_FORMULAS 8
 
-/* The most records of a log, service records included. */
+/* The most records of a log, service records and dropped ones included. */
 #define HAVDRIMS_MOST_RECORDS 1000000
 
 /* The most words that a point can need. */
@@ -232,7 +258,8 @@ uint32_t havdrims_open(const uint8_t *rule, size_t rule_len, uint64_t *point, si
  *
  * rule    the rule that the point was opened for, byte for byte.
  * log     the whole log from its header on, with the records of the accepted calls before and any number of new
- *         ones behind them. The records before the first still wanted are not read again: they may hold any bytes.
+ *         ones behind them; or what havdrims_trim left of it with this point, with any number of new ones behind.
+ *         The records before the first still wanted are not read again: they may hold any bytes, or be dropped.
  *         The others must be as they were; if they are not, or if the point was not left by this library, the call
  *         still returns and writes only point, sheet, *given and *more, but its verdicts mean nothing.
  * point   as open or the last accepted call left it. It becomes the point to carry on from. Words behind the need
@@ -247,8 +274,8 @@ uint32_t havdrims_open(const uint8_t *rule, size_t rule_len, uint64_t *point, si
  * previous wants the positions that have no verdict yet, and no others. The first record still wanted is the one that holds
  * this position, or the record after all seen where none of them holds it. havdrims_status gives it.
  *
- * Refusals: 1 to 11, then 20, 12, 22, 13, 14. An accepted call fixes the log's version for those that follow (22), also one
- * that brings no record.
+ * Refusals: 1 to 11, then 20, 12, 22, 13, 24, 14. An accepted call fixes the log's version for those that follow (22), also
+ * one that brings no record; versions 2 and 3 count as one.
  */
 uint32_t havdrims_resume(const uint8_t *rule, size_t rule_len, const uint8_t *log, size_t log_len,
                          uint64_t *point, size_t point_len, uint8_t *sheet, size_t sheet_len,
@@ -263,11 +290,30 @@ uint32_t havdrims_resume(const uint8_t *rule, size_t rule_len, const uint8_t *lo
  * wanted may be overwritten between. The first closing that is not refused closes the point, whatever the length of its sheet:
  * from then on havdrims_resume is refused with 20, and a closing with more records with 21.
  *
- * Refusals: 1 to 12, then 22, 13, 21, 14.
+ * Refusals: 1 to 12, then 22, 13, 21, 24, 14.
  */
 uint32_t havdrims_close(const uint8_t *rule, size_t rule_len, const uint8_t *log, size_t log_len,
                         uint64_t *point, size_t point_len, uint8_t *sheet, size_t sheet_len,
                         uint64_t *given, uint64_t *more);
+
+/*
+ * Writes a shorter log, of version 3: the number of records dropped, and then the records from the first still wanted on, new
+ * ones that the point has not seen included. The point is not changed, whether it is closed or not, and no version is fixed.
+ *
+ * What is written may be brought in place of the log from then on, as it is or grown, and be trimmed again: every call gives what
+ * it would give with the log that was never trimmed. The log itself, and what was trimmed before, may be brought again too,
+ * once it has the records that were seen since.
+ * Save the point first: a point that is behind this one may still want what is dropped here, and is then refused with 24.
+ *
+ * log       of version 2 or 3, as for havdrims_resume.
+ * out       takes the log: 16 bytes, and 8 for each record that is left. Its bytes behind the log are kept. log_len + 8 bytes
+ *           are enough for every log.
+ * written   points to one number, which becomes the log's length in bytes.
+ *
+ * Refusals: 1 to 12, then 22, 23, 13, 24, 14, 25.
+ */
+uint32_t havdrims_trim(const uint8_t *rule, size_t rule_len, const uint8_t *log, size_t log_len,
+                       const uint64_t *point, size_t point_len, uint8_t *out, size_t out_len, uint64_t *written);
 
 /*
  * What the point itself knows of the verdicts given with it, all calls together: what havdrims_tally and a scan would give over
@@ -288,10 +334,10 @@ uint32_t havdrims_summary(const uint8_t *rule, size_t rule_len, const uint64_t *
  * How far a point has come. The point is not changed.
  *
  * given    points to one number, which becomes the number of verdicts given with the point, all calls together.
- * seen     points to one number, which becomes the number of records that the last accepted call brought, service records
- *          included.
+ * seen     points to one number, which becomes the number of records that the last accepted havdrims_resume or havdrims_close
+ *          brought, service records and dropped ones included.
  * wanted   points to one number, which becomes the first record still wanted, as above, a record's number and not a position's:
- *          all records before it may be overwritten.
+ *          all records before it may be overwritten, or dropped by havdrims_trim.
  * closed   points to one number, which becomes 1 if the point is closed and else 0.
  *
  * Refusals: 1 to 11.

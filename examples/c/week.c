@@ -1,7 +1,7 @@
 /*
  * A week of one kiosk in C: a log that grows, a point that is saved and carries on, a card that is overwritten, and the
- * month's end. Then two typed rules on one sheet, and a log with a service visit. `make` builds it against an installed
- * Havdrims; or, in the repository:
+ * month's end. Then two typed rules on one sheet, a log with a service visit, and one that is trimmed. `make` builds it against
+ * an installed Havdrims; or, in the repository:
  *
  *     cc -std=c99 -Iinclude examples/c/week.c target/staticlib/libhavdrims.a -o week && ./week
  *
@@ -192,7 +192,8 @@ static void two_rules(void) {
     check(no[0] == 1 && latest[0] == 2 && no[1] == 1 && latest[1] == 1, "the summary for both");
 }
 
-/* The bytes that the header shows, of a text's rule and of a log with a service record, and those of a saved point in FORMATS.md. */
+/* The bytes that the header shows, of a text's rule, of a log with a service record and of the same log trimmed, and those of a
+   saved point in FORMATS.md. */
 static void shown_bytes(void) {
     static const char text[] = "e0 until[0,2] e1";
     static const uint8_t shown_rule[38] = {
@@ -207,20 +208,31 @@ static void shown_bytes(void) {
         0x00, 0x00, 0x00, 0x0b, 0x80, 0x00, 0x00, 0x00,
         0x00, 0x00, 0x00, 0x0c, 0x00, 0x00, 0x00, 0x03,
     };
+    static const uint8_t shown_trimmed[24] = {
+        0x4b, 0x4c, 0x47, 0x00, 0x03, 0x00, 0x00, 0x00,
+        0x00, 0x00, 0x00, 0x00, 0x00, 0x00, 0x00, 0x02,
+        0x00, 0x00, 0x00, 0x0c, 0x00, 0x00, 0x00, 0x03,
+    };
     uint64_t point[70], written, words, reach, given, more;
-    uint8_t parsed[HAVDRIMS_MOST_RULE], sheet[4] = {7, 7, 7, 7};
+    uint8_t parsed[HAVDRIMS_MOST_RULE], trimmed[sizeof shown_log + 8], sheet[4] = {7, 7, 7, 7};
 
     accepted("parse", havdrims_parse((const uint8_t *)text, strlen(text), parsed, sizeof parsed, &written));
     check(written == sizeof shown_rule && memcmp(parsed, shown_rule, sizeof shown_rule) == 0, "the rule's bytes");
     accepted("measure", havdrims_measure(shown_rule, sizeof shown_rule, &words, &reach));
     check(words == 70 && reach == 2, "the rule's words and reach");
     accepted("open", havdrims_open(shown_rule, sizeof shown_rule, point, 70));
-    accepted("resume", havdrims_resume(shown_rule, sizeof shown_rule, shown_log, sizeof shown_log, point, 70, sheet,
-                                       sizeof sheet, &given, &more));
-    /* Records 0 and 2 are positions 0 and 1. */
-    check(given == 2 && more == 0 && memcmp(sheet, "\1\1\7\7", 4) == 0, "the log's verdicts");
+    /* Records 0 and 2 are positions 0 and 1. The sheet has room for one verdict, so that record 2 is still wanted. */
+    accepted("resume", havdrims_resume(shown_rule, sizeof shown_rule, shown_log, sizeof shown_log, point, 70, sheet, 1, &given,
+                                       &more));
+    check(given == 1 && more == 1, "the log's first verdict");
+    accepted("trim", havdrims_trim(shown_rule, sizeof shown_rule, shown_log, sizeof shown_log, point, 70, trimmed,
+                                   sizeof trimmed, &written));
+    check(written == sizeof shown_trimmed && memcmp(trimmed, shown_trimmed, sizeof shown_trimmed) == 0, "the trimmed log");
+    accepted("resume", havdrims_resume(shown_rule, sizeof shown_rule, shown_trimmed, sizeof shown_trimmed, point, 70, sheet + 1,
+                                       sizeof sheet - 1, &given, &more));
+    check(given == 1 && more == 0 && memcmp(sheet, "\1\1\7\7", 4) == 0, "the log's verdicts");
 
-    const struct saved saved = {17, checksum(NO_BYTES, shown_rule, sizeof shown_rule), given, checksum(NO_BYTES, sheet, given), 1};
+    const struct saved saved = {17, checksum(NO_BYTES, shown_rule, sizeof shown_rule), 2, checksum(NO_BYTES, sheet, 2), 1};
     const uint64_t word = 7;
     uint8_t file[SAVED_FRAME + 8];
     save(&saved, &word, 1, file);
@@ -254,6 +266,54 @@ static void service_visit(void) {
                                       sizeof sheet, &given, &more);
     printf("as version 1: refused %u: %s\n", (unsigned)number, havdrims_refusal_text(number));
     check(number == HAVDRIMS_OTHER_VERSION, "the refusal of another version");
+}
+
+/* A shorter log: what the point no longer wants is dropped, and the log grows on from what is left. */
+static void shorter_log(void) {
+    static uint64_t point[HAVDRIMS_MOST_WORDS];
+    uint64_t given, more, seen, wanted, closed, length;
+    uint8_t sheet[16], shorter[sizeof log_file + 8];
+
+    accepted("open", havdrims_open(rule, sizeof rule, point, HAVDRIMS_MOST_WORDS));
+    log_file[4] = 2;
+    log_length = 8;
+    record(100, WARM);
+    record(150, PRINTS);
+    record(160, SERVICE);
+    record(200, WARM);
+    accepted("resume", havdrims_resume(rule, sizeof rule, log_file, log_length, point, HAVDRIMS_MOST_WORDS, sheet,
+                                       sizeof sheet, &given, &more));
+    print("Before trimming", sheet, 0, given, more);
+    check(given == 2 && more == 0 && memcmp(sheet, "\1\1", 2) == 0, "the verdicts before trimming");
+
+    /* Here the point is saved, as on Monday. A point that is behind this one would still want what is dropped now. */
+    accepted("trim", havdrims_trim(rule, sizeof rule, log_file, log_length, point, HAVDRIMS_MOST_WORDS, shorter,
+                                   sizeof shorter, &length));
+    printf("%u bytes of log become %u, %u records dropped\n", (unsigned)log_length, (unsigned)length,
+           (unsigned)get64(shorter + 8));
+    check(length == 24 && get64(shorter + 8) == 3 && shorter[4] == 3, "the trimmed log");
+
+    /* The next record goes behind what is left, and is record 4 all the same. */
+    put(shorter + length, 250, 4);
+    put(shorter + length + 4, PRINTS, 4);
+    length += 8;
+    accepted("resume", havdrims_resume(rule, sizeof rule, shorter, length, point, HAVDRIMS_MOST_WORDS, sheet + given,
+                                       sizeof sheet - given, &given, &more));
+    print("After trimming", sheet + 2, 2, given, more);
+    check(given == 2 && more == 0 && memcmp(sheet, "\1\1\1\1", 4) == 0, "the verdicts after trimming");
+    accepted("status", havdrims_status(rule, sizeof rule, point, HAVDRIMS_MOST_WORDS, &given, &seen, &wanted, &closed));
+    check(given == 4 && seen == 5 && wanted == 5 && closed == 0, "dropped records are counted");
+
+    /* The log that was never trimmed gives the same. One that has dropped a record that is wanted is refused. */
+    record(250, PRINTS);
+    accepted("resume", havdrims_resume(rule, sizeof rule, log_file, log_length, point, HAVDRIMS_MOST_WORDS, sheet,
+                                       sizeof sheet, &given, &more));
+    check(given == 0 && more == 0, "the whole log again");
+    put(shorter + 8, 6, 8);
+    uint32_t number = havdrims_resume(rule, sizeof rule, shorter, 16, point, HAVDRIMS_MOST_WORDS, sheet, sizeof sheet, &given,
+                                      &more);
+    printf("with a record dropped: refused %u: %s\n", (unsigned)number, havdrims_refusal_text(number));
+    check(number == HAVDRIMS_RECORD_DROPPED, "the refusal of a record dropped");
 }
 
 int main(void) {
@@ -350,5 +410,6 @@ int main(void) {
     free(point);
     two_rules();
     service_visit();
+    shorter_log();
     return 0;
 }

@@ -1,42 +1,47 @@
 -- The theorem of demand 3, stated in specs/Calls.antt, by induction on the list of calls. Assumes nothing.
-use Prim.Native.Nat.{ℕ, suc, _+_, _*_, _-_, _≤_, _<_}
+use Prim.Native.Nat.{ℕ, suc, _+_, _*_, _-_, _≤_, _<_, min}
 use mathlib.Core.Bool.{Bool, true, false, cond, false≢true}
+use mathlib.Core.Bool.{not as negate}
 use mathlib.Core.Logic.{_⊎_, inl, inr, ⊎-elim, ⊎-map}
 use mathlib.Core.Path.{_≡_, refl, sym, _∙_, ap, ap₂, subst}
 use mathlib.Core.List.{List, [], _∷_, _++_}
 use native.Mathlib.Nat.{le-of-eq, zero-add}
 use native.Mathlib.Omega.{arith}
-use lib.ListN.{length, getD, take, drop, length-drop, take-append-drop}
-use lib.Seq.{getD-take, getD-drop, length-take-le, take-take, take-all}
-use lib.Dec.{leb, ltb}
-use borrow.Author.Tests.{le-leb, leb-true, le-ltb, lt-ltb, ltb-true, ltb-false, eq-eqb}
+use lib.ListN.{length, take, drop, take-append-drop}
+use lib.Seq.{getD-take, length-take-le, take-take, take-all, drop-at}
+use lib.Dec.{leb, ltb, eqb}
+use borrow.Author.Tests.{le-leb, leb-true, le-ltb, lt-ltb, ltb-true, ltb-false, eq-eqb, eqb-true}
 use Rattle.mtl.specs.Log.{Log, closing, Placed, NeverFalls, Agree, Continues}
 use Rattle.mtl.specs.Wanted.{wanted, wanted-record}
 use Rattle.mtl.proofs.Bounded.{same-test, le-or-lt}
 use Rattle.verdicts.specs.Counts.{noes-in}
 use Rattle.rule.specs.Entries.{version, count, decoded}
 use Rattle.rule.specs.Postfix.{most}
-use Rattle.rule.specs.Refusal.{first, refusal}
+use Rattle.rule.specs.Refusal.{first, before as numbered-before, refusal}
 use Rattle.rule.specs.Measure.{measured}
 use Rattle.rule.proofs.Headers.{before-none}
-use Rattle.trace.specs.Format.{record-count, time-at, records-of, skips-of, malformed}
+use Rattle.trace.specs.Format.{record-count, time-at, skips-of, dropped, records-of, total-records}
 use Rattle.trace.specs.Positions.{place, before}
 use Rattle.trace.specs.Log.{log-of}
 use Rattle.trace.specs.Order.{disordered, last-time}
-use Rattle.trace.specs.View.{view-of, Shows}
-use Rattle.trace.proofs.Laws.{well-formed-iff, well-formed-records, Keeps, ordered-iff, same-time, count-prefix}
+use Rattle.trace.specs.View.{records-from, view-of, Shows}
+use Rattle.trace.specs.Making.{trimmed}
+use Rattle.trace.proofs.Laws.{well-formed-iff, Keeps, ordered-iff, same-time, count-prefix}
 use Rattle.trace.proofs.Positions.{before-few, log-placed, positions-keep, wanted-place, wanted-counts}
-use Rattle.trace.proofs.Slices.{Part, Cut, prefix-part, cut-from, time-part, keeps-part, before-cut, slice-shows, closing-shows, flag-told}
+use Rattle.trace.proofs.Slices.{Part, Cut, prefix-part, time-part, keeps-part, before-cut, slice-shows, closing-shows, flag-told}
 use Rattle.trace.proofs.Growing.{before-stays, grown-continues}
+use Rattle.trace.proofs.Trimming.{trimmed-again, cut-behind}
 use Rattle.blocks.specs.Step.{Agrees}
 use Rattle.checkpoint.specs.Checkpoint.{seen, last, closed-with, log-kind, kind-of-log, first-wanted, stored-noes, need, foreign, outside}
-use Rattle.checkpoint.specs.Refusal.{open-refusal, resumes-closed, closes-more, other-version, resume-refusal, summary-refusal}
+use Rattle.checkpoint.specs.Refusal.{open-refusal, resumes-closed, closes-more, other-version, version-refusal, records-refusal, words-refusal, resume-refusal, trim-refusal, summary-refusal}
 use Rattle.checkpoint.proofs.Sizes.{enough-words}
 use Rattle.emit.specs.Verdicts.{formulas-of, columns, verdicts, first-records, wanted-after, answered, all-verdicts}
 use Rattle.monitor.specs.Stands.{Stands}
 use Rattle.monitor.specs.Open.{done, Opening, Opens}
 use Rattle.monitor.specs.Open.{Answer as OpenAnswer}
-use Rattle.monitor.specs.Resume.{Answer, gave, refused-with, wanted-records, Gives, Resumes}
+use Rattle.monitor.specs.Resume.{Answer, gave, refused-with, result-or-refusal, wanted-records, Gives, Resuming, Resumes}
+use Rattle.monitor.specs.Trim.{trimmed-log, Trims}
+use Rattle.monitor.specs.Trim.{Answer as TrimAnswer}
 use Rattle.monitor.specs.Summary.{counted, Told, Summarizes}
 use Rattle.monitor.specs.Summary.{Answer as SummaryAnswer}
 use Rattle.monitor.specs.Status.{known}
@@ -45,9 +50,11 @@ use Rattle.monitor.proofs.Answers.{open-unrefused, resume-number, resume-unrefu
 use Rattle.monitor.proofs.Summarizing.{told-same}
 use Rattle.monitor.proofs.OwnCheckpoint.{own-given, own-within, not-outside}
 use Rattle.monitor.proofs.VerdictBytes.{length-verdicts, verdicts-more, take-verdicts, verdicts-stay}
-use Rattle.calls.specs.Calls.{Untouched, Call, given-by, brought-by, closed-by, closed-at, laid, the-call, Brings, BringsAfter, Lends, point-after, OneCall, Calls, Each, AllWhenCaughtUp, OneRun, Keeps as KeepsBehind, expected-refusal, Demand3}
-use Rattle.calls.specs.Calls.OneCall.{refused, accepted}
+use Rattle.calls.specs.Calls.{Untouched, Call, given-by, brought-by, closed-by, closed-at, laid, the-call, Brings, BringsAfter, Lends, point-after, OneCall, Calls, Each, AllWhenCaughtUp, StillBrings, OneRun, Keeps as KeepsBehind, expected-refusal, grown-by, expected-trim-refusal, Demand3}
+use Rattle.calls.specs.Calls.OneCall.{refused, accepted, trimming}
 use Rattle.calls.specs.Calls.Calls.{opened, and-then}
+use Rattle.calls.proofs.Trimming.{trim-number, trim-writes, later-brings, length-trimmed, trimmed-brings}
+use Rattle.calls.proofs.Lengthened.{never-trimmed}
 use Rattle.calls.proofs.Lending.{after-unchanged, after-whole, same-header, same-lent, same-alone, given-settled, stands-on}
 
 -- REFUSALS
@@ -62,6 +69,12 @@ exactly-enough rule fine = (open-enough rule (need rule) fine (omega arith), rw 
 
 open-accepts : (rule lent : List ℕ) (a : OpenAnswer) (p : List ℕ) → refusal rule ≡ 0 → need rule ≤ length lent → Opens rule lent a p → a ≡ done
 open-accepts rule lent a p fine enough opens = rw (open-enough rule (length lent) fine enough) at (opens .outcome)
+
+-- a checkpoint that stands for its rule meets none of refusals 1 to 11
+words-passed : (rule : List ℕ) (K : Log) (n d : ℕ) (p : List ℕ) → refusal rule ≡ 0 → Stands rule K n d p →
+    (other : ℕ) → numbered-before (open-refusal rule (length p)) (words-refusal (version rule) (decoded rule) (count rule) p other) ≡ other
+words-passed rule K n d p fine stands other =
+    rw (open-enough rule (length p) fine (stands .enough), stands .own, not-outside rule K n d p fine stands) refl
 
 -- refusal 9 is met before what the words, the log and the sheet hold is looked at
 nine : (closing : Bool) (rule log p sheet : List ℕ) (a : Answer) (p′ sheet′ : List ℕ) → refusal rule ≡ 0 → length p < need rule →
@@ -100,6 +113,16 @@ expected-at true false a m n same = refl
 -- logs of the same records, closed or open
 closings-agree : {K L : Log} {a b : ℕ} (was closed : Bool) → Agree K L a b → Agree (closing was K) (closing closed L) a b
 closings-agree was closed same i lo hi = let at = same i lo hi in record { time = at .time; letters = at .letters; place = at .place }
+
+-- 23 of a trimming
+first-negated : (b : Bool) (n other : ℕ) → first n (negate b) other ≡ cond b other n
+first-negated true n other = refl
+first-negated false n other = refl
+
+-- what is trimmed has service records
+has-service : (skips : Bool) (lent size : ℕ) → expected-trim-refusal skips lent size ≡ 0 → skips ≡ true
+has-service true lent size e = refl
+has-service false lent size e = absurd (omega arith)
 
 -- the version noted is this log's
 kind-same : (log : List ℕ) (skips : Bool) → skips-of log ≡ skips → other-version log (kind-of-log skips) ≡ false
@@ -153,6 +176,21 @@ module _ (rule log : List ℕ) (untouched : Untouched log) where
   pub first-falls : (closed : Bool) (n : ℕ) → NeverFalls (first-records closed log n)
   first-falls closed n = positions-keep skips (first-bytes n) (first-keep n)
 
+  -- they are not too many
+  few-records : record-count records ≤ 1000000
+  few-records = omega (arith, untouched .undropped, well-formed-iff log .0 (untouched .well-formed) .few)
+
+  -- what a call answers after d verdicts on the first m records, where it brings n, and the sheet as it leaves it
+  abbrev answer-after : (closed was : Bool) (d m n : ℕ) (sheet : List ℕ) → Answer
+  answer-after closed was d m n sheet =
+      let c = min (answered closed rule log n - d) (length sheet) in
+      result-or-refusal (expected-refusal closed was m n) c (ltb (d + c) (answered closed rule log n))
+
+  abbrev sheet-after : (closed was : Bool) (d m n : ℕ) (sheet : List ℕ) → List ℕ
+  sheet-after closed was d m n sheet =
+      let c = min (answered closed rule log n - d) (length sheet) in
+      cond (eqb (expected-refusal closed was m n) 0) (drop d (verdicts (formulas-of rule) (first-records closed log n) (d + c)) ++ drop c sheet) sheet
+
   -- WHAT A CHECKPOINT HAS REACHED
 
   -- it was brought the first m records, closed or open, and has given d verdicts: what it stands for, the time of the last of them, and the
@@ -189,37 +227,6 @@ module _ (rule log : List ℕ) (untouched : Untouched log) where
     all-size : record-count (first-bytes n) ≡ n
     all-size = first-count n (brings .within)
 
-    brought-size : record-count (records-of log′) ≡ n
-    brought-size = let size = brings .size in let rest = length-drop 8 log′ in omega arith
-
-    same-byte : (k : ℕ) → from * 8 ≤ k → k < n * 8 → getD (records-of log′) k 0 ≡ getD records k 0
-    same-byte k lo hi = getD-drop 8 log′ k 0 ∙ brings .same (8 + k) (omega arith) (omega arith) ∙ sym (getD-drop 8 log k 0)
-
-    header-byte : (i : ℕ) → i < 8 → getD log′ i 0 ≡ getD log i 0
-    header-byte i h = sym (getD-take 8 log′ i 0 h) ∙ ap (λ s. getD s i 0) (brings .header) ∙ getD-take 8 log i 0 h
-
-    -- it is of the same version
-    brought-kind : skips-of log′ ≡ skips
-    brought-kind =
-        let long = well-formed-records log (untouched .well-formed) .0 in
-        let size = brings .size in
-        rw (le-leb 8 (length log′) (omega arith), le-leb 8 (length log) long, header-byte 3 (omega arith), header-byte 4 (omega arith))
-
-    -- refusal 12 is not met
-    brought-well-formed : malformed log′ ≡ false
-    brought-well-formed =
-        let long = well-formed-records log (untouched .well-formed) in
-        let few = long .1 .few in
-        let within = brings .within in
-        let size = brings .size in
-        let size′ = length-drop 8 log′ in
-        let header = well-formed-iff (take 8 log) records (length-take-le 8 log (long .0)) .0 (rw (take-append-drop 8 log) (untouched .well-formed)) .0 in
-        rw (take-append-drop 8 log′) at
-        (well-formed-iff (take 8 log′) (records-of log′) (length-take-le 8 log′ (omega arith)) .1 (
-          rw (brings .header) header,
-          record { whole = omega arith; few = omega arith },
-        ))
-
     -- a checkpoint that has reached the first m records
     module _ (was : Bool) (p : List ℕ) (fine : refusal rule ≡ 0) (reached : Reached was m d p) where
       abbrev old : Log
@@ -241,6 +248,10 @@ module _ (rule log : List ℕ) (untouched : Untouched log) where
       first-is : first-wanted p ≡ from
       first-is = stands .wanted
 
+      -- it is not dropped
+      undropped : dropped log′ ≤ first-wanted p
+      undropped = omega (arith, brings .kept, first-is)
+
       -- the positions before it are passed
       begins : (first-wanted p ≤ m) × (before skips (first-bytes n) (first-wanted p) ≡ first-position)
       begins =
@@ -261,8 +272,8 @@ module _ (rule log : List ℕ) (untouched : Untouched log) where
           let all = all-size in
           let low = begins .0 in
           let is = first-is in
-          cut-from (first-bytes n) (records-of log′) (first-wanted p) (brought-size ∙ sym all-size) (omega arith)
-          (λ k lo hi. same-byte k (omega arith) (omega arith) ∙ sym (getD-take (8 * n) records k 0 (omega arith)))
+          cut-behind (first-bytes n) (records-of log′) (dropped log′) (first-wanted p) (brings .size ∙ sym all-size) undropped (omega arith)
+          (λ i lo hi b few. brings .same i (omega arith) (omega arith) b few ∙ sym (getD-take (8 * n) records (i * 8 + b) 0 (omega arith)))
 
       brought-agrees : Agrees (view-of (first-wanted p) first-position (skips-of log′) closed slice) slice new first-position
       brought-agrees =
@@ -270,19 +281,19 @@ module _ (rule log : List ℕ) (untouched : Untouched log) where
           record {
             ends = sym (flag-told closed);
             size =
-                ap (λ b. first-position + before b slice (record-count slice)) brought-kind ∙
+                ap (λ b. first-position + before b slice (record-count slice)) (brings .kind) ∙
                 ap (λ k. k + before skips slice (record-count slice)) (sym counts) ∙
                 sym (before-cut (first-bytes n) slice (first-wanted p) cut skips);
             shows = λ i lo hi.
-                subst (λ b. Shows b slice (first-wanted p) new i) (sym (flag-told (skips-of log′) ∙ brought-kind))
+                subst (λ b. Shows b slice (first-wanted p) new i) (sym (flag-told (skips-of log′) ∙ brings .kind))
                 (closing-shows closed skips slice (first-wanted p) (log-of skips (first-bytes n)) i
                 (slice-shows skips (first-bytes n) slice (first-wanted p) cut i (omega arith) hi));
           }
 
-      new-placed : Placed new (record-count (records-of log′))
+      new-placed : Placed new (total-records log′)
       new-placed =
           let placed = log-placed skips (first-bytes n) in
-          let same : record-count (first-bytes n) ≡ record-count (records-of log′) = all-size ∙ sym brought-size in
+          let same : record-count (first-bytes n) ≡ total-records log′ = all-size ∙ sym (brings .size) in
           record { rising = placed .rising; below = λ i h. omega (arith, placed .below i h) }
 
       -- "the first new record's time" is not below "the last time seen"
@@ -317,23 +328,29 @@ module _ (rule log : List ℕ) (untouched : Untouched log) where
       -- nor 22
       same-version : other-version log′ (log-kind p) ≡ false
       same-version =
-          ⊎-elim (λ none. ap (other-version log′) none) (λ own. ap (other-version log′) own ∙ kind-same log′ skips brought-kind) (reached .kind)
+          ⊎-elim (λ none. ap (other-version log′) none) (λ own. ap (other-version log′) own ∙ kind-same log′ skips (brings .kind)) (reached .kind)
+
+      -- nor any other of those that look at the log, but 21
+      version-passed : (other : ℕ) → version-refusal log′ p other ≡ other
+      version-passed other = rw (brings .well-formed, same-version) refl
+
+      records-passed : (extra : Bool) (other : ℕ) → records-refusal extra log′ p other ≡ first 21 extra other
+      records-passed extra other =
+          let size = stands .size in
+          let counts = brings .size in
+          rw (
+            le-ltb (total-records log′) (seen p) (omega arith),
+            le-ltb (first-wanted p) (dropped log′) undropped,
+            brought-ordered,
+          )
+          refl
 
       -- no refusal is met but 20 and 21
       number-met : resume-refusal closed rule log′ p ≡ expected-refusal closed was m n
       number-met =
-          let counts = brought-size in
-          let size = stands .size in
-          rw (
-            open-enough rule (length p) fine (stands .enough),
-            stands .own,
-            not-outside rule old m d p fine stands,
-            brought-well-formed,
-            same-version,
-            le-ltb (record-count (records-of log′)) (seen p) (omega arith),
-            brought-ordered,
-          )
-          (number-by closed was m n (closed-with p) (record-count (records-of log′)) (stands .closed) brought-size)
+          words-passed rule old m d p fine stands _ ∙
+          ap (first 20 (resumes-closed closed (closed-with p))) (version-passed _ ∙ records-passed (closes-more closed (closed-with p) (total-records log′)) 0) ∙
+          number-by closed was m n (closed-with p) (total-records log′) (stands .closed) (brings .size)
 
       allowed : resume-refusal closed rule log′ p ≡ 0 → was ≡ true → (closed ≡ true) × (m ≡ n)
       allowed none = allowed-by closed was m n more (sym number-met ∙ none)
@@ -341,7 +358,7 @@ module _ (rule log : List ℕ) (untouched : Untouched log) where
       gives : (sheet : List ℕ) (c : ℕ) (b : Bool) (p′ sheet′ : List ℕ) → Resumes closed rule log′ p sheet (gave c b) p′ sheet′ →
           Gives rule new n d sheet c b p′ sheet′
       gives sheet c b p′ sheet′ resumes =
-          subst (λ k. Gives rule new k d sheet c b p′ sheet′) brought-size
+          subst (λ k. Gives rule new k d sheet c b p′ sheet′) (brings .size)
           (resumes .words .meaning old new m d stands (first-longer was closed m n more (allowed (resume-unrefused resumes))) (first-falls closed n) new-placed
           brought-agrees)
 
@@ -350,23 +367,25 @@ module _ (rule log : List ℕ) (untouched : Untouched log) where
       reaches sheet c b p′ sheet′ resumes =
           record {
             stands = gives sheet c b p′ sheet′ resumes .stands;
-            time = resumes .words .time ∙ ap (λ k. last-time (records-of log′) k (last p)) (stands .size) ∙ last-brought;
-            kind = inr (resumes .words .kind ∙ ap kind-of-log brought-kind);
+            time = resumes .words .time ∙ ap (λ k. last-time (records-of log′) (k - dropped log′) (last p)) (stands .size) ∙ last-brought;
+            kind = inr (resumes .words .kind ∙ ap kind-of-log (brings .kind));
           }
         where
-          last-brought : last-time (records-of log′) m (last p) ≡ cond (ltb 0 n) (time-at records (n - 1)) 0
+          last-brought : last-time (records-of log′) (m - dropped log′) (last p) ≡ cond (ltb 0 n) (time-at records (n - 1)) 0
           last-brought =
-              let size = brought-size in
+              let size = brings .size in
+              let kept = undropped in
               let low = begins .0 in
               let is = first-is in
+              let here = record-count (records-of log′) in
               ⊎-elim
               (λ (old-ones : n ≤ m).
               let same : m ≡ n = omega arith in
-              rw (le-ltb m (record-count (records-of log′)) (omega arith)) (reached .time ∙ ap (λ k. cond (ltb 0 k) (time-at records (k - 1)) 0) same))
+              rw (le-ltb (m - dropped log′) here (omega arith)) (reached .time ∙ ap (λ k. cond (ltb 0 k) (time-at records (k - 1)) 0) same))
               (λ (new-ones : m < n).
-              let inside : m < record-count (records-of log′) = omega arith in
-              rw (lt-ltb m (record-count (records-of log′)) inside, brought-size, lt-ltb 0 n (omega arith))
-              (same-time (records-of log′) records (n - 1) (n - 1) (λ b few. same-byte ((n - 1) * 8 + b) (omega arith) (omega arith))))
+              let at : here - 1 ≡ n - 1 - dropped log′ = omega arith in
+              rw (lt-ltb (m - dropped log′) here (omega arith), lt-ltb 0 n (omega arith), at)
+              (same-time (records-of log′) records (n - 1 - dropped log′) (n - 1) (brings .same (n - 1) (omega arith) (omega arith))))
               (le-or-lt n m)
 
       -- the bytes of an accepted call, behind those of the verdicts before it
@@ -380,6 +399,77 @@ module _ (rule log : List ℕ) (untouched : Untouched log) where
           ap (λ vs. vs ++ take c sheet′) (verdicts-stay (formulas-of rule) old new (first-longer was closed m n more (allowed (resume-unrefused resumes))) (first-falls closed n) d (omega arith)) ∙
           verdicts-more (formulas-of rule) new d c sheet′ (omega arith) bytes
 
+      -- its answer and its sheet, which are the same whichever log it brings of those that may be brought
+      determined : (sheet : List ℕ) (a : Answer) (p′ sheet′ : List ℕ) → Resumes closed rule log′ p sheet a p′ sheet′ →
+          (a ≡ answer-after closed was d m n sheet) × (sheet′ ≡ sheet-after closed was d m n sheet)
+      determined sheet a p′ sheet′ resumes = by (eqb number 0) refl
+        where
+          number : ℕ
+          number = expected-refusal closed was m n
+
+          all : ℕ
+          all = answered closed rule log n
+
+          c : ℕ
+          c = min (all - d) (length sheet)
+
+          by : (b : Bool) → eqb number 0 ≡ b →
+              (a ≡ cond b (gave c (ltb (d + c) all)) (refused-with number)) ×
+              (sheet′ ≡ cond b (drop d (verdicts (formulas-of rule) new (d + c)) ++ drop c sheet) sheet)
+          by true e =
+              let is : a ≡ gave (a .count) (a .more) = rw (number-met ∙ eqb-true number 0 e) at (resumes .outcome) in
+              let given = subst (λ (x : Answer). Resumes closed rule log′ p sheet x p′ sheet′) is resumes in
+              let step = gives sheet (a .count) (a .more) p′ sheet′ given in
+              let bytes = gives-bytes sheet (a .count) (a .more) p′ sheet′ given in
+              let size = length-verdicts (formulas-of rule) old d in
+              let now : take (a .count) sheet′ ≡ drop d (verdicts (formulas-of rule) new (d + a .count)) =
+              sym (drop-at (verdicts (formulas-of rule) old d) (take (a .count) sheet′) d size) ∙ ap (drop d) bytes in (
+                is ∙ ap₂ gave (step .count) (step .more ∙ ap (λ k. ltb (d + k) all) (step .count)),
+                sym (take-append-drop (a .count) sheet′) ∙ ap₂ (λ s t. s ++ t) now (given .words .rest) ∙
+                    ap (λ k. drop d (verdicts (formulas-of rule) new (d + k)) ++ drop k sheet) (step .count),
+              )
+          by false e =
+              let is : a ≡ refused-with number = rw (number-met, e) at (resumes .outcome) in
+              let kept = subst (λ (x : Answer). Resuming (x .refused) closed rule log′ p sheet (x .count) (x .more) p′ sheet′) is (resumes .words) in
+              (is, kept .1)
+
+      -- A TRIMMING of it
+
+      trimmed-size : length (trimmed-log log′ p) ≡ 16 + 8 * (n - from)
+      trimmed-size =
+          ap (λ k. length (trimmed log′ k)) first-is ∙ length-trimmed log log′ from n brings (omega (arith, begins .0, first-is))
+
+      -- no refusal is met but 23 and 25
+      trim-met : (lent : ℕ) → trim-refusal rule log′ p lent ≡ expected-trim-refusal skips lent (16 + 8 * (n - from))
+      trim-met lent =
+          words-passed rule old m d p fine stands _ ∙ version-passed _ ∙
+          ap₂ (λ b other. first 23 (negate b) other) (brings .kind) (records-passed false _ ∙ ap (λ k. first 25 (ltb lent k) 0) trimmed-size) ∙
+          first-negated skips 23 _
+
+      module _ (out : List ℕ) (a : TrimAnswer) (out′ : List ℕ) (trims : Trims rule log′ p out a out′) where
+        trim-numbered : a .number ≡ expected-trim-refusal skips (length out) (16 + 8 * (n - from))
+        trim-numbered = trim-number trims ∙ trim-met (length out)
+
+        -- not refused, it wrote the log from the first wanted record on
+        trim-wrote : a .number ≡ 0 → take (a .written) out′ ≡ trimmed log′ from
+        trim-wrote none = trim-writes trims none .1 ∙ ap (trimmed log′) first-is
+
+        -- which may be brought, also when it has grown
+        trim-brings : a .number ≡ 0 → (k : ℕ) → n ≤ k → k ≤ record-count records → Brings log from k (take (a .written) out′ ++ grown-by log n k)
+        trim-brings none k most within =
+            let kind = has-service skips (length out) _ (sym trim-numbered ∙ none) in
+            let inside : from ≤ n = omega (arith, begins .0, first-is) in
+            rw (trim-wrote none) (trimmed-brings log log′ from n brings inside few-records kind k most within)
+
+        -- trimmed again it is what it was
+        trim-same : a .number ≡ 0 → (out₂ : List ℕ) (a₂ : TrimAnswer) (out₂′ : List ℕ) →
+            Trims rule (take (a .written) out′) p out₂ a₂ out₂′ → a₂ .number ≡ 0 → take (a₂ .written) out₂′ ≡ take (a .written) out′
+        trim-same none out₂ a₂ out₂′ again none₂ =
+            let first = first-wanted p in
+            let few : first ≤ 1000000 = omega (arith, begins .0, few-records, brings .within) in
+            trim-writes again none₂ .1 ∙ ap (λ s. trimmed s first) (trim-writes trims none .1) ∙
+            trimmed-again first (records-from log′ first) few ∙ sym (trim-writes trims none .1)
+
   -- what holds after every list of calls
   pub record Invariant (h : List Call) (point : List ℕ) : Type 0 where
     pub fine : refusal rule ≡ 0
@@ -390,6 +480,7 @@ module _ (rule log : List ℕ) (untouched : Untouched log) where
     pub at-first : closed-by h ≡ true → closed-at h ≡ brought-by h
     pub all : AllWhenCaughtUp rule log h
     pub each : Each rule log h
+    pub still : StillBrings rule log h
 
   -- on an opened checkpoint
   module _ (lent p : List ℕ) (opens : Opens rule lent done p) where
@@ -404,7 +495,7 @@ module _ (rule log : List ℕ) (untouched : Untouched log) where
         record { stands = stands (first-records false log 0) (omega arith) refl; time = time; kind = inl kind }
 
     after-open : Invariant [] (take (measured rule .words) p)
-    unfolding given-by brought-by closed-by closed-at laid Each AllWhenCaughtUp verdicts
+    unfolding given-by brought-by closed-by closed-at laid Each AllWhenCaughtUp StillBrings verdicts
     after-open =
         rw (exactly-enough rule opened-fine .1)
         (record {
@@ -416,6 +507,7 @@ module _ (rule log : List ℕ) (untouched : Untouched log) where
           at-first = λ e. absurd (false≢true e);
           all = refl;
           each = tt;
+          still = tt;
         })
 
   -- after an accepted call on the words p
@@ -445,7 +537,7 @@ module _ (rule log : List ℕ) (untouched : Untouched log) where
             (resume-unrefused resumes) e .1
 
     after-accepted : Invariant (the-call closed n sheet c more sheet′ ∷ h) (point-after point p′)
-    unfolding given-by brought-by closed-by closed-at laid Each AllWhenCaughtUp
+    unfolding given-by brought-by closed-by closed-at laid Each AllWhenCaughtUp StillBrings
     after-accepted =
         let old = brought-by h in
         let d = given-by h in
@@ -486,23 +578,23 @@ module _ (rule log : List ℕ) (untouched : Untouched log) where
             record { count = step .count; more = step .more; bytes = length-take-le c sheet′ (omega (arith, resumes .words .room)) },
             before .each,
           );
+          still = λ k log″ enough earlier.
+              let onward : wanted-after rule log d old ≤ wanted-after rule log (d + c) n =
+              omega (arith, resumes .words .onward .0, accepted-reached .stands .wanted, step .stands .wanted) in
+              record { no-fewer = enough; brings = later-brings log log″ (wanted-after rule log d old) k (earlier .brings) (wanted-after rule log (d + c) n) onward };
         })
 
   after-call : {h h′ : List Call} {p′ : List ℕ} (point p : List ℕ) → Invariant h point → Lends point p → OneCall rule log h p h′ p′ →
       Invariant h′ (point-after point p′)
   after-call point p before lends (refused closed rule′ log′ sheet number p′ sheet′ resumes) =
       rw (resumes .words .0, after-unchanged point p lends) before
+  after-call point p before lends (trimming rule′ log′ out a out′ trims) = rw (after-unchanged point p lends) before
   after-call {h} point p before lends (accepted closed n log′ sheet c more p′ sheet′ brought resumes) =
       after-accepted h point p before lends closed n log′ sheet c more p′ sheet′ brought resumes
 
   pub invariant : {h : List Call} {point : List ℕ} → Calls rule log h point → Invariant h point
   invariant (opened lent p opens) = after-open lent p opens
   invariant (and-then {point = point} calls p p′ lends call) = after-call point p (invariant calls) lends call
-
-  -- a log of which no record is overwritten
-  brings-whole : (first n : ℕ) (log′ : List ℕ) → Brings log 0 n log′ → Brings log first n log′
-  brings-whole first n log′ brings =
-      record { size = brings .size; within = brings .within; header = brings .header; same = λ i lo hi. brings .same i (omega arith) hi }
 
   -- "One run is a carry on from a fresh point with a sheet of A bytes, and it writes just these."
   one-run-writes : (closed : Bool) (n : ℕ) (a : Answer) (sheet′ : List ℕ) → OneRun closed rule log n a sheet′ →
@@ -516,7 +608,7 @@ module _ (rule log : List ℕ) (untouched : Untouched log) where
       let c = a .count in
       let more = a .more in
       let some : 0 ≤ n = omega arith in
-      let brings = brings-whole (wanted-after rule log 0 0) n (run .brought) (run .brings) in
+      let brings = later-brings log (run .brought) 0 n (run .brings) (wanted-after rule log 0 0) (omega arith) in
       let none = number-met closed 0 0 n (run .brought) some brings false (run .fresh) fine reached ∙ fresh-allowed closed 0 n in
       let is : a ≡ gave c more = rw none at (run .resumes .outcome) in
       let resumes = subst (λ (x : Answer). Resumes closed rule (run .brought) (run .fresh) (run .sheet) x (run .left) sheet′) is (run .resumes) in
@@ -533,22 +625,13 @@ module _ (rule log : List ℕ) (untouched : Untouched log) where
         sym (take-all c sheet′ (omega arith)) ∙ bytes ∙ ap (verdicts fs (first-records closed log n)) sum,
       )
 
--- a checkpoint that stands for its rule meets none of refusals 1 to 11
-none-met : (rule : List ℕ) (K : Log) (n d : ℕ) (p : List ℕ) → refusal rule ≡ 0 → Stands rule K n d p → summary-refusal rule p ≡ 0
-none-met rule K n d p fine stands =
-    rw (
-      open-enough rule (length p) fine (stands .enough),
-      stands .own,
-      not-outside rule K n d p fine stands,
-    )
-
 -- of each formula the count of no and the latest of them, as a checkpoint has them
 own-summary : (rule : List ℕ) (K : Log) (n d : ℕ) (p : List ℕ) → refusal rule ≡ 0 → Stands rule K n d p →
     (nos latest : List ℕ) (a : SummaryAnswer) (nos′ latest′ : List ℕ) → Summarizes rule p nos latest a nos′ latest′ →
     (a ≡ counted (columns (formulas-of rule))) ×
     Told 0 (columns (formulas-of rule)) (λ k. noes-in k (verdicts (formulas-of rule) K d) d) nos latest nos′ latest′
 own-summary rule K n d p fine stands nos latest a nos′ latest′ told =
-    let is : a ≡ counted (columns (formulas-of rule)) = rw (none-met rule K n d p fine stands) at (told .outcome) in (
+    let is : a ≡ counted (columns (formulas-of rule)) = rw (words-passed rule K n d p fine stands 0) at (told .outcome) in (
       is,
       told-same (columns (formulas-of rule)) (stored-noes (most (version rule)) p) _ nos latest nos′ latest′ (stands .noes)
           (subst (λ (x : SummaryAnswer). Told (x .number) (x .formulas) (stored-noes (most (version rule)) p) nos latest nos′ latest′) is (told .words)),
@@ -564,7 +647,7 @@ own-status : (rule : List ℕ) (K : Log) (n d : ℕ) (p : List ℕ) → refusal 
     known rule p ≡ known-told (record { given = d; seen = n; wanted = wanted-record K n (wanted (formulas-of rule) d); closed = K .closed })
 own-status rule K n d p fine stands =
     rw (
-      eq-eqb (summary-refusal rule p) 0 (none-met rule K n d p fine stands),
+      eq-eqb (summary-refusal rule p) 0 (words-passed rule K n d p fine stands 0),
       own-given rule K n d p fine stands,
       stands .size,
       stands .wanted,
@@ -585,6 +668,7 @@ call-keeps rule log p fine (refused closed rule′ log′ sheet number p′ shee
     record { behind = ap (drop (measured rule .words)) (resumes .words .0); number = resumes .point-length }
 call-keeps rule log p fine (accepted closed n log′ sheet c more p′ sheet′ brought resumes) =
     record { behind = rw (exactly-enough rule fine .1) (resumes .words .beyond); number = resumes .point-length }
+call-keeps rule log p fine (trimming rule′ log′ out a out′ trims) = record { behind = refl; number = refl }
 
 -- THE THEOREM
 pub demand-3 : (rule log : List ℕ) → Untouched log → (h : List Call) (point : List ℕ) → Calls rule log h point → Demand3 rule log h point
@@ -602,6 +686,9 @@ demand-3 rule log untouched h point calls =
       first = rw (i .bytes, length-verdicts fs L (given-by h)) (sym (take-verdicts fs L (given-by h) (answered (closed-by h) rule log (brought-by h)) (omega arith)));
       all = i .all;
       each = i .each;
+      still = i .still;
+      untrimmed = λ u more is fine enough.
+          subst (λ l. BringsAfter rule l h (record-count (records-of u)) u) (sym is) (never-trimmed rule u more fine h enough);
       not-refused = λ p lends whole closed m log′ sheet brought a p′ sheet′ resumes.
           resume-number resumes ∙
           number-met rule log untouched closed d n m log′ (brought .no-fewer) (brought .brings) (closed-by h) p (i .fine) (lent p lends whole) ∙
@@ -617,6 +704,24 @@ demand-3 rule log untouched h point calls =
           let laid-length : length (laid h) ≡ d = ap length (i .bytes) ∙ length-verdicts fs L d in
           rw (laid-length, i .bytes) (own-summary rule L n d p (i .fine) (lent p lends whole .stands) nos latest a nos′ latest′ told);
       status = λ p lends whole r is. is ∙ own-status rule L n d p (i .fine) (lent p lends whole .stands);
+      trims = λ p lends whole m log′ out brought a out′ trims.
+          let reached = lent p lends whole in
+          let wrote = trim-writes trims in
+          record {
+            number = trim-numbered rule log untouched false d n m log′ (brought .no-fewer) (brought .brings) (closed-by h) p (i .fine) reached out a out′ trims;
+            written = λ none. wrote none .0 ∙ trimmed-size rule log untouched false d n m log′ (brought .no-fewer) (brought .brings) (closed-by h) p (i .fine) reached;
+            brings = λ none k most within.
+                record {
+                  no-fewer = omega (arith, brought .no-fewer);
+                  brings = trim-brings rule log untouched false d n m log′ (brought .no-fewer) (brought .brings) (closed-by h) p (i .fine) reached out a out′ trims none k most within;
+                };
+            again = trim-same rule log untouched false d n m log′ (brought .no-fewer) (brought .brings) (closed-by h) p (i .fine) reached out a out′ trims;
+          };
+      alike = λ p lends whole closed m log₁ log₂ sheet brought₁ brought₂ a₁ p₁ sheet₁ resumes₁ a₂ p₂ sheet₂ resumes₂.
+          let reached = lent p lends whole in
+          let one = determined rule log untouched closed d n m log₁ (brought₁ .no-fewer) (brought₁ .brings) (closed-by h) p (i .fine) reached sheet a₁ p₁ sheet₁ resumes₁ in
+          let other = determined rule log untouched closed d n m log₂ (brought₂ .no-fewer) (brought₂ .brings) (closed-by h) p (i .fine) reached sheet a₂ p₂ sheet₂ resumes₂ in
+          (one .0 ∙ sym (other .0), one .1 ∙ sym (other .1));
     }
 
 -- the bytes of every list are the first bytes of one run

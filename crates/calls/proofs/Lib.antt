@@ -1,6 +1,8 @@
--- The theorems about lists of calls. Lending: the point in the words that a call lends. Demand3 and Truth: demands 3 and 2. Alone: each
--- formula in a run of its own.
+-- The theorems about lists of calls. Lending: the point in the words that a call lends. Trimming: trimmed logs. Lengthened: a log with
+-- records behind it. Demand3 and Truth: demands 3 and 2. Alone: each formula in a run of its own.
 pub mod Lending
+pub mod Trimming
+pub mod Lengthened
 pub mod Demand3
 pub mod Truth
 pub mod Alone

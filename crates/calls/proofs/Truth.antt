@@ -30,7 +30,7 @@ use Rattle.monitor.specs.Summary.{counts-of}
 use Rattle.monitor.proofs.Meaning.{most-few, rule-reads, few-columns}
 use Rattle.monitor.proofs.VerdictBytes.{length-verdicts, verdict-at}
 use Rattle.calls.specs.Calls.{Untouched, Call, given-by, brought-by, closed-by, before-closing, laid, Calls, Says, Demand2}
-use Rattle.calls.specs.Calls.OneCall.{refused, accepted as accepted-call}
+use Rattle.calls.specs.Calls.OneCall.{refused, accepted as accepted-call, trimming}
 use Rattle.calls.specs.Calls.Calls.{opened, and-then}
 use Rattle.calls.proofs.Lending.{given-settled}
 use Rattle.calls.proofs.Demand3.{invariant}
@@ -98,6 +98,7 @@ pub calls-before : {rule log : List ℕ} {h : List Call} {point : List ℕ} → 
 unfolding before-closing
 calls-before (opened lent p opens) = (_, opened lent p opens)
 calls-before (and-then calls p p′ lends (refused closed rule′ log′ sheet n q sheet′ resumes)) = calls-before calls
+calls-before (and-then calls p p′ lends (trimming rule′ log′ out a out′ trims)) = calls-before calls
 calls-before (and-then calls p p′ lends (accepted-call true n log′ sheet c more q sheet′ brought resumes)) = calls-before calls
 calls-before (and-then calls p p′ lends (accepted-call false n log′ sheet c more q sheet′ brought resumes)) =
     (_, and-then calls p p′ lends (accepted-call false n log′ sheet c more q sheet′ brought resumes))

@@ -11,7 +11,8 @@ use lib.Dec.{ltb}
 use Rattle.mtl.specs.Formula.{Formula}
 use Rattle.mtl.specs.Log.{Log, Stream, NeverFalls, StreamNeverFalls, Continues, Begins}
 use Rattle.mtl.specs.Reading.{HoldsIn, HoldsOn}
-use Rattle.trace.specs.Format.{record-count, records-of, malformed}
+use Rattle.trace.specs.Format.{record-count, skips-of, dropped, records-of, total-records, malformed}
+use Rattle.trace.specs.Window.{SameRecord}
 use Rattle.trace.specs.Log.{log-of}
 use Rattle.verdicts.specs.Counts.{noes-in}
 use Rattle.rule.specs.Entries.{version, count, decoded}
@@ -21,6 +22,8 @@ use Rattle.emit.specs.Verdicts.{formulas-of, columns, first-records, wanted-aft
 use Rattle.monitor.specs.Open.{done, Opens}
 use Rattle.monitor.specs.Open.{Answer as OpenAnswer}
 use Rattle.monitor.specs.Resume.{Answer, gave, refused-with, Resumes}
+use Rattle.monitor.specs.Trim.{Trims}
+use Rattle.monitor.specs.Trim.{Answer as TrimAnswer}
 use Rattle.monitor.specs.Summary.{counted, Told, Summarizes}
 use Rattle.monitor.specs.Summary.{Answer as SummaryAnswer}
 use Rattle.monitor.specs.Status.{Facts, known}
@@ -28,9 +31,10 @@ use Rattle.monitor.specs.Status.{told as known-told, answer as standing-of}
 use Rattle.monitor.specs.declared.Standing.{Standing}
 
 -- "One untouched log belongs to the list: a header without fault, then at most 1,000,000 records whose times never fall": the times of
--- all records, service records too
+-- all records, service records too. None is dropped.
 pub record Untouched (log : List ℕ) : Type 0 where
   pub well-formed : malformed log ≡ false
+  pub undropped : dropped log ≡ 0
   pub never-falls : NeverFalls (log-of false (records-of log))
 
 -- an accepted call, as far as the claim speaks of it: whether it is a closing, the records that it brought, the sheet's length, c,
@@ -78,14 +82,18 @@ unfoldable pub laid : List Call → List ℕ
 laid [] = []
 laid (c ∷ older) = laid older ++ c .bytes
 
--- "it brings .. this header and the records from the first on"; "The first record wanted is the one that holds the first position still
--- wanted ..; overwriting stops before it" (document 02, paper 10). "Such a record may hold any bytes; the others stand as in the untouched
--- log."
+-- "it brings .. this header and the records from the first on", or "a log trimmed with its point instead, grown and trimmed again at will"
+-- (document 02, paper 11): log′ stands for the first n records of the untouched log. "The first record wanted is the one that holds the first
+-- position still wanted ..; overwriting stops before it" (paper 10), and so does dropping. What stands before it may "hold any bytes; the
+-- others stand as in the untouched log."
 pub record Brings (log : List ℕ) (first n : ℕ) (log′ : List ℕ) : Type 0 where
-  pub size : length log′ ≡ 8 + 8 * n
+  pub well-formed : malformed log′ ≡ false
+  -- "a point may go from 2 to 3 and back"
+  pub kind : skips-of log′ ≡ skips-of log
+  pub size : total-records log′ ≡ n
   pub within : n ≤ record-count (records-of log)
-  pub header : take 8 log′ ≡ take 8 log
-  pub same : (i : ℕ) → 8 + 8 * first ≤ i → i < 8 + 8 * n → getD log′ i 0 ≡ getD log i 0
+  pub kept : dropped log′ ≤ first
+  pub same : (i : ℕ) → first ≤ i → i < n → SameRecord (records-of log′) (i - dropped log′) (records-of log) i
 
 -- after the accepted calls h, "no fewer than the accepted call before it brought"
 pub record BringsAfter (rule log : List ℕ) (h : List Call) (n : ℕ) (log′ : List ℕ) : Type 0 where
@@ -110,6 +118,8 @@ pub data OneCall (rule log : List ℕ) (h : List Call) (p : List ℕ) : List Cal
   accepted : (closing : Bool) (n : ℕ) (log′ sheet : List ℕ) (c : ℕ) (more : Bool) (p′ sheet′ : List ℕ) →
       BringsAfter rule log h n log′ → Resumes closing rule log′ p sheet (gave c more) p′ sheet′ →
       OneCall rule log h p (the-call closing n sheet c more sheet′ ∷ h) p′
+  -- a trimming, refused or not, whatever rule, log and buffer it brought: "The point keeps its words"
+  trimming : (rule′ log′ out : List ℕ) (a : TrimAnswer) (out′ : List ℕ) → Trims rule′ log′ p out a out′ → OneCall rule log h p h p
 
 -- a list of calls: its accepted calls, the latest first, and the point, as many words as weigh gave, as its last call left it
 pub data Calls (rule log : List ℕ) : List Call → List ℕ → Type 0 where
@@ -191,6 +201,35 @@ abbrev pub expected-refusal : (closing closed : Bool) (at n : ℕ) → ℕ
 expected-refusal false closed at n = cond closed 20 0
 expected-refusal true closed at n = cond (closed && ltb at n) 21 0
 
+-- the records of the untouched log from the first n on up to m: what a log that stands for n of them grows by
+abbrev pub grown-by : (log : List ℕ) (n m : ℕ) → List ℕ
+grown-by log n m = take (8 * (m - n)) (drop (8 * n) (records-of log))
+
+-- the number of a trimming that brings rule and log as it should: 23 for version 1, and 25 where the buffer is short
+abbrev pub expected-trim-refusal : (skips : Bool) (lent size : ℕ) → ℕ
+expected-trim-refusal skips lent size = cond skips (cond (ltb lent size) 25 0) 23
+
+-- after the accepted calls h, the length of a log of n records when it is trimmed: 16 bytes and the records from the first wanted on
+abbrev pub trimmed-length : (rule log : List ℕ) (h : List Call) (n : ℕ) → ℕ
+trimmed-length rule log h n = 16 + 8 * (n - wanted-after rule log (given-by h) (brought-by h))
+
+-- a trimming, after the accepted calls h, of a log that stands for the first n records
+pub record TrimmedAfter (rule log : List ℕ) (h : List Call) (n : ℕ) (p out : List ℕ) (a : TrimAnswer) (out′ : List ℕ) : Type 0 where
+  pub number : a .number ≡ expected-trim-refusal (skips-of log) (length out) (trimmed-length rule log h n)
+  pub written : a .number ≡ 0 → a .written ≡ trimmed-length rule log h n
+  -- "From then on demand 3's list may bring a log trimmed with its point instead, grown": what was written, as it is and with more records
+  pub brings : a .number ≡ 0 → (m : ℕ) → n ≤ m → m ≤ record-count (records-of log) →
+      BringsAfter rule log h m (take (a .written) out′ ++ grown-by log n m)
+  -- trimmed again with nothing new wanted it is what it was
+  pub again : a .number ≡ 0 → (out₂ : List ℕ) (a₂ : TrimAnswer) (out₂′ : List ℕ) →
+      Trims rule (take (a .written) out′) p out₂ a₂ out₂′ → a₂ .number ≡ 0 → take (a₂ .written) out₂′ ≡ take (a .written) out′
+
+-- a log that could be brought before the last accepted call can be brought after it, what was trimmed before it too, if it has its records
+unfoldable pub StillBrings : (rule log : List ℕ) → List Call → Type 0
+StillBrings rule log [] = Unit {0}
+StillBrings rule log (c ∷ older) =
+    (n : ℕ) (log′ : List ℕ) → c .records ≤ n → BringsAfter rule log older n log′ → BringsAfter rule log (c ∷ older) n log′
+
 -- DEMAND 3, for every list
 pub record Demand3 (rule log : List ℕ) (h : List Call) (point : List ℕ) : Type 0 where
   -- 1. the bytes laid end to end are the first verdicts of the untouched log as far as the last accepted call brought it, closed where
@@ -227,3 +266,19 @@ pub record Demand3 (rule log : List ℕ) (h : List Call) (point : List ℕ) : Ty
   -- accepted call, and wanted is the record from which `BringsAfter` asks the log to stand
   pub status : (p : List ℕ) → Lends point p → length point ≤ length p →
       (r : Standing) → standing-of r ≡ known rule p → standing-of r ≡ known-told (facts-after rule log h)
+  -- 9. of document 02, paper 11: a trimming that brings rule and log as it should, the point being whole in the words that it lends
+  pub trims : (p : List ℕ) → Lends point p → length point ≤ length p →
+      (n : ℕ) (log′ out : List ℕ) → BringsAfter rule log h n log′ →
+      (a : TrimAnswer) (out′ : List ℕ) → Trims rule log′ p out a out′ → TrimmedAfter rule log h n p out a out′
+  -- 10. "each carrying on or closing gives the sheet and answer that the log never trimmed would give at that call": two logs that may be
+  -- brought, trimmed or not
+  pub alike : (p : List ℕ) → Lends point p → length point ≤ length p →
+      (closing : Bool) (n : ℕ) (log₁ log₂ sheet : List ℕ) → BringsAfter rule log h n log₁ → BringsAfter rule log h n log₂ →
+      (a₁ : Answer) (p₁ sheet₁ : List ℕ) → Resumes closing rule log₁ p sheet a₁ p₁ sheet₁ →
+      (a₂ : Answer) (p₂ sheet₂ : List ℕ) → Resumes closing rule log₂ p sheet a₂ p₂ sheet₂ →
+      (a₁ ≡ a₂) × (sheet₁ ≡ sheet₂)
+  -- the log never trimmed, as far as it had grown, is one of them
+  pub untrimmed : (u more : List ℕ) → log ≡ u ++ more → Untouched u → brought-by h ≤ record-count (records-of u) →
+      BringsAfter rule log h (record-count (records-of u)) u
+  -- 11. "grown and trimmed again at will": no call takes away what may be brought
+  pub still : StillBrings rule log h

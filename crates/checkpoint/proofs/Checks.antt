@@ -15,7 +15,7 @@ use Rattle.mtl.specs.Satisfaction.{any}
 use Rattle.mtl.proofs.Bounded.{and-iff, leb-iff, any-false-iff}
 use Rattle.rule.specs.declared.Entry.{Entry}
 use Rattle.rule.specs.Entries.{version, count, decoded, entry}
-use Rattle.rule.specs.Refusal.{before, refusal}
+use Rattle.rule.specs.Refusal.{first, before, refusal}
 use Rattle.rule.proofs.Headers.{first-zero, or-left, or-right, Decoded, before-none, measured-once}
 use Rattle.rule.specs.declared.refusals.Header.{Header}
 use Rattle.rule.specs.declared.Measured.{Measured}
@@ -28,17 +28,24 @@ use Rattle.rule.specs.Measure.{answer as weighing}
 use Rattle.rule.specs.Code.{header, header-version, header-count, filled, measured-by}
 use Rattle.rule.proofs.Outcome.{passes-with}
 use Rattle.blocks.specs.Block.{word}
-use Rattle.trace.specs.Format.{record-count, records-of, malformed}
-use Rattle.trace.proofs.Laws.{well-formed-records}
+use Rattle.trace.specs.Format.{skips-of, dropped, total-records, malformed}
+use Rattle.trace.specs.Order.{disordered}
+use Rattle.trace.specs.View.{records-from}
+use Rattle.trace.specs.Making.{trimmed}
+use Rattle.trace.proofs.Laws.{well-formed-iff}
 use Rattle.checkpoint.specs.Checkpoint.{given, seen, last, closed-with, log-kind, first-wanted, no-count, after-latest, need, foreign, block-at, block-outside, block-in-range, waiting-in-range, room, noes-outside, closed-in-range, kind-in-range, outside, header-in-range}
 use Rattle.verdicts.specs.Counts.{noes-in-range}
-use Rattle.checkpoint.specs.Refusal.{open-refusal, resumes-closed, other-version, point-refusal, words-refusal, summary-refusal}
+use Rattle.checkpoint.specs.Refusal.{open-refusal, resumes-closed, closes-more, other-version, point-refusal, trimming-refusal, words-refusal, summary-refusal}
 use Rattle.checkpoint.specs.Code.{sized-of, sized-number, checked-by, checked-number, sized-by, Covers, own-checked}
 use Rattle.checkpoint.specs.declared.check.Sized.{Sized}
 use Rattle.checkpoint.specs.declared.check.Sized.the-variants.{Words, Stopped}
 use Rattle.checkpoint.specs.declared.check.Checked.{Checked}
 use Rattle.checkpoint.specs.declared.check.Checked.the-variants.{Passed, Failed}
 use Rattle.checkpoint.proofs.Sizes.{sized-refusal, enough, stops, sized-is, is-decoded, is-version, fits-in, enough-words}
+
+-- a refusal that is not met gives way to what comes after
+pub passed-over : (n : ℕ) (bad : Bool) (other : ℕ) → bad ≡ false → first n bad other ≡ other
+passed-over n bad other e = ap (λ (b : Bool). first n b other) e
 
 -- n is the number of a refusal: of 1 to 9 where one applies, else `other`
 pub record Met (rule p : List ℕ) (other n : ℕ) : Type 0 where
@@ -96,10 +103,11 @@ failed rule p number w r m n sized checked fails numbered =
 pub record Passes (rule log p : List ℕ) : Type 0 where
   pub given : given p ≤ 1000000
   pub wanted : first-wanted p ≤ seen p
-  pub no-fewer : seen p ≤ record-count (records-of log)
+  pub undropped : dropped log ≤ first-wanted p
+  pub no-fewer : seen p ≤ total-records log
   pub counted : (k : ℕ) → k < most (version rule) → no-count p k ≤ 1000000
   pub held : (k : ℕ) → k < count rule → word p (block-at (header-words (version rule)) (decoded rule) k + 12) ≤ 64
-  pub records : record-count (records-of log) ≤ 1000000
+  pub records : total-records log ≤ 1000000
 
 header-given : (m : ℕ) (p : List ℕ) → header-in-range m p ≡ true →
     (given p ≤ 1000000) × (first-wanted p ≤ seen p) × ((k : ℕ) → k < m → no-count p k ≤ given p)
@@ -139,18 +147,35 @@ passes closing rule log p none =
     let twentieth = first-zero 19 (resumes-closed closing (closed-with p)) _ (eleventh .1) in
     let twelfth = first-zero 11 (malformed log) _ (twentieth .1) in
     let last = first-zero 21 (other-version log (log-kind p)) _ (twelfth .1) in
-    let thirteenth = first-zero 12 (ltb (record-count (records-of log)) (seen p)) _ (last .1) in
+    let thirteenth = first-zero 12 (ltb (total-records log) (seen p)) _ (last .1) in
+    let repeated = first-zero 20 (closes-more closing (closed-with p) (total-records log)) _ (thirteenth .1) in
+    let missing = first-zero 23 (ltb (first-wanted p) (dropped log)) _ (repeated .1) in
     let (few, wanted, noes) = header-given (most v) p
     (not-false (header-in-range (most v) p) (or-left (negate (header-in-range (most v) p)) (any n (block-outside base t p)) (eleventh .0))) in
     let blocks = any-false-iff n (block-outside base t p) .0 (or-right (negate (header-in-range (most v) p)) (any n (block-outside base t p)) (eleventh .0)) in
     record {
       given = few;
       wanted = wanted;
-      no-fewer = ltb-false (record-count (records-of log)) (seen p) (thirteenth .0);
+      undropped = ltb-false (first-wanted p) (dropped log) (missing .0);
+      no-fewer = ltb-false (total-records log) (seen p) (thirteenth .0);
       counted = λ k h. omega (arith, noes k h);
       held = λ k h. subst (λ (w : ℕ). w ≤ 64) (getD-drop (block-at base t k) p 12 0) (held-few _ _ _ (drop (block-at base t k) p) (and-iff _ (waiting-in-range (entry t k .kind) (seen p) (drop (block-at base t k) p)) .0 (not-false _ (blocks k h)) .0));
-      records = well-formed-records log (twelfth .0) .1 .few;
+      records = well-formed-iff log .0 (twelfth .0) .few;
     }
+
+-- a trimming that is not refused has room for what it writes
+pub room-to-trim : (version : ℕ) (t : List Entry) (n lent : ℕ) (log p : List ℕ) → words-refusal version t n p (trimming-refusal lent log p) ≡ 0 →
+    length (trimmed log (first-wanted p)) ≤ lent
+room-to-trim version t n lent log p none =
+    let tenth = first-zero 9 (foreign version t n p) _ none in
+    let eleventh = first-zero 10 (outside version t n p) _ (tenth .1) in
+    let twelfth = first-zero 11 (malformed log) _ (eleventh .1) in
+    let other = first-zero 21 (other-version log (log-kind p)) _ (twelfth .1) in
+    let plain = first-zero 22 (negate (skips-of log)) _ (other .1) in
+    let thirteenth = first-zero 12 (ltb (total-records log) (seen p)) _ (plain .1) in
+    let missing = first-zero 23 (ltb (first-wanted p) (dropped log)) _ (thirteenth .1) in
+    let ordered = first-zero 13 (disordered (records-from log (first-wanted p)) (seen p - first-wanted p) (last p)) _ (missing .1) in
+    ltb-false lent (length (trimmed log (first-wanted p))) (first-zero 24 _ 0 (ordered .1) .0)
 
 -- enough words are lent where weighing gives no more of them
 covered-by : (b : Bool) (version : ℕ) (t : List Entry) (n lent w v : ℕ) → ltb lent v ≡ b → Covers (Weighed v 0) version t n →
@@ -172,6 +197,13 @@ covers-by s v t n version-if decoded-if (Weighed w far) e =
     let is = o .words-are in
     fits-in s v t n w (o .accepted) (version-if (o .accepted)) (decoded-if (o .accepted)) (omega arith)
 
+-- the words' checks by the entries decoded are those of the rule
+words-are : (rule : List ℕ) (v : ℕ) (t : List Entry) (n : ℕ) → v ≡ version rule → Decoded rule t n → (p : List ℕ) (other : ℕ) →
+    words-refusal v t n p other ≡ words-refusal (version rule) (decoded rule) (count rule) p other
+words-are rule v t n is-version d p other =
+    ap (λ (v : ℕ). words-refusal v t n p other) is-version
+    ∙ ap₂ (λ (t : List Entry) (n : ℕ). words-refusal (version rule) t n p other) (d .entries-are) (d .count-is)
+
 module _ (rule p : List ℕ) where
   -- the number of refusal 10 or 11, or 0
   abbrev own-number : ℕ
@@ -190,10 +222,7 @@ module _ (rule p : List ℕ) where
   own-by v t n version-if decoded-if (Stopped m) sized = own-failed m (stopped rule p own-number (Stopped m) m m sized refl refl)
   own-by v t n version-if decoded-if (Words w) sized =
       let ok = enough rule (length p) w sized .accepted in
-      let d = decoded-if ok in
-      ap (λ (v : ℕ). checked-by (words-refusal v t n p 0)) (version-if ok)
-      ∙ ap₂ (λ (t : List Entry) (n : ℕ). checked-by (words-refusal (version rule) t n p 0)) (d .entries-are) (d .count-is)
-      ∙ ap checked-by (sym (not-stopped rule p own-number w sized))
+      ap checked-by (words-are rule v t n (version-if ok) (decoded-if ok) p 0 ∙ sym (not-stopped rule p own-number w sized))
 
   -- where none of 1 to 11 is met
   module _ (none : summary-refusal rule p ≡ 0) where
@@ -220,7 +249,12 @@ module _
     pub covers : Covers m v t n
     covers = covers-by s v t n (is-version s h v is e₀) (is-decoded s h t n is e e′) m (weighed ∙ measured-once s h is t n e e′)
 
+    pub sized-once : (lent : ℕ) → sized-by m lent ≡ sized-of s lent
+    sized-once lent = sized-is s m lent (weighed ∙ measured-once s h is t n e e′)
+
     pub own-is : (p : List ℕ) → own-checked (sized-by m (length p)) v t n p ≡ checked-by (summary-refusal s p)
-    own-is p =
-        own-by s p v t n (is-version s h v is e₀) (is-decoded s h t n is e e′) (sized-by m (length p))
-        (sized-is s m (length p) (weighed ∙ measured-once s h is t n e e′))
+    own-is p = own-by s p v t n (is-version s h v is e₀) (is-decoded s h t n is e e′) (sized-by m (length p)) (sized-once (length p))
+
+    -- where it is accepted, what checks the words and goes on to `other` is by the rule
+    pub words-once : refusal s ≡ 0 → (p : List ℕ) (other : ℕ) → words-refusal v t n p other ≡ words-refusal (version s) (decoded s) (count s) p other
+    words-once ok = words-are s v t n (is-version s h v is e₀ ok) (is-decoded s h t n is e e′ ok)

@@ -1,14 +1,17 @@
-// Refusals 1 to 14 (3 no longer occurs) and 20 to 22: each check over all entries before the next begins. Nothing is written.
+// Refusals 1 to 14 (3 no longer occurs) and 20 to 25: each check over all entries before the next begins. Nothing is written.
 ghost use mathlib.Core.Path.{_≡_};
 ghost use Prim.Native.Nat.{_+_, _-_, _≤_, _<_};
 ghost use lib.ListN.{length, drop};
+ghost use lib.Dec.{ltb};
 ghost use Rattle.mtl.specs.Satisfaction.{any};
 ghost use Rattle.rule.specs.Refusal.{first};
 ghost use Rattle.rule.specs.Words.{header-words, own, offset};
 ghost use Rattle.checkpoint.specs.Checkpoint.{seen, last, closed-with, kind-of-log, first-wanted, copy-start, copy-head, copy-ends, copy-differs, foreign, room, block-in-range, waiting-in-range, block-outside, noes-outside, closed-in-range, kind-in-range, outside};
 ghost use Rattle.verdicts.specs.Counts.{noes-in-range};
 ghost use Rattle.checkpoint.specs.Code.{sized-by, sized-number, checked-by, checked-number, Covers, own-checked};
-ghost use Rattle.checkpoint.specs.Refusal.{other-version, records-refusal, log-refusal, words-refusal, point-refusal};
+ghost use Rattle.checkpoint.specs.Refusal.{closes-more, other-version, records-refusal, log-refusal, trimming-refusal, words-refusal, point-refusal};
+ghost use Rattle.trace.specs.Format.{total-records};
+ghost use Rattle.trace.specs.Making.{trimmed};
 ghost use Rattle.blocks.specs.Block.{cells-of};
 use super::header;
 use blocks::word;
@@ -35,7 +38,7 @@ impl Sized {
     }
 }
 
-// Refusals 10 to 14 and 20 to 22, in `check_own` 1 to 9 as well, or none of them.
+// Refusals 10 to 14 and 20 to 25, in `check_own` 1 to 9 as well, or none of them.
 pub enum Checked {
     Passed,
     Failed(u32),
@@ -273,40 +276,82 @@ fn is_other_version(log: &[u8], noted: u64) -> bool
     (0 < noted) & (noted != log_kind(trace::skips(log)))
 }
 
-// The number of the first of refusals 13, 21 and 14 that applies to a log's records, or 0.
-fn records_reason(records: &[u8], closing: bool, point: &[u64]) -> u32
-    requires { ⌜ 16 ≤ length (now point) ⌝ }
-    ensures { λ r. ⌜ r ≡ records-refusal closing (now (records .entry)) (first-wanted (now (point .entry))) (seen (now (point .entry))) (last (now (point .entry))) (closed-with (now (point .entry))) ⌝ }
+// The number of the first of refusals 13, 21, 24 and 14 that applies, or another.
+fn records_reason(log: &[u8], more: bool, point: &[u64], other: u32) -> u32
+    requires { ⌜ (16 ≤ length (now point)) × (total-records (now log) ≤ 1000000) ⌝ }
+    ensures { λ r. ⌜ r ≡ records-refusal more (now (log .entry)) (now (point .entry)) other ⌝ }
 {
     let seen = point[header::SEEN] as usize;
-    let first = point[header::WANTED] as usize;
-    let total = trace::count(records);
-    let closed_with = point[header::CLOSED_WITH];
-    let more = closing & ((0 < closed_with) & (closed_with <= total as u64));
+    let first = point[header::WANTED];
     let disordered = trace::is_disordered(
-        trace::from_record(records, first),
-        behind(first, seen),
+        trace::records_from(log, first),
+        behind(first as usize, seen),
         point[header::LAST],
+    );
+    let wanted = refuse(
+        24,
+        first < trace::dropped(log),
+        refuse(14, disordered, other),
     );
     refuse(
         13,
-        total < seen,
-        refuse(21, more, refuse(14, disordered, 0)),
+        trace::total_records(log) < seen,
+        refuse(21, more, wanted),
     )
 }
 
-// The number of the first of refusals 20, 12, 22 and these that applies, or 0.
+// A closing is repeated with so many records, more than at the first.
+fn closes_more(closing: bool, noted: u64, records: usize) -> bool
+    ensures { λ r. ⌜ r ≡ closes-more closing noted records ⌝ }
+{
+    closing & ((0 < noted) & (noted <= records as u64))
+}
+
+// The number of the first of refusals 20, 12, 22 and these that applies to a resume or a closing, or 0.
 fn log_reason(log: &[u8], closing: bool, point: &[u64]) -> u32
     requires { ⌜ 16 ≤ length (now point) ⌝ }
     ensures { λ r. ⌜ r ≡ log-refusal closing (now (log .entry)) (now (point .entry)) ⌝ }
 {
-    let after = records_reason(trace::records(log), closing, point);
-    let other = is_other_version(log, point[header::LOG_KIND]);
-    refuse(
-        20,
-        !closing & (0 < point[header::CLOSED_WITH]),
-        refuse(12, trace::is_malformed(log), refuse(22, other, after)),
-    )
+    if !closing & (0 < point[header::CLOSED_WITH]) {
+        return 20;
+    }
+    if trace::is_malformed(log) {
+        return 12;
+    }
+    if is_other_version(log, point[header::LOG_KIND]) {
+        return 22;
+    }
+    let more = closes_more(
+        closing,
+        point[header::CLOSED_WITH],
+        trace::total_records(log),
+    );
+    records_reason(log, more, point, 0)
+}
+
+// The log trimmed to the records from `first` on does not fit into so many bytes.
+fn is_short(lent: usize, log: &[u8], first: u64) -> bool
+    ensures { λ r. ⌜ r ≡ ltb lent (length (trimmed (now (log .entry)) first)) ⌝ }
+{
+    lent < 16 + trace::records_from(log, first).len()
+}
+
+// The number of the first of refusals 12, 22, 23, 13, 24, 14 and 25 that applies to a trimming into so many bytes, or 0.
+fn trimming_reason(log: &[u8], lent: usize, point: &[u64]) -> u32
+    requires { ⌜ 16 ≤ length (now point) ⌝ }
+    ensures { λ r. ⌜ r ≡ trimming-refusal lent (now (log .entry)) (now (point .entry)) ⌝ }
+{
+    if trace::is_malformed(log) {
+        return 12;
+    }
+    if is_other_version(log, point[header::LOG_KIND]) {
+        return 22;
+    }
+    if !trace::skips(log) {
+        return 23;
+    }
+    let short = is_short(lent, log, point[header::WANTED]);
+    records_reason(log, false, point, refuse(25, short, 0))
 }
 
 // 10 or 11 where it applies, else what comes after them.
@@ -345,7 +390,7 @@ fn check_words(version: usize, entries: [Entry; 128], count: usize, point: &[u64
     checked_by(words_reason(version, entries, count, point, 0))
 }
 
-// Refusals 10 to 14, and 20 to 22.
+// Refusals 10 to 14, 20 to 22 and 24.
 pub fn check_point(
     version: usize,
     entries: [Entry; 128],
@@ -363,6 +408,27 @@ pub fn check_point(
         count,
         point,
         log_reason(log, closing, point),
+    ))
+}
+
+// Refusals 10 to 14 and 22 to 25, of a trimming into so many bytes.
+pub fn check_trimming(
+    version: usize,
+    entries: [Entry; 128],
+    count: usize,
+    log: &[u8],
+    lent: usize,
+    point: &[u64],
+) -> Checked
+    requires { ⌜ (version ≤ 2) × (count ≤ 128) × (header-words version + offset entries count ≤ length (now point)) ⌝ }
+    ensures { λ r. ⌜ r ≡ checked-by (words-refusal version entries count (now (point .entry)) (trimming-refusal lent (now (log .entry)) (now (point .entry)))) ⌝ }
+{
+    checked_by(words_reason(
+        version,
+        entries,
+        count,
+        point,
+        trimming_reason(log, lent, point),
     ))
 }
 

@@ -7,5 +7,6 @@ pub use check::Checked;
 pub use check::Sized;
 pub use check::check_own;
 pub use check::check_point;
+pub use check::check_trimming;
 pub use check::log_kind;
 pub use check::size_of;

@@ -18,7 +18,8 @@ use Rattle.rule.specs.Measure.{measured}
 use Rattle.rule.specs.Measure.{Answer as Measure, answer as measure-of}
 use Rattle.rule.proofs.Outcome.{stops-with}
 use Rattle.checkpoint.specs.Checkpoint.{stored-noes}
-use Rattle.checkpoint.specs.Refusal.{resume-refusal, summary-refusal}
+use Rattle.trace.specs.Making.{put}
+use Rattle.checkpoint.specs.Refusal.{resume-refusal, trim-refusal, summary-refusal}
 use Rattle.verdicts.specs.Tally.{Tallies}
 use Rattle.verdicts.specs.Tally.{Answer as TallyAnswer}
 use Rattle.emit.specs.Verdicts.{formulas-of, columns}
@@ -26,6 +27,11 @@ use Rattle.monitor.specs.Open.{Opening, Opens}
 use Rattle.monitor.specs.Open.{Answer as OpenAnswer}
 use Rattle.monitor.specs.Resume.{gave, Resumes}
 use Rattle.monitor.specs.Resume.{Answer as ResumeAnswer, refused-with as resume-refused}
+use Rattle.monitor.specs.Trim.{wrote, trimmed-log, Trims}
+use Rattle.monitor.specs.Trim.{Answer as TrimAnswer, answer as trimmed-of, refused-with as not-trimmed-with}
+use Rattle.monitor.specs.declared.Trimmed.{Trimmed}
+use Rattle.monitor.specs.declared.Trimmed.the-variants.{Written as Shortened}
+use Rattle.monitor.specs.declared.Trimmed.the-variants.{Refused as Untrimmed}
 use Rattle.monitor.specs.Summary.{Told, counted, refused-with, Summarizes}
 use Rattle.monitor.specs.Summary.{Answer as SummaryAnswer}
 use Rattle.monitor.proofs.Answers.{open-number, resume-number}
@@ -51,7 +57,7 @@ use Rattle.worst.specs.declared.Made.the-variants.{Refused as Unmade}
 use Rattle.worst.specs.Call.{answered, Writes}
 use Rattle.worst.specs.Call.{Answer as Making, answer as made-of}
 use Rattle.worst.proofs.Outcome.{not-zero}
-use Rattle.havdrims.specs.Interface.{or-kept, flag, MeasureCall, OpenCall, HandsOver, ResumeCall, TallyCall, SummaryCall, FormulasCall, StatusCall, ParseCall, WorstLogCall}
+use Rattle.havdrims.specs.Interface.{or-kept, flag, MeasureCall, OpenCall, HandsOver, ResumeCall, TrimCall, TallyCall, SummaryCall, FormulasCall, StatusCall, ParseCall, WorstLogCall}
 
 -- a number that is not 0 keeps what stood behind the pointer
 pub kept : {A : Type 0} → (n : ℕ) (old new : A) → (n ≡ 0 → ⊥) → old ≡ or-kept n old new
@@ -106,6 +112,29 @@ resuming closing rule log p sheet c m a p′ sheet′ h r c′ m′ handed =
       given = handed .given ∙ by-number (eqb n 0) n a c (a .count) (h .outcome) ∙ ap (λ (k : ℕ). or-kept k c (a .count)) (sym number);
       more = handed .more ∙ by-number (eqb n 0) n a m (flag (a .more)) (h .outcome) ∙ ap (λ (k : ℕ). or-kept k m (flag (a .more))) (sym number);
     }
+
+-- the number of a trimming, what it wrote and what stands behind the pointer: by whether its refusal's number n is 0
+trimmed-by : (b : Bool) (n : ℕ) (out bytes : List ℕ) (old : ℕ) (a : TrimAnswer) → eqb n 0 ≡ b → a ≡ cond b (wrote (length bytes)) (not-trimmed-with n) →
+    (a .number ≡ n) × (cond (a .refused) out (put out 0 bytes) ≡ cond b (put out 0 bytes) out) × (cond (a .refused) old (a .written) ≡ cond b (length bytes) old)
+trimmed-by true n out bytes old a t e =
+    (ap (λ (x : TrimAnswer). x .number) e ∙ sym (eqb-true n 0 t), ap (λ (x : TrimAnswer). cond (x .refused) out (put out 0 bytes)) e, ap (λ (x : TrimAnswer). cond (x .refused) old (x .written)) e)
+trimmed-by false n out bytes old a t e =
+    (ap (λ (x : TrimAnswer). x .number) e, ap (λ (x : TrimAnswer). cond (x .refused) out (put out 0 bytes)) e, ap (λ (x : TrimAnswer). cond (x .refused) old (x .written)) e)
+
+module _ (rule log p out : List ℕ) (old : ℕ) (o : Trimmed) (out′ : List ℕ) (h : Trims rule log p out (trimmed-of o) out′) where
+  trimming : (r w : ℕ) → r ≡ trimmed-of o .number → w ≡ cond (trimmed-of o .refused) old (trimmed-of o .written) → TrimCall rule log p out old r out′ w
+  trimming r w numbered told =
+      let n = trim-refusal rule log p (length out) in
+      let (number, bytes, written) = trimmed-by (eqb n 0) n out (trimmed-log log p) old (trimmed-of o) refl (h .outcome) in
+      let is : r ≡ n = numbered ∙ number in
+      record { number = is; bytes = rw is (h .bytes ∙ bytes); written = rw is (told ∙ written) }
+
+  pub not-trimmed : (n : ℕ) → o ≡ Untrimmed n → (r : ℕ) → r ≡ trimmed-of o .number → TrimCall rule log p out old r out′ old
+  not-trimmed n is r number = trimming r old number (ap (λ (x : Trimmed). cond (trimmed-of x .refused) old (trimmed-of x .written)) (sym is))
+
+  pub is-trimmed : (l : ℕ) → o ≡ Shortened l → TrimCall rule log p out old 0 out′ l
+  is-trimmed l is =
+      trimming 0 l (ap (λ (x : Trimmed). trimmed-of x .number) (sym is)) (ap (λ (x : Trimmed). cond (trimmed-of x .refused) old (trimmed-of x .written)) (sym is))
 
 -- the counts stand in the first words where the number is 0, and all words are kept where it is not
 pub tallying : (formulas : ℕ) (s nos yeses : List ℕ) (a : TallyAnswer) (nos′ yeses′ : List ℕ) → Tallies formulas s nos yeses a nos′ yeses′ → (r : ℕ) →

@@ -13,11 +13,13 @@ use Rattle.rule.specs.Measure.{measured}
 use Rattle.verdicts.specs.Counts.{counts}
 use Rattle.verdicts.specs.Tally.{tally-refusal, first-or-kept}
 use Rattle.checkpoint.specs.Checkpoint.{stored-noes}
-use Rattle.checkpoint.specs.Refusal.{open-refusal, resume-refusal, summary-refusal}
+use Rattle.trace.specs.Making.{put}
+use Rattle.checkpoint.specs.Refusal.{open-refusal, resume-refusal, trim-refusal, summary-refusal}
 use Rattle.emit.specs.Verdicts.{formulas-of, columns}
 use Rattle.monitor.specs.Open.{Opening}
 use Rattle.monitor.specs.Resume.{Resumes}
 use Rattle.monitor.specs.Resume.{Answer as ResumeAnswer}
+use Rattle.monitor.specs.Trim.{trimmed-log}
 use Rattle.monitor.specs.Summary.{Told}
 use Rattle.monitor.specs.Formulas.{formula-count}
 use Rattle.monitor.specs.Status.{known}
@@ -58,6 +60,11 @@ pub record ResumeCall (closing : Bool) (rule log p sheet : List ℕ) (c m r : �
   pub resumes : Resumes closing rule log p sheet answer p′ sheet′
   pub given : c′ ≡ or-kept r c (answer .count)
   pub more : m′ ≡ or-kept r m (flag (answer .more))
+
+pub record TrimCall (rule log p out : List ℕ) (w r : ℕ) (out′ : List ℕ) (w′ : ℕ) : Type 0 where
+  pub number : r ≡ trim-refusal rule log p (length out)
+  pub bytes : out′ ≡ or-kept r out (put out 0 (trimmed-log log p))
+  pub written : w′ ≡ or-kept r w (length (trimmed-log log p))
 
 -- for formula k the count of no stands in word k of the one buffer, and that of yes in word k of the other
 pub record TallyCall (formulas : ℕ) (sheet nos yeses : List ℕ) (r : ℕ) (nos′ yeses′ : List ℕ) : Type 0 where

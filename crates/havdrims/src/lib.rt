@@ -2,12 +2,13 @@
 // behind a pointer is as it was. include/havdrims.h says what a C programmer needs to know.
 ghost use mathlib.Core.Bool.{true, false};
 ghost use Rattle.monitor.specs.Resume.{answer as resumed-of};
-ghost use Rattle.havdrims.specs.Interface.{MeasureCall, OpenCall, HandsOver, ResumeCall, TallyCall, SummaryCall, FormulasCall, StatusCall, ParseCall, WorstLogCall, settings, SimulateCall};
+ghost use Rattle.havdrims.specs.Interface.{MeasureCall, OpenCall, HandsOver, ResumeCall, TrimCall, TallyCall, SummaryCall, FormulasCall, StatusCall, ParseCall, WorstLogCall, settings, SimulateCall};
 use monitor::FormulaCount;
 use monitor::Opened;
 use monitor::Resumed;
 use monitor::Standing;
 use monitor::Summarized;
+use monitor::Trimmed;
 use rule::Measured;
 use simulation::Settings;
 use simulation::Simulated;
@@ -87,6 +88,25 @@ pub extern "C" fn havdrims_close(
 {
     let closed = monitor::close(rule, log, point, sheet);
     hand_over(closed, given, more)
+}
+
+// Document 02's trimming: writes a shorter log.
+#[no_mangle]
+pub extern "C" fn havdrims_trim(
+    rule: &[u8],
+    log: &[u8],
+    point: &[u64],
+    out: &mut [u8],
+    written: &mut u64,
+) -> u32
+    ensures { λ r. ⌜ TrimCall (now (rule .entry)) (now (log .entry)) (now (point .entry)) (now (out .entry)) (now (written .entry)) r (now (out .exit)) (now (written .exit)) ⌝ }
+{
+    let trimmed = monitor::trim(rule, log, point, out);
+    let Trimmed::Written { length } = trimmed else {
+        return trimmed.number();
+    };
+    *written = length as u64;
+    0
 }
 
 // Counts the verdicts of a sheet: one count of no and one of yes for each formula.

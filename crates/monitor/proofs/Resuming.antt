@@ -25,10 +25,10 @@ use Rattle.rule.specs.Code.{EndsOf}
 use Rattle.rule.proofs.Headers.{Decoded}
 use Rattle.rule.proofs.Acceptance.{accepted}
 use Rattle.rule.proofs.Spans.{header-least, header-most}
-use Rattle.trace.specs.Format.{record-count, time-at, records-of, skips-of}
+use Rattle.trace.specs.Format.{record-count, time-at, skips-of, dropped, records-of, total-records}
 use Rattle.trace.specs.Order.{last-time}
 use Rattle.trace.specs.View.{from-record, view-of}
-use Rattle.trace.proofs.Slices.{cut-from, time-part, flag-told}
+use Rattle.trace.proofs.Slices.{Cut, cut-from, time-part, flag-told}
 use Rattle.blocks.specs.Block.{word, Onward}
 use Rattle.blocks.specs.Step.{Agrees}
 use Rattle.blocks.proofs.Onward.{onward-same}
@@ -84,28 +84,33 @@ top-longer base fs K L d ws longer never top =
 
 -- THE RECORDS THAT ARE LENT, from the first wanted on
 
-module _ (s : List ℕ) (first : ℕ) (fits : first ≤ record-count s) where
+-- `gone` records were dropped before the records s
+module _ (s : List ℕ) (gone first : ℕ) (undropped : gone ≤ first) (fits : first ≤ gone + record-count s) where
+  abbrev rest : List ℕ
+  rest = from-record (first - gone) s
+
+  cut : Cut s rest (first - gone)
+  cut = cut-from s s (first - gone) refl (omega arith) (λ k low high. refl)
+
   -- with those before it they are all
-  pub all-counted : first + record-count (from-record first s) ≡ record-count s
-  all-counted = cut-from s s first refl fits (λ k low high. refl) .whole
+  pub all-counted : first + record-count rest ≡ gone + record-count s
+  all-counted = omega (arith, cut .whole)
 
   -- the last time seen is the same by all records
-  pub last-time-from : (seen last : ℕ) → first ≤ seen → last-time (from-record first s) (seen - first) last ≡ last-time s seen last
+  pub last-time-from : (seen last : ℕ) → first ≤ seen → last-time rest (seen - first) last ≡ last-time s (seen - gone) last
   last-time-from seen last low =
-      let cut = cut-from s s first refl fits (λ k low high. refl) in
-      let rest = from-record first s in
       let whole = cut .whole in
       ⊎-elim
-      (λ (old : record-count s ≤ seen).
+      (λ (old : record-count s ≤ seen - gone).
       let none-new : record-count rest ≤ seen - first = omega arith in
-      rw (le-ltb seen (record-count s) old, le-ltb (seen - first) (record-count rest) none-new))
-      (λ (new : seen < record-count s).
+      rw (le-ltb (seen - gone) (record-count s) old, le-ltb (seen - first) (record-count rest) none-new))
+      (λ (new : seen - gone < record-count s).
       let some-new : seen - first < record-count rest = omega arith in
       let inside : record-count rest - 1 < record-count rest = omega arith in
-      let at : first + (record-count rest - 1) ≡ record-count s - 1 = omega arith in
-      rw (lt-ltb seen (record-count s) new, lt-ltb (seen - first) (record-count rest) some-new)
-      (time-part s rest first (cut .part) (record-count rest - 1) inside ∙ ap (time-at s) at))
-      (le-or-lt (record-count s) seen)
+      let at : first - gone + (record-count rest - 1) ≡ record-count s - 1 = omega arith in
+      rw (lt-ltb (seen - gone) (record-count s) new, lt-ltb (seen - first) (record-count rest) some-new)
+      (time-part s rest (first - gone) (cut .part) (record-count rest - 1) inside ∙ ap (time-at s) at))
+      (le-or-lt (record-count s) (seen - gone))
 
 -- no position that is passed stands at the first wanted record or behind it
 head-starts : (K L : Log) (n : ℕ) → Continues K L → Placed K n → (q : ℕ) → q ≤ K .size → head-of L q ≤ wanted-record K n q
@@ -241,25 +246,30 @@ module _ (closing : Bool) (rule log p sheet : List ℕ) (ok : refusal rule ≡ 0
   -- WHAT IS NOTED OF THE LOG
 
   abbrev size-now : ℕ
-  size-now = record-count (records-of log)
+  size-now = total-records log
 
   -- the first wanted record is one of those seen, or the next
   first-fits : (first-wanted p ≤ seen p) × (first-wanted p ≤ size-now)
   first-fits = let checks = passes closing rule log p none in omega (arith, checks .wanted, checks .no-fewer)
 
+  undropped : dropped log ≤ first-wanted p
+  undropped = passes closing rule log p none .undropped
+
+  counted : first-wanted p + record-count (wanted-records log p) ≡ size-now
+  counted = all-counted (records-of log) (dropped log) (first-wanted p) undropped (first-fits .1)
+
   seen-is : seen ws′ ≡ size-now
   seen-is =
-      done .size ∙ ap (λ (k : ℕ). k + record-count (wanted-records log p)) (was 7 (own-header 7 (omega arith))) ∙
-      all-counted (records-of log) (first-wanted p) (first-fits .1)
+      done .size ∙ ap (λ (k : ℕ). k + record-count (wanted-records log p)) (was 7 (own-header 7 (omega arith))) ∙ counted
 
   seen-now : seen after ≡ size-now
   seen-now = now 2 (own-header 2 (omega arith)) ∙ seen-is
 
-  last-now : last after ≡ last-time (records-of log) (seen p) (last p)
+  last-now : last after ≡ last-time (records-of log) (seen p - dropped log) (last p)
   last-now =
       now 3 (own-header 3 (omega arith)) ∙ done .time ∙
       rw (was 2 (own-header 2 (omega arith)), was 3 (own-header 3 (omega arith)), was 7 (own-header 7 (omega arith)))
-      (last-time-from (records-of log) (first-wanted p) (first-fits .1) (seen p) (last p) (first-fits .0))
+      (last-time-from (records-of log) (dropped log) (first-wanted p) undropped (first-fits .1) (seen p) (last p) (first-fits .0))
 
   closed-now : closed-with after ≡ cond closing (suc size-now) 0
   closed-now = now 5 (own-header 5 (omega arith)) ∙ done .ended ∙ ap (λ (k : ℕ). cond closing (suc k) 0) seen-is
@@ -282,7 +292,7 @@ module _ (closing : Bool) (rule log p sheet : List ℕ) (ok : refusal rule ≡ 0
         let is = stands .wanted in
         let starts = head-starts K L n longer (stands .placed) (wanted fs d) (omega arith) in
         rw (was 7 (own-header 7 (omega arith)))
-        (record { placed = rw (all-counted (records-of log) (first-wanted p) (first-fits .1)) placed; starts = omega arith; agrees = agrees })
+        (record { placed = rw counted placed; starts = omega arith; agrees = agrees })
 
     stands-now : Giving base fs L d (r .count) ws′ sheet′ → first-wanted ws′ ≡ wanted-record L (seen ws′) (wanted fs (d + r .count)) →
         Stands rule L size-now (d + r .count) after
@@ -364,7 +374,7 @@ module _ (closing : Bool) (rule log p : List ℕ) (v : ℕ) (t : List Entry) (n 
       let least = header-least (version rule) in
       let most-words = header-most (version rule) in
       let within = noes-within (version rule) in
-      let counted = length-drop (first-wanted p * 8) (records-of log) in
+      let counted = length-drop ((first-wanted p - dropped log) * 8) (records-of log) in
       rw (the-words, deep-is, handed, is-version, d .entries-are, d .count-is)
       (record {
         few = a .few-entries;

@@ -19,14 +19,16 @@ use Rattle.rule.specs.Words.{own, offset, header-words}
 use Rattle.rule.specs.Postfix.{push-kind, read}
 use Rattle.rule.specs.Refusal.{header-refusal, entries-refusal}
 use Rattle.rule.specs.Measure.{farthest, measured}
-use Rattle.trace.specs.Format.{record-count, records-of, skips-of}
+use Rattle.trace.specs.Format.{record-count, skips-of, dropped, records-of, total-records}
 use Rattle.trace.specs.Positions.{passing, spot, positions}
 use Rattle.trace.specs.Order.{last-time}
+use Rattle.trace.specs.View.{records-from}
 use Rattle.checkpoint.specs.Refusal.{resume-refusal}
 use Rattle.checkpoint.specs.Checkpoint.{format, copy-start, kind-of-log, copy-head, copy-ends, stored-noes}
 use Rattle.verdicts.specs.Bytes.{byte-of}
 use Rattle.verdicts.specs.Counts.{count-of, latest-no, Noes, noes-in, laid-behind, listed}
 use Rattle.emit.specs.Verdicts.{verdicts, wanted-after, answered, all-verdicts}
+use Rattle.monitor.specs.Trim.{trimmed-log, trimming}
 use Rattle.monitor.specs.Summary.{no-position, counts-of, latest-words}
 use Rattle.monitor.specs.Status.{Answer, told, refused-with, known}
 use Rattle.monitor.specs.Formulas.{formula-count}
@@ -82,6 +84,10 @@ log-of-version version records = 0x4B ∷ 0x4C ∷ 0x47 ∷ 0 ∷ version ∷ 0 
 
 abbrev log : List ℕ → List ℕ
 log records = log-of-version 1 records
+
+-- "a version 3 log ..: the header, a 64-bit count of records dropped, then the records"
+abbrev log-3 : (dropped : ℕ) → List ℕ → List ℕ
+log-3 dropped records = log-of-version 3 (word 0 ++ word dropped ++ records)
 
 -- "From log version 2, a record with letter 31 is a service record"
 abbrev log-2 : List ℕ → List ℕ
@@ -188,8 +194,8 @@ after r first untouched brought answered verdicts =
       untouched = untouched;
       brought = brought;
       given = r .given + length (r .verdicts);
-      seen = record-count (records-of (r .brought));
-      last = last-time (records-of (r .brought)) (r .seen) (r .last);
+      seen = total-records (r .brought);
+      last = last-time (records-of (r .brought)) (r .seen - dropped (r .brought)) (r .last);
       kind = kind-of-log (skips-of (r .brought));
       wanted = first;
       room = 8191;
@@ -250,30 +256,32 @@ same [] (y ∷ ys) = false
 same (x ∷ xs) [] = false
 same (x ∷ xs) (y ∷ ys) = eqb x y && same xs ys
 
--- the number with which the call stops, a resume or a closing, on a checkpoint with this word of its first closing, and what weighing
--- gives
+-- the checkpoint before the call, with this word of its first closing
+abbrev point-before : Row → (closed-with : ℕ) → List ℕ
+point-before r closed-with = point-of (r .rule) (r .given) (r .seen) (r .last) closed-with (r .kind) (r .wanted)
+
+-- the number with which the call stops, a resume or a closing, and what weighing gives
 unfoldable pub computes-refusal : (closing : Bool) (closed-with : ℕ) → Row → Bool
 computes-refusal closing closed-with r =
-    let point = point-of (r .rule) (r .given) (r .seen) (r .last) closed-with (r .kind) (r .wanted) in
-    eqb (resume-refusal closing (r .rule) (r .brought) point) (r .number)
+    eqb (resume-refusal closing (r .rule) (r .brought) (point-before r closed-with)) (r .number)
     && (eqb (measured (r .rule) .words) (r .words) && eqb (measured (r .rule) .reach) (r .reach))
-
--- what is brought is the untouched log: its header, and its records from the first still wanted on
-unfoldable pub brings-untouched : Row → Bool
-brings-untouched r =
-    let from = 8 + 8 * r .wanted in
-    eqb (wanted-after (r .rule) (r .untouched) (r .given) (r .seen)) (r .wanted)
-    && (eqb (length (r .brought)) (length (r .untouched))
-    && (same (take 8 (r .brought)) (take 8 (r .untouched)) && same (drop from (r .brought)) (drop from (r .untouched))))
 
 -- two answers are the same
 abbrev agree : Bool → Bool → Bool
 agree x y = cond x y (negate y)
 
+-- what is brought stands for the untouched log: it is of its kind, has as many records, and those from the first still wanted on
+unfoldable pub brings-untouched : Row → Bool
+brings-untouched r =
+    eqb (wanted-after (r .rule) (r .untouched) (r .given) (r .seen)) (r .wanted)
+    && (agree (skips-of (r .brought)) (skips-of (r .untouched))
+    && (eqb (total-records (r .brought)) (record-count (records-of (r .untouched)))
+    && same (records-from (r .brought) (r .wanted)) (records-from (r .untouched) (r .wanted))))
+
 -- the answered number, the verdicts from `given` on as far as the sheet goes, "judged on the untouched log", and "'more' if A > d + c"
 unfoldable pub computes-verdicts : (closing : Bool) → Row → Bool
 computes-verdicts closing r =
-    let n = record-count (records-of (r .brought)) in
+    let n = total-records (r .brought) in
     eqb (answered closing (r .rule) (r .untouched) n) (r .answered)
     && (same (take (r .room) (drop (r .given) (all-verdicts closing (r .rule) (r .untouched) n))) (r .verdicts)
     && agree (ltb (r .given + length (r .verdicts)) (r .answered)) (r .more))
@@ -429,6 +437,47 @@ abbrev after-4-serviced : List ℕ → Row
 after-4-serviced kept =
     after call-4-serviced 3 (log-2 (records-4-serviced ++ at 6 [])) (log-2 (kept ++ service 6 ++ at 6 [])) 4 (yes ∷ [])
 
+-- Document 02, paper 11: P1 over a version 2 log, and P2's log, of which record 5 is then the first wanted, trimmed with the point that P1 left
+abbrev call-1-again : Row
+call-1-again = on-fresh rule-1 (log-2 records-1) 70 2 5 (no ∷ no ∷ no ∷ yes ∷ yes ∷ [])
+
+abbrev records-2 : List ℕ
+records-2 = records-1 ++ at 21 (1 ∷ [])
+
+-- with records 0 to 4 set to all ones, and trimmed
+abbrev overwritten-2 : List ℕ
+overwritten-2 = log-2 (replicate 40 255 ++ at 20 (0 ∷ []) ++ at 21 (1 ∷ []))
+
+abbrev trimmed-2 : List ℕ
+trimmed-2 = log-3 5 (at 20 (0 ∷ []) ++ at 21 (1 ∷ []))
+
+abbrev call-2-trimmed : Row
+call-2-trimmed = after call-1-again 5 (log-2 records-2) trimmed-2 7 (yes ∷ yes ∷ [])
+
+-- then with (22, 1) added
+abbrev after-trimmed : (brought : List ℕ) → Row
+after-trimmed brought = after call-2-trimmed 7 (log-2 (records-2 ++ at 22 (1 ∷ []))) brought 8 (yes ∷ [])
+
+-- P1 with its log trimmed on a fresh point
+abbrev call-1-trimmed : Row
+call-1-trimmed = on-fresh rule-1 (log-3 0 records-1) 70 2 5 (no ∷ no ∷ no ∷ yes ∷ yes ∷ [])
+
+-- P7's three records: trimmed behind the first, with (16, 0) added, trimmed behind the third, and closed
+abbrev records-7 : List ℕ
+records-7 = at 10 (0 ∷ []) ++ at 12 (0 ∷ []) ++ at 13 (0 ∷ [])
+
+abbrev call-7-again : Row
+call-7-again = on-fresh rule-1 (log-2 records-7) 70 2 1 (no ∷ [])
+
+abbrev more-7 : List ℕ
+more-7 = records-7 ++ at 16 (0 ∷ [])
+
+abbrev call-7-grown : Row
+call-7-grown = after call-7-again 1 (log-2 more-7) (log-3 1 (at 12 (0 ∷ []) ++ at 13 (0 ∷ []) ++ at 16 (0 ∷ []))) 3 (no ∷ no ∷ [])
+
+abbrev close-7-trimmed : Row
+close-7-trimmed = after call-7-grown 3 (log-2 more-7) (log-3 3 (at 16 (0 ∷ []))) 4 (no ∷ [])
+
 unfoldable pub rows : List Row
 rows =
     -- 1: P1 The run above.
@@ -527,12 +576,33 @@ rows =
     -- 55 and 56: a service record's time is below that of the record before it; that of the first new record is below a service record's
     ∷ stopped (on-fresh rule-1 (log-2 (at 10 (0 ∷ []) ++ service 9 ++ at 12 (0 ∷ []))) 70 2 0 []) 14
     ∷ stopped (after services-alone 3 (log-2 services) (log-2 (replicate 24 255 ++ at 5 (0 ∷ []))) 0 []) 14
+    -- 57 and 58: request 11: P1, then P2 with its log trimmed
+    ∷ call-1-again
+    ∷ call-2-trimmed
+    -- 59 to 61: then with (22, 1), trimmed again; the version 2 log again, with all before it set to all ones; the older copy, with what it
+    -- has before it set to all ones
+    ∷ after-trimmed (log-3 7 (at 22 (1 ∷ [])))
+    ∷ after-trimmed (log-2 (replicate 56 255 ++ at 22 (1 ∷ [])))
+    ∷ after-trimmed (log-3 5 (replicate 16 255 ++ at 22 (1 ∷ [])))
+    -- 62 to 65: a version 1 log then is 22; a record fewer, dropped ones counted, 13; the first wanted record dropped 24, also on a fresh point
+    ∷ stopped (after-trimmed (log (replicate 56 255 ++ at 22 (1 ∷ [])))) 22
+    ∷ stopped (after-trimmed (log-3 5 (at 20 (0 ∷ [])))) 13
+    ∷ stopped (after-trimmed (log-3 8 [])) 24
+    ∷ stopped (on-fresh rule-1 (log-3 1 (drop 8 records-1)) 70 2 0 []) 24
+    -- 66 and 67: a fresh point's log trimmed, and then the version 2 log as P2 has it
+    ∷ call-1-trimmed
+    ∷ after call-1-trimmed 5 (log-2 records-2) overwritten-2 7 (yes ∷ yes ∷ [])
+    -- 68 and 69: P7's log; trimmed and grown
+    ∷ call-7-again
+    ∷ call-7-grown
+    -- 70: 45 with its log trimmed and a service record besides, which version 3 passes over, too
+    ∷ after service-within 6 (log-2 (records-within ++ service 20 ++ at 21 (1 ∷ []))) (log-3 6 (at 20 (0 ∷ []) ++ service 20 ++ at 21 (1 ∷ []))) 7 (yes ∷ yes ∷ [])
     ∷ []
 
 -- every row computes; an edit of the definitions that breaks a row has its number in an error
 pub every-row : Right 1 rows
 unfolding Right wrong rows passing spot positions computes computes-refusal brings-untouched computes-verdicts same blocks event-set first-entries offset push-kind read header-refusal entries-refusal has-next reach any all sat run progress settled-to farthest depth deepest joint-progress byte-of verdicts
-every-row = (refl, (refl, (refl, (refl, (refl, (refl, (refl, (refl, (refl, (refl, (refl, (refl, (refl, (refl, (refl, (refl, (refl, (refl, (refl, (refl, (refl, (refl, (refl, (refl, (refl, (refl, (refl, (refl, (refl, (refl, (refl, (refl, (refl, (refl, (refl, (refl, (refl, (refl, (refl, (refl, (refl, (refl, (refl, (refl, (refl, (refl, (refl, (refl, (refl, (refl, (refl, (refl, (refl, (refl, (refl, (refl, tt))))))))))))))))))))))))))))))))))))))))))))))))))))))))
+every-row = (refl, (refl, (refl, (refl, (refl, (refl, (refl, (refl, (refl, (refl, (refl, (refl, (refl, (refl, (refl, (refl, (refl, (refl, (refl, (refl, (refl, (refl, (refl, (refl, (refl, (refl, (refl, (refl, (refl, (refl, (refl, (refl, (refl, (refl, (refl, (refl, (refl, (refl, (refl, (refl, (refl, (refl, (refl, (refl, (refl, (refl, (refl, (refl, (refl, (refl, (refl, (refl, (refl, (refl, (refl, (refl, (refl, (refl, (refl, (refl, (refl, (refl, (refl, (refl, (refl, (refl, (refl, (refl, (refl, (refl, tt))))))))))))))))))))))))))))))))))))))))))))))))))))))))))))))))))))))
 
 -- CLOSINGS: document 02, paper 9
 
@@ -558,9 +628,6 @@ abbrev resumes-then : Row → ClosingRow
 resumes-then r = record { closing = false; closed-with = 4; call = r }
 
 -- P7's three records, closed with a sheet of one byte three times, those with verdicts overwritten
-abbrev records-7 : List ℕ
-records-7 = at 10 (0 ∷ []) ++ at 12 (0 ∷ []) ++ at 13 (0 ∷ [])
-
 abbrev close-7 : Row
 close-7 = on-fresh rule-1 (log records-7) 70 2 3 (no ∷ no ∷ no ∷ [])
 
@@ -607,11 +674,83 @@ closing-rows =
     ∷ closes (on-fresh (rule 1 2 (letter 0 ++ next 1 1)) (log-2 (at 5 [] ++ at 6 (0 ∷ []) ++ at 8 (0 ∷ []) ++ service 9)) 48 no-end 3 (yes ∷ no ∷ no ∷ []))
     -- 16: a service record more is 21
     ∷ closes-again (stopped (after close-7-serviced 3 (log-2 records-7) (log-2 (records-7 ++ service 13)) 0 []) 21)
+    -- 17: 69's log trimmed again and closed
+    ∷ closes close-7-trimmed
     ∷ []
 
 pub every-closing : AllClose 1 closing-rows
 unfolding AllClose closing-rows passing spot positions computes computes-refusal brings-untouched computes-verdicts same blocks event-set first-entries offset push-kind read header-refusal entries-refusal has-next reach any all sat run progress settled-to farthest depth deepest joint-progress byte-of verdicts
-every-closing = (refl, (refl, (refl, (refl, (refl, (refl, (refl, (refl, (refl, (refl, (refl, (refl, (refl, (refl, (refl, (refl, tt))))))))))))))))
+every-closing = (refl, (refl, (refl, (refl, (refl, (refl, (refl, (refl, (refl, (refl, (refl, (refl, (refl, (refl, (refl, (refl, (refl, tt)))))))))))))))))
+
+-- TRIMMINGS: document 02, paper 11
+
+-- a call of the tables before which its log is trimmed, the word of the first closing in its checkpoint, and the length of the lent buffer; then
+-- the refusal's number or 0, and the bytes written
+pub record TrimRow : Type 0 where
+  pub call : Row
+  pub closed-with : ℕ
+  pub lent : ℕ
+  pub number : ℕ
+  pub written : List ℕ
+
+-- into as many bytes as it takes
+abbrev trims : Row → (written : List ℕ) → TrimRow
+trims r written = record { call = r; closed-with = 0; lent = length written; number = 0; written = written }
+
+abbrev not-trimmed : Row → (lent number : ℕ) → TrimRow
+not-trimmed r lent number = record { call = r; closed-with = 0; lent = lent; number = number; written = [] }
+
+unfoldable pub computes-trim : TrimRow → Bool
+computes-trim t =
+    let r = t .call in
+    let point = point-before r (t .closed-with) in
+    let a = trimming (r .rule) (r .brought) point (t .lent) in
+    eqb (a .number) (t .number)
+    && cond (eqb (t .number) 0)
+    (brings-untouched r && (eqb (a .written) (length (t .written)) && same (trimmed-log (r .brought) point) (t .written))) true
+
+unfoldable pub AllTrim : ℕ → List TrimRow → Type 0
+AllTrim n [] = Unit {0}
+AllTrim n (t ∷ ts) = (cond (computes-trim t) 0 n ≡ 0) × AllTrim (suc n) ts
+
+-- P2 with a version 2 log
+abbrev call-2-again : Row
+call-2-again = after call-1-again 5 (log-2 records-2) overwritten-2 7 (yes ∷ yes ∷ [])
+
+unfoldable pub trim-rows : List TrimRow
+trim-rows =
+    -- 1: after P1: records 5 and 6, and 5 dropped
+    trims call-2-again trimmed-2
+    -- 2: what was written is the same when it is trimmed again
+    ∷ trims call-2-trimmed trimmed-2
+    -- 3 and 4: after 58 nothing of it is wanted; of the older copy, grown, the last record
+    ∷ trims (after call-2-trimmed 7 (log-2 records-2) trimmed-2 7 []) (log-3 7 [])
+    ∷ trims (after-trimmed (log-3 5 (replicate 16 255 ++ at 22 (1 ∷ [])))) (log-3 7 (at 22 (1 ∷ [])))
+    -- 5: on a fresh point nothing is dropped
+    ∷ trims call-1-again (log-3 0 records-1)
+    -- 6 to 8: P7's log after its first call, and when it has grown: the count is that of all records dropped; and once it is closed
+    ∷ trims (after call-7-again 1 (log-2 records-7) (log-2 records-7) 1 []) (log-3 1 (at 12 (0 ∷ []) ++ at 13 (0 ∷ [])))
+    ∷ trims (after call-7-grown 3 (log-2 more-7) (call-7-grown .brought) 3 []) (log-3 3 (at 16 (0 ∷ [])))
+    ∷ record {
+      call = after close-7-trimmed 4 (log-2 more-7) (close-7-trimmed .brought) 4 [];
+      closed-with = 5;
+      lent = 16;
+      number = 0;
+      written = log-3 4 [];
+    }
+    -- 9: of 43's log 6 records are dropped, which hold 5 positions
+    ∷ trims (after service-within 6 (log-2 records-within) (log-2 records-within) 5 []) (log-3 6 (at 20 (0 ∷ [])))
+    -- 10 and 11: a version 1 log is 23, after a version 2 one 22
+    ∷ not-trimmed call-1 64 23
+    ∷ not-trimmed (after call-1-again 5 (log-2 records-1) (log records-1) 5 []) 64 22
+    -- 12 and 13: a byte less than 1 takes is 25, and a log that has dropped what is wanted is 24
+    ∷ not-trimmed call-2-again 31 25
+    ∷ not-trimmed (after call-1-again 5 (log-2 records-2) (log-3 6 (at 21 (1 ∷ []))) 7 []) 31 24
+    ∷ []
+
+pub every-trim : AllTrim 1 trim-rows
+unfolding AllTrim trim-rows passing spot positions computes-trim brings-untouched same blocks event-set first-entries offset push-kind read header-refusal entries-refusal has-next reach any depth deepest
+every-trim = (refl, (refl, (refl, (refl, (refl, (refl, (refl, (refl, (refl, (refl, (refl, (refl, (refl, tt)))))))))))))
 
 -- THE COUNTS OF NO
 
@@ -630,7 +769,7 @@ unfoldable pub Counts : SummaryRow → Type 0
 Counts s =
     let c = length (s .call .verdicts) in
     let d = s .call .given in
-    let all = all-verdicts false (s .call .rule) (s .call .untouched) (record-count (records-of (s .call .brought))) in
+    let all = all-verdicts false (s .call .rule) (s .call .untouched) (total-records (s .call .brought)) in
     (laid-behind (s .before) d (noes-in (s .formula) (s .call .verdicts) c) ≡ s .after) × (noes-in (s .formula) all (d + c) ≡ s .after)
 
 unfoldable pub AllCount : List SummaryRow → Type 0

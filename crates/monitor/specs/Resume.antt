@@ -8,9 +8,9 @@ use lib.Dec.{ltb, eqb}
 use Rattle.mtl.specs.Log.{Log, Placed, NeverFalls, Continues}
 use Rattle.mtl.specs.Progress.{joint-progress}
 use Rattle.mtl.specs.Wanted.{wanted}
-use Rattle.trace.specs.Format.{record-count, records-of, skips-of}
+use Rattle.trace.specs.Format.{skips-of, dropped, records-of, total-records}
 use Rattle.trace.specs.Order.{last-time}
-use Rattle.trace.specs.View.{from-record, view-of}
+use Rattle.trace.specs.View.{records-from, view-of}
 use Rattle.blocks.specs.Block.{Forward}
 use Rattle.blocks.specs.Step.{Agrees}
 use Rattle.verdicts.specs.Counts.{noes-in, laid-behind}
@@ -58,9 +58,9 @@ pub record Gives (rule : List ℕ) (L : Log) (n d : ℕ) (sheet : List ℕ) (c :
 abbrev pub block-of : (rule : List ℕ) (k : ℕ) → List ℕ → List ℕ
 block-of rule k p = drop (block-at (header-words (version rule)) (decoded rule) k) p
 
--- the records from the first still wanted on: those before it may have been overwritten
+-- the records from the first still wanted on: those before it may have been overwritten or dropped
 abbrev pub wanted-records : (log p : List ℕ) → List ℕ
-wanted-records log p = from-record (first-wanted p) (records-of log)
+wanted-records log p = records-from log (first-wanted p)
 
 -- an accepted call: what holds on any words, and `meaning`, where the checkpoint stands for the rule and a log as it was last
 -- seen, the log brought continues it, and the records from the first still wanted on are its own
@@ -69,9 +69,9 @@ pub record Accepted (closing : Bool) (rule log p sheet : List ℕ) (c : ℕ) (mo
   pub rest : drop c sheet′ ≡ drop c sheet
   pub beyond : drop (need rule) p′ ≡ drop (need rule) p
   pub count : given p′ ≡ given p + c
-  pub size : seen p′ ≡ record-count (records-of log)
-  pub time : last p′ ≡ last-time (records-of log) (seen p) (last p)
-  pub closed : closed-with p′ ≡ cond closing (suc (record-count (records-of log))) 0
+  pub size : seen p′ ≡ total-records log
+  pub time : last p′ ≡ last-time (records-of log) (seen p - dropped log) (last p)
+  pub closed : closed-with p′ ≡ cond closing (suc (total-records log)) 0
   pub kind : log-kind p′ ≡ kind-of-log (skips-of log)
   -- the first record still wanted does not go back, whatever the words hold
   pub onward : (first-wanted p ≤ first-wanted p′) × (first-wanted p′ ≤ seen p′)
@@ -86,9 +86,9 @@ pub record Accepted (closing : Bool) (rule log p sheet : List ℕ) (c : ℕ) (mo
   -- no head goes back, whatever the words hold
   pub heads : (k : ℕ) → k < entry-count rule → Forward (block-of rule k p) (block-of rule k p′)
   -- (`Placed` says of the log brought what `Stands` says of the one seen)
-  pub meaning : (K L : Log) (n d : ℕ) → Stands rule K n d p → Continues K L → NeverFalls L → Placed L (record-count (records-of log)) →
+  pub meaning : (K L : Log) (n d : ℕ) → Stands rule K n d p → Continues K L → NeverFalls L → Placed L (total-records log) →
       Agrees (view-of (first-wanted p) (wanted (formulas-of rule) d) (skips-of log) closing (wanted-records log p)) (wanted-records log p) L (wanted (formulas-of rule) d) →
-      Gives rule L (record-count (records-of log)) d sheet c more p′ sheet′
+      Gives rule L (total-records log) d sheet c more p′ sheet′
 
 abbrev pub Resuming : (refused closing : Bool) (rule log p sheet : List ℕ) (c : ℕ) (more : Bool) (p′ sheet′ : List ℕ) → Type 0
 Resuming false closing rule log p sheet c more p′ sheet′ = Accepted closing rule log p sheet c more p′ sheet′

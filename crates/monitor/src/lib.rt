@@ -1,5 +1,5 @@
 // Checkpoints over a growing log: open one for a rule, resume from it with the records at hand, close it when no record will follow,
-// and ask how far it has come.
+// trim the log to the records that it still wants, and ask how far it has come.
 ghost use mathlib.Core.Bool.{true, false};
 ghost use mathlib.Core.Path.{_≡_};
 ghost use mathlib.Core.List.{_++_};
@@ -11,6 +11,8 @@ ghost use Rattle.monitor.specs.Open.{Opens};
 ghost use Rattle.monitor.specs.Open.{answer as opened-of};
 ghost use Rattle.monitor.specs.Resume.{Resumes};
 ghost use Rattle.monitor.specs.Resume.{answer as resumed-of};
+ghost use Rattle.monitor.specs.Trim.{Trims};
+ghost use Rattle.monitor.specs.Trim.{answer as trimmed-of};
 ghost use Rattle.monitor.specs.Summary.{position, position-or, counts-of, latest-words, Summarizes};
 ghost use Rattle.monitor.specs.Summary.{answer as summarized-of};
 ghost use Rattle.monitor.specs.Formulas.{answer, formula-count};
@@ -54,6 +56,23 @@ impl Resumed {
         match self {
             Resumed::Given { count: _, more: _ } => 0,
             Resumed::Refused(n) => n,
+        }
+    }
+}
+
+// What `trim` answers: the length of the log that it wrote.
+pub enum Trimmed {
+    Written { length: usize },
+    Refused(u32),
+}
+
+impl Trimmed {
+    pub fn number(self) -> u32
+        ensures { λ r. ⌜ r ≡ trimmed-of self .number ⌝ }
+    {
+        match self {
+            Trimmed::Written { length: _ } => 0,
+            Trimmed::Refused(n) => n,
         }
     }
 }
@@ -185,7 +204,7 @@ fn resume_or_close(
         rule::most_of(version),
         rule::header_words(version),
         rule::depth(version, entries, count),
-        trace::from_record(trace::records(log), point[header::WANTED] as usize),
+        trace::records_from(log, point[header::WANTED]),
         trace::skips(log),
         closing,
         &mut point[0..words],
@@ -209,6 +228,27 @@ pub fn close(rule: &[u8], log: &[u8], point: &mut [u64], sheet: &mut [u8]) -> Re
     ensures { λ r. ⌜ Resumes true (now (rule .entry)) (now (log .entry)) (now (point .entry)) (now (sheet .entry)) (resumed-of r) (now (point .exit)) (now (sheet .exit)) ⌝ }
 {
     resume_or_close(rule, log, true, point, sheet)
+}
+
+// Writes the log trimmed to the records from the first still wanted on, as a version 3 log.
+pub fn trim(rule: &[u8], log: &[u8], point: &[u64], out: &mut [u8]) -> Trimmed
+    ensures { λ r. ⌜ Trims (now (rule .entry)) (now (log .entry)) (now (point .entry)) (now (out .entry)) (trimmed-of r) (now (out .exit)) ⌝ }
+{
+    let header = rule::check_header(rule);
+    let version = header.version();
+    let count = header.count();
+    let entries = rule::decode(rule, count);
+    let sized = checkpoint::size_of(rule::measure_decoded(header, entries), point.len());
+    let Sized::Words(_) = sized else {
+        return Trimmed::Refused(sized.number());
+    };
+    let checked = checkpoint::check_trimming(version, entries, count, log, out.len(), point);
+    let Checked::Passed = checked else {
+        return Trimmed::Refused(checked.number());
+    };
+    let first = point[header::WANTED];
+    let length = trace::write_trimmed(first, trace::records_from(log, first), out);
+    Trimmed::Written { length }
 }
 
 // The latest no, by one more than its position, and 0 for none.

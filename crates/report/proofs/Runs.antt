@@ -1,6 +1,6 @@
 -- What one call of `open` and one of `resume` on the fresh checkpoint come to: a refusal by rule and log alone, or all verdicts.
 -- Assumes nothing.
-use Prim.Native.Nat.{ℕ, _+_, _*_, _≤_, zero-le}
+use Prim.Native.Nat.{ℕ, _+_, _-_, _*_, _≤_, zero-le}
 use mathlib.Core.Bool.{Bool, true, false, cond, false≢true}
 use mathlib.Core.Path.{_≡_, refl, sym, _∙_, ap, subst}
 use mathlib.Core.List.{List, [], _++_}
@@ -17,13 +17,13 @@ use Rattle.rule.specs.Entries.{version}
 use Rattle.rule.specs.Refusal.{first, refusal}
 use Rattle.rule.proofs.Headers.{first-zero, before-none, or-right}
 use Rattle.rule.proofs.Acceptance.{accepted}
-use Rattle.trace.specs.Format.{record-count, records-of, skips-of, malformed}
+use Rattle.trace.specs.Format.{record-count, skips-of, is-trimmed, dropped, records-of, total-records, malformed}
 use Rattle.trace.specs.Log.{log-of}
 use Rattle.trace.specs.Order.{disordered}
 use Rattle.trace.specs.View.{view-of, Shows}
 use Rattle.trace.proofs.Laws.{well-formed-records, ordered-iff}
 use Rattle.trace.proofs.Positions.{before-few, log-placed, positions-keep}
-use Rattle.trace.proofs.Slices.{cut-from, before-cut, slice-shows, flag-told}
+use Rattle.trace.proofs.Slices.{Cut, cut-from, before-cut, slice-shows, flag-told}
 use Rattle.blocks.specs.Step.{Agrees}
 use Rattle.checkpoint.specs.Checkpoint.{first-wanted, need}
 use Rattle.checkpoint.specs.Refusal.{open-refusal, resume-refusal}
@@ -68,6 +68,11 @@ module _ (rule : List ℕ) (fine : refusal rule ≡ 0) where
     formulas-known n is =
         let none : 0 ≡ columns (formulas-of rule) = ap (λ (a : Answer). a .formulas) (sym (ap answer is) ∙ counts) in
         omega arith
+
+-- a header has eight bytes or more
+eight-at-least : (trimmed : Bool) → 8 ≤ cond trimmed 16 8
+eight-at-least true = omega arith
+eight-at-least false = omega arith
 
 -- a log with no record
 abbrev none-yet : Log
@@ -123,6 +128,7 @@ module _ (rule log : List ℕ) (short : too-long rule log ≡ false) where
     -- 9, 10, 11, 13, 20 and 22 are not met
     resumes-by : resume-refusal false rule log p ≡ run-refusal rule log
     resumes-by =
+        let none : 0 - dropped log ≡ 0 = omega arith in
         rw (
           eq-eqb (refusal rule) 0 fine,
           le-ltb (length p) (need rule) (stands .enough),
@@ -133,7 +139,8 @@ module _ (rule log : List ℕ) (short : too-long rule log ≡ false) where
           opens .words .1,
           stands .closed,
           opens .words .2,
-          le-ltb (record-count (records-of log)) 0 zero-le,
+          le-ltb (total-records log) 0 zero-le,
+          none,
         )
 
     module _ (sheet : List ℕ) (r : Resumed) (p′ sheet′ : List ℕ) (resumes : Resumes false rule log p sheet (resumed-of r) p′ sheet′) where
@@ -152,15 +159,13 @@ module _ (rule log : List ℕ) (short : too-long rule log ≡ false) where
         unrefused : run-refusal rule log ≡ 0
         unrefused = sym resumes-by ∙ resume-unrefused given
 
-        -- 12 and 14 are not met
-        log-fine : first 12 (malformed log) (first 14 (disordered (records-of log) 0 0) 0) ≡ 0
-        log-fine = before-none (refusal rule) _ unrefused .1
-
-        well-formed : malformed log ≡ false
-        well-formed = first-zero 11 (malformed log) _ log-fine .0
-
-        ordered : disordered (records-of log) 0 0 ≡ false
-        ordered = first-zero 13 (disordered (records-of log) 0 0) 0 (first-zero 11 (malformed log) _ log-fine .1) .0
+        -- 12, 24 and 14 are not met
+        log-fine : (malformed log ≡ false) × (dropped log ≡ 0) × (disordered (records-of log) 0 0 ≡ false)
+        log-fine =
+            let twelfth = first-zero 11 (malformed log) _ (before-none (refusal rule) _ unrefused .1) in
+            let dropped-none = first-zero 23 (ltb 0 (dropped log)) _ (twelfth .1) in
+            let kept = ltb-false 0 (dropped log) (dropped-none .0) in
+            (twelfth .0, omega arith, first-zero 13 (disordered (records-of log) 0 0) 0 (dropped-none .1) .0)
 
         abbrev records : ℕ
         records = record-count (records-of log)
@@ -169,11 +174,11 @@ module _ (rule log : List ℕ) (short : too-long rule log ≡ false) where
         L = log-of (skips-of log) (records-of log)
 
         never-falls : NeverFalls L
-        never-falls = positions-keep (skips-of log) (records-of log) (ordered-iff (records-of log) 0 0 .0 ordered .0)
+        never-falls = positions-keep (skips-of log) (records-of log) (ordered-iff (records-of log) 0 0 .0 (log-fine .2) .0)
 
         whole : first-records false log records ≡ L
         whole =
-            let bytes = well-formed-records log well-formed .1 .whole in
+            let bytes = well-formed-records log (log-fine .0) .1 .whole in
             ap (log-of (skips-of log)) (take-all (8 * records) (records-of log) (omega arith))
 
         -- the fresh checkpoint wants all records
@@ -182,7 +187,9 @@ module _ (rule log : List ℕ) (short : too-long rule log ≡ false) where
             let skips = skips-of log in
             let slice = wanted-records log p in
             let none = all-wanted in
-            let cut = cut-from (records-of log) (records-of log) (first-wanted p) refl (omega arith) (λ k lo hi. refl) in
+            let start : first-wanted p - dropped log ≡ first-wanted p = omega arith in
+            let cut : Cut (records-of log) slice (first-wanted p) =
+            rw start (cut-from (records-of log) (records-of log) (first-wanted p) refl (omega arith) (λ k lo hi. refl)) in
             let counts = before-cut (records-of log) slice (first-wanted p) cut skips in
             let few = before-few skips (records-of log) (first-wanted p) in
             record {
@@ -193,17 +200,21 @@ module _ (rule log : List ℕ) (short : too-long rule log ≡ false) where
                   (slice-shows skips (records-of log) slice (first-wanted p) cut i (omega arith) hi);
             }
 
-        gives : Gives rule L records 0 sheet c more p′ sheet′
+        all-here : total-records log ≡ records
+        all-here = omega (arith, log-fine .1)
+
+        gives : Gives rule L (total-records log) 0 sheet c more p′ sheet′
         gives =
             given .words .meaning none-yet L 0 0 stands
             (record { longer = omega arith; same = λ i lo hi. absurd (omega arith); ended = λ e. absurd (false≢true e) })
-            never-falls (log-placed (skips-of log) (records-of log)) agrees
+            never-falls (rw all-here (log-placed (skips-of log) (records-of log))) agrees
 
         -- a log of 65,536 bytes has 8,191 records
         few-records : records ≤ 8191
         few-records =
             let short-log = ltb-false 65536 (length log) (or-right (ltb 65536 (length rule)) (ltb 65536 (length log)) short) in
-            let behind = length-drop 8 log in
+            let behind = length-drop (cond (is-trimmed log) 16 8) log in
+            let header = eight-at-least (is-trimmed log) in
             omega arith
 
         -- and the sheet takes all verdicts

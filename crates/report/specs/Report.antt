@@ -6,7 +6,7 @@ use lib.ListN.{length, getD}
 use lib.Dec.{ltb, eqb}
 use Rattle.bits.specs.Packed.{bit}
 use Rattle.rule.specs.Refusal.{first, before, refusal}
-use Rattle.trace.specs.Format.{record-count, records-of, malformed}
+use Rattle.trace.specs.Format.{record-count, dropped, records-of, malformed}
 use Rattle.trace.specs.Order.{disordered}
 use Rattle.decimal.specs.Text.{ascii, decimal, word}
 use Rattle.emit.specs.Verdicts.{formulas-of, columns, all-verdicts}
@@ -37,15 +37,15 @@ abbrev pub verdicts-text : (records columns : ℕ) (verdicts : List ℕ) → Lis
 verdicts-text records columns verdicts = first-line (length verdicts) records ++ lines columns verdicts (length verdicts)
 
 -- "opens, carries on": the first refusal that applies. The checkpoint is fresh, with nothing given, seen or noted, and has room for
--- every rule that passes 8. So 9, 10, 11, 13, 20 and 22 are never met
+-- every rule that passes 8. So 9, 10, 11, 13, 20 and 22 are never met, and 24 is for any dropped record
 abbrev pub run-refusal : (rule log : List ℕ) → ℕ
-run-refusal rule log = before (refusal rule) (first 12 (malformed log) (first 14 (disordered (records-of log) 0 0) 0))
+run-refusal rule log = before (refusal rule) (first 12 (malformed log) (first 24 (ltb 0 (dropped log)) (first 14 (disordered (records-of log) 0 0) 0)))
 
 -- "a file above 65,536 bytes prints `too long` before all else"
 abbrev pub too-long : (rule log : List ℕ) → Bool
 too-long rule log = ltb 65536 (length rule) || ltb 65536 (length log)
 
--- the text of a rule and a log. A log of 65,536 bytes has 8,191 records, so that the sheet of 8,191 bytes takes all verdicts
+-- the text of a rule and a log. A log of 65,536 bytes has at most 8,191 records, so that the sheet of 8,191 bytes takes all verdicts
 abbrev pub run-text : (rule log : List ℕ) → List ℕ
 run-text rule log =
     cond (eqb (run-refusal rule log) 0)

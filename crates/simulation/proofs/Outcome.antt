@@ -57,7 +57,7 @@ module _ (s : Settings) (seconds seed : ℕ) (log : List ℕ) where
   refuses e = record { outcome = rw e; bytes = rw e }
 
   pub accepts : (k : Kiosk) (log′ : List ℕ) (printing : ℕ) → out-of-range s seconds seed (length log) ≡ false → k ≡ kiosk-after s seed seconds →
-      printing ≡ number (is-printing (k .head)) → log′ ≡ put (put log 0 header) 8 (records-bytes time-of (events-in s seed) seconds) →
+      printing ≡ number (is-printing (k .head)) → log′ ≡ put (put log 0 (header 1)) 8 (records-bytes time-of (events-in s seed) seconds) →
       Simulates s seconds seed log (Done (8 + seconds * 8) (k .finished) printing (k .waiting)) log′
   accepts k log′ printing e is prints bytes =
       let fine = in-range s seconds seed (length log) e in

@@ -92,7 +92,7 @@ pub fn simulate(settings: Settings, seconds: u32, seed: u32, log: &mut [u8]) -> 
         return Simulated::Refused(26);
     }
     let count = seconds as usize;
-    trace::write_header(log);
+    trace::write_header(log, 1);
     let k = run(settings, count, seed, log);
     let head = k.head;
     Simulated::Done {

@@ -7,3 +7,4 @@ pub mod Reading
 pub mod Slices
 pub mod Growing
 pub mod Making
+pub mod Trimming

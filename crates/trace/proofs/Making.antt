@@ -9,12 +9,13 @@ use native.Mathlib.Nat.{add-assoc, not-suc-le-zero}
 use native.Mathlib.Numerals.{add-one}
 use native.Mathlib.Omega.{arith}
 use lib.Dec.{leb}
+use borrow.Author.Tests.{le-ltb}
 use lib.ListN.{length, getD, take, drop, length-append}
 use lib.Seq.{length-take-le, take-at, drop-at, drop-drop, sets, sets-eq, length-sets, getD-append-add}
 use Rattle.mtl.proofs.Bounded.{le-or-lt, false-iff, and-iff}
 use Rattle.trace.specs.Format.{word-at, record-count, time-at, events-at, records-of, skips-of, malformed}
 use Rattle.trace.specs.Order.{disordered}
-use Rattle.trace.specs.Making.{header, word-bytes, record-bytes, records-bytes, log-bytes, put}
+use Rattle.trace.specs.Making.{header, word-bytes, record-bytes, records-bytes, log-bytes, trimmed-bytes, put}
 use Rattle.trace.proofs.Laws.{well-formed-iff, ordered-iff}
 
 -- stores one behind the other
@@ -68,7 +69,7 @@ word-behind begin rest n at e =
       byte-behind begin rest n (at + 3) e,
     )
 
-word-back : (w : ℕ) (rest : List ℕ) → w < 4294967296 → word-at (word-bytes w ++ rest) 0 ≡ w
+pub word-back : (w : ℕ) (rest : List ℕ) → w < 4294967296 → word-at (word-bytes w ++ rest) 0 ≡ w
 word-back w rest h =
     let second : w / 65536 ≡ w / 256 / 256 = omega arith in
     let first : w / 16777216 ≡ w / 65536 / 256 = omega arith in
@@ -130,7 +131,9 @@ module _ (time events : ℕ → ℕ) where
   pub made-well : (n : ℕ) → n ≤ 1000000 → malformed (log-bytes time events n) ≡ false
   made-well n few =
       let size = records-length n in
-      well-formed-iff header (records-bytes time events n) refl .1 (refl, record { whole = omega arith; few = omega arith })
+      let long = length-append (header 1) (records-bytes time events n) in
+      well-formed-iff (log-bytes time events n) .1
+      (record { long = le-ltb (length (log-bytes time events n)) 8 (omega arith); header = refl; whole = omega arith; few = omega arith })
 
   pub made-records : (n : ℕ) → records-of (log-bytes time events n) ≡ records-bytes time events n
   made-records n = refl
@@ -163,8 +166,18 @@ module _ (time events : ℕ → ℕ) where
 
   -- header and records
   pub put-log : (buffer : List ℕ) (n : ℕ) → 8 + n * 8 ≤ length buffer →
-      put (put buffer 0 header) 8 (records-bytes time events n) ≡ log-bytes time events n ++ drop (8 + n * 8) buffer
+      put (put buffer 0 (header 1)) 8 (records-bytes time events n) ≡ log-bytes time events n ++ drop (8 + n * 8) buffer
   put-log buffer n fits =
       let size = records-length n in
-      let total : 0 + length (log-bytes time events n) ≡ 8 + n * 8 = omega (arith, length-append header (records-bytes time events n)) in
-      put-behind buffer 0 header (records-bytes time events n) (omega arith) ∙ ap (λ (k : ℕ). log-bytes time events n ++ drop k buffer) total
+      let total : 0 + length (log-bytes time events n) ≡ 8 + n * 8 = omega (arith, length-append (header 1) (records-bytes time events n)) in
+      put-behind buffer 0 (header 1) (records-bytes time events n) (omega arith) ∙ ap (λ (k : ℕ). log-bytes time events n ++ drop k buffer) total
+
+-- header, count and records of a trimmed log
+pub put-trimmed : (buffer : List ℕ) (n : ℕ) (s : List ℕ) → 16 + length s ≤ length buffer →
+    put (put (put (put buffer 0 (header 3)) 8 (word-bytes (n / 4294967296))) 12 (word-bytes (n % 4294967296))) 16 s ≡ put buffer 0 (trimmed-bytes n s)
+put-trimmed buffer n s fits =
+    let high = word-bytes (n / 4294967296) in
+    let low = word-bytes (n % 4294967296) in
+    ap (λ (b : List ℕ). put (put b 12 low) 16 s) (put-behind buffer 0 (header 3) high (omega arith)) ∙
+    ap (λ (b : List ℕ). put b 16 s) (put-behind buffer 0 (header 3 ++ high) low (omega arith)) ∙
+    put-behind buffer 0 ((header 3 ++ high) ++ low) s (omega arith)

@@ -1,5 +1,5 @@
 -- What a call knows of its log, and the part of the records that the reading heads are handed: those from record `first` on. Records
--- before it may have been overwritten.
+-- before it may have been overwritten or dropped.
 use Prim.Native.Nat.{ℕ, _+_, _-_, _*_, _<_, _^_, max}
 use mathlib.Core.Bool.{Bool}
 use mathlib.Core.Path.{_≡_}
@@ -8,12 +8,17 @@ use lib.ListN.{getD, drop}
 use lib.Dec.{eqb}
 use Rattle.mtl.specs.Log.{Log, head-of}
 use Rattle.bits.specs.Packed.{number}
-use Rattle.trace.specs.Format.{record-count, time-at, has-letter}
+use Rattle.trace.specs.Format.{record-count, time-at, has-letter, records-of, dropped}
 use Rattle.trace.specs.Positions.{place, before}
 
--- "The log's part from byte 8 on .. passed to the record readers": of the records those from record `first` on
-abbrev pub from-record : (first : ℕ) → List ℕ → List ℕ
-from-record first s = drop (first * 8) s
+-- the records from the n-th on
+abbrev pub from-record : (n : ℕ) → List ℕ → List ℕ
+from-record n s = drop (n * 8) s
+
+-- "The log's part from byte 8 on, or behind the dropped count, passed to the record readers": those from record `first` on. Numbers count
+-- the records dropped, too; where record `first` is one of them, it is all that the log has.
+abbrev pub records-from : (log : List ℕ) (first : ℕ) → List ℕ
+records-from log first = from-record (first - dropped log) (records-of log)
 
 -- a view's four numbers: the record with which the slice begins; how many positions the log has, those before the slice included; whether
 -- service records are passed over in the slice, which is needed only where one lies there; whether the log is closed

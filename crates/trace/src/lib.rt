@@ -2,11 +2,12 @@
 ghost use mathlib.Core.Path.{_≡_};
 ghost use Prim.Native.Nat.{_+_, _*_, _%_, _<_, _≤_, _^_};
 ghost use lib.ListN.{length};
+ghost use lib.Dec.{ltb};
 ghost use Rattle.bits.specs.Packed.{number, Packed};
-ghost use Rattle.trace.specs.Format.{word-at, record-count, time-at, has-letter, records-of, wrong-mark, version-of, wrong-version, wrong-spare, skips-of, malformed};
+ghost use Rattle.trace.specs.Format.{word-at, record-count, time-at, has-letter, version-of, skips-of, is-trimmed, dropped as dropped-of, records-of, total-records, wrong-mark, wrong-version, wrong-spare, too-short, malformed};
 ghost use Rattle.trace.specs.Order.{falls, starts-below, disordered, last-time};
-ghost use Rattle.trace.specs.View.{from-record};
-ghost use Rattle.trace.specs.Making.{header, word-bytes, record-bytes, put};
+ghost use Rattle.trace.specs.View.{from-record, records-from};
+ghost use Rattle.trace.specs.Making.{header, word-bytes, record-bytes, trimmed-bytes, put};
 
 pub mod view;
 pub mod window;
@@ -52,13 +53,13 @@ fn has_wrong_spare(log: &[u8]) -> bool
     (log[5] != 0) | ((log[6] != 0) | (log[7] != 0))
 }
 
-// Versions 1 and 2 are known.
+// Versions 1 to 3 are known.
 fn has_wrong_version(log: &[u8]) -> bool
     requires { ⌜ 8 ≤ length (now log) ⌝ }
     ensures { λ r. ⌜ r ≡ wrong-version (now (log .entry)) ⌝ }
 {
     let found = version(log);
-    (found < 1) | (2 < found)
+    (found < 1) | (3 < found)
 }
 
 // Whether the log's version has service records: from version 2 on.
@@ -72,33 +73,101 @@ pub fn skips(log: &[u8]) -> bool
     }
 }
 
-// Check 12.
-pub fn is_malformed(log: &[u8]) -> bool
-    ensures { λ r. ⌜ r ≡ malformed (now (log .entry)) ⌝ }
+// Whether the log has a count of records dropped behind its header: version 3 does.
+fn is_trimmed(log: &[u8]) -> bool
+    ensures { λ r. ⌜ r ≡ is-trimmed (now (log .entry)) ⌝ }
 {
-    if log.len() < 8 {
-        return true;
+    if log.len() < 16 {
+        false
+    } else {
+        version(log) == 3
     }
-    let size = log.len() - 8;
-    (has_wrong_mark(log) | (has_wrong_version(log) | has_wrong_spare(log)))
-        | ((size % 8 != 0) | (1000000 < size / 8))
+}
+
+// How many records were dropped before those of the log.
+pub fn dropped(log: &[u8]) -> u64
+    ensures { λ r. ⌜ r ≡ dropped-of (now (log .entry)) ⌝ }
+{
+    if is_trimmed(log) {
+        word(log, 8) * 4294967296 + word(log, 12)
+    } else {
+        0
+    }
 }
 
 // The part of the log behind its header; nothing of a log shorter than that.
 pub fn records(log: &[u8]) -> &[u8]
     ensures { λ r. ⌜ now r ≡ records-of (now (log .entry)) ⌝ }
 {
+    if is_trimmed(log) {
+        return &log[16..];
+    }
     if log.len() < 8 { &log[..0] } else { &log[8..] }
 }
 
-// The records from record `first` on; none where there are no more.
-pub fn from_record(records: &[u8], first: usize) -> &[u8]
-    ensures { λ r. ⌜ now r ≡ from-record first (now (records .entry)) ⌝ }
+// How many records the log stands for, dropped ones included.
+pub fn total_records(log: &[u8]) -> usize
+    requires { ⌜ total-records (now log) ≤ 1000000 ⌝ }
+    ensures { λ r. ⌜ r ≡ total-records (now (log .entry)) ⌝ }
 {
-    if count(records) < first {
+    dropped(log) as usize + count(records(log))
+}
+
+// The log is shorter than the header of its version.
+fn is_too_short(log: &[u8]) -> bool
+    ensures { λ r. ⌜ r ≡ too-short (now (log .entry)) ⌝ }
+{
+    if log.len() < 8 {
+        true
+    } else {
+        (log.len() < 16) & (version(log) == 3)
+    }
+}
+
+// Whether there are more than 1,000,000 records, dropped ones included, whose count may be any number.
+fn has_too_many(log: &[u8]) -> bool
+    ensures { λ r. ⌜ r ≡ ltb 1000000 (total-records (now (log .entry))) ⌝ }
+{
+    let here = count(records(log)) as u64;
+    if 1000000 < here {
+        true
+    } else {
+        1000000 - here < dropped(log)
+    }
+}
+
+// Check 12.
+pub fn is_malformed(log: &[u8]) -> bool
+    ensures { λ r. ⌜ r ≡ malformed (now (log .entry)) ⌝ }
+{
+    if is_too_short(log) {
+        return true;
+    }
+    (has_wrong_mark(log) | (has_wrong_version(log) | has_wrong_spare(log)))
+        | (((log.len() - 8) % 8 != 0) | has_too_many(log))
+}
+
+// The records from the n-th on; none where there are no more.
+fn from_record(records: &[u8], n: usize) -> &[u8]
+    ensures { λ r. ⌜ now r ≡ from-record n (now (records .entry)) ⌝ }
+{
+    if count(records) < n {
         &records[..0]
     } else {
-        &records[first * 8..]
+        &records[n * 8..]
+    }
+}
+
+// The log's records from record `first` on, dropped ones counted.
+pub fn records_from(log: &[u8], first: u64) -> &[u8]
+    ensures { λ r. ⌜ now r ≡ records-from (now (log .entry)) first ⌝ }
+{
+    let before = dropped(log);
+    let all = records(log);
+    if first <= before {
+        all
+    } else {
+        from_record(all, (first - before) as usize)
     }
 }
 
@@ -212,17 +281,17 @@ pub fn last_time(records: &[u8], seen: usize, last: u64) -> u64
     }
 }
 
-// Writes the header of a version 1 log.
-pub fn write_header(log: &mut [u8])
+// Writes the header of a log of this version.
+pub fn write_header(log: &mut [u8], version: u8)
     requires { ⌜ 8 ≤ length (now log) ⌝ }
-    ensures { λ _. ⌜ now (log .exit) ≡ put (now (log .entry)) 0 header ⌝ }
+    ensures { λ _. ⌜ now (log .exit) ≡ put (now (log .entry)) 0 (header version) ⌝ }
 {
     let mark = b"KLG";
     log[0] = mark[0];
     log[1] = mark[1];
     log[2] = mark[2];
     log[3] = 0;
-    log[4] = 1;
+    log[4] = version;
     log[5] = 0;
     log[6] = 0;
     log[7] = 0;
@@ -246,4 +315,29 @@ pub fn write_record(log: &mut [u8], at: usize, time: u32, events: u32)
 {
     write_word(log, at, time);
     write_word(log, at + 4, events);
+}
+
+// Copies bytes into the log from `at` on.
+fn write_bytes(bytes: &[u8], log: &mut [u8], at: usize)
+    requires { ⌜ at + length (now bytes) ≤ length (now log) ⌝ }
+    ensures { λ _. ⌜ now (log .exit) ≡ put (now (log .entry)) at (now (bytes .entry)) ⌝ }
+{
+    let mut i: usize = 0;
+    while i < bytes.len() {
+        log[at + i] = bytes[i];
+        i += 1;
+    }
+}
+
+// Writes a version 3 log of these records, before which so many were dropped, and gives its length.
+pub fn write_trimmed(dropped: u64, records: &[u8], log: &mut [u8]) -> usize
+    requires { ⌜ 16 + length (now records) ≤ length (now log) ⌝ }
+    ensures { λ r. ⌜ r ≡ 16 + length (now (records .entry)) ⌝ }
+    ensures { λ _. ⌜ now (log .exit) ≡ put (now (log .entry)) 0 (trimmed-bytes dropped (now (records .entry))) ⌝ }
+{
+    write_header(log, 3);
+    write_word(log, 8, (dropped / 4294967296) as u32);
+    write_word(log, 12, (dropped % 4294967296) as u32);
+    write_bytes(records, log, 16);
+    16 + records.len()
 }

@@ -76,7 +76,7 @@ module _ (low high n : ℕ) (log : List ℕ) where
 
   -- the log is written
   pub writes-log : (k : ℕ) (log′ : List ℕ) → Passed k ≡ checked low high n lent →
-      log′ ≡ put (put log 0 header) 8 (records-bytes (time-of high) events-of k) → Writes low high n log (Length (8 + k * 8)) log′
+      log′ ≡ put (put log 0 (header 1)) 8 (records-bytes (time-of high) events-of k) → Writes low high n log (Length (8 + k * 8)) log′
   writes-log k log′ e is =
       let (same, a) = passes low high n lent k e in
       let size : 8 + k * 8 ≡ size-of n = omega arith in

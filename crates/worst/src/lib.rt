@@ -111,7 +111,7 @@ pub fn worst_log(low: u32, high: u32, n: u64, log: &mut [u8]) -> Made
     let Checked::Passed(records) = checked else {
         return Made::Refused(checked.number());
     };
-    trace::write_header(log);
+    trace::write_header(log, 1);
     write_records(high, records, log);
     Made::Length(8 + records * 8)
 }

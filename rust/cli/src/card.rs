@@ -8,7 +8,7 @@
 
 use crate::disk::{Disk, Lock};
 use havdrims::save::{checksum, Saved, Unreadable};
-use havdrims::{close, measure, open, resume, status, summary, tally, Log, Refusal, Status, Summary, Tally};
+use havdrims::{close, measure, open, resume, status, summary, tally, trim, Log, Refusal, Status, Summary, Tally};
 use std::fmt;
 use std::io::{self, ErrorKind};
 
@@ -24,6 +24,11 @@ pub const POINT: &str = "point";
 pub const NEW_POINT: &str = "point.new";
 
 const OWN: [&str; 5] = [CARD, RULE, SHEET, POINT, NEW_POINT];
+
+/// Whether a folder with these names is a card, a damaged one or one that is being made included.
+pub fn is_card(names: &[String]) -> bool {
+    names.iter().any(|name| name == CARD || name == POINT)
+}
 
 /// The verdicts that one call may give. An evening makes as many calls as it needs.
 const ROOM: usize = 65_536;
@@ -354,6 +359,20 @@ impl<'a, D: Disk> Card<'a, D> {
         self.save(&new, words, so_far.services)?;
         self.so_far = so_far;
         Ok(Evening { first, new: new.len() as u64, counts, passed_over, so_far })
+    }
+
+    /// What is left of the log without the records that the card no longer wants. When this returns, the card survives a cut: a
+    /// checkpoint that came back after one might want what is dropped here. The point may be of a run that was killed before it
+    /// could sync, or the card a copy.
+    pub fn trim(&mut self, log: &[u8]) -> Result<Vec<u8>, Fault> {
+        let mut left = vec![0; log.len() + 8];
+        let length = trim(&self.rule, log, &self.words, &mut left).map_err(Fault::Refused)?;
+        left.truncate(length);
+        for name in [CARD, RULE, SHEET, POINT] {
+            self.disk.sync(name).map_err(failed("sync the card's files"))?;
+        }
+        self.disk.sync_folder().map_err(failed("sync the folder"))?;
+        Ok(left)
     }
 
     /// Saves further verdicts, and the checkpoint that counts them. It does so too where nothing is new: what is there may

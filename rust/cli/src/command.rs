@@ -1,9 +1,9 @@
 //! The commands: their words, their help, and what each prints.
 
 use crate::card::{self, Card, Evening, Fault, SoFar};
-use crate::convert;
 use crate::disk::Folder;
-use havdrims::Refusal;
+use crate::{convert, file};
+use havdrims::{Log, Refusal};
 use std::fmt::{Display, Write};
 use std::hash::{BuildHasher, RandomState};
 use std::path::Path;
@@ -37,7 +37,7 @@ struct Command {
     run: fn(&[&str]) -> Option<Answer>,
 }
 
-const COMMANDS: [Command; 11] = [
+const COMMANDS: [Command; 12] = [
     Command {
         name: "new",
         words: "CARD RULE..",
@@ -56,10 +56,11 @@ empty; if making it was cut short, it can be made again.",
         words: "CARD LOG",
         does: "carry on with the log as far as it goes",
         more: "\
-LOG is the kiosk's whole log, a .klg file. Its records before the one that the last evening named may be overwritten,
-the others not. The new verdicts go into the card's sheet. Once this command has said so, and not before, the records
-that it names may be overwritten. A run that was cut, for whatever reason, is simply repeated.
-In a log of version 2 service records are passed over: they are no positions and get no verdict. It is said how many
+LOG is the kiosk's whole log, a .klg file, or what `havdrims trim` left of it, with new records behind. Its records
+before the one that the last evening named may be overwritten, the others not. The new verdicts go into the card's
+sheet. Once this command has said so, and not before, the records that it names may be overwritten. A run that was cut,
+for whatever reason, is simply repeated.
+From log version 2 on service records are passed over: they are no positions and get no verdict. It is said how many
 there were, the verdicts are then counted in positions, and what may be overwritten in records all the same.",
         run: |words| match words {
             [folder, log] => Some(carry_on(false, folder, log)),
@@ -76,6 +77,21 @@ it can be closed again with the same log, but takes no further records.",
         run: |words| match words {
             [folder, log] => Some(carry_on(true, folder, log)),
             _ => None,
+        },
+    },
+    Command {
+        name: "trim",
+        words: "CARD LOG OUT [--force]",
+        does: "write a shorter log, without the records that the card no longer wants",
+        more: "\
+LOG is as for evening, of version 2 or 3. OUT becomes a log of version 3, which says how many records were dropped and
+has the others, from the first on that the card still wants. From then on it may be brought in place of LOG, with new
+records behind it; records keep their numbers. The card is not changed. It is synced before OUT is written.
+OUT is written beside and renamed, so that it is whole or not there. A file that is there is replaced only with --force;
+so OUT may be LOG itself, to which the kiosk must then add nothing meanwhile. OUT is never a file in a card.",
+        run: |words| {
+            let ([folder, log, out], [force]) = options(words, &["--force"])?;
+            Some(trimmed(folder, log, out, force))
         },
     },
     Command {
@@ -127,10 +143,11 @@ they are judged together. RULE is the .krl file to be written.",
         name: "to-log",
         words: "TEXT LOG",
         does: "write the log file that a text describes",
-        more: "\
+        more:
+            "\
 TEXT is a file with a line for each record, the seconds and then the letters, as in `12 e0 e3` or `12 none`.
 What follows a # is passed over. The line `version 2` before the first record says that the log is of version 2: then
-`12 service` is a service record, which is no position.",
+`12 service` is a service record, which is no position. A trimmed log has `version 3` and a line as `dropped 40` there.",
         run: |words| match words {
             [text, log] => Some(convert::to_log(text, log)),
             _ => None,
@@ -140,7 +157,9 @@ What follows a # is passed over. The line `version 2` before the first record sa
         name: "to-text",
         words: "LOG",
         does: "print a log file as text",
-        more: "LOG is a .klg file. A log of version 2 begins with the line `version 2`.",
+        more: "\
+LOG is a .klg file. A log of version 2 begins with the line `version 2`, a trimmed log with `version 3` and a line with
+the number of records dropped.",
         run: |words| match words {
             [log] => Some(convert::to_text(log)),
             _ => None,
@@ -237,24 +256,79 @@ fn carry_on(closing: bool, folder: &str, path: &str) -> Answer {
     let log = convert::log(path).map_err(|fault| Failure::fault(path, format!("{fault}\n{UNCHANGED}")))?;
     let mut disk = Folder::new(Path::new(folder));
     let evening = Card::open(&mut disk, true).and_then(|mut card| card.carry_on(closing, &log));
-    evening.map(|evening| told(&evening)).map_err(|fault| unchanged(folder, path, &fault))
+    evening.map(|evening| told(&evening)).map_err(|fault| unchanged(folder, path, &fault, "No verdict was counted"))
+}
+
+/// The words that are no options, and whether each of these options, which stand at most once, is among them. None if there is
+/// another.
+fn options<'a, const N: usize, const M: usize>(
+    words: &[&'a str],
+    known: &[&str; M],
+) -> Option<([&'a str; N], [bool; M])> {
+    let mut given = [false; M];
+    let mut others = Vec::new();
+    for &word in words {
+        match known.iter().position(|&option| option == word) {
+            Some(at) if !given[at] => given[at] = true,
+            None if !word.starts_with("--") => others.push(word),
+            _ => return None,
+        }
+    }
+    Some((others.try_into().ok()?, given))
+}
+
+/// The folder of a file, and its name there.
+fn folder_and_name(path: &str) -> Result<(Folder, &str), Failure> {
+    let name = Path::new(path).file_name().and_then(|name| name.to_str());
+    let name = name
+        .filter(|name| path.ends_with(name))
+        .ok_or_else(|| Failure::Use(format!("`{path}` is no name of a file")))?;
+    let folder = match &path[..path.len() - name.len()] {
+        "" => ".",
+        folder => folder,
+    };
+    Ok((Folder::new(Path::new(folder)), name))
+}
+
+fn trimmed(folder: &str, path: &str, out: &str, force: bool) -> Answer {
+    let (mut into, name) = folder_and_name(out)?;
+    if file::passes_over(out, path) {
+        return Err(Failure::fault(out, file::Fault::OverItsSource));
+    }
+    let log = convert::log(path).map_err(|fault| Failure::fault(path, format!("{fault}\n{UNCHANGED}")))?;
+    let mut disk = Folder::new(Path::new(folder));
+    let failed = |fault| unchanged(folder, path, &fault, "Nothing was written");
+    let mut card = Card::open(&mut disk, true).map_err(failed)?;
+    let left = card.trim(&log).map_err(failed)?;
+    file::put(&mut into, name, &left, force).map_err(|fault| Failure::fault(out, fault))?;
+    let left = Log::new(&left).map_err(|refusal| Failure::fault(out, refusal))?;
+    let dropped = match left.dropped() {
+        0 => "no record dropped".to_string(),
+        1 => "record 0 dropped".to_string(),
+        dropped => format!("records 0 to {} dropped", dropped - 1),
+    };
+    Ok(format!("{out}: {dropped}, {} left\n", left.records().count()))
 }
 
 const UNCHANGED: &str = "Nothing was changed.";
 
-/// What is wrong with the card or with the log, and that nothing came of the command.
-fn unchanged(folder: &str, log: &str, fault: &Fault) -> Failure {
+/// What is wrong with the card or with the log, and that nothing came of the command: what did not, where an operation failed.
+fn unchanged(folder: &str, log: &str, fault: &Fault, nothing: &str) -> Failure {
     let (name, hint) = match fault {
         Fault::Unsure { .. } => return Failure::fault(folder, fault),
         Fault::Disk { .. } => {
-            let said = format!("{fault}\nNo verdict was counted; repeat the command.");
+            let said = format!("{fault}\n{nothing}; repeat the command.");
             return Failure::fault(folder, said);
         }
         Fault::Refused(Refusal::PointClosed) => (folder, "The month is closed: the card takes no further records. "),
         Fault::Refused(Refusal::FewerRecords) => (log, "Is this the whole log? "),
         Fault::Refused(Refusal::TimeFalls) => (log, "Is this the log of another kiosk? "),
         Fault::Refused(Refusal::OtherVersion) => {
-            (log, "A card keeps to the version of its first log; a log of another version needs a card of its own. ")
+            (log, "A card keeps to the version of its first log, 2 and 3 counting as one; another needs a card of its own. ")
+        }
+        Fault::Refused(Refusal::TrimVersion) => (log, "Logs of version 2 and 3 can be trimmed. "),
+        Fault::Refused(Refusal::RecordDropped) => {
+            (log, "Was it trimmed for another card? The log before it was trimmed can still be brought. ")
         }
         Fault::Refused(_) | Fault::LogAltered => (log, ""),
         _ => (folder, ""),

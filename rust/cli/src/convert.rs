@@ -7,8 +7,8 @@ use havdrims::{Log, Refusal, Settings, MOST_FORMULAS, MOST_RECORDS, MOST_RULE};
 use std::str::FromStr;
 use std::{fs, io};
 
-/// The most bytes of a log.
-const MOST_LOG: usize = 8 + 8 * MOST_RECORDS;
+/// The most bytes of a log: of version 3, with all its records.
+const MOST_LOG: usize = 16 + 8 * MOST_RECORDS;
 
 type Answer = Result<String, Failure>;
 
@@ -84,7 +84,11 @@ pub fn to_log(path: &str, log: &str) -> Answer {
         0 => String::new(),
         number => format!(", {number} of them service"),
     };
-    Ok(format!("{log}: {} records{services}\n", made.len()))
+    let dropped = match made.dropped() {
+        0 => String::new(),
+        number => format!(", behind {number} dropped"),
+    };
+    Ok(format!("{log}: {} records{services}{dropped}\n", made.records().count()))
 }
 
 pub fn to_text(path: &str) -> Answer {

@@ -302,14 +302,22 @@ fn document_01() -> Vec<Case> {
     ]
 }
 
+/// What a call does.
+#[derive(Clone, Copy, Debug, PartialEq, Eq)]
+pub enum Kind {
+    Resume,
+    Close,
+    Trim,
+}
+
 /// One call of a list.
 pub struct Call {
-    pub closing: bool,
+    pub kind: Kind,
     /// What the call brings: the log's bytes.
     pub log: Vec<u8>,
-    /// The length of its sheet.
+    /// The length of its sheet, or of the buffer that a trimming writes into.
     pub sheet: usize,
-    /// Its verdicts, and whether there are more; or its refusal.
+    /// Its verdicts, and whether there are more; or the bytes that a trimming writes, and false; or its refusal.
     pub gives: Result<(Vec<u8>, bool), u32>,
     /// The first record still wanted after it.
     pub wanted: usize,
@@ -329,10 +337,14 @@ pub struct List {
 
 /// A call as it is written down.
 struct Step {
-    closing: bool,
+    kind: Kind,
     /// Another version than the list's.
     version: Option<u16>,
+    /// Brings a trimmed log: so many records are not there, and this is their count.
+    dropped: Option<(usize, u64)>,
     records: usize,
+    /// So many bytes of the log alone.
+    cut: Option<usize>,
     replaced: Option<(usize, Record)>,
     sheet: usize,
     gives: Result<(Vec<u8>, bool), u32>,
@@ -344,9 +356,11 @@ struct Step {
 /// up, unless another answer is said.
 fn resume(n: usize) -> Step {
     Step {
-        closing: false,
+        kind: Kind::Resume,
         version: None,
+        dropped: None,
         records: n,
+        cut: None,
         replaced: None,
         sheet: 100,
         gives: Ok((Vec::new(), false)),
@@ -357,13 +371,33 @@ fn resume(n: usize) -> Step {
 
 /// A closing, likewise.
 fn close(n: usize) -> Step {
-    Step { closing: true, ..resume(n) }
+    Step { kind: Kind::Close, ..resume(n) }
+}
+
+/// A trimming, with room for all.
+fn trim(n: usize) -> Step {
+    Step { kind: Kind::Trim, ..resume(n) }
 }
 
 impl Step {
     /// Brings the log as one of this version.
     fn of_version(self, version: u16) -> Step {
         Step { version: Some(version), ..self }
+    }
+
+    /// Brings the log trimmed: without its first records, so many.
+    fn dropping(self, records: usize) -> Step {
+        self.counting(records, records as u64)
+    }
+
+    /// The same with this as the count of records dropped.
+    fn counting(self, records: usize, count: u64) -> Step {
+        Step { dropped: Some((records, count)), ..self }
+    }
+
+    /// Brings the first bytes of the log alone.
+    fn cut(self, bytes: usize) -> Step {
+        Step { cut: Some(bytes), ..self }
     }
 
     fn with_record(self, at: usize, time: u32, letters: u32) -> Step {
@@ -376,6 +410,11 @@ impl Step {
 
     fn gives(self, verdicts: &[u8]) -> Step {
         Step { gives: Ok((verdicts.to_vec(), false)), ..self }
+    }
+
+    /// Of a trimming: a log with this count of records dropped, and these records.
+    fn writes(self, dropped: u64, left: &[(u32, &[u32])]) -> Step {
+        self.gives(&log::encode_trimmed(dropped, &records(left)))
     }
 
     fn gives_and_more(self, verdicts: &[u8]) -> Step {
@@ -406,35 +445,40 @@ impl Step {
 const ONES: Record = Record { time: u32::MAX, letters: u32::MAX };
 
 /// Before each call the records before the first wanted are overwritten with ones.
-fn list<const N: usize>(name: &'static str, entries: &[Entry], records: &[Record], steps: [Step; N]) -> List {
+fn list(name: &'static str, entries: &[Entry], records: &[Record], steps: impl IntoIterator<Item = Step>) -> List {
     list_of(name, rule::encode(entries), 1, 1, records, steps)
 }
 
 /// The same with a log of version 2.
-fn visited_list<const N: usize>(name: &'static str, entries: &[Entry], records: &[Record], steps: [Step; N]) -> List {
+fn visited_list(
+    name: &'static str,
+    entries: &[Entry],
+    records: &[Record],
+    steps: impl IntoIterator<Item = Step>,
+) -> List {
     list_of(name, rule::encode(entries), 1, 2, records, steps)
 }
 
 /// The same with a version 2 rule of these formulas.
-fn several_list<const N: usize>(
+fn several_list(
     name: &'static str,
     formulas: &[Vec<Entry>],
     records: &[Record],
-    steps: [Step; N],
+    steps: impl IntoIterator<Item = Step>,
 ) -> List {
     list_of(name, rule::encode_several(formulas), formulas.len(), 1, records, steps)
 }
 
-fn list_of<const N: usize>(
+fn list_of(
     name: &'static str,
     rule: Vec<u8>,
     formulas: usize,
     version: u16,
     records: &[Record],
-    steps: [Step; N],
+    steps: impl IntoIterator<Item = Step>,
 ) -> List {
     let (mut wanted, mut no) = (0, vec![(0, None); formulas]);
-    let calls = steps.map(|step| {
+    let calls = steps.into_iter().map(|step| {
         let mut log = records[..step.records].to_vec();
         log.iter_mut().take(wanted).for_each(|record| *record = ONES);
         if let Some((at, record)) = step.replaced {
@@ -444,10 +488,14 @@ fn list_of<const N: usize>(
         for (formula, count, latest) in step.no {
             no[formula] = (count, Some(latest));
         }
-        let log = log::encode_as(step.version.unwrap_or(version), &log);
-        Call { closing: step.closing, log, sheet: step.sheet, gives: step.gives, wanted, no: no.clone() }
+        let mut log = match step.dropped {
+            Some((dropped, count)) => log::encode_trimmed(count, &log[dropped..]),
+            None => log::encode_as(step.version.unwrap_or(version), &log),
+        };
+        log.truncate(step.cut.unwrap_or(log.len()));
+        Call { kind: step.kind, log, sheet: step.sheet, gives: step.gives, wanted, no: no.clone() }
     });
-    List { name, rule, records: records.to_vec(), calls: calls.into() }
+    List { name, rule, records: records.to_vec(), calls: calls.collect() }
 }
 
 /// All lists.
@@ -540,7 +588,8 @@ pub fn lists() -> Vec<List> {
     let visit_by_visit = [
         resume(1).wanted(1),
         resume(1).of_version(1).refused(22),
-        resume(1).of_version(3).refused(12),
+        resume(1).of_version(3),
+        resume(1).of_version(4).refused(12),
         resume(1).of_version(0).refused(12),
         resume(0).of_version(1).refused(22),
         resume(0).refused(13),
@@ -577,7 +626,8 @@ pub fn lists() -> Vec<List> {
     let none_then_version_1 = [
         resume(0),
         resume(3).of_version(2).refused(22),
-        resume(3).of_version(3).refused(12),
+        resume(3).of_version(3).refused(22),
+        resume(3).of_version(4).refused(12),
         resume(3).gives(&[0, 0, 0]).wanted(3).no(3, 2),
     ];
     let none_then_version_2 = [close(0).sheet(0), close(0).of_version(1).refused(22), close(0)];
@@ -610,7 +660,8 @@ pub fn lists() -> Vec<List> {
         let latest = step.wanted.unwrap_or(0) as u64 - 1;
         (2..8).fold(step, |step, formula| step.no_of(formula, latest + 1, latest))
     });
-    vec![
+    let mut all = trimmed_lists();
+    all.extend([
         visited_list("P1, visit by visit", &p1, &visited, visit_by_visit),
         visited_list("21 by an added service record", &p1, &visited, added_service),
         visited_list("14 by the time of a service record", &p1, &visited, service_times),
@@ -633,5 +684,131 @@ pub fn lists() -> Vec<List> {
         list("an empty rule with short sheets", &[], &three, all_yes),
         list("three times previous: the first wanted is d less 3", &thrice, &six, day_by_day),
         list("14 starts from the first wanted", &twice, &six, falling_times),
+    ]);
+    all
+}
+
+/// Request 11: logs that are trimmed, grown and trimmed again.
+fn trimmed_lists() -> Vec<List> {
+    let p1 = p1_entries();
+    let mut seven = p1_records();
+    seven.extend(records(&[(21, &[1])]));
+    let p2 = [
+        // a fresh point: nothing is dropped, and the log is of version 3
+        trim(0).writes(0, &[]),
+        trim(6).writes(0, &P1),
+        trim(6).of_version(1).refused(23),
+        resume(6).gives(&[0, 0, 0, 1, 1]).wanted(5).no(3, 2),
+        trim(6).writes(5, &P1[5..]),
+        resume(7).dropping(5).gives(&[1, 1]).wanted(7),
+        trim(7).dropping(5).writes(7, &[]),
+        // the log never trimmed again, as version 2 and as version 3
+        trim(7).writes(7, &[]),
+        resume(7),
+        resume(7).of_version(3),
+        // trimmed again with nothing new wanted
+        trim(7).dropping(7).writes(7, &[]),
+        resume(7).dropping(7),
+        close(7).dropping(7),
+        trim(7).dropping(7).writes(7, &[]),
+    ];
+    let visited = records(&P1_VISITED);
+    let grown = [
+        resume(5).gives(&[0, 0, 0]).wanted(5).no(3, 2),
+        trim(5).writes(5, &[]),
+        resume(7).dropping(5),
+        trim(7).dropping(5).writes(5, &P1_VISITED[5..7]),
+        // an older copy, and the log never trimmed
+        resume(7).dropping(2),
+        resume(9).dropping(5).gives(&[1, 1]).wanted(8),
+        trim(9).dropping(5).writes(8, &P1_VISITED[8..9]),
+        // with a record that was not seen yet
+        trim(10).dropping(8).writes(8, &P1_VISITED[8..]),
+        close(10).dropping(8).gives(&[0]).wanted(10).no(4, 5),
+        trim(10).dropping(8).writes(10, &[]),
+        close(10).dropping(10),
+        close(10),
+    ];
+    const P7: [(u32, &[u32]); 4] = [(10, &[0]), (12, &[0]), (13, &[0]), (14, &[1])];
+    let mut orders = vec![
+        trim(3).of_version(1).refused(23),
+        trim(3).of_version(4).refused(12),
+        resume(3).dropping(1).refused(24),
+        close(3).dropping(1).refused(24),
+        trim(3).dropping(1).refused(24),
+        // a trimming does not fix the version
+        trim(3).writes(0, &P7[..3]),
+        resume(3).gives(&[0]).wanted(1).no(1, 0),
+        // 22 and 23, and 12 before both
+        trim(3).of_version(1).refused(22),
+        trim(3).of_version(1).cut(31).refused(12),
+        // 25: one byte short
+        trim(3).sheet(31).refused(25),
+        trim(3).sheet(32).writes(1, &P7[1..3]),
+        trim(3).sheet(0).refused(25),
+        // 14 and 25
+        trim(4).with_record(3, 12, 2).sheet(0).refused(14),
+        trim(4).dropping(1).with_record(3, 12, 2).refused(14),
+        resume(4).dropping(1).with_record(3, 12, 2).refused(14),
+    ];
+    for call in [resume, close, trim] {
+        // 22 and 13; 13 and 24; 24 and 14; 24
+        orders.push(call(2).of_version(1).refused(22));
+        orders.push(call(2).dropping(2).refused(13));
+        orders.push(call(4).dropping(2).with_record(3, 12, 2).refused(24));
+        orders.push(call(3).dropping(2).refused(24));
+        // a header of 8 to 15 bytes
+        orders.extend([8, 9, 12, 15].map(|bytes| call(3).dropping(1).cut(bytes).refused(12)));
+        // counts, the records at hand included: 1,000,000 and one more, and sums that do not fit a word
+        orders.push(call(3).counting(2, 999_999).refused(24));
+        orders.push(call(3).counting(2, 1_000_000).refused(12));
+        orders.push(call(3).counting(3, 1_000_000).refused(24));
+        orders.push(call(3).counting(3, 1_000_001).refused(12));
+        orders.push(call(3).counting(2, u64::MAX).refused(12));
+        orders.push(call(3).counting(0, u64::MAX - 1).refused(12));
+    }
+    orders.extend([
+        close(3).dropping(1).sheet(1).gives_and_more(&[0]).wanted(2).no(2, 1),
+        // 20 before 12, 21 and 24: 21 is a closing's alone
+        resume(4).dropping(3).refused(20),
+        resume(4).dropping(3).cut(15).refused(20),
+        close(4).dropping(3).refused(21),
+        trim(4).dropping(3).refused(24),
+        // a closed point, also with more records than at the closing
+        trim(4).dropping(2).writes(2, &P7[2..]),
+        trim(3).dropping(1).writes(2, &P7[2..3]),
+        close(3).dropping(2).gives(&[0]).wanted(3).no(3, 2),
+        trim(3).dropping(2).writes(3, &[]),
+    ]);
+    let letter = [Entry::letter(0)];
+    let all_given = [
+        resume(2).gives(&[1, 1]).wanted(2),
+        // the record after all seen is wanted
+        resume(3).dropping(3).refused(24),
+        trim(3).dropping(3).refused(24),
+        resume(2).dropping(2),
+        resume(3).dropping(2).gives(&[1]).wanted(3),
+    ];
+    // Two service records stand behind the neighbour that is looked back at.
+    let looking_back: [(u32, &[u32]); 6] = [(1, &[0]), (2, &[31]), (2, TEST_PRINT), (3, &[0]), (4, &[31]), (5, &[])];
+    let once = [Entry::letter(0), Entry::timed(PREVIOUS, 0, 9)];
+    let kept_for_previous = [
+        resume(3).gives(&[0]).no(1, 0),
+        trim(3).writes(0, &looking_back[..3]),
+        resume(5).of_version(3).gives(&[1]).wanted(3),
+        trim(5).writes(3, &looking_back[3..5]),
+        resume(6).dropping(4).refused(24),
+        resume(6).dropping(3).gives(&[1]).wanted(5),
+        trim(6).dropping(3).writes(5, &looking_back[5..]),
+    ];
+    let version_1 = [resume(2), trim(2).refused(23), trim(1).refused(23), resume(2).dropping(0).refused(22)];
+    let [p7, back] = [records(&P7), records(&looking_back)];
+    vec![
+        visited_list("P2 on a trimmed log", &p1, &seven, p2),
+        visited_list("trimmed, grown, trimmed, closed", &p1, &visited, grown),
+        visited_list("the refusals of trimmed logs, in their order", &p1, &p7, orders),
+        visited_list("dropped above the record after all seen", &letter, &p7, all_given),
+        visited_list("the neighbour is kept by a trimming", &once, &back, kept_for_previous),
+        list("a log of version 1 is not trimmed", &p1, &p7, version_1),
     ]
 }

@@ -132,27 +132,64 @@ impl Point {
 
     /// The rule and the log of a carry on or a closing that is not refused, else its refusal. "The order of checks is
     /// carry on's. 20 when carry on is given a closed point, after 11; 21 when closing is repeated with more records than
-    /// at its first call that was not refused, after 13." "22 when the log's version differs from that of the last carry
-    /// on or closing with this point that was not refused, after 12."
+    /// at its first call that was not refused, after 13."
     pub fn check(&self, closing: bool, bytes: &[u8], log: &[u8], lent_words: usize) -> Result<(Rule, Log), u32> {
         let rule = self.check_rule(bytes, lent_words)?;
         if !closing && self.closed.is_some() {
             return Err(20);
         }
+        let log = self.check_version(log)?;
+        let more = closing && self.closed.is_some_and(|at_first| log.total() > at_first);
+        self.check_records(&rule, &log, more)?;
+        Ok((rule, log))
+    }
+
+    /// "22 when the log's version differs from that of the last carry on or closing with this point that was not refused,
+    /// after 12"; "a point may go from 2 to 3 and back, and 22 is amended so".
+    fn check_version(&self, log: &[u8]) -> Result<Log, u32> {
         let log = log::parse(log)?;
-        if self.version.is_some_and(|last| last != log.version) {
-            return Err(22);
+        match self.version {
+            Some(last) if !log::same_kind(last, log.version) => Err(22),
+            _ => Ok(log),
         }
-        if log.records.len() < self.seen {
+    }
+
+    /// 13, 21 where a closing brings more records, 24 and 14: "24 when a log has dropped the first record wanted or one
+    /// after it, for carrying on and closing too, after 13 and 21". The records that it has dropped are its first.
+    fn check_records(&self, rule: &Rule, log: &Log, more: bool) -> Result<(), u32> {
+        if log.total() < self.seen {
             return Err(13);
         }
-        if closing && self.closed.is_some_and(|at_first| log.records.len() > at_first) {
+        if more {
             return Err(21);
         }
-        if self.time_falls(&rule, &log.records) {
+        if log.dropped > self.wanted(rule) {
+            return Err(24);
+        }
+        if self.time_falls(rule, log) {
             return Err(14);
         }
-        Ok((rule, log))
+        Ok(())
+    }
+
+    /// "A trimming call takes a rule, a version 2 or 3 log and its point, and writes a version 3 log into another lent
+    /// buffer: the header, a 64-bit count of records dropped, then the records from the first wanted. The point keeps its
+    /// words. Checks are carry on's, less 20." "23 when a version 1 log is to be trimmed, after 22"; "25 when the lent buffer
+    /// is short, after 14". What it writes into a buffer of so many bytes.
+    pub fn trim(&self, bytes: &[u8], log: &[u8], lent_words: usize, room: usize) -> Result<Vec<u8>, u32> {
+        let rule = self.check_rule(bytes, lent_words)?;
+        let log = self.check_version(log)?;
+        if log.version == 1 {
+            return Err(23);
+        }
+        self.check_records(&rule, &log, false)?;
+        let wanted = self.wanted(&rule);
+        let kept: Vec<Record> = (wanted..log.total()).filter_map(|number| log.record(number)).collect();
+        let trimmed = log::encode_trimmed(wanted as u64, &kept);
+        if trimmed.len() > room {
+            return Err(25);
+        }
+        Ok(trimmed)
     }
 
     /// "The first record wanted is the one that holds the first position still wanted, or the record after all seen where
@@ -165,13 +202,14 @@ impl Point {
 
     /// "Some record after position d has a time below that of the record before it, or the first new record's
     /// time is below the last time seen", where the first record still wanted stands for position d.
-    fn time_falls(&self, rule: &Rule, records: &[Record]) -> bool {
-        let after_wanted = (self.wanted(rule) + 1..records.len()).any(|p| records[p].time < records[p - 1].time);
-        let first_new = records.get(self.seen).is_some_and(|r| r.time < self.last);
+    fn time_falls(&self, rule: &Rule, log: &Log) -> bool {
+        let time = |number: usize| log.record(number).map(|record| record.time);
+        let after_wanted = (self.wanted(rule) + 1..log.total()).any(|p| time(p) < time(p - 1));
+        let first_new = time(self.seen).is_some_and(|time| time < self.last);
         after_wanted || first_new
     }
 
-    /// Carry on, or a closing. `untouched` has the records of the untouched log, as far as this call brings it or further.
+    /// Carry on, or a closing. `untouched` has the records of the log never trimmed, as far as this call brings it or further.
     pub fn carry_on(
         &mut self,
         closing: bool,
@@ -181,27 +219,28 @@ impl Point {
         sheet_length: usize,
         untouched: &[Record],
     ) -> Result<Resumed, u32> {
-        let (rule, Log { version, records }) = self.check(closing, bytes, log, lent_words)?;
-        let untouched = &untouched[..records.len()];
-        let all = verdicts(closing, &rule, &log::positions(version, untouched));
+        let (rule, log) = self.check(closing, bytes, log, lent_words)?;
+        let untouched = &untouched[..log.total()];
+        let all = verdicts(closing, &rule, &log::positions(log.version, untouched));
         let d = self.given();
         let c = (all.len() - d).min(sheet_length);
         let written = all[d..d + c].to_vec();
         self.sheet.extend(&written);
-        self.note(closing, version, &records, log::places(version, untouched));
+        self.note(closing, &log, log::places(log.version, untouched));
         Ok(Resumed { verdicts: written, more: all.len() > d + c })
     }
 
-    /// What an accepted call notes of its log, but for the verdicts.
-    pub fn note(&mut self, closing: bool, version: u16, records: &[Record], places: Vec<usize>) {
-        if records.len() > self.seen {
-            self.last = records[records.len() - 1].time;
+    /// What an accepted call notes of its log, but for the verdicts. `places` has the seen records that hold positions.
+    pub fn note(&mut self, closing: bool, log: &Log, places: Vec<usize>) {
+        let total = log.total();
+        if total > self.seen {
+            self.last = log.record(total - 1).expect("a new record is not dropped").time;
         }
-        self.seen = records.len();
-        self.version = Some(version);
+        self.seen = total;
+        self.version = Some(log.version);
         self.places = places;
         if closing {
-            self.closed = Some(records.len());
+            self.closed = Some(total);
         }
     }
 }

@@ -98,10 +98,10 @@ fn reach_bounds_the_wait() {
 }
 
 /// The model's list of calls gives, laid end to end, the verdicts of one run; those of a closing, if closings end it. Its
-/// log has service records.
+/// log has service records, and is trimmed before half of the calls.
 #[test]
 fn calls_laid_end_to_end_are_one_run() {
-    let mut service = 0;
+    let (mut service, mut dropped) = (0, 0);
     for seed in 0..2_000 {
         let mut r = Random::new(seed);
         let (rule_shape, log_shape) = random::shapes(&mut r, 8, 40);
@@ -112,8 +112,14 @@ fn calls_laid_end_to_end_are_one_run() {
         service += records.len() - positions.len();
         let words = rule.words as usize;
         let mut point = model::open(&bytes, words).unwrap();
-        let call = |point: &mut Point, closing: bool, n: usize, sheet: usize| {
-            let log = log::encode_as(version, &records[..n]);
+        let mut turn = 0;
+        let mut call = |point: &mut Point, closing: bool, n: usize, sheet: usize| {
+            let mut log = log::encode_as(version, &records[..n]);
+            turn += 1;
+            if version == 2 && turn % 2 == 0 {
+                log = point.trim(&bytes, &log, words, log.len() + 8).unwrap();
+                dropped += log::parse(&log).unwrap().dropped;
+            }
             point.carry_on(closing, &bytes, &log, words, sheet, &records).unwrap().more
         };
         // A list that does not catch up is closed as well.
@@ -131,4 +137,5 @@ fn calls_laid_end_to_end_are_one_run() {
         assert!(rule.depth > 0 || point.wanted(&rule) == records.len(), "seed {seed}: {rule:?} {records:?}");
     }
     assert!(service > 5_000, "{service} service records");
+    assert!(dropped > 5_000, "{dropped} records dropped");
 }

@@ -1,5 +1,6 @@
 //! Document 01's worked cases, evaluated.
 
+use evaluator::cases::Kind;
 use evaluator::model::Summary;
 use evaluator::rule::{self, Entry, NEXT, NO_END, NO_REACH};
 use evaluator::{cases, linear, model, reading};
@@ -37,8 +38,13 @@ fn worked_lists() {
         let words = rule.words as usize;
         let mut point = model::open(&bytes, words).unwrap();
         for (at, call) in list.calls.iter().enumerate() {
-            let got = point.carry_on(call.closing, &bytes, &call.log, words, call.sheet, &list.records);
-            assert_eq!(got.map(|given| (given.verdicts, given.more)), call.gives, "{}, call {at}", list.name);
+            let got = match call.kind {
+                Kind::Trim => point.trim(&bytes, &call.log, words, call.sheet).map(|trimmed| (trimmed, false)),
+                kind => point
+                    .carry_on(kind == Kind::Close, &bytes, &call.log, words, call.sheet, &list.records)
+                    .map(|given| (given.verdicts, given.more)),
+            };
+            assert_eq!(got, call.gives, "{}, call {at}", list.name);
             assert_eq!(point.wanted(&rule), call.wanted, "{}, call {at}", list.name);
             let summary = point.summary(&bytes, words).unwrap();
             let counts: Vec<_> = summary.no.into_iter().zip(summary.latest).collect();

@@ -81,6 +81,7 @@ fn run(name: &str, files: &Files) -> String {
 /// records: "the printed total" counts every record.
 fn full_run(rule: &[u8], log: &[u8]) -> Result<(Vec<u8>, usize, usize), u32> {
     let mut point = model::open(rule, POINT_WORDS)?;
+    // The point is fresh: a log that passes 24 has dropped no record.
     let (decoded, Log { records, .. }) = point.check(false, rule, log, POINT_WORDS)?;
     let resumed = point.carry_on(false, rule, log, POINT_WORDS, MOST_RECORDS, &records)?;
     Ok((resumed.verdicts, decoded.formulas(), records.len()))
@@ -240,6 +241,7 @@ fn refused_logs() -> Vec<(Vec<u8>, u32)> {
         (with(3, 2), 12),
         (with(4, 0), 12),
         (with(4, 3), 12),
+        (with(4, 4), 12),
         (with(5, 1), 12),
         (with(6, 1), 12),
         (with(7, 1), 12),
@@ -248,12 +250,20 @@ fn refused_logs() -> Vec<(Vec<u8>, u32)> {
         (falls(&[u32::MAX, 0]), 14),
         // by the time of a service record
         (log::encode_as(2, &[(5, 0), (4, log::SERVICE), (5, 0)].map(|(time, letters)| Record { time, letters })), 14),
+        // trimmed: the program's point wants every record, 24 comes before 14, and dropped records are counted
+        (log::encode_trimmed(1, &cases::p1_records()[1..]), 24),
+        (log::encode_trimmed(1_000_000, &[]), 24),
+        (log::encode_trimmed(1, &[5, 4].map(|time| Record { time, letters: 0 })), 24),
+        (log::encode_trimmed(0, &[5, 4].map(|time| Record { time, letters: 0 })), 14),
+        (log::encode_trimmed(1_000_000, &cases::p1_records()), 12),
+        (log::encode_trimmed(u64::MAX, &cases::p1_records()), 12),
     ];
     logs.extend((9..16).map(|length| (p1[..length].to_vec(), 12)));
+    logs.extend((8..16).map(|length| (log::encode_as(3, &[])[..length].to_vec(), 12)));
     logs
 }
 
-/// 1 to 8, but for 3, which no longer occurs; 12 and 14. The program cannot meet the others of carry on: no need is
+/// 1 to 8, but for 3, which no longer occurs; 12, 14 and 24. The program cannot meet the others of carry on: no need is
 /// above its 8,192 words (9), it carries on once, from the point that open left for the rule (10, 11) with no record
 /// seen (13).
 #[test]
@@ -267,7 +277,7 @@ fn refusals() {
     for (i, (log, number)) in refused_logs().iter().enumerate() {
         outcomes.says(&format!("log-{i}"), &files(&p1_rule(), log), &format!("refused {number}"));
     }
-    assert_eq!(outcomes.refusals(), [1, 2, 4, 5, 6, 7, 8, 12, 14]);
+    assert_eq!(outcomes.refusals(), [1, 2, 4, 5, 6, 7, 8, 12, 14, 24]);
     outcomes.print("kiosk: refusals");
 }
 
@@ -282,6 +292,7 @@ fn absent_and_empty_files() {
     outcomes.says("empty-log", &Files { rule, log: Some(vec![]) }, "refused 12");
     outcomes.says("no-record", &files(&p1_rule(), &log::HEADER), "verdicts 0 of 0");
     outcomes.says("no-record-version-2", &files(&p1_rule(), &log::header(2)), "verdicts 0 of 0");
+    outcomes.says("no-record-version-3", &files(&p1_rule(), &log::encode_as(3, &[])), "verdicts 0 of 0");
     outcomes.print("kiosk: absent and empty files");
 }
 
@@ -299,6 +310,7 @@ fn service_records() {
     let named = |name: &str| all.iter().find(|case| case.name == name).expect(name);
     let visited = named("P1 with all four");
     outcomes.says("visited", &files(&visited.rule, &visited.log()), "verdicts 5 of 10");
+    outcomes.says("undropped", &files(&visited.rule, &log::encode_as(3, &visited.records)), "verdicts 5 of 10");
     let p1 = "verdicts 5 of 10\n0 no\n1 no\n2 no\n3 yes\n4 yes\n";
     assert_eq!(expected(&files(&visited.rule, &visited.log())), p1);
     let as_version_1 = files(&visited.rule, &log::encode(&visited.records));
@@ -358,7 +370,7 @@ fn random_days() {
         let (rule_shape, log_shape) = random::shapes(&mut r, 20, 200);
         let mut rule = random::rule(&mut r, rule_shape);
         let (version, records) = random::any_log(&mut r, log_shape);
-        let mut log = log::encode_as(version, &records);
+        let mut log = log::encode_as(if version == 2 && r.one_in(3) { 3 } else { version }, &records);
         match r.below(4) {
             0 => random::damage(&mut r, &mut rule),
             1 => random::damage(&mut r, &mut log),

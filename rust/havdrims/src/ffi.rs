@@ -48,6 +48,22 @@ extern "C" {
         more: *mut u64,
     ) -> u32;
 
+    /// A trimming.
+    ///
+    /// # Safety
+    /// See [`havdrims_measure`].
+    pub fn havdrims_trim(
+        rule: *const u8,
+        rule_len: usize,
+        log: *const u8,
+        log_len: usize,
+        point: *const u64,
+        point_len: usize,
+        out: *mut u8,
+        out_len: usize,
+        written: *mut u64,
+    ) -> u32;
+
     /// Counts of no and of yes, one of each per formula.
     ///
     /// # Safety

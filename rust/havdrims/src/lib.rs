@@ -6,8 +6,11 @@
 //! words that the caller lends and keeps. A record that has its verdict is not read again, but for the last few where
 //! the rule looks back with previous, so the kiosk may overwrite it.
 //!
-//! In a version 2 log a record with letter 31 is a service record: it is no position and gets no verdict, and every
+//! From log version 2 on a record with letter 31 is a service record: it is no position and gets no verdict, and every
 //! operator skips it. Positions are numbered from 0 over the other records. In a version 1 log every record is a position.
+//!
+//! A version 3 log is a trimmed one: its first records were dropped, and it says how many, so that all others keep their
+//! numbers.
 //!
 //! A version 2 rule has up to eight formulas, which are judged in one run: a verdict is then a byte with an answer, a bit,
 //! for each of them.
@@ -15,12 +18,12 @@
 //! [`Monitor`] keeps a rule and its checkpoint together, and takes a [`Rule`] and a [`Log`], which were looked at once: it is what
 //! most programs want. Beneath it are the calls on slices, for those that lend their own memory.
 //!
-//! The calls: [`measure`] (weigh), [`open`], [`resume`] (carry on), [`close`] at the month's end, [`summary`],
-//! [`status`] and [`tally`]; [`formulas`], which counts those of a rule; [`parse`], which writes a rule that is typed as
-//! text; and [`worst_log`] and [`simulate`], which write logs to try a kiosk or its settings with. Each yields its result
-//! or one [`Refusal`], and a refused call changes nothing. The checker is proved; this crate only hands slices on to it.
-//! None of them allocates, and a thread with [`MOST_STACK`] bytes of stack can make every call but `parse`, which takes
-//! [`PARSE_STACK`].
+//! The calls: [`measure`] (weigh), [`open`], [`resume`] (carry on), [`close`] at the month's end, [`trim`], which writes a
+//! shorter log, [`summary`], [`status`] and [`tally`]; [`formulas`], which counts those of a rule; [`parse`], which writes a
+//! rule that is typed as text; and [`worst_log`] and [`simulate`], which write logs to try a kiosk or its settings with.
+//! Each yields its result or one [`Refusal`], and a refused call changes nothing. The checker is proved; this crate only
+//! hands slices on to it. None of them allocates, and a thread with [`MOST_STACK`] bytes of stack can make every call but
+//! `parse`, which takes [`PARSE_STACK`].
 //!
 //! The crate does without `std`, and without its feature `alloc`, which is on by default, it allocates nothing: then it has the calls
 //! on slices, [`Log`] and [`Refusal`].
@@ -147,10 +150,10 @@ impl Summary {
 pub struct Status {
     /// The verdicts given with it, all calls together.
     pub given: u64,
-    /// The records that the last accepted call brought, service records included.
+    /// The records that the last accepted [`resume`] or [`close`] brought, service records and dropped ones included.
     pub seen: u64,
     /// The first record still wanted: the one that holds the first position still wanted, or the record after all seen
-    /// where none of them holds it. All records before it may be overwritten.
+    /// where none of them holds it. All records before it may be overwritten, or dropped by [`trim`].
     pub wanted: u64,
     /// A closing was accepted.
     pub closed: bool,
@@ -236,14 +239,14 @@ pub fn open(rule: &[u8], checkpoint: &mut [u64]) -> Result<(), Refusal> {
 /// each byte 1 for yes or 0 for no. The rest of the sheet keeps its bytes. For a rule with several formulas bit k of a byte
 /// is the answer of formula k, counted from 0, and a position has its verdict once all of them have answered it.
 ///
-/// The log is the whole log from its header on; records before the first still wanted, which [`status`] gives, may have
-/// been overwritten with any bytes. The first position still wanted is the number of verdicts given with this checkpoint so
-/// far, less k, or 0 where it is below k, k being the largest number of previous entries on a path from a formula's last
-/// entry to a letter; the first record still wanted is the one that holds it, or the record after all seen where none of
-/// them does. A service record gets no verdict: its time matters to refusal 14 alone.
+/// The log is the whole log from its header on, or one that was trimmed with this checkpoint and has grown since; records
+/// before the first still wanted, which [`status`] gives, may have been overwritten with any bytes. The first position still
+/// wanted is the number of verdicts given with this checkpoint so far, less k, or 0 where it is below k, k being the largest
+/// number of previous entries on a path from a formula's last entry to a letter; the first record still wanted is the one
+/// that holds it, or the record after all seen where none of them does. A service record gets no verdict: its time matters to refusal 14 alone.
 ///
 /// Refusals: 1 to 11, then 20 if the checkpoint is closed, then 12, 22 if the log is of another version than that of the
-/// last accepted call with this checkpoint, 13 and 14.
+/// last accepted call with this checkpoint (2 and 3 count as one), 13, 24 and 14.
 ///
 /// ```
 /// use havdrims::{measure, open, parse, resume, status, text, Refusal, MOST_RULE};
@@ -294,9 +297,61 @@ pub fn resume(rule: &[u8], log: &[u8], checkpoint: &mut [u64], sheet: &mut [u8])
 /// # }
 /// ```
 ///
-/// Refusals: 1 to 12, then 22, 13, 21 and 14; 13 and 21 count service records too.
+/// Refusals: 1 to 12, then 22, 13, 21, 24 and 14; 13 and 21 count service records and dropped ones too.
 pub fn close(rule: &[u8], log: &[u8], checkpoint: &mut [u64], sheet: &mut [u8]) -> Result<Resumed, Refusal> {
     carry_on(ffi::havdrims_close, rule, log, checkpoint, sheet)
+}
+
+/// Writes a shorter log: of version 3, with the number of records dropped and then the records from the first still wanted
+/// on, which [`status`] gives. Gives its length, 16 bytes and 8 for each record that is left; the rest of the buffer keeps
+/// its bytes, and the checkpoint its words. The log is of version 2 or 3, as for [`resume`].
+///
+/// What is written, as it is or with further records behind, may be brought in place of the log: record numbers go on
+/// counting those that were dropped, and every call gives what it would give with the log that was never trimmed. It can be
+/// trimmed again. A closed checkpoint's log can be trimmed too.
+///
+/// ```
+/// use havdrims::{open, resume, text, trim, Refusal, Rule};
+///
+/// let rule: Rule = "e0 until[0,2] e1".parse()?;
+/// let mut checkpoint = vec![0; rule.needs().words];
+/// open(rule.as_bytes(), &mut checkpoint)?;
+/// let log = text::log_from_text("version 2\n10 e0\n11 service\n13 e0\n").unwrap();
+/// resume(rule.as_bytes(), &log, &mut checkpoint, &mut [0; 8])?; // no at position 0; records 0 and 1 are no longer wanted
+///
+/// let mut out = [7; 32];
+/// assert_eq!(trim(rule.as_bytes(), &log, &checkpoint, &mut out[..23]), Err(Refusal::ShortLog));
+/// assert_eq!(trim(rule.as_bytes(), &log, &checkpoint, &mut out)?, 24);
+/// assert_eq!(text::log_to_text(&out[..24])?, "version 3\ndropped 2\n13 e0\n");
+/// assert_eq!(out[24..], [7; 8]);
+///
+/// out[24..].copy_from_slice(&[0, 0, 0, 14, 0, 0, 0, 2]); // record 3, second 14: letter 1
+/// let mut sheet = [7; 4];
+/// assert_eq!(resume(rule.as_bytes(), &out, &mut checkpoint, &mut sheet)?.verdicts, 2);
+/// assert_eq!(sheet, [1, 1, 7, 7]);
+/// # Ok::<(), Refusal>(())
+/// ```
+///
+/// Refusals: 1 to 12, then 22, 23 for a log of version 1, 13, 24, 14, and 25.
+pub fn trim(rule: &[u8], log: &[u8], checkpoint: &[u64], out: &mut [u8]) -> Result<usize, Refusal> {
+    let mut written = 0;
+    // SAFETY: the pointers and lengths are those of four slices and of a number. What is written to is borrowed for this
+    // call alone, so it overlaps nothing.
+    let number = unsafe {
+        ffi::havdrims_trim(
+            rule.as_ptr(),
+            rule.len(),
+            log.as_ptr(),
+            log.len(),
+            checkpoint.as_ptr(),
+            checkpoint.len(),
+            out.as_mut_ptr(),
+            out.len(),
+            &mut written,
+        )
+    };
+    refusal::checked(number)?;
+    Ok(written as usize)
 }
 
 /// The parameters that resume and close share.

@@ -1,7 +1,7 @@
 //! A checkpoint with its rule, from evening to evening.
 
 use crate::save::{checksum, checksum_from, Saved, Unreadable};
-use crate::{close, open, resume, status, summary, Log, Refusal, Resumed, Rule, Status, Summary};
+use crate::{close, open, resume, status, summary, trim, Log, Refusal, Resumed, Rule, Status, Summary};
 use alloc::vec;
 use alloc::vec::Vec;
 use core::error::Error;
@@ -92,12 +92,12 @@ impl Monitor {
     }
 
     /// Carries on, as [`crate::resume`] does: the verdicts that the log settles beyond those given, as many as the sheet takes.
-    /// Refusals: 20, 22, 13, 14.
+    /// Refusals: 20, 22, 13, 24, 14.
     pub fn resume<'s>(&mut self, log: &Log<'_>, sheet: &'s mut [u8]) -> Result<Verdicts<'s>, Refusal> {
         self.carry_on(resume, log, sheet)
     }
 
-    /// Says that no record will follow the log, as [`crate::close`] does. Refusals: 22, 13, 21, 14.
+    /// Says that no record will follow the log, as [`crate::close`] does. Refusals: 22, 13, 21, 24, 14.
     pub fn close<'s>(&mut self, log: &Log<'_>, sheet: &'s mut [u8]) -> Result<Verdicts<'s>, Refusal> {
         self.carry_on(close, log, sheet)
     }
@@ -112,6 +112,35 @@ impl Monitor {
         self.saved.sheet = checksum_from(self.saved.sheet, bytes);
         self.saved.services += new as u64;
         Ok(Verdicts { bytes, first, formulas: self.rule.formulas(), more: resumed.more })
+    }
+
+    /// The bytes of a shorter log, as [`crate::trim`] writes it, without the records before the first still wanted. It may be
+    /// brought in place of this one, but by no checkpoint that is behind this one: put it in the log's place only once this one is
+    /// saved. Refusals: 22, 23, 13, 24, 14.
+    ///
+    /// ```
+    /// use havdrims::{text, Log, Monitor};
+    ///
+    /// # fn main() -> Result<(), Box<dyn std::error::Error>> {
+    /// let mut monitor = Monitor::new("e0 until[0,2] e1".parse()?);
+    /// let monday = text::log_from_text("version 2\n10 e0\n11 service\n13 e0\n")?;
+    /// monitor.resume(&Log::new(&monday)?, &mut [0; 16])?;
+    ///
+    /// let mut log = monitor.trim(&Log::new(&monday)?)?;
+    /// assert_eq!(text::log_to_text(&log)?, "version 3\ndropped 2\n13 e0\n");
+    /// log.extend([0, 0, 0, 14, 0, 0, 0, 2]); // Tuesday: letter 1 in second 14
+    /// let mut sheet = [0; 16];
+    /// let verdicts = monitor.resume(&Log::new(&log)?, &mut sheet)?;
+    /// assert_eq!((verdicts.first(), verdicts.bytes()), (1, &[1, 1][..]));
+    /// # Ok(())
+    /// # }
+    /// ```
+    pub fn trim(&self, log: &Log<'_>) -> Result<Vec<u8>, Refusal> {
+        let left = (log.len() as u64).saturating_sub(self.status()?.wanted);
+        let mut bytes = vec![0; 16 + 8 * left as usize];
+        let length = trim(self.rule.as_bytes(), log.as_bytes(), &self.saved.words, &mut bytes)?;
+        bytes.truncate(length);
+        Ok(bytes)
     }
 
     /// How far it has come. Refused, with 11, only where a log was brought in which records that were still wanted had been

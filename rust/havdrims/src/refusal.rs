@@ -25,7 +25,7 @@ macro_rules! refusals {
         }
 
         impl Refusal {
-            /// The paper's number: 1 to 22 but for 3, or 26; or the one that is not known.
+            /// The paper's number: 1 to 26 but for 3; or the one that is not known.
             pub fn number(self) -> u32 {
                 match self {
                     $(Refusal::$name => $number,)*
@@ -67,8 +67,8 @@ refusals! {
     10 ForeignPoint "The point does not begin as a point of this library with a copy of this rule."
     11 PointRange "A word of the point is outside its range, as d above the records seen."
     12 LogFormat
-        "The log is shorter than 8 bytes, its mark, version or spare bytes are wrong, its length less 8 is no \
-         multiple of 8, or it has too many records."
+        "The log is shorter than 8 bytes, or 16 in version 3, its mark, version or spare bytes are wrong, its length \
+         less 8 is no multiple of 8, or it has too many records, dropped ones included."
     13 FewerRecords "The log has fewer records than the point has seen."
     14 TimeFalls
         "Some record after the first still wanted has a time below that of the record before it, or the first new \
@@ -83,7 +83,11 @@ refusals! {
     20 PointClosed "Carry on is given a closed point."
     21 MoreRecords "Closing is repeated with more records than at its first call that was not refused."
     22 OtherVersion
-        "The log's version differs from that of the last carry on or closing with this point that was not refused."
+        "The log's version differs from that of the last carry on or closing with this point that was not refused, and \
+         the two are not 2 and 3."
+    23 TrimVersion "A version 1 log is to be trimmed."
+    24 RecordDropped "The log has dropped the first record wanted or one after it."
+    25 ShortLog "The lent buffer for the trimmed log is short."
     26 Settings "A setting, the seconds or the seed is outside its range or the lent log buffer is short."
 }
 
@@ -110,7 +114,10 @@ mod tests {
     #[test]
     fn numbers_and_sentences() {
         let numbers: Vec<u32> = (0..1_000).filter(|&number| Refusal::from_number(number).is_some()).collect();
-        assert_eq!(numbers, [1, 2, 4, 5, 6, 7, 8, 9, 10, 11, 12, 13, 14, 15, 16, 17, 18, 19, 20, 21, 22, 26]);
+        assert_eq!(
+            numbers,
+            [1, 2, 4, 5, 6, 7, 8, 9, 10, 11, 12, 13, 14, 15, 16, 17, 18, 19, 20, 21, 22, 23, 24, 25, 26]
+        );
         for number in numbers {
             let refusal = Refusal::from_number(number).unwrap();
             assert_eq!(refusal.number(), number);
@@ -122,7 +129,7 @@ mod tests {
     #[test]
     fn a_number_that_is_not_known_is_a_refusal_too() {
         assert_eq!(checked(0), Ok(()));
-        for number in [3, 23, 27, u32::MAX] {
+        for number in [3, 27, u32::MAX] {
             let refusal = checked(number).unwrap_err();
             assert_eq!((refusal, refusal.number()), (Refusal::Unknown(number), number));
             assert_eq!(refusal.to_string(), format!("refused {number}: This crate does not know the refusal."));

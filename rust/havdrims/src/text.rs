@@ -20,8 +20,17 @@
 //! 10 e0
 //! 11 service
 //! ```
+//!
+//! A trimmed log is of version 3, and a line `dropped` before the first record says how many records were dropped before it:
+//! none where there is no such line.
+//!
+//! ```text
+//! version 3
+//! dropped 12
+//! 90 e0
+//! ```
 
-use crate::log::{be32, HEADERS, SERVICE};
+use crate::log::{be32, before_records, HEADERS, SERVICE};
 use crate::{measure, Log, Refusal, MOST_RECORDS};
 use alloc::format;
 use alloc::string::{String, ToString};
@@ -52,8 +61,12 @@ pub struct TextError {
 pub enum TextFault {
     /// A second version, or one behind a record.
     VersionPlace,
-    /// A version that is not 1 or 2.
+    /// A version that is not 1, 2 or 3.
     Version,
+    /// A second count of records dropped, or one behind a record or in a log of version 1 or 2.
+    DroppedPlace,
+    /// A count of records dropped that is no number up to [`MOST_RECORDS`].
+    Dropped,
     /// A first word that is no number of seconds.
     Seconds {
         /// The word.
@@ -75,7 +88,7 @@ pub enum TextFault {
         /// That of the record before.
         before: u32,
     },
-    /// More than [`MOST_RECORDS`] records.
+    /// More than [`MOST_RECORDS`] records, dropped ones included.
     TooMany,
 }
 
@@ -84,12 +97,16 @@ impl fmt::Display for TextError {
         write!(f, "line {}: ", self.line)?;
         match &self.fault {
             TextFault::VersionPlace => write!(f, "the version stands once, before the first record"),
-            TextFault::Version => write!(f, "a log's version is 1 or 2"),
+            TextFault::Version => write!(f, "a log's version is 1, 2 or 3"),
+            TextFault::DroppedPlace => {
+                write!(f, "`dropped` stands once, behind the line `version 3` and before the first record")
+            }
+            TextFault::Dropped => write!(f, "`dropped` wants a number of records up to 1000000"),
             TextFault::Seconds { word, .. } => write!(f, "`{word}` is no number of seconds up to 4294967295"),
             TextFault::Letter { word } => write!(f, "`{word}` is no letter: letters are e0 to e31"),
-            TextFault::Service => write!(f, "`service` needs the line `version 2` before the first record"),
+            TextFault::Service => write!(f, "`service` needs the line `version 2` or `version 3` before the first record"),
             TextFault::Falls { time, before } => write!(f, "second {time} comes after second {before}"),
-            TextFault::TooMany => write!(f, "a log has at most 1,000,000 records"),
+            TextFault::TooMany => write!(f, "a log has at most 1,000,000 records, dropped ones included"),
         }
     }
 }
@@ -116,41 +133,76 @@ impl Error for TextError {
 /// assert_eq!(wrong.to_string(), "line 2: second 9 comes after second 10");
 /// ```
 pub fn log_from_text(text: &str) -> Result<Vec<u8>, TextError> {
-    let mut log = HEADERS[0].to_vec();
-    let (mut before, mut versions) = (0, 0);
+    let mut log = Typed { bytes: HEADERS[0].to_vec(), version: None, dropped: None };
+    let mut before = 0;
     for (at, line) in text.lines().enumerate() {
         let words: Vec<&str> = line.split('#').next().unwrap_or("").split_whitespace().collect();
         let Some((&first, words)) = words.split_first() else { continue };
         let faulty = |fault: TextFault| TextError { line: at + 1, fault };
-        if first == "version" {
-            if log.len() > 8 || versions > 0 {
-                return Err(faulty(TextFault::VersionPlace));
+        match first {
+            "version" => log.set_version(words).map_err(faulty)?,
+            "dropped" => log.set_dropped(words).map_err(faulty)?,
+            _ => {
+                let (time, letters) = record(first, words, log.version() >= 2).map_err(faulty)?;
+                if time < before {
+                    return Err(faulty(TextFault::Falls { time, before }));
+                }
+                before = time;
+                log.add(time, letters).map_err(faulty)?;
             }
-            versions += 1;
-            log = header(words).ok_or_else(|| faulty(TextFault::Version))?.to_vec();
-            continue;
         }
-        let services = log.starts_with(&HEADERS[1]);
-        let (time, letters) = record(first, words, services).map_err(faulty)?;
-        if time < before {
-            return Err(faulty(TextFault::Falls { time, before }));
-        }
-        before = time;
-        if log.len() == 8 + 8 * MOST_RECORDS {
-            return Err(faulty(TextFault::TooMany));
-        }
-        log.extend(time.to_be_bytes());
-        log.extend(letters.to_be_bytes());
     }
-    Ok(log)
+    Ok(log.bytes)
 }
 
-/// The header of the version that these words say.
-fn header(words: &[&str]) -> Option<[u8; 8]> {
-    match words {
-        ["1"] => Some(HEADERS[0]),
-        ["2"] => Some(HEADERS[1]),
-        _ => None,
+/// A log as far as it was read.
+struct Typed {
+    bytes: Vec<u8>,
+    version: Option<u8>,
+    dropped: Option<u64>,
+}
+
+impl Typed {
+    fn version(&self) -> u8 {
+        self.version.unwrap_or(1)
+    }
+
+    fn records(&self) -> usize {
+        (self.bytes.len() - before_records(self.version())) / 8
+    }
+
+    fn set_version(&mut self, words: &[&str]) -> Result<(), TextFault> {
+        if self.version.is_some() || self.records() > 0 {
+            return Err(TextFault::VersionPlace);
+        }
+        let version = ["1", "2", "3"].iter().position(|version| words == [*version]).ok_or(TextFault::Version)?;
+        self.bytes = HEADERS[version].to_vec();
+        self.version = Some(version as u8 + 1);
+        self.bytes.resize(before_records(self.version()), 0);
+        Ok(())
+    }
+
+    fn set_dropped(&mut self, words: &[&str]) -> Result<(), TextFault> {
+        if self.version() != 3 || self.dropped.is_some() || self.records() > 0 {
+            return Err(TextFault::DroppedPlace);
+        }
+        let [number] = words else { return Err(TextFault::Dropped) };
+        let number: u64 = number.parse().map_err(|_| TextFault::Dropped)?;
+        if number > MOST_RECORDS as u64 {
+            return Err(TextFault::Dropped);
+        }
+        self.bytes[8..16].copy_from_slice(&number.to_be_bytes());
+        self.dropped = Some(number);
+        Ok(())
+    }
+
+    fn add(&mut self, time: u32, letters: u32) -> Result<(), TextFault> {
+        if self.records() as u64 + self.dropped.unwrap_or(0) == MOST_RECORDS as u64 {
+            return Err(TextFault::TooMany);
+        }
+        self.bytes.extend(time.to_be_bytes());
+        self.bytes.extend(letters.to_be_bytes());
+        Ok(())
     }
 }
 
@@ -179,11 +231,17 @@ fn record(seconds: &str, words: &[&str], services: bool) -> Result<(u32, u32), T
 ///
 /// let log = b"KLG\x00\x02\x00\x00\x00\x00\x00\x00\x0A\x00\x00\x00\x03\x00\x00\x00\x0B\x80\x00\x00\x00";
 /// assert_eq!(log_to_text(log).unwrap(), "version 2\n10 e0 e1\n11 service\n");
+/// let trimmed = b"KLG\x00\x03\x00\x00\x00\x00\x00\x00\x00\x00\x00\x00\x01\x00\x00\x00\x0B\x80\x00\x00\x00";
+/// assert_eq!(log_to_text(trimmed).unwrap(), "version 3\ndropped 1\n11 service\n");
 /// ```
 pub fn log_to_text(log: &[u8]) -> Result<String, Refusal> {
     let log = Log::new(log)?;
-    let services = log.version() == 2;
-    let mut text = String::from(if services { "version 2\n" } else { "" });
+    let services = log.version() >= 2;
+    let mut text = match log.version() {
+        1 => String::new(),
+        2 => String::from("version 2\n"),
+        version => format!("version {version}\ndropped {}\n", log.dropped()),
+    };
     for record in log.records() {
         let _ = write!(text, "{}", record.seconds);
         for letter in (0..32).filter(|letter| record.letters >> letter & 1 == 1) {

@@ -3,7 +3,7 @@
 //! The words are those that the library of each format left after the same calls: open with P1's rule, "e0 until[0,2] e1", and one
 //! resume with the records of [`LOG`], which gave four verdicts.
 
-use havdrims::{close, measure, open, parse, resume, status, summary, Refusal, Resumed, MOST_RULE};
+use havdrims::{close, measure, open, parse, resume, status, summary, trim, Refusal, Resumed, MOST_RULE};
 
 /// Seconds 10, 12, 13, 14 and 15, with letter 0, 0, 1, none and 0.
 const LOG: &[u8] = b"KLG\x00\x01\x00\x00\x00\
@@ -61,6 +61,7 @@ fn a_checkpoint_of_an_earlier_format_is_refused_with_10() {
         let foreign = Err(Refusal::ForeignPoint);
         assert_eq!(resume(&rule, LOG, &mut point, &mut sheet), foreign, "format {}", at + 1);
         assert_eq!(close(&rule, LOG, &mut point, &mut sheet), foreign, "format {}", at + 1);
+        assert_eq!(trim(&rule, LOG, &point, &mut sheet), Err(Refusal::ForeignPoint), "format {}", at + 1);
         assert_eq!(status(&rule, &point).map(|_| ()), Err(Refusal::ForeignPoint), "format {}", at + 1);
         assert_eq!(summary(&rule, &point).map(|_| ()), Err(Refusal::ForeignPoint), "format {}", at + 1);
         assert_eq!((point, sheet), (before, [7; 8]), "format {}", at + 1);

@@ -68,4 +68,6 @@ fn the_bytes_shown_are_those_of_the_formats() {
     assert_eq!(shown("\"e0 until[0,2] e1\", letter 0 until letter 1, within 0 to 2 seconds:\n"), rule[..size]);
     let log = text::log_from_text("version 2\n10 e0\n11 service\n12 e0 e1\n").unwrap();
     assert_eq!(shown("Three records, the second of them a service record:\n"), log);
+    let trimmed = text::log_from_text("version 3\ndropped 2\n12 e0 e1\n").unwrap();
+    assert_eq!(shown("The same log trimmed, once records 0 and 1 are no longer wanted:\n"), trimmed);
 }

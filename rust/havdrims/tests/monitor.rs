@@ -6,22 +6,26 @@ use havdrims::save::{Saved, Unreadable};
 use havdrims::{measure, open, resume, text, LoadError, Log, Monitor, Refusal, Rule, Verdict};
 use std::error::Error;
 
-/// A week under a rule: the log grows, the sheet is often short, records that are not wanted are overwritten, and the monitor is
-/// saved and taken up again between all calls. The verdicts laid end to end are those of one run.
+/// A week under a rule: the log grows, the sheet is often short, records that are not wanted are overwritten or the log is trimmed,
+/// and the monitor is saved and taken up again between all calls. The verdicts laid end to end are those of one run.
 #[test]
 fn random_weeks_saved_every_evening() {
     let mut r = Random::new(33);
+    let mut trimmed = 0;
     for week in 0..2_000 {
         let (rule_shape, log_shape) = random::shapes(&mut r, 10, 40);
         let rule = Rule::new(&random::rule(&mut r, rule_shape)).unwrap();
         let (version, records) = random::any_log(&mut r, log_shape);
-        let mut bytes = log::encode_as(version, &records);
+        let mut bytes = log::header(version).to_vec();
         let (mut monitor, mut sheet) = (Monitor::new(rule.clone()).owned_by(week), Vec::new());
         let (mut brought, mut closing) = (0, false);
         loop {
-            brought = r.from_to(brought, records.len());
+            let more = r.from_to(brought, records.len());
+            bytes.extend(log::encode_records(&records[brought..more]));
+            brought = more;
             closing |= brought == records.len() && r.one_in(2);
-            let log = Log::new(&bytes[..8 + 8 * brought]).unwrap();
+            let log = Log::new(&bytes).unwrap();
+            assert_eq!(log.len(), brought);
             let mut room = vec![7; r.below(8)];
             let call = if closing { Monitor::close } else { Monitor::resume };
             let verdicts = call(&mut monitor, &log, &mut room).unwrap();
@@ -42,7 +46,19 @@ fn random_weeks_saved_every_evening() {
             assert!(monitor.gave(&sheet) && monitor.owner() == week);
             let services = records[..brought].iter().filter(|record| record.is_service(version)).count();
             assert_eq!(monitor.services(), services as u64);
-            r.fill(&mut bytes[8..8 + 8 * status.wanted as usize]);
+            let at = bytes.len() - 8 * log.records().count();
+            let dropped = log.dropped();
+            r.fill(&mut bytes[at..at + 8 * (status.wanted as usize - dropped)]);
+            if r.one_in(2) {
+                match monitor.trim(&Log::new(&bytes).unwrap()) {
+                    Ok(left) => {
+                        assert_eq!(left.len(), 16 + 8 * (brought - status.wanted as usize));
+                        bytes = left;
+                        trimmed += status.wanted as usize - dropped;
+                    }
+                    Err(refusal) => assert_eq!((refusal, version), (Refusal::TrimVersion, 1)),
+                }
+            }
             if caught_up {
                 break;
             }
@@ -54,6 +70,7 @@ fn random_weeks_saved_every_evening() {
             assert_eq!(no, sheet.iter().filter(|&&byte| byte >> formula & 1 == 0).count() as u64);
         }
     }
+    assert!(trimmed > 10_000, "{trimmed} records dropped");
 }
 
 /// What [`Log::new`] says of a log is what the library says.
@@ -66,7 +83,14 @@ fn a_log_is_one_for_the_library_too() {
         let (_, shape) = random::shapes(&mut r, 3, 5);
         let (version, records) = random::any_log(&mut r, shape);
         let mut bytes = log::encode_as(version, &records);
-        random::damage(&mut r, &mut bytes);
+        if version == 2 && r.one_in(2) {
+            let most = 1_000_000 - records.len() as u64;
+            let count = r.pick(&[0, 1, most, most + 1, 1 << 32, u64::MAX, u64::MAX - records.len() as u64]);
+            bytes = log::encode_trimmed(count, &records);
+        }
+        if !r.one_in(4) {
+            random::damage(&mut r, &mut bytes);
+        }
         let mut point = vec![0; measure(&rule).unwrap().words];
         open(&rule, &mut point).unwrap();
         let library = resume(&rule, &bytes, &mut point, &mut []);
@@ -132,4 +156,26 @@ fn a_refused_call_changes_nothing() {
         assert_eq!(monitor.close(&Log::new(&bytes).unwrap(), &mut [0; 8]), Err(refusal));
         assert_eq!(monitor, before);
     }
+    assert_eq!(monitor.trim(&Log::new(&log).unwrap()), Err(Refusal::TrimVersion));
+}
+
+/// A log that was trimmed with a monitor that is further on.
+#[test]
+fn a_monitor_that_is_behind() {
+    let rule: Rule = "e0 until[0,2] e1".parse().unwrap();
+    let log = text::log_from_text("version 2\n10 e0\n13 e0\n16 e0\n").unwrap();
+    let log = Log::new(&log).unwrap();
+    let (mut behind, mut ahead) = (Monitor::new(rule.clone()), Monitor::new(rule));
+    behind.resume(&log, &mut [0; 1]).unwrap();
+    ahead.resume(&log, &mut [0; 2]).unwrap();
+    let before = behind.clone();
+    let shorter = ahead.trim(&log).unwrap();
+    let shorter = Log::new(&shorter).unwrap();
+    assert_eq!(behind.resume(&shorter, &mut [0; 8]), Err(Refusal::RecordDropped));
+    assert_eq!(behind.close(&shorter, &mut [0; 8]), Err(Refusal::RecordDropped));
+    assert_eq!(behind.trim(&shorter), Err(Refusal::RecordDropped));
+    assert_eq!(behind, before);
+    let left = behind.trim(&log).unwrap();
+    assert_eq!(ahead.trim(&Log::new(&left).unwrap()).unwrap(), shorter.as_bytes());
+    ahead.resume(&Log::new(&left).unwrap(), &mut [0; 8]).unwrap();
 }

@@ -5,7 +5,7 @@ use evaluator::log;
 use evaluator::random::{self, LogShape, Random};
 use evaluator::rule::{self, Entry, NEXT, NO_END, PREVIOUS, SINCE, UNTIL};
 use evaluator::{cases, model, reading, typed};
-use havdrims::{close, formulas, measure, open, parse, resume, simulate, status, summary, tally, worst_log};
+use havdrims::{close, formulas, measure, open, parse, resume, simulate, status, summary, tally, trim, worst_log};
 use havdrims::{Refusal, Resumed, Settings, MOST_RULE, MOST_STACK, PARSE_STACK};
 use std::ffi::{c_int, c_long, c_void};
 use std::io::Write;
@@ -144,7 +144,7 @@ fn every_call_on_a_small_stack() {
     visited.iter_mut().skip(3).step_by(7).for_each(|record| *record = record.as_service());
     let logs = [(1, records), (2, visited)]
         .map(|(version, records)| (log::encode_as(version, &records), log::positions(version, &records)));
-    let mut most = [0; 8];
+    let mut most = [0; 9];
     let version_1: Vec<Vec<u8>> = rules().iter().map(|entries| rule::encode(entries)).collect();
     // The same of version 2, where 8 words more are not too many.
     let version_2 = rules().into_iter().map(|entries| rule::encode_as(2, &entries));
@@ -163,6 +163,10 @@ fn every_call_on_a_small_stack() {
         let mut sheet = vec![7; positions.len()];
         let (resumed, resuming) = on_small_stack(|| resume(bytes, file, &mut point, &mut sheet));
         assert_eq!(resumed, Ok(Resumed { verdicts: settled, more: false }));
+        let mut out = vec![7; file.len() + 8];
+        let (trimmed, trimming) = on_small_stack(|| trim(bytes, file, &point, &mut out));
+        let first = file.starts_with(&log::HEADER);
+        assert_eq!(trimmed.err(), first.then_some(Refusal::TrimVersion));
         let (closed, closing) = on_small_stack(|| close(bytes, file, &mut point, &mut sheet[settled..]));
         assert_eq!(closed, Ok(Resumed { verdicts: verdicts.len() - settled, more: false }));
         assert_eq!(sheet, verdicts);
@@ -177,7 +181,7 @@ fn every_call_on_a_small_stack() {
         assert_eq!((summed.no(), summed.latest()), (&expected.no[..], &expected.latest[..]));
         let (state, stating) = on_small_stack(|| status(bytes, &point));
         assert_eq!(state.map(|state| state.given), Ok(verdicts.len() as u64));
-        let now = [measuring, counting, opening, resuming, closing, summing, stating, tallying];
+        let now = [measuring, counting, opening, resuming, closing, trimming, summing, stating, tallying];
         for (most, now) in most.iter_mut().zip(now) {
             *most = now.max(*most);
         }
@@ -186,7 +190,7 @@ fn every_call_on_a_small_stack() {
     let mut made = vec![7; 8 + 8 * 3600];
     let (simulated, simulating) = on_small_stack(|| simulate(&settings, 3600, 1, &mut made));
     assert_eq!(simulated.map(|given| given.written), Ok(made.len()));
-    let [measuring, counting, opening, resuming, closing, summing, stating, tallying] = most;
+    let [measuring, counting, opening, resuming, closing, trimming, summing, stating, tallying] = most;
     let mut made = vec![0; 8 + 8 * 5000];
     let (length, making) = on_small_stack(|| worst_log(0, 3600, 5000, &mut made));
     assert_eq!(length, Ok(made.len()));
@@ -194,7 +198,7 @@ fn every_call_on_a_small_stack() {
     let _ = writeln!(
         std::io::stderr(),
         "most bytes of stack: measure {measuring}, formulas {counting}, open {opening}, resume {resuming}, close {closing}, \
-         summary {summing}, status {stating}, tally {tallying}, worst_log {making}, simulate {simulating}"
+         trim {trimming}, summary {summing}, status {stating}, tally {tallying}, worst_log {making}, simulate {simulating}"
     );
     assert!(resuming > PAGE, "the stack was not measured");
     let header = include_str!("../../../include/havdrims.h");

@@ -32,15 +32,26 @@ fn faults_name_their_line() {
     assert_eq!(fault("1 e32"), "line 1: `e32` is no letter: letters are e0 to e31");
     assert_eq!(fault("1 warm"), "line 1: `warm` is no letter: letters are e0 to e31");
     assert_eq!(fault("5\n\n4\n"), "line 3: second 4 comes after second 5");
-    assert_eq!(fault(&"1\n".repeat(1_000_001)), "line 1000001: a log has at most 1,000,000 records");
+    assert_eq!(
+        fault(&"1\n".repeat(1_000_001)),
+        "line 1000001: a log has at most 1,000,000 records, dropped ones included"
+    );
 }
 
 #[test]
 fn damaged_logs_are_refused() {
     for file in
-        [&b""[..], b"KLG", b"KLG\x00\x03\x00\x00\x00", b"KLG\x00\x01\x00\x00\x01", b"KLG\x00\x01\x00\x00\x00\x07"]
+        [&b""[..], b"KLG", b"KLG\x00\x04\x00\x00\x00", b"KLG\x00\x01\x00\x00\x01", b"KLG\x00\x01\x00\x00\x00\x07"]
     {
         assert_eq!(log_to_text(file), Err(Refusal::LogFormat));
+    }
+    let whole = log::encode_trimmed(1_000_000, &[]);
+    for length in 0..16 {
+        assert_eq!(log_to_text(&whole[..length]), Err(Refusal::LogFormat), "{length} bytes");
+    }
+    assert_eq!(log_to_text(&[whole.as_slice(), &[0; 8]].concat()), Err(Refusal::LogFormat));
+    for count in [1_000_001, u64::MAX] {
+        assert_eq!(log_to_text(&log::encode_trimmed(count, &[])), Err(Refusal::LogFormat), "{count}");
     }
     assert_eq!(log_to_text(&log::HEADER).unwrap(), "");
 }
@@ -70,15 +81,54 @@ fn logs_of_version_2() {
 #[test]
 fn faults_of_a_version() {
     let fault = |text: &str| log_from_text(text).unwrap_err().to_string();
-    assert_eq!(fault("1 e0\n2 service\n"), "line 2: `service` needs the line `version 2` before the first record");
+    assert_eq!(fault("1 e0\n2 service\n"), "line 2: `service` needs the line `version 2` or `version 3` before the first record");
     assert!(fault("version 1\n2 service\n").starts_with("line 2: `service` needs"));
     for text in ["1 e0\nversion 2\n", "version 2\nversion 2\n"] {
         assert_eq!(fault(text), "line 2: the version stands once, before the first record");
     }
-    for text in ["version", "version 3", "version 0", "version two", "version 2 2", "version e2"] {
-        assert_eq!(fault(text), "line 1: a log's version is 1 or 2", "{text}");
+    for text in ["version", "version 4", "version 0", "version two", "version 2 2", "version e2"] {
+        assert_eq!(fault(text), "line 1: a log's version is 1, 2 or 3", "{text}");
     }
     assert_eq!(fault("version 2\n5 service\n4 e0\n"), "line 3: second 4 comes after second 5");
+}
+
+const TRIMMED: &str = "version 3\ndropped 12\n10 e0\n10 service\n12 none\n";
+
+#[test]
+fn logs_of_version_3() {
+    let file = log_from_text(TRIMMED).unwrap();
+    assert_eq!(file[..16], *b"KLG\x00\x03\x00\x00\x00\x00\x00\x00\x00\x00\x00\x00\x0C");
+    assert_eq!((file.len(), log_to_text(&file).unwrap().as_str()), (40, TRIMMED));
+    let log = Log::new(&file).unwrap();
+    assert_eq!((log.version(), log.dropped(), log.len(), log.records().count()), (3, 12, 15, 3));
+    assert_eq!((log.services(0), log.services(13), log.services(14), log.services(99)), (1, 1, 0, 0));
+    // other ways to type it
+    let typed = "version 3 # trimmed\n\n dropped  012\n10 0\n10 31\n12\n";
+    assert_eq!(log_from_text(typed).unwrap(), file);
+    // nothing dropped, and nothing left
+    assert_eq!(log_from_text("version 3\n10 e0\n").unwrap(), log_from_text("version 3\ndropped 0\n10 e0\n").unwrap());
+    assert_eq!(log_to_text(&log_from_text("version 3").unwrap()).unwrap(), "version 3\ndropped 0\n");
+    let most = log_from_text("version 3\ndropped 1000000\n").unwrap();
+    assert_eq!(Log::new(&most).map(|log| (log.len(), log.is_empty())), Ok((1_000_000, false)));
+}
+
+#[test]
+fn faults_of_a_trimmed_log() {
+    let fault = |text: &str| log_from_text(text).unwrap_err().to_string();
+    let place = "`dropped` stands once, behind the line `version 3` and before the first record";
+    for text in ["1 e0\ndropped 2\n", "version 2\ndropped 2\n", "version 3\n1 e0\ndropped 2\n"] {
+        assert!(fault(text).ends_with(&format!(": {place}")), "{text}");
+    }
+    assert_eq!(fault("version 3\ndropped 1\ndropped 1\n"), format!("line 3: {place}"));
+    assert_eq!(fault("dropped 1\nversion 3\n"), format!("line 1: {place}"));
+    for number in ["", "1000001", "18446744073709551616", "-1", "two", "1 2", "e1"] {
+        let said = "line 2: `dropped` wants a number of records up to 1000000";
+        assert_eq!(fault(&format!("version 3\ndropped {number}\n")), said, "{number}");
+    }
+    let full = "version 3\ndropped 999999\n1 e0\n2 e0\n";
+    assert_eq!(fault(full), "line 4: a log has at most 1,000,000 records, dropped ones included");
+    assert_eq!(fault("version 3\nversion 3\n"), "line 2: the version stands once, before the first record");
+    assert_eq!(fault("version 3\n5 e0\nversion 3\n"), "line 3: the version stands once, before the first record");
 }
 
 #[test]
@@ -86,11 +136,11 @@ fn random_logs_come_back() {
     let mut r = Random::new(5);
     for _ in 0..500 {
         let shape = LogShape { records: r.below(60), letters: 32, hold: 1, step: 1 << 28, start: r.draw() as u32 };
-        let file = log::encode(&random::log(&mut r, shape));
-        assert_eq!(log_from_text(&log_to_text(&file).unwrap()).unwrap(), file);
-        let mut second = file;
-        second[4] = 2;
-        assert_eq!(log_from_text(&log_to_text(&second).unwrap()).unwrap(), second);
+        let records = random::log(&mut r, shape);
+        let trimmed = log::encode_trimmed(r.below(1_000_000 - records.len()) as u64, &records);
+        for file in [log::encode(&records), log::encode_as(2, &records), trimmed] {
+            assert_eq!(log_from_text(&log_to_text(&file).unwrap()).unwrap(), file);
+        }
     }
 }
 

@@ -6,8 +6,6 @@ use lib.ListN.{length}
 use Rattle.rule.specs.Entries.{version, count, decoded}
 use Rattle.rule.proofs.Headers.{Decoded, few-to-decode, measured-once}
 use Rattle.rule.proofs.Spans.{header-least}
-use Rattle.trace.specs.View.{from-record}
-use Rattle.checkpoint.specs.Checkpoint.{first-wanted}
 use Rattle.checkpoint.specs.Refusal.{point-refusal}
 use Rattle.checkpoint.specs.Code.{sized-of, checked-by}
 use Rattle.checkpoint.specs.declared.check.Sized.the-variants.{Words}
@@ -117,41 +115,39 @@ depth-requires c κs =
     )
 
 -- the first wanted record is among the words
-slice-read-from-record : tie.Need-slice-read-from-record
-slice-read-from-record c =
-    let s = c .before .before .before .before .before .before .before .before .before .before .before .before in
+slice-read-records-from : tie.Need-slice-read-records-from
+slice-read-records-from c =
+    let s = c .before .before .before .before .before .before .before .before .before .before .before in
     let e = fit s in
-    omega (arith, header-least (version (c .before .before .before .before .before .before .before .before .before .before .before .before .before .before .before .before .before .before .before .before .before .before .before .before .args .rule .now)))
+    omega (arith, header-least (version (c .before .before .before .before .before .before .before .before .before .before .before .before .before .before .before .before .before .before .before .before .before .before .before .args .rule .now)))
 
 -- the records are handed over from there on
-handed : (d : tie.After-from-record) →
-    let a = d .before .before .before .before .before .before .before .before .before .before .before .before .before .before .before .before .before .before .before .before .before .before .before .before .before .args in
-    d .from-record .result .now ≡ wanted-records (a .log .now) (a .point .now)
-handed d =
-    let a = d .before .before .before .before .before .before .before .before .before .before .before .before .before .before .before .before .before .before .before .before .before .before .before .before .before .args in
-    d .from-record .ensures ∙ ap (from-record (first-wanted (a .point .now))) (d .before .before .records .ensures)
+handed : (d : tie.After-records-from) →
+    let a = d .before .before .before .before .before .before .before .before .before .before .before .before .before .before .before .before .before .before .before .before .before .before .before .before .args in
+    d .records-from .result .now ≡ wanted-records (a .log .now) (a .point .now)
+handed d = d .records-from .ensures
 
 part-emit-end : tie.Need-part-emit-end
-part-emit-end c = let e = fit (c .before .before .before .before .before .before .before .before .before .before .before .before .before .before) in omega arith
+part-emit-end c = let e = fit (c .before .before .before .before .before .before .before .before .before .before .before .before .before) in omega arith
 
 emit-requires : tie.Need-emit-requires
 emit-requires c κs =
-    let a = c .before .before .before .before .before .before .before .before .before .before .before .before .before .before .before .before .before .before .before .before .before .before .before .before .before .before .before .before .args in
-    let s = c .before .before .before .before .before .before .before .before .before .before .before .before .before .before .before .before in
-    let ends = c .before .before .before .before .before .before .before .before .before .before .ends-of in
-    let depth = c .before .before .before .before .before .before .depth in
+    let a = c .before .before .before .before .before .before .before .before .before .before .before .before .before .before .before .before .before .before .before .before .before .before .before .before .before .before .before .args in
+    let s = c .before .before .before .before .before .before .before .before .before .before .before .before .before .before .before in
+    let ends = c .before .before .before .before .before .before .before .before .before .ends-of in
+    let depth = c .before .before .before .before .before .depth in
     let records = c .before .before .before in
-    rw (c .before .before .before .before .before .before .before .before .most-of .ensures, c .before .before .before .before .before .before .before .header-words .ensures)
+    rw (c .before .before .before .before .before .before .before .most-of .ensures, c .before .before .before .before .before .before .header-words .ensures)
     (ready-of (a .closing) (a .rule .now) (a .log .now) (a .point .now) _ _ _ (ends .result) (s .sized .given .0 .0) (words-of s) (version-for s) (decoded-for s)
-    (ends .ensures) (none-of (c .before .before .before .before .before .before .before .before .before .before .before)) (depth .result) (depth .ensures) (records .from-record .result .now) (handed records))
+    (ends .ensures) (none-of (c .before .before .before .before .before .before .before .before .before .before)) (depth .result) (depth .ensures) (records .records-from .result .now) (handed records))
 
 returns-3 : tie.Need-returns-3
 returns-3 c =
-    let a = c .before .before .before .before .before .before .before .before .before .before .before .before .before .before .before .before .before .before .before .before .before .before .before .before .before .before .before .before .before .before .before .before .before .args in
-    let s = c .before .before .before .before .before .before .before .before .before .before .before .before .before .before .before .before .before .before .before .before .before in
-    let ends = c .before .before .before .before .before .before .before .before .before .before .before .before .before .before .before .ends-of in
+    let a = c .before .before .before .before .before .before .before .before .before .before .before .before .before .before .before .before .before .before .before .before .before .before .before .before .before .before .before .before .before .before .before .before .args in
+    let s = c .before .before .before .before .before .before .before .before .before .before .before .before .before .before .before .before .before .before .before .before in
+    let ends = c .before .before .before .before .before .before .before .before .before .before .before .before .before .before .ends-of in
     let records = c .before .before .before .before .before .before .before .before in
-    let depth = c .before .before .before .before .before .before .before .before .before .before .before .depth in
+    let depth = c .before .before .before .before .before .before .before .before .before .before .depth in
     let skips = c .before .before .before .before .before .before .before .skips in
     let y = c .before .before .before .before .emit in
     resume-given
@@ -168,18 +164,18 @@ returns-3 c =
     (version-for s)
     (decoded-for s)
     (ends .ensures)
-    (none-of (c .before .before .before .before .before .before .before .before .before .before .before .before .before .before .before .before))
+    (none-of (c .before .before .before .before .before .before .before .before .before .before .before .before .before .before .before))
     (depth .result)
     (depth .ensures)
     (a .sheet .now)
-    (records .from-record .result .now)
+    (records .records-from .result .now)
     (skips .result)
     (y .result)
     (y .last .1 .1 .1 .1 .1 .1 .1 .1 .1 .1 .0)
     (y .last .1 .1 .1 .1 .1 .1 .1 .1 .1 .1 .1 .0)
     (handed records)
     (skips .ensures)
-    (rw (c .before .before .before .before .before .before .before .before .before .before .before .before .before .most-of .ensures, c .before .before .before .before .before .before .before .before .before .before .before .before .header-words .ensures) at (y .ensures))
+    (rw (c .before .before .before .before .before .before .before .before .before .before .before .before .most-of .ensures, c .before .before .before .before .before .before .before .before .before .before .before .header-words .ensures) at (y .ensures))
 
 pub resume-or-close-spec : {M : Type 1} → statement M
 resume-or-close-spec =
@@ -205,8 +201,7 @@ resume-or-close-spec =
     (λ c κs. search needs)
     (λ c κs. search needs)
     depth-requires
-    (λ c κs. search needs)
-    slice-read-from-record
+    slice-read-records-from
     (λ c κs. search needs)
     (λ c κs. search needs)
     (λ c. search needs)

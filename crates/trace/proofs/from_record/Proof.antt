@@ -12,13 +12,13 @@ use Rattle.trace.proofs.from_record.Tie as tie
 returns : tie.Need-returns
 returns c =
     let a = c .before .before .before .before .args in
-    sym (drop-of-length-le (a .records .now) {i = a .first * 8} (omega arith))
+    sym (drop-of-length-le (a .records .now) {i = a .n * 8} (omega arith))
 
 returns-2 : tie.Need-returns-2
 returns-2 c =
     let a = c .before .before .before .before .args in
     let s = a .records .now in
-    take-all (length s - a .first * 8) (drop (a .first * 8) s) (omega (arith, length-drop (a .first * 8) s))
+    take-all (length s - a .n * 8) (drop (a .n * 8) s) (omega (arith, length-drop (a .n * 8) s))
 
 pub from-record-spec : {M : Type 1} → statement M
 from-record-spec =

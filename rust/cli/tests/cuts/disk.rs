@@ -103,6 +103,23 @@ impl Simulated {
         }
     }
 
+    /// With a folder in which this file stands.
+    pub fn with_file(seed: u64, name: &str, bytes: &[u8]) -> Simulated {
+        let mut disk = Simulated { folder: true, folder_synced: true, ..Simulated::new(seed) };
+        disk.files.push(File { now: bytes.to_vec(), synced: bytes.to_vec() });
+        disk.names.insert(name.to_string(), 0);
+        disk.synced = disk.names.clone();
+        disk
+    }
+
+    /// Another program changes a file, and what it wrote survives every cut.
+    pub fn change(&mut self, name: &str, change: impl FnOnce(&mut Vec<u8>)) {
+        let file = self.names[name];
+        let file = &mut self.files[file];
+        change(&mut file.now);
+        file.synced = file.now.clone();
+    }
+
     /// The cut that was due did come.
     pub fn was_cut(&self) -> bool {
         self.dead
@@ -174,7 +191,7 @@ impl Simulated {
         self.names.get(name).copied().ok_or(ErrorKind::NotFound.into())
     }
 
-    fn change(&mut self, change: Change) {
+    fn note(&mut self, change: Change) {
         apply(&mut self.names, &change);
         self.changes.push(change);
     }
@@ -219,7 +236,7 @@ impl Disk for Simulated {
             assert!(disk.folder);
             if disk.file(name).is_err() {
                 disk.files.push(File::default());
-                disk.change(Change::Made(name.to_string(), disk.files.len() - 1));
+                disk.note(Change::Made(name.to_string(), disk.files.len() - 1));
             }
             let written = if all { bytes.len() } else { disk.r.below(bytes.len() + 1) };
             let file = disk.file(name)?;
@@ -248,7 +265,7 @@ impl Disk for Simulated {
     fn rename(&mut self, name: &str, to: &str) -> io::Result<()> {
         self.operation(false, |disk, _| {
             let file = disk.file(name)?;
-            disk.change(Change::Renamed(name.to_string(), to.to_string(), file));
+            disk.note(Change::Renamed(name.to_string(), to.to_string(), file));
             Ok(())
         })
     }
@@ -256,7 +273,7 @@ impl Disk for Simulated {
     fn remove(&mut self, name: &str) -> io::Result<()> {
         self.operation(false, |disk, _| {
             disk.file(name)?;
-            disk.change(Change::Removed(name.to_string()));
+            disk.note(Change::Removed(name.to_string()));
             Ok(())
         })
     }

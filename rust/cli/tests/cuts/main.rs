@@ -1,23 +1,37 @@
 //! Nothing is lost, whatever happens: weeks of one card on a simulated disk, cut at every single operation.
 //!
-//! Each evening the log has grown, and the records that the evening before has released are overwritten: exactly these.
-//! In the end the sheet is that of the plain evaluator on the untouched log. Some weeks have service records.
+//! Each evening the log has grown, and the records that the evening before has released are overwritten: exactly these. After
+//! some evenings the log is trimmed, in its place. In the end the sheet is that of the plain evaluator on the untouched log. Some
+//! weeks have service records.
 
 mod disk;
 
 use cli::card::{self, Card, Evening, Fault};
+use cli::disk::Disk;
+use cli::file;
 use disk::{Simulated, Trouble, Way, Work};
 use evaluator::log::{self, Record};
 use evaluator::random::{self, Random};
 use evaluator::{reading, rule};
+use havdrims::Refusal;
 
 const NUMBER: u64 = 0x0123_4567_89ab_cdef;
+const LOG: &str = "log.klg";
 
 /// What is done with the log of an evening.
 #[derive(Clone, Copy, Debug)]
 struct Day {
     records: usize,
     closing: bool,
+}
+
+/// A command.
+#[derive(Clone, Copy, Debug)]
+enum Step {
+    New,
+    Evening(Day),
+    /// The log takes the place of the one that it was.
+    Trim(Day),
 }
 
 /// A rule, an untouched log, and how much of it is there on each evening. The last ones may be closings.
@@ -28,6 +42,8 @@ struct Week {
     /// The log's version.
     version: u16,
     days: Vec<Day>,
+    /// The commands, from `new` on.
+    steps: Vec<Step>,
 }
 
 impl Week {
@@ -40,7 +56,12 @@ impl Week {
         let last = ends[ends.len() - 1];
         let mut days: Vec<Day> = ends.into_iter().map(|records| Day { records, closing: false }).collect();
         days.extend((0..r.below(3)).map(|_| Day { records: last, closing: true }));
-        Week { rule, untouched, version, days }
+        let mut steps = vec![Step::New];
+        for &day in &days {
+            steps.push(Step::Evening(day));
+            steps.extend((version == 2 && r.one_in(2)).then_some(Step::Trim(day)));
+        }
+        Week { rule, untouched, version, days, steps }
     }
 
     /// The positions of this day's log.
@@ -61,34 +82,84 @@ impl Week {
     }
 }
 
+/// Why a command did not end well.
+#[derive(Debug)]
+enum Failed {
+    Card(Fault),
+    File(file::Fault),
+}
+
+impl From<Fault> for Failed {
+    fn from(fault: Fault) -> Failed {
+        Failed::Card(fault)
+    }
+}
+
 /// A week as far as it went.
+#[derive(Clone)]
 struct Run<'a> {
     week: &'a Week,
+    /// The card's folder.
     disk: Simulated,
-    /// The kiosk's log: what was released is overwritten.
-    file: Vec<u8>,
+    /// The folder with the kiosk's log: what was released is overwritten or dropped.
+    shop: Simulated,
     r: Random,
 }
 
 impl<'a> Run<'a> {
     fn new(week: &'a Week, seed: u64) -> Run<'a> {
-        let file = log::encode_as(week.version, &week.untouched);
-        Run { week, disk: Simulated::new(seed), file, r: Random::new(!seed) }
+        let shop = Simulated::with_file(seed + 1, LOG, &log::header(week.version));
+        Run { week, disk: Simulated::new(seed), shop, r: Random::new(!seed) }
     }
 
     fn make(&mut self) -> Result<(), Fault> {
         card::new(&mut self.disk, NUMBER, &self.week.rule)
     }
 
+    /// The log of this day: the kiosk has added its records.
+    fn log(&mut self, day: Day) -> Vec<u8> {
+        let there = log::parse(&self.shop.read(LOG).unwrap()).unwrap().total();
+        if there < day.records {
+            let new = log::encode_records(&self.week.untouched[there..day.records]);
+            self.shop.change(LOG, |log| log.extend(new));
+        }
+        self.shop.read(LOG).unwrap()
+    }
+
     fn evening(&mut self, day: Day) -> Result<Evening, Fault> {
-        let log = &self.file[..8 + 8 * day.records];
-        Card::open(&mut self.disk, true)?.carry_on(day.closing, log)
+        let log = self.log(day);
+        Card::open(&mut self.disk, true)?.carry_on(day.closing, &log)
+    }
+
+    /// Puts what is left of the log in its place.
+    fn trim(&mut self, day: Day) -> Result<(), Failed> {
+        let log = self.log(day);
+        let left = Card::open(&mut self.disk, true)?.trim(&log)?;
+        file::put(&mut self.shop, LOG, &left, true).map_err(Failed::File)
+    }
+
+    /// One command, not repeated. What an evening that ends well has released is overwritten.
+    fn step(&mut self, step: Step) -> Result<(), Failed> {
+        match step {
+            Step::New => self.make()?,
+            Step::Evening(day) => {
+                let evening = self.evening(day)?;
+                self.overwrite(&evening);
+            }
+            Step::Trim(day) => self.trim(day)?,
+        }
+        Ok(())
     }
 
     /// The command has ended well: what it released is overwritten.
     fn overwrite(&mut self, evening: &Evening) {
-        let released = &mut self.file[8..8 + 8 * evening.so_far.status.wanted as usize];
-        self.r.fill(released);
+        let wanted = evening.so_far.status.wanted as usize;
+        let r = &mut self.r;
+        self.shop.change(LOG, |log| {
+            let log::Log { version, dropped, .. } = log::parse(log).unwrap();
+            let from = if version == 3 { 16 } else { 8 };
+            r.fill(&mut log[from..from + 8 * (wanted - dropped)]);
+        });
     }
 
     /// Makes the card, or makes it again if the last time was cut after it was there.
@@ -105,9 +176,48 @@ impl<'a> Run<'a> {
         self.overwrite(&evening);
     }
 
+    fn trim_again(&mut self, day: Day) {
+        self.trim(day).unwrap_or_else(|fault| panic!("{fault:?}: {:?}", self.week));
+        let left = log::parse(&self.shop.read(LOG).unwrap()).unwrap();
+        let wanted = Card::open(&mut self.disk, false).unwrap().so_far.status.wanted;
+        assert_eq!((left.dropped as u64, left.total()), (wanted, day.records), "{:?}", self.week);
+    }
+
+    fn again(&mut self, step: Step) {
+        match step {
+            Step::New => self.make_again(),
+            Step::Evening(day) => self.evening_again(day),
+            Step::Trim(day) => self.trim_again(day),
+        }
+    }
+
+    /// This will go wrong at one of the next operations: of a trimming, those on the card come before those on the log.
+    fn prepare(&mut self, step: Step, operation: usize, trouble: Trouble) {
+        let mut on_card = usize::MAX;
+        if let Step::Trim(_) = step {
+            let mut tried = self.clone();
+            let _ = tried.step(step);
+            on_card = tried.disk.operations - self.disk.operations;
+        }
+        match operation.checked_sub(on_card) {
+            None => self.disk.trouble = Some((self.disk.operations + operation, trouble)),
+            Some(operation) => self.shop.trouble = Some((self.shop.operations + operation, trouble)),
+        }
+    }
+
+    fn was_cut(&self) -> bool {
+        self.disk.was_cut() || self.shop.was_cut()
+    }
+
+    /// What is left after a cut.
+    fn cut(&mut self, way: Way) {
+        self.disk.cut(way);
+        self.shop.cut(way);
+    }
+
     /// The sheet as a program finds it after the power was cut once more.
     fn sheet(&mut self) -> Vec<u8> {
-        self.disk.cut(Way::Synced);
+        self.cut(Way::Synced);
         Card::open(&mut self.disk, false).unwrap().verdicts().to_vec()
     }
 }
@@ -116,21 +226,19 @@ impl<'a> Run<'a> {
 fn with_cut(week: &Week, which: usize, operation: usize, work: Work, way: Way, seed: u64) -> bool {
     let mut run = Run::new(week, seed);
     let mut cut = false;
-    for at in 0..=week.days.len() {
+    for (at, &step) in week.steps.iter().enumerate() {
         if at == which {
-            run.disk.trouble = Some((run.disk.operations + operation, Trouble::Cut(work)));
-            let ended = match at {
-                0 => run.make().is_ok(),
-                _ => run.evening(week.days[at - 1]).is_ok(),
-            };
-            cut = run.disk.was_cut();
+            run.prepare(step, operation, Trouble::Cut(work));
+            let ended = run.step(step).is_ok();
+            cut = run.was_cut();
             assert_eq!(ended, !cut);
-            run.disk.cut(way);
+            run.cut(way);
+            // A trimming need not be repeated: the log is as it was, or trimmed.
+            if cut && matches!(step, Step::Trim(_)) && operation.is_multiple_of(2) {
+                continue;
+            }
         }
-        match at {
-            0 => run.make_again(),
-            _ => run.evening_again(week.days[at - 1]),
-        }
+        run.again(step);
     }
     assert_eq!(
         run.sheet(),
@@ -142,10 +250,10 @@ fn with_cut(week: &Week, which: usize, operation: usize, work: Work, way: Way, s
 
 #[test]
 fn a_cut_at_every_operation() {
-    let mut cuts = 0;
+    let (mut cuts, mut trims) = (0, 0);
     for seed in 0..60 {
         let week = Week::new(&mut Random::new(seed));
-        for which in 0..=week.days.len() {
+        for (which, step) in week.steps.iter().enumerate() {
             for (way, times) in [(Way::Synced, 1), (Way::Killed, 1), (Way::Part, 3)] {
                 for work in [Work::Nothing, Work::Part, Work::All] {
                     for again in 0..times {
@@ -153,52 +261,68 @@ fn a_cut_at_every_operation() {
                         let some = (0..).take_while(cut).count();
                         assert!(some >= 6, "a run of {some} operations");
                         cuts += some;
+                        trims += if matches!(step, Step::Trim(_)) { some } else { 0 };
                     }
                 }
             }
         }
     }
-    println!("{cuts} cuts");
+    println!("{cuts} cuts, {trims} of them of a trimming");
+    assert!(trims > 0);
 }
 
-/// Cuts one after the other: a run is repeated until it is not cut, and the power is cut between runs too.
+/// Cuts one after the other: a run is repeated until it is not cut, and the power is cut between runs too. After a run that was
+/// cut the log may be trimmed before it is repeated.
 #[test]
 fn many_cuts_in_one_week() {
-    let mut cuts = 0;
+    let (mut cuts, mut between) = (0, 0);
     for seed in 0..3_000 {
         let week = Week::new(&mut Random::new(seed));
         let mut run = Run::new(&week, seed);
         let mut r = Random::new(seed + 1_000_000);
-        for at in 0..=week.days.len() {
+        let mut cut_short = |run: &mut Run, r: &mut Random, step: Step| {
+            let work = r.pick(&[Work::Nothing, Work::Part, Work::All]);
+            let operation = r.clone().below(r.pick(&[6, 12, 30]));
+            run.prepare(step, operation, Trouble::Cut(work));
+            let ended = run.step(step);
+            if run.was_cut() {
+                cuts += 1;
+                run.cut(r.pick(&[Way::Synced, Way::Part, Way::Killed]));
+                return None;
+            }
+            (run.disk.trouble, run.shop.trouble) = (None, None);
+            Some(ended)
+        };
+        for (at, &step) in week.steps.iter().enumerate() {
             loop {
-                let often = r.pick(&[6, 12, 30]);
-                let work = r.pick(&[Work::Nothing, Work::Part, Work::All]);
-                run.disk.trouble = Some((run.disk.operations + r.below(often), Trouble::Cut(work)));
-                let ended = match at {
-                    0 => run.make(),
-                    _ => run.evening(week.days[at - 1]).map(|evening| run.overwrite(&evening)),
-                };
-                match ended {
-                    Ok(()) | Err(Fault::AlreadyThere) => break,
-                    Err(_) if run.disk.was_cut() => {
-                        cuts += 1;
-                        run.disk.cut(r.pick(&[Way::Synced, Way::Part, Way::Killed]));
-                    }
+                match cut_short(&mut run, &mut r, step) {
+                    Some(Ok(()) | Err(Failed::Card(Fault::AlreadyThere))) => break,
+                    None => {}
                     // A `new` that was killed before its last sync, and then a cut: nothing was given yet.
-                    Err(Fault::NoCard | Fault::Unfinished) if at == 1 => {
-                        run.disk.trouble = None;
-                        run.make_again();
+                    Some(Err(Failed::Card(Fault::NoCard | Fault::Unfinished))) if at == 1 => run.make_again(),
+                    Some(Err(fault)) => panic!("{fault:?}: {week:?}"),
+                }
+                let (Step::Evening(day) | Step::Trim(day)) = step else { continue };
+                if r.one_in(2) {
+                    match cut_short(&mut run, &mut r, Step::Trim(day)) {
+                        Some(Ok(())) => between += 1,
+                        None | Some(Err(Failed::Card(Fault::Refused(Refusal::TrimVersion)))) => {}
+                        Some(Err(Failed::Card(Fault::NoCard | Fault::Unfinished))) if at == 1 => {}
+                        Some(Err(fault)) => panic!("{fault:?}: {week:?}"),
                     }
-                    Err(fault) => panic!("{fault}: {week:?}"),
+                    if r.one_in(2) {
+                        run.cut(Way::Synced);
+                    }
                 }
             }
             if r.one_in(2) {
-                run.disk.cut(Way::Synced);
+                run.cut(Way::Synced);
             }
         }
         assert_eq!(run.sheet(), week.sheet(), "seed {seed}: {week:?}");
     }
-    println!("{cuts} cuts");
+    println!("{cuts} cuts, {between} trimmings after one");
+    assert!(between > 1_000);
 }
 
 /// A disk that is full, that takes no more writes, or that fails when the work is done, at every operation of an evening:
@@ -213,11 +337,11 @@ fn a_failure_at_every_operation() {
             run.make_again();
             for &day in &week.days {
                 for operation in 0.. {
+                    let log = run.log(day);
                     let mut disk = run.disk.clone();
                     disk.trouble = Some((disk.operations + operation, trouble));
-                    let log = &run.file[..8 + 8 * day.records];
                     let before = disk.contents();
-                    match Card::open(&mut disk, true).unwrap().carry_on(day.closing, log) {
+                    match Card::open(&mut disk, true).unwrap().carry_on(day.closing, &log) {
                         Ok(_) => break,
                         Err(Fault::Disk { .. }) if trouble == Trouble::Broken => {
                             assert_eq!(disk.contents()[card::POINT], before[card::POINT]);
@@ -228,7 +352,7 @@ fn a_failure_at_every_operation() {
                     }
                     failures += 1;
                     disk.trouble = None;
-                    let mut again = Run { week: &week, disk, file: run.file.clone(), r: run.r.clone() };
+                    let mut again = Run { disk, ..run.clone() };
                     again.evening_again(day);
                     assert_eq!(again.sheet(), week.sheet_of(day), "{trouble:?} at {operation}, seed {seed}: {week:?}");
                 }
@@ -238,6 +362,54 @@ fn a_failure_at_every_operation() {
         }
     }
     println!("{failures} failures, {not_sure} of them when the checkpoint may have been replaced");
+    assert!(failures > 0 && not_sure > 0);
+}
+
+/// The same in a trimming: the card is as it was, and so is the log, unless it may have been replaced. Whatever is there, the next
+/// evening takes it.
+#[test]
+fn a_failure_at_every_operation_of_trim() {
+    let (mut failures, mut not_sure) = (0, 0);
+    for seed in 0..40 {
+        let week = Week::new(&mut Random::new(seed));
+        if week.version == 1 {
+            continue;
+        }
+        for trouble in [Trouble::Full, Trouble::Late, Trouble::Broken] {
+            let mut run = Run::new(&week, seed);
+            run.make_again();
+            for (at, &day) in week.days.iter().enumerate() {
+                run.evening_again(day);
+                let next = week.days.get(at + 1).copied().unwrap_or(day);
+                for operation in 0.. {
+                    let mut tried = run.clone();
+                    let before = (tried.disk.contents(), tried.shop.contents());
+                    tried.prepare(Step::Trim(day), operation, trouble);
+                    match tried.trim(day) {
+                        Ok(()) => break,
+                        Err(Failed::Card(Fault::Disk { .. })) => assert_eq!(tried.shop.contents(), before.1),
+                        // What was written beside stays if it cannot be taken away.
+                        Err(Failed::File(file::Fault::Disk { .. })) if trouble == Trouble::Broken => {
+                            assert_eq!(tried.shop.contents()[LOG], before.1[LOG]);
+                        }
+                        Err(Failed::File(file::Fault::Disk { .. })) => assert_eq!(tried.shop.contents(), before.1),
+                        Err(Failed::File(file::Fault::Unsure { .. })) => not_sure += 1,
+                        Err(fault) => panic!("{fault:?}"),
+                    }
+                    assert_eq!(tried.disk.contents(), before.0);
+                    failures += 1;
+                    (tried.disk.trouble, tried.shop.trouble) = (None, None);
+                    if operation % 2 == 0 {
+                        tried.trim_again(day);
+                    }
+                    tried.evening_again(next);
+                    assert_eq!(tried.sheet(), week.sheet_of(next), "{trouble:?} at {operation}, seed {seed}: {week:?}");
+                }
+                run.trim_again(day);
+            }
+        }
+    }
+    println!("{failures} failures, {not_sure} of them when the log may have been replaced");
     assert!(failures > 0 && not_sure > 0);
 }
 

@@ -42,10 +42,35 @@ fn logs_of_version_2_as_text() {
     assert_eq!(place.ok(&["to-text", "first.klg"]), "10 e0\n11 e31\n11 e1 e31\n12 none\n");
     fs::write(place.path("bad.txt"), "10 e0\n11 service\n").unwrap();
     let said = place.fails(1, &["to-log", "bad.txt", "bad.klg"]);
-    assert_eq!(said, "bad.txt, line 2: `service` needs the line `version 2` before the first record\n");
+    assert_eq!(said, "bad.txt, line 2: `service` needs the line `version 2` or `version 3` before the first record\n");
     assert!(!place.path("bad.klg").exists());
-    fs::write(place.path("third.klg"), b"KLG\x00\x03\x00\x00\x00").unwrap();
-    assert_eq!(place.fails(1, &["to-text", "third.klg"]), format!("third.klg: {}\n", Refusal::LogFormat));
+    fs::write(place.path("fourth.klg"), b"KLG\x00\x04\x00\x00\x00").unwrap();
+    assert_eq!(place.fails(1, &["to-text", "fourth.klg"]), format!("fourth.klg: {}\n", Refusal::LogFormat));
+}
+
+#[test]
+fn trimmed_logs_as_text() {
+    let place = Place::new();
+    let text = "version 3\ndropped 40\n10 e0\n11 service\n12 none\n";
+    fs::write(place.path("day.txt"), text).unwrap();
+    let said = place.ok(&["to-log", "day.txt", "day.klg"]);
+    assert_eq!(said, "day.klg: 3 records, 1 of them service, behind 40 dropped\n");
+    assert_eq!(place.ok(&["to-text", "day.klg"]), text);
+    assert_eq!(fs::read(place.path("day.klg")).unwrap().len(), 16 + 8 * 3);
+    fs::write(place.path("bad.txt"), "version 2\ndropped 40\n").unwrap();
+    let said = place.fails(1, &["to-log", "bad.txt", "bad.klg"]);
+    let place_of = "`dropped` stands once, behind the line `version 3` and before the first record";
+    assert_eq!(said, format!("bad.txt, line 2: {place_of}\n"));
+    fs::write(place.path("short.klg"), b"KLG\x00\x03\x00\x00\x00\x00\x00\x00\x00\x00\x00\x00").unwrap();
+    assert_eq!(place.fails(1, &["to-text", "short.klg"]), format!("short.klg: {}\n", Refusal::LogFormat));
+    // the longest of all, and one record more
+    let mut most = log::encode_as(3, &[]);
+    most.resize(16 + 8 * 1_000_000, 0);
+    fs::write(place.path("most.klg"), &most).unwrap();
+    assert_eq!(place.ok(&["to-text", "most.klg"]).lines().count(), 1_000_002);
+    most.resize(16 + 8 * 1_000_001, 0);
+    fs::write(place.path("most.klg"), &most).unwrap();
+    assert_eq!(place.fails(1, &["to-text", "most.klg"]), format!("most.klg: {}\n", Refusal::LogFormat));
 }
 
 #[test]

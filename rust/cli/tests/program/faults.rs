@@ -40,7 +40,7 @@ fn logs_that_are_refused() {
     // a log of the other version
     let mut second = whole.clone();
     second[4] = 2;
-    let hint = "A card keeps to the version of its first log; a log of another version needs a card of its own. ";
+    let hint = "A card keeps to the version of its first log, 2 and 3 counting as one; another needs a card of its own. ";
     evening(&second, Refusal::OtherVersion, hint);
     // no log
     evening(&whole[..whole.len() - 1], Refusal::LogFormat, "");

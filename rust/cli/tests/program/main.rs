@@ -4,6 +4,7 @@ mod convert;
 mod faults;
 mod killed;
 mod service;
+mod trim;
 mod week;
 
 use std::collections::BTreeMap;

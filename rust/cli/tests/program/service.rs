@@ -6,11 +6,11 @@ use havdrims::Refusal;
 use std::fs;
 
 const OTHER_VERSION: &str =
-    "A card keeps to the version of its first log; a log of another version needs a card of its own. ";
+    "A card keeps to the version of its first log, 2 and 3 counting as one; another needs a card of its own. ";
 
 impl Place {
     /// Writes the log of version 2 with these records.
-    fn log(&self, name: &str, records: &str) -> Vec<u8> {
+    pub fn log(&self, name: &str, records: &str) -> Vec<u8> {
         let bytes = log_from_text(&format!("version 2\n{records}")).unwrap();
         fs::write(self.path(name), &bytes).unwrap();
         bytes
@@ -18,7 +18,7 @@ impl Place {
 }
 
 /// The records of an example, with a service record in every second line, the first included.
-fn with_visits(name: &str) -> String {
+pub fn with_visits(name: &str) -> String {
     let text = fs::read_to_string(example(name)).unwrap();
     let lines = text.lines().filter(|line| !line.starts_with('#'));
     lines.map(|line| format!("{} e2 service\n{line}\n", line.split(' ').next().unwrap())).collect()
@@ -141,15 +141,17 @@ fn a_log_that_changes_its_version() {
     place.ok(&["evening", "card", "visit.klg"]);
     refuses("day.klg");
     // 12 comes before it
-    fs::write(place.path("third.klg"), b"KLG\x00\x03\x00\x00\x00").unwrap();
-    let text = format!("third.klg: {}\nNothing was changed.\n", Refusal::LogFormat);
-    assert_eq!(place.fails(1, &["evening", "card", "third.klg"]), text);
+    fs::write(place.path("fourth.klg"), b"KLG\x00\x04\x00\x00\x00").unwrap();
+    let text = format!("fourth.klg: {}\nNothing was changed.\n", Refusal::LogFormat);
+    assert_eq!(place.fails(1, &["evening", "card", "fourth.klg"]), text);
     // a card of version 1 logs
     fs::remove_dir_all(place.path("card")).unwrap();
     place.ok(&["new", "card", RULE]);
     place.ok(&["evening", "card", "day.klg"]);
     refuses("visit.klg");
     refuses("empty.klg");
+    fs::write(place.path("trimmed.klg"), b"KLG\x00\x03\x00\x00\x00\x00\x00\x00\x00\x00\x00\x00\x00").unwrap();
+    refuses("trimmed.klg");
 }
 
 /// Service records count where records do: an added one is 21, and its time must not fall.

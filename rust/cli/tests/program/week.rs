@@ -9,12 +9,12 @@ use std::fs;
 use std::os::unix::ffi::OsStrExt;
 use std::path::Path;
 
-/// The commands and outputs of each week that the README shows. A week begins with `new`.
+/// The commands and outputs that the README shows, as many together as stand together.
 fn shown() -> Vec<Vec<(String, String)>> {
     let readme = fs::read_to_string(Path::new(env!("CARGO_MANIFEST_DIR")).join("../../README.md")).unwrap();
-    let weeks = readme.match_indices("    $ havdrims new ").map(|(from, _)| {
+    let together = readme.match_indices("\n\n    $ havdrims ").map(|(from, _)| {
         let mut all: Vec<(String, String)> = Vec::new();
-        for line in readme[from..].lines().map_while(|line| line.strip_prefix("    ")) {
+        for line in readme[from + 2..].lines().map_while(|line| line.strip_prefix("    ")) {
             match line.strip_prefix("$ havdrims ") {
                 Some(words) => all.push((words.to_string(), String::new())),
                 None => all.last_mut().unwrap().1 += &format!("{line}\n"),
@@ -22,7 +22,7 @@ fn shown() -> Vec<Vec<(String, String)>> {
         }
         all
     });
-    weeks.collect()
+    together.collect()
 }
 
 /// The words of a command line, some of them in single quotes.
@@ -45,7 +45,7 @@ fn the_weeks_of_the_readme() {
         fs::copy(example(name), place.path(&format!("examples/day/{name}"))).unwrap();
     }
     let shown = shown();
-    assert_eq!(shown.iter().map(Vec::len).collect::<Vec<_>>(), [6, 3, 3]);
+    assert_eq!(shown.iter().map(Vec::len).collect::<Vec<_>>(), [6, 3, 3, 4]);
     for (line, output) in shown.into_iter().flatten() {
         let words = split(&line);
         let words: Vec<&str> = words.iter().map(String::as_str).collect();
@@ -197,7 +197,7 @@ fn help_and_wrong_use() {
     assert_eq!(place.fails(2, &[]), overview);
     assert_eq!(place.fails(2, &["evenings"]), format!("`evenings` is no command\n\n{overview}"));
     let usages: Vec<&str> = overview.lines().filter(|line| line.starts_with("havdrims ")).collect();
-    assert_eq!(usages.len(), 11);
+    assert_eq!(usages.len(), 12);
     for usage in usages {
         let usage = usage.split("  ").next().unwrap();
         let name = usage.split(' ').nth(1).unwrap();
@@ -213,6 +213,10 @@ fn help_and_wrong_use() {
         &["sheet", "card", "--from"],
         &["sheet", "card", "more"],
         &["sheet", "card", "--xml"],
+        &["trim", "card", "log"],
+        &["trim", "card", "log", "out", "more"],
+        &["trim", "card", "log", "out", "--force", "--force"],
+        &["trim", "card", "log", "--forced", "out"],
     ] {
         assert!(place.fails(2, words).starts_with("expected: havdrims "), "{words:?}");
     }

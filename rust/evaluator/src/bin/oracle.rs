@@ -6,7 +6,7 @@
 //! rule HEX             take this rule           words W reach R, or refused N (1 to 8)
 //! postfix ENTRY..      the same, typed          words W reach R, or refused N
 //! several ENTRY..      the same, of version 2   words W reach R, or refused N
-//! log HEX              the verdicts of a log    A and A digits, 1 for yes, 0 for no; or refused N (1 to 8, 12, 14)
+//! log HEX              the verdicts of a log    A and A digits, 1 for yes, 0 for no; or refused N (1 to 8, 12, 24, 14)
 //! records RECORD..     the same, typed          as for log
 //! visited RECORD..     the same, of version 2   as for log: A positions, service records, those with letter 31, left out
 //! close                the last log, closed     as for log: N and N digits

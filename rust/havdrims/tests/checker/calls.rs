@@ -210,6 +210,28 @@ impl Checkpoint {
         Ok(Status { given, seen, wanted, closed: closed == 1 })
     }
 
+    /// havdrims_trim on guarded copies of the log and of what `out` holds, lending the first `words` words: the bytes that it
+    /// wrote. Those behind them are kept, and all of them if it refuses.
+    pub fn trim(&mut self, rule: &[u8], words: usize, log: &[u8], out: &[u8], side: Side) -> Result<Vec<u8>, u32> {
+        let mut brought = lent(log, side);
+        brought.read_only_if(read_only_turn());
+        let mut trimmed = lent(out, side);
+        let (room, mut written) = (out.len(), KEPT[0]);
+        let (from, into) = (brought.pointer(), trimmed.pointer());
+        // SAFETY: rule, log and words are lent for reading, the buffer for writing; the number is this function's own.
+        let number = self.asked(rule, side, |lent, point| unsafe {
+            ffi::havdrims_trim(lent, rule.len(), from, log.len(), point, words, into, room, &mut written)
+        });
+        assert_eq!(brought.bytes(), log, "trim changed the log");
+        assert!(trimmed.surroundings_kept(), "trim wrote outside the buffer");
+        let kept = answer(number, [written, KEPT[1]]).map_or(0, |(written, _)| written as usize);
+        assert_eq!(trimmed.bytes()[kept..], out[kept..], "trim changed bytes that it has to keep");
+        if number != 0 {
+            return Err(number);
+        }
+        Ok(trimmed.bytes()[..kept].to_vec())
+    }
+
     /// havdrims_resume or havdrims_close on a guarded copy of the log.
     pub fn resume(&mut self, call: &Call, log: &[u8], sheet: &[u8]) -> Result<Given, u32> {
         let mut copy = lent(log, call.side);

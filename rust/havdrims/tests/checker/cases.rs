@@ -1,8 +1,9 @@
 //! Document 01's worked cases, through the safe crate.
 
+use evaluator::cases::Kind;
 use evaluator::rule::{Entry, NEXT, NO_END};
 use evaluator::{cases, log, model, rule};
-use havdrims::{close, formulas, measure, open, resume, status, summary, tally};
+use havdrims::{close, formulas, measure, open, resume, status, summary, tally, trim};
 use havdrims::{Needs, Refusal, Resumed, Status, MOST_FORMULAS};
 
 fn fresh(rule: &[u8]) -> Vec<u64> {
@@ -47,8 +48,13 @@ fn worked_lists() {
         let mut point = fresh(&rule);
         for (at, call) in list.calls.iter().enumerate() {
             let mut sheet = vec![7; call.sheet];
-            let function = if call.closing { close } else { resume };
-            let got = function(&rule, &call.log, &mut point, &mut sheet);
+            let got = match call.kind {
+                Kind::Resume => resume(&rule, &call.log, &mut point, &mut sheet),
+                Kind::Close => close(&rule, &call.log, &mut point, &mut sheet),
+                Kind::Trim => {
+                    trim(&rule, &call.log, &point, &mut sheet).map(|written| Resumed { verdicts: written, more: false })
+                }
+            };
             let got = got.map(|given| (sheet[..given.verdicts].to_vec(), given.more)).map_err(Refusal::number);
             assert_eq!(got, call.gives, "{}, call {at}", list.name);
             let c = got.map_or(0, |(verdicts, _)| verdicts.len());
@@ -133,6 +139,7 @@ fn the_copy_of_the_rule_has_its_version() {
         for call in [resume, close] {
             assert_eq!(call(other, &log::HEADER, &mut point, &mut []), Err(Refusal::ForeignPoint));
         }
+        assert_eq!(trim(other, &log::header(2), &point, &mut [0; 16]), Err(Refusal::ForeignPoint));
         assert!(summary(opened, &point).is_ok());
     }
 }

@@ -1,9 +1,10 @@
 //! Forged points and altered open records: the call returns, nothing outside is written, a refusal changes nothing.
 
 use crate::calls::{hex, side, Call, Checkpoint};
-use crate::lists::Kiosk;
+use crate::lists::{records_at, Kiosk};
 use crate::runner::{cases, Counts};
-use evaluator::log::{self, Log};
+use evaluator::cases::Kind;
+use evaluator::log::{self, Log, Record};
 use evaluator::model::Summary;
 use evaluator::random::{self, Random};
 use evaluator::rule::{self, Rule, MOST_FORMULAS, NO_END, SINCE, UNTIL};
@@ -119,12 +120,10 @@ fn forge(r: &mut Random, words: &mut [u64], n: usize) {
     }
 }
 
-/// Records from the first given on changed, with times that may fall.
+/// Records from this byte on changed, with times that may fall.
 fn alter(r: &mut Random, log: &mut [u8], from: usize) {
-    let n = (log.len() - 8) / 8;
-    for at in from..n {
+    for record in log[from..].chunks_mut(8) {
         if r.one_in(3) {
-            let record = &mut log[8 + 8 * at..16 + 8 * at];
             match r.below(3) {
                 0 => r.fill(record),
                 1 => r.fill(&mut record[4..]),
@@ -141,11 +140,60 @@ fn used(r: &mut Random) -> (Kiosk, usize) {
     for _ in 0..r.below(4) {
         n = r.from_to(n, kiosk.untouched.len());
         kiosk.accepted(r, false, n);
+        if r.one_in(2) {
+            let _ = kiosk.trimmed(r, n);
+        }
     }
     if r.one_in(4) {
         kiosk.accepted(r, true, n);
     }
     (kiosk, n)
+}
+
+/// The refusal of a log that these words meet, which are in their ranges, after 11 and 20; else what a trimming would write. The
+/// words alone decide it, forged or not. `more` says that a closing is repeated with more records.
+fn after_11(words: &[u64], log: &[u8], trimming: bool, more: impl Fn(&Log) -> bool) -> Result<Vec<u8>, u32> {
+    let log = log::parse(log)?;
+    let kind = if log.version == 1 { 1 } else { 2 };
+    let (wanted, seen) = (words[WANTED] as usize, words[SEEN] as usize);
+    if words[VERSION] != 0 && words[VERSION] != kind {
+        return Err(22);
+    }
+    if trimming && log.version == 1 {
+        return Err(23);
+    }
+    if log.total() < seen {
+        return Err(13);
+    }
+    if more(&log) {
+        return Err(21);
+    }
+    if log.dropped > wanted {
+        return Err(24);
+    }
+    let left: Vec<Record> = (wanted..log.total()).filter_map(|number| log.record(number)).collect();
+    let falls = left.windows(2).any(|two| two[1].time < two[0].time);
+    if falls || left.get(seen - wanted).is_some_and(|new| u64::from(new.time) < words[LAST]) {
+        return Err(14);
+    }
+    Ok(log::encode_trimmed(wanted as u64, &left))
+}
+
+/// The refusal of a resume or a closing with these words.
+fn call_refusal(rule: &Rule, words: &[u64], closing: bool, log: &[u8]) -> Option<u32> {
+    let closed = words[CLOSED];
+    let early = refusal(rule, words).or((!closing && closed > 0).then_some(20));
+    early.or_else(|| after_11(words, log, false, |log| closing && closed > 0 && log.total() as u64 >= closed).err())
+}
+
+/// What a trimming with these words gives, into a buffer of so many bytes.
+fn trimmed(rule: &Rule, words: &[u64], log: &[u8], room: usize) -> Result<Vec<u8>, u32> {
+    refusal(rule, words).map_or(Ok(()), Err)?;
+    let left = after_11(words, log, true, |_| false)?;
+    if left.len() > room {
+        return Err(25);
+    }
+    Ok(left)
 }
 
 #[test]
@@ -157,27 +205,32 @@ fn forged_points() {
             let mut words = kiosk.point.words().to_vec();
             forge(r, &mut words[..kiosk.need], n);
             kiosk.point.set(&words, side(r));
-            let mut log = kiosk.brought(r.from_to(n, kiosk.untouched.len()));
+            let mut log = kiosk.any_brought(r, r.clone().from_to(n, kiosk.untouched.len()));
             if r.one_in(3) {
-                alter(r, &mut log, 0);
+                let from = records_at(&log);
+                alter(r, &mut log, from);
             }
             let sheet = vec![5; r.below(50)];
             let summary = kiosk.point.summary(&kiosk.rule, length, side(r));
             let status = kiosk.point.status(&kiosk.rule, length, side(r));
+            let rule = rule::parse(&kiosk.rule).unwrap();
+            let out = vec![6; r.pick(&[0, 16, log.len(), log.len() + 8])];
+            let left = kiosk.point.trim(&kiosk.rule, length, &log, &out, side(r));
+            let shown = format!("{}point {words:?}\nlog {}", kiosk.story, hex(&log));
+            assert_eq!(left, trimmed(&rule, &words, &log, out.len()), "{shown}");
+            counts.add("trimmed", usize::from(left.is_ok()));
             let closing = r.one_in(2);
             let call = Call { closing, rule: &kiosk.rule, need: kiosk.need, words: length, side: side(r) };
-            let number = kiosk.point.resume(&call, &log, &sheet).err().unwrap_or(0);
-            counts.returned(number);
+            let number = kiosk.point.resume(&call, &log, &sheet).err();
+            counts.returned(number.unwrap_or(0));
+            assert_eq!(number, call_refusal(&rule, &words, closing, &log), "{shown}");
             // All calls have checks 1 to 11.
-            let expected = refusal(&rule::parse(&kiosk.rule).unwrap(), &words);
-            let early = Some(number).filter(|n| [10, 11].contains(n));
-            assert_eq!([early, summary.err(), status.err()], [expected; 3], "{}point {words:?}", kiosk.story);
-            let possible = [0, 10, 11, 13, 14, 22, if closing { 21 } else { 20 }].contains(&number);
-            assert!(possible, "refused {number}\n{}point {words:?}\nlog {}", kiosk.story, hex(&log));
+            let expected = refusal(&rule, &words);
+            assert_eq!([summary.err(), status.err()], [expected; 2], "{shown}");
         }
     };
     cases("forged_points", 40_000, body, |counts| {
-        ["accepted", "refused 10", "refused 11"].iter().all(|name| counts.get(name) > 0)
+        ["accepted", "refused 10", "refused 11", "refused 24", "trimmed"].iter().all(|name| counts.get(name) > 0)
     });
 }
 
@@ -268,13 +321,16 @@ fn forged_records() {
         let n = r.from_to(n, if kiosk.model.closed.is_some() { n } else { kiosk.untouched.len() });
         let closing = kiosk.model.closed.is_some() || r.one_in(3);
         let call = Call { closing, rule: &kiosk.rule, need: kiosk.need, words: words.len(), side: side(r) };
-        let got = kiosk.point.resume(&call, &kiosk.brought(n), &vec![5; r.below(200)]).err();
-        let other_version = words[VERSION] == 3 - u64::from(kiosk.version);
-        let expected = refusal(&rule, &words).or(other_version.then_some(22));
-        assert_eq!(got, expected, "{}point {words:?}", kiosk.story);
+        let log = kiosk.any_brought(r, n);
+        let shown = format!("{}point {words:?}\nlog {}", kiosk.story, hex(&log));
+        let left = kiosk.point.trim(&kiosk.rule, words.len(), &log, &vec![6; log.len() + 8], side(r));
+        assert_eq!(left, trimmed(&rule, &words, &log, log.len() + 8), "{shown}");
+        counted.add("trimmed", usize::from(left.is_ok()));
+        let got = kiosk.point.resume(&call, &log, &vec![5; r.below(200)]).err();
+        assert_eq!(got, call_refusal(&rule, &words, closing, &log), "{shown}");
         counted.returned(got.unwrap_or(0));
     };
-    let names = ["accepted", "refused 11", "refused 22"];
+    let names = ["accepted", "refused 11", "refused 22", "refused 24", "trimmed"];
     cases("forged_records", 30_000, body, |counted| names.iter().all(|name| counted.get(name) > 0));
 }
 
@@ -327,6 +383,8 @@ fn foreign_points() {
             random::damage(r, &mut log);
         }
         assert_eq!(kiosk.point.summary(&kiosk.rule, words.len(), side(r)), Err(10), "{}point {words:?}", kiosk.story);
+        let left = kiosk.point.trim(&kiosk.rule, words.len(), &log, &[6; 20], side(r));
+        assert_eq!(left, Err(10), "{}point {words:?}\nlog {}", kiosk.story, hex(&log));
         let call = Call { closing: r.one_in(2), rule: &kiosk.rule, need, words: words.len(), side: side(r) };
         let got = kiosk.point.resume(&call, &log, &[5; 20]);
         assert_eq!(got, Err(10), "{}point {words:?}\nlog {}", kiosk.story, hex(&log));
@@ -344,29 +402,31 @@ fn altered_open_records() {
         let length = kiosk.point.words().len();
         for _ in 0..r.from_to(1, 4) {
             n = r.from_to(n, kiosk.untouched.len());
-            let mut log = kiosk.brought(n);
+            let mut log = kiosk.any_brought(r, n);
             let wanted = kiosk.wanted();
-            alter(r, &mut log, wanted);
+            let from = records_at(&log) + 8 * (wanted - log::parse(&log).unwrap().dropped);
+            alter(r, &mut log, from);
             if r.one_in(2) {
-                sort_times(&mut log, wanted);
+                sort_times(&mut log[from..]);
             }
             let sheet = vec![5; r.below(30)];
             let closing = r.one_in(4);
             let call = Call { closing, rule: &kiosk.rule, need: kiosk.need, words: length, side: side(r) };
             let got = kiosk.point.resume(&call, &log, &sheet);
             let expected = kiosk.model.check(closing, &kiosk.rule, &log, length).map(|_| ());
-            kiosk.story.add(closing, &kiosk.rule, &log, length, sheet.len(), &kiosk.model);
+            let kind = if closing { Kind::Close } else { Kind::Resume };
+            kiosk.story.add(kind, &kiosk.rule, &log, length, sheet.len(), &kiosk.model);
             let number = got.as_ref().err().copied().unwrap_or(0);
             assert_eq!(number, expected.err().unwrap_or(0), "{}", kiosk.story);
             counts.returned(number);
             let Ok(given) = got else { continue };
-            let Log { version, records } = log::parse(&log).unwrap();
+            let log = log::parse(&log).unwrap();
             // Which of the records from the first wanted on are positions is what the altered log says.
             let before = kiosk.model.given().saturating_sub(rule::parse(&kiosk.rule).unwrap().depth);
-            let open = log::places(version, &records[wanted..]).into_iter().map(|at| wanted + at);
-            let places = std::iter::repeat_n(0, before).chain(open).collect();
+            let open = log::places(log.version, &log.records[wanted - log.dropped..]);
+            let places = std::iter::repeat_n(0, before).chain(open.into_iter().map(|at| wanted + at)).collect();
             kiosk.model.sheet.extend(&given.verdicts);
-            kiosk.model.note(closing, version, &records, places);
+            kiosk.model.note(closing, &log, places);
             let status = kiosk.point.status(&kiosk.rule, length, side(r));
             assert_eq!(status, kiosk.model.status(&kiosk.rule, length), "{}", kiosk.story);
         }
@@ -374,14 +434,12 @@ fn altered_open_records() {
     cases("altered_open_records", 40_000, body, |counts| counts.get("accepted") > 0);
 }
 
-/// Makes the times from a position on rise.
-fn sort_times(log: &mut [u8], from: usize) {
-    let n = (log.len() - 8) / 8;
-    let at = |i: usize| 8 + 8 * i..12 + 8 * i;
-    let mut times: Vec<[u8; 4]> = (from..n).map(|i| log[at(i)].try_into().unwrap()).collect();
+/// Makes the times of some records rise.
+fn sort_times(records: &mut [u8]) {
+    let mut times: Vec<[u8; 4]> = records.chunks(8).map(|record| record[..4].try_into().unwrap()).collect();
     times.sort();
-    for (i, time) in (from..n).zip(times) {
-        log[at(i)].copy_from_slice(&time);
+    for (record, time) in records.chunks_mut(8).zip(times) {
+        record[..4].copy_from_slice(&time);
     }
 }
 
@@ -411,6 +469,8 @@ fn another_rule() {
         let closing = r.one_in(2);
         let call = Call { closing, rule: &rule, need, words, side: side(r) };
         let expected = kiosk.model.check(closing, &rule, &log::HEADER, words).err().unwrap_or(0);
+        let left = point.trim(&rule, words, &log::header(2), &[6; 16], side(r));
+        assert_eq!(left, kiosk.model.trim(&rule, &log::header(2), words, 16), "brought {}", hex(&rule));
         let got = point.resume(&call, &log::HEADER, &[]).err().unwrap_or(0);
         assert_eq!(got, expected, "opened for {}\nbrought {}", hex(&kiosk.rule), hex(&rule));
         counts.returned(got);

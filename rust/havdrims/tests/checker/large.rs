@@ -165,6 +165,44 @@ fn too_many_records() {
     assert!(!point.resume(&call, &file, &[3]).unwrap().more);
     let status = point.status(&rule, 32, Side::Left).unwrap();
     assert_eq!((status.given, status.seen, status.wanted), (0, MILLION as u64, MILLION as u64));
+    // "Record numbers go on counting dropped ones, limit included."
+    let mut out = vec![6; 16];
+    out = point.trim(&rule, 32, &file, &out, Side::Right).unwrap();
+    assert_eq!(out, log::encode_trimmed(MILLION as u64, &[]));
+    assert!(!point.resume(&call, &out, &[3]).unwrap().more);
+    out.extend([0; 8]);
+    assert_eq!(point.resume(&call, &out, &[3]), Err(12));
+    let mut whole = log::encode_as(3, &vec![service; MILLION + 1]);
+    assert_eq!(open(&rule, 32).resume(&call, &whole, &[]), Err(12));
+    whole.truncate(16 + 8 * MILLION);
+    assert!(!open(&rule, 32).resume(&call, &whole, &[]).unwrap().more);
+}
+
+/// A million records of which the kiosk keeps a few: after each of a thousand calls the log is trimmed, and the next thousand
+/// records are added to what is left of it.
+#[test]
+fn million_records_trimmed_as_they_come() {
+    for (name, rule) in rules() {
+        let records = long_log(2, 5, 20, 2);
+        let (all, need, summary) = expected(true, &rule, &log::positions(2, &records));
+        let mut point = open(&rule, need);
+        let (mut log, mut written, mut longest) = (log::header(2).to_vec(), Vec::new(), 0);
+        for new in records.chunks(1_000).chain([&[][..], &[]]) {
+            log.extend(log::encode_records(new));
+            longest = longest.max(log.len());
+            let closing = new.is_empty();
+            let call = Call { closing, rule: &rule, need, words: need, side: Side::Left };
+            let given = point.resume(&call, &log, &vec![3; 5_000]).unwrap();
+            assert!(!given.more);
+            written.extend(given.verdicts);
+            let out = vec![6; log.len() + 8];
+            log = point.trim(&rule, need, &log, &out, Side::Right).unwrap();
+        }
+        assert!(written == all, "{name}");
+        assert_eq!(point.summary(&rule, need, Side::Left), Ok(summary), "{name}");
+        say(&format!("million_records_trimmed_as_they_come: {name}, at most {longest} bytes of log"));
+        assert!(longest < 10_000, "{name}: {longest}");
+    }
 }
 
 /// Rules of 128 entries and rules of up to 8,192 words, with one formula or several.

@@ -113,7 +113,9 @@ fn one_call() {
             let at = r.from_to(1, records.len() - 1);
             records[at].time = records[at - 1].time.saturating_sub(1);
         }
-        let version = if r.one_in(20) { r.pick(&[0, 3, 4, 0x0100, 0x0102, 0x0200]) } else { version };
+        let version = if r.one_in(20) { r.pick(&[0, 4, 0x0100, 0x0102, 0x0200, 0x0300]) } else { version };
+        // Version 3 with nothing dropped is read as version 2.
+        let version = if version == 2 && r.one_in(3) { 3 } else { version };
         let mut file = log::encode_as(version, &records);
         if r.one_in(10) {
             random::damage(r, &mut file);
@@ -136,11 +138,13 @@ fn one_call() {
             counts.add("verdicts", given.verdicts.len());
             counts.add("yes", given.verdicts.iter().map(|&byte| byte.count_ones() as usize).sum());
             counts.add("service records", brought.len() - model.places.len());
+            counts.add("of version 3", if version == 3 { given.verdicts.len() } else { 0 });
         }
         let status = point.status(&rule, need, side(r));
         assert_eq!(status, model.status(&rule, need), "rule {}\nlog {}", hex(&rule), hex(&file));
     };
-    let met = |counts: &Counts| counts.get("refused 14") > 0 && counts.get("service records") > 0;
+    let names = ["refused 14", "refused 24", "service records", "of version 3"];
+    let met = |counts: &Counts| names.iter().all(|name| counts.get(name) > 0);
     cases("one_call", 60_000, body, |counts| all_refused(counts, 12..=12) && met(counts));
 }
 
@@ -166,6 +170,11 @@ fn nothing_lent() {
         assert_eq!(ffi::havdrims_resume(rule.as_ptr(), 38, log, 8, p, 70, null_mut(), 0, &mut a, &mut b), 0);
         assert_eq!((a, b), (0, 0));
         (a, b) = (9, 9);
+        assert_eq!(ffi::havdrims_trim(null(), 0, null(), 0, null(), 0, null_mut(), 0, &mut a), 1);
+        assert_eq!(ffi::havdrims_trim(rule.as_ptr(), 38, null(), 0, null(), 0, null_mut(), 0, &mut a), 9);
+        assert_eq!(ffi::havdrims_trim(rule.as_ptr(), 38, null(), 0, p, 70, null_mut(), 0, &mut a), 12);
+        assert_eq!(ffi::havdrims_trim(rule.as_ptr(), 38, log, 8, p, 70, null_mut(), 0, &mut a), 23);
+        assert_eq!(a, 9);
         assert_eq!(ffi::havdrims_close(rule.as_ptr(), 38, null(), 0, p, 70, null_mut(), 0, &mut a, &mut b), 12);
         assert_eq!((a, b), (9, 9));
         assert_eq!(ffi::havdrims_close(rule.as_ptr(), 38, log, 8, p, 70, null_mut(), 0, &mut a, &mut b), 0);

@@ -1,0 +1,79 @@
+//! Files outside of cards: written beside and renamed, so that a run that is cut leaves what was there, or the whole new file.
+
+use crate::card;
+use crate::disk::Disk;
+use std::fmt;
+use std::io;
+
+/// Why a file was not written.
+#[derive(Debug)]
+pub enum Fault {
+    /// A file with this name is there, and may not be replaced.
+    There,
+    /// The folder is a card.
+    InCard,
+    /// It would be written, as long as it is not whole, over a file that it is made from.
+    OverItsSource,
+    NoFolder,
+    /// An operation failed: there is no new file.
+    Disk {
+        doing: &'static str,
+        fault: io::Error,
+    },
+    /// The file may be the new one or what was there before, and may not survive a cut.
+    Unsure {
+        doing: &'static str,
+        fault: io::Error,
+    },
+}
+
+impl fmt::Display for Fault {
+    fn fmt(&self, f: &mut fmt::Formatter<'_>) -> fmt::Result {
+        match self {
+            Fault::There => write!(f, "a file is here already; --force replaces it"),
+            Fault::InCard => write!(f, "this would be a file in a card, which holds no others than its own"),
+            Fault::OverItsSource => write!(f, "until it is whole this file has the name of the log itself; choose another name"),
+            Fault::NoFolder => write!(f, "its folder is not there"),
+            Fault::Disk { doing, fault } => write!(f, "cannot {doing}: {fault}; there is no new file"),
+            Fault::Unsure { doing, fault } => write!(f, "cannot {doing}: {fault}; it may be as it was before"),
+        }
+    }
+}
+
+/// The file as long as it is not whole.
+fn beside(name: &str) -> String {
+    format!("{name}.new")
+}
+
+/// Whether this file, as long as it is not whole, has the place of another.
+pub fn passes_over(path: &str, other: &str) -> bool {
+    let place = |path: &str| std::fs::canonicalize(path).ok();
+    place(other).is_some_and(|there| place(&beside(path)) == Some(there))
+}
+
+/// Writes a file of a folder that is no card, in place of one that is there only if so told. When this returns, it survives a cut.
+pub fn put(disk: &mut impl Disk, name: &str, bytes: &[u8], replace: bool) -> Result<(), Fault> {
+    let failed = |doing| move |fault| Fault::Disk { doing, fault };
+    let unsure = |doing| move |fault| Fault::Unsure { doing, fault };
+    let names = disk.names().map_err(failed("read its folder"))?.ok_or(Fault::NoFolder)?;
+    if card::is_card(&names) {
+        return Err(Fault::InCard);
+    }
+    if !replace && names.iter().any(|there| there == name) {
+        return Err(Fault::There);
+    }
+    let new = beside(name);
+    let written = disk.write(&new, 0, bytes).map_err(failed("write it"));
+    let written = written.and_then(|()| disk.sync(&new).map_err(failed("sync it")));
+    if written.is_err() {
+        let _ = disk.remove(&new);
+        return written;
+    }
+    let renamed = disk.rename(&new, name).map_err(unsure("put it in its place"));
+    if renamed.is_err() {
+        // Gone already, if the operation did its work and failed all the same.
+        let _ = disk.remove(&new);
+        return renamed;
+    }
+    disk.sync_folder().map_err(unsure("sync its folder"))
+}

@@ -1,0 +1,357 @@
+//! Shorter logs: what a card no longer wants is dropped, and the log goes on from there.
+
+use crate::service::with_visits;
+use crate::{contents, Place, RULE};
+use evaluator::log::{self, Record};
+use evaluator::random::{self, LogShape, Random};
+use evaluator::{linear, rule};
+use havdrims::Refusal;
+use std::fs;
+use std::os::unix::process::ExitStatusExt;
+use std::path::Path;
+use std::process::Stdio;
+use std::thread;
+use std::time::Duration;
+
+const UNTIL: &str = "e0 until[0,2] e1";
+
+impl Place {
+    fn bytes(&self, name: &str) -> Vec<u8> {
+        fs::read(self.path(name)).unwrap()
+    }
+
+    /// The records of the second log from this one on, added to the first.
+    fn grow(&self, trimmed: &str, whole: &str, from: usize) {
+        let new = &self.bytes(whole)[8 + 8 * from..];
+        fs::write(self.path(trimmed), [self.bytes(trimmed).as_slice(), new].concat()).unwrap();
+    }
+}
+
+/// A week whose log is trimmed after each evening: every command says what it says for the log that was never trimmed.
+#[test]
+fn a_week_on_trimmed_logs() {
+    let place = Place::new();
+    place.log("monday.klg", &with_visits("day.txt"));
+    place.log("tuesday.klg", &format!("{}{}1100 service\n", with_visits("day.txt"), five_more()));
+    for card in ["whole", "trimmed"] {
+        place.ok(&["new", card, RULE]);
+    }
+    let both = |words: [&str; 3], other: [&str; 3]| {
+        let said = place.ok(&words);
+        assert_eq!(place.ok(&other), said, "{words:?}");
+        said
+    };
+    let said = both(["evening", "whole", "monday.klg"], ["evening", "trimmed", "monday.klg"]);
+    assert!(said.ends_with("records 0 to 24 may be overwritten\n"), "{said}");
+    let card = contents(&place.path("trimmed"));
+    let said = place.ok(&["trim", "trimmed", "monday.klg", "left.klg"]);
+    assert_eq!(said, "left.klg: records 0 to 24 dropped, 3 left\n");
+    assert_eq!(contents(&place.path("trimmed")), card);
+    assert_eq!(place.bytes("left.klg"), [&trimmed_header(25)[..], &place.bytes("monday.klg")[8 + 8 * 25..]].concat());
+    let text = place.ok(&["to-text", "left.klg"]);
+    assert!(text.starts_with("version 3\ndropped 25\n"), "{text}");
+
+    // nothing new: the same log; and the log itself may be brought again
+    both(["evening", "whole", "monday.klg"], ["evening", "trimmed", "left.klg"]);
+    both(["evening", "whole", "monday.klg"], ["evening", "trimmed", "monday.klg"]);
+    place.ok(&["trim", "trimmed", "left.klg", "again.klg"]);
+    assert_eq!(place.bytes("again.klg"), place.bytes("left.klg"));
+
+    place.grow("left.klg", "tuesday.klg", 28);
+    let said = both(["evening", "whole", "tuesday.klg"], ["evening", "trimmed", "left.klg"]);
+    assert!(said.contains("6 service records passed over\n") && said.ends_with("records 0 to 36 may be overwritten\n"));
+    let said = place.ok(&["trim", "trimmed", "left.klg", "left.klg", "--force"]);
+    assert_eq!(said, "left.klg: records 0 to 36 dropped, 2 left\n");
+    both(["close", "whole", "tuesday.klg"], ["close", "trimmed", "left.klg"]);
+    let said = place.ok(&["trim", "--force", "trimmed", "left.klg", "left.klg"]);
+    assert_eq!(said, "left.klg: records 0 to 38 dropped, 0 left\n");
+    assert_eq!(place.bytes("left.klg"), trimmed_header(39));
+    both(["close", "whole", "tuesday.klg"], ["close", "trimmed", "left.klg"]);
+    for words in [&["summary"][..], &["sheet"], &["sheet", "--csv"]] {
+        let of = |card: &str| place.ok(&[words, &[card]].concat());
+        assert_eq!(of("whole"), of("trimmed"), "{words:?}");
+    }
+}
+
+/// What Tuesday adds to the day of the examples, with its visits.
+fn five_more() -> String {
+    let [monday, tuesday] = ["day.txt", "tuesday.txt"].map(with_visits);
+    let lines = monday.lines().count();
+    tuesday.lines().skip(lines).map(|line| format!("{line}\n")).collect()
+}
+
+fn trimmed_header(dropped: u64) -> Vec<u8> {
+    log::encode_trimmed(dropped, &[])
+}
+
+/// A card that has given nothing drops nothing; one record; and records that no evening has seen.
+#[test]
+fn little_to_drop() {
+    let place = Place::new();
+    place.ok(&["new", "card", UNTIL]);
+    place.log("day.klg", "10 e0\n11 service\n");
+    assert_eq!(place.ok(&["trim", "card", "day.klg", "out.klg"]), "out.klg: no record dropped, 2 left\n");
+    place.ok(&["evening", "card", "out.klg"]);
+    place.log("day.klg", "10 e0\n11 service\n13 e0\n14 e1\n");
+    place.ok(&["evening", "card", "day.klg"]);
+    place.ok(&["new", "one", "prev[0,9] e0"]);
+    place.log("one.klg", "10 e0\n13 e0\n");
+    place.ok(&["evening", "one", "one.klg"]);
+    place.log("one.klg", "10 e0\n13 e0\n13 e0\n");
+    assert_eq!(place.ok(&["trim", "one", "one.klg", "less.klg"]), "less.klg: record 0 dropped, 2 left\n");
+    assert!(place.ok(&["evening", "one", "less.klg"]).starts_with("record 2: 1 yes, 0 no\n"));
+    // as large as a log can be
+    place.ok(&["new", "many", "e0"]);
+    let mut many = log::encode_as(2, &[]);
+    many.resize(8 + 8 * 1_000_000, 0);
+    fs::write(place.path("many.klg"), many).unwrap();
+    assert_eq!(place.ok(&["trim", "many", "many.klg", "fewer.klg"]), "fewer.klg: no record dropped, 1000000 left\n");
+    assert!(place.ok(&["evening", "many", "fewer.klg"]).ends_with("records 0 to 999999 may be overwritten\n"));
+    let said = place.ok(&["trim", "many", "fewer.klg", "fewer.klg", "--force"]);
+    assert_eq!(said, "fewer.klg: records 0 to 999999 dropped, 0 left\n");
+}
+
+/// The command fails with this text; the card is as it was, and there is no new file.
+fn refuses(place: &Place, words: &[&str], text: &str) {
+    let before = (contents(&place.path("card")), names(&place.0));
+    assert_eq!(place.fails(1, words), text, "{words:?}");
+    assert_eq!((contents(&place.path("card")), names(&place.0)), before, "{words:?}");
+}
+
+fn names(folder: &Path) -> Vec<String> {
+    let name = |entry: fs::DirEntry| entry.file_name().into_string().unwrap();
+    let mut all: Vec<String> = fs::read_dir(folder).unwrap().map(|entry| name(entry.unwrap())).collect();
+    all.sort();
+    all
+}
+
+#[test]
+fn logs_that_are_not_trimmed() {
+    let place = Place::with_card(0);
+    let trim = |log: &str, refusal: Refusal, hint: &str| {
+        let text = format!("{log}: {refusal}\n{hint}Nothing was changed.\n");
+        refuses(&place, &["trim", "card", log, "out.klg"], &text);
+    };
+    let version_1 = "Logs of version 2 and 3 can be trimmed. ";
+    trim("day.klg", Refusal::TrimVersion, version_1);
+    place.ok(&["evening", "card", "day.klg"]);
+    trim("day.klg", Refusal::TrimVersion, version_1);
+    fs::remove_dir_all(place.path("card")).unwrap();
+
+    place.ok(&["new", "card", UNTIL]);
+    let whole = place.log("whole.klg", "10 e0\n13 e0\n16 e0\n17 service\n");
+    place.ok(&["evening", "card", "whole.klg"]);
+    let other = "A card keeps to the version of its first log, 2 and 3 counting as one; another needs a card of its own. ";
+    trim("day.klg", Refusal::OtherVersion, other);
+    fs::write(place.path("short.klg"), &whole[..8 + 8 * 3]).unwrap();
+    trim("short.klg", Refusal::FewerRecords, "Is this the whole log? ");
+    fs::write(place.path("none.klg"), &whole[..9]).unwrap();
+    trim("none.klg", Refusal::LogFormat, "");
+    let mut falls = whole.clone();
+    falls[8 + 8 * 3 + 3] = 1;
+    fs::write(place.path("falls.klg"), &falls).unwrap();
+    trim("falls.klg", Refusal::TimeFalls, "Is this the log of another kiosk? ");
+    let dropped = log::encode_trimmed(3, &[Record { time: 17, letters: log::SERVICE }]);
+    fs::write(place.path("dropped.klg"), dropped).unwrap();
+    let hint = "Was it trimmed for another card? The log before it was trimmed can still be brought. ";
+    trim("dropped.klg", Refusal::RecordDropped, hint);
+    for command in ["evening", "close"] {
+        let text = format!("dropped.klg: {}\n{hint}Nothing was changed.\n", Refusal::RecordDropped);
+        refuses(&place, &[command, "card", "dropped.klg"], &text);
+    }
+    let none = "none: no card is here; `havdrims new` makes one\nNothing was changed.\n";
+    refuses(&place, &["trim", "none", "whole.klg", "out.klg"], none);
+    let none = "absent.klg: No such file or directory (os error 2)\nNothing was changed.\n";
+    refuses(&place, &["trim", "card", "absent.klg", "out.klg"], none);
+}
+
+/// A card whose rule is new in the middle of a month: a trimmed log does not have what it wants.
+#[test]
+fn a_new_card_on_a_trimmed_log() {
+    let place = Place::new();
+    place.ok(&["new", "card", UNTIL]);
+    place.log("day.klg", "10 e0\n13 e0\n");
+    place.ok(&["evening", "card", "day.klg"]);
+    place.ok(&["trim", "card", "day.klg", "left.klg"]);
+    place.ok(&["new", "other", "e0"]);
+    let said = place.fails(1, &["evening", "other", "left.klg"]);
+    assert!(said.starts_with(&format!("left.klg: {}\n", Refusal::RecordDropped)), "{said}");
+}
+
+/// A file that is there is replaced only if so told, and no file is put into a card.
+#[test]
+fn where_the_shorter_log_goes() {
+    let place = Place::new();
+    place.ok(&["new", "card", UNTIL]);
+    place.ok(&["new", "other", UNTIL]);
+    let whole = place.log("day.klg", "10 e0\n13 e0\n");
+    place.ok(&["evening", "card", "day.klg"]);
+    let there = "a file is here already; --force replaces it\n";
+    fs::write(place.path("there.klg"), b"kept").unwrap();
+    refuses(&place, &["trim", "card", "day.klg", "there.klg"], &format!("there.klg: {there}"));
+    refuses(&place, &["trim", "card", "day.klg", "day.klg"], &format!("day.klg: {there}"));
+    refuses(&place, &["trim", "card", "day.klg", "./day.klg"], &format!("./day.klg: {there}"));
+    assert_eq!((place.bytes("there.klg").as_slice(), place.bytes("day.klg")), (&b"kept"[..], whole.clone()));
+    // as long as it is not whole the new log has a name of its own, which may not be that of the log that is read
+    fs::copy(place.path("day.klg"), place.path("late.klg.new")).unwrap();
+    let itself = "until it is whole this file has the name of the log itself; choose another name\n";
+    for words in [&["trim", "card", "late.klg.new", "late.klg"][..], &["trim", "card", "./late.klg.new", "late.klg", "--force"]] {
+        refuses(&place, words, &format!("late.klg: {itself}"));
+    }
+    assert_eq!(place.bytes("late.klg.new"), whole);
+
+    let in_card = "this would be a file in a card, which holds no others than its own\n";
+    let before = contents(&place.path("other"));
+    for out in ["card/out.klg", "card/sheet", "card/point", "other/out.klg", "other/point", "./other/../other/point"] {
+        for words in [&["trim", "card", "day.klg", out][..], &["trim", "card", "day.klg", out, "--force"]] {
+            refuses(&place, words, &format!("{out}: {in_card}"));
+        }
+    }
+    assert_eq!(contents(&place.path("other")), before);
+    let missing = "none/out.klg: its folder is not there\n";
+    refuses(&place, &["trim", "card", "day.klg", "none/out.klg"], missing);
+    for out in ["..", ".", "card/", "/", ""] {
+        let expected = "expected: havdrims trim CARD LOG OUT [--force]\n";
+        let said = place.fails(2, &["trim", "card", "day.klg", out]);
+        assert_eq!(said, format!("`{out}` is no name of a file\n{expected}"));
+    }
+
+    // what a run that was cut has left beside does not matter
+    fs::create_dir(place.path("logs")).unwrap();
+    fs::write(place.path("logs/out.klg.new"), b"half").unwrap();
+    place.ok(&["trim", "card", "day.klg", "logs/out.klg"]);
+    let left = log::encode_trimmed(1, &[Record { time: 13, letters: 1 }]);
+    assert_eq!((names(&place.path("logs")), place.bytes("logs/out.klg")), (vec!["out.klg".to_string()], left.clone()));
+    let full = place.path("there.klg");
+    place.ok(&["trim", "card", "day.klg", full.to_str().unwrap(), "--force"]);
+    place.ok(&["trim", "card", "day.klg", "day.klg", "--force"]);
+    assert_eq!((place.bytes("there.klg"), place.bytes("day.klg")), (left.clone(), left));
+    assert!(!place.path("day.klg.new").exists());
+    place.ok(&["evening", "card", "day.klg"]);
+}
+
+/// Folders in the place of files, which nobody can write to.
+#[test]
+fn logs_that_cannot_be_written() {
+    let place = Place::new();
+    place.ok(&["new", "card", UNTIL]);
+    place.log("day.klg", "10 e0\n13 e0\n");
+    place.ok(&["evening", "card", "day.klg"]);
+    fs::create_dir(place.path("folder.klg")).unwrap();
+    let text = "cannot put it in its place: Is a directory (os error 21); it may be as it was before\n";
+    refuses(&place, &["trim", "card", "day.klg", "folder.klg", "--force"], &format!("folder.klg: {text}"));
+    fs::create_dir(place.path("out.klg.new")).unwrap();
+    let text = "cannot write it: Is a directory (os error 21); there is no new file\n";
+    refuses(&place, &["trim", "card", "day.klg", "out.klg"], &format!("out.klg: {text}"));
+    let text = "day.klg/out.klg: cannot read its folder: Not a directory (os error 20); there is no new file\n";
+    refuses(&place, &["trim", "card", "day.klg", "day.klg/out.klg"], text);
+    // the card cannot be synced
+    let point = place.bytes("card/point");
+    fs::remove_file(place.path("card/point")).unwrap();
+    fs::create_dir(place.path("card/point")).unwrap();
+    let said = place.fails(1, &["trim", "card", "day.klg", "out.klg"]);
+    let text = "cannot read the file `point`: Is a directory (os error 21)\nNothing was written; repeat the command.\n";
+    assert_eq!(said, format!("card: {text}"));
+    fs::remove_dir(place.path("card/point")).unwrap();
+    fs::write(place.path("card/point"), point).unwrap();
+    fs::remove_dir(place.path("out.klg.new")).unwrap();
+    place.ok(&["trim", "card", "day.klg", "out.klg"]);
+}
+
+/// A damaged card is said to be damaged, and nothing is written.
+#[test]
+fn a_card_that_is_damaged_or_in_use() {
+    let place = Place::new();
+    place.ok(&["new", "card", UNTIL]);
+    place.log("day.klg", "10 e0\n13 e0\n");
+    place.ok(&["evening", "card", "day.klg"]);
+    let lock = fs::File::open(place.path("card/card.txt")).unwrap();
+    lock.lock_shared().unwrap();
+    let in_use = "card: another command is at work on this card; try again when it has ended\nNothing was changed.\n";
+    refuses(&place, &["trim", "card", "day.klg", "out.klg"], in_use);
+    lock.unlock().unwrap();
+    let mut sheet = place.bytes("card/sheet");
+    sheet[0] ^= 1;
+    fs::write(place.path("card/sheet"), sheet).unwrap();
+    let text = "card: the file `sheet` is damaged: its checksum does not fit\nNothing was changed.\n";
+    refuses(&place, &["trim", "card", "day.klg", "out.klg"], text);
+}
+
+/// A write that fails half way: no file may grow beyond a limit, which stands for a disk that is full.
+#[test]
+fn a_full_disk() {
+    let place = Place::new();
+    place.ok(&["new", "card", "e0"]);
+    let records = random::log(&mut Random::new(3), LogShape { records: 600, letters: 2, hold: 1, step: 1, start: 0 });
+    fs::write(place.path("long.klg"), log::encode_as(2, &records)).unwrap();
+    let shell = "trap '' XFSZ; ulimit -f 2; exec \"$0\" \"$@\"";
+    let words = ["-c", shell, env!("CARGO_BIN_EXE_havdrims"), "trim", "card", "long.klg", "long.klg", "--force"];
+    let output = std::process::Command::new("sh").args(words).current_dir(&place.0).output().unwrap();
+    let (status, out, err) = crate::ended(output);
+    let text = "long.klg: cannot write it: File too large (os error 27); there is no new file\n";
+    assert_eq!((status, out.as_str(), err.as_str()), (1, "", text));
+    assert_eq!(names(&place.0), ["card", "long.klg"]);
+    assert_eq!(place.bytes("long.klg"), log::encode_as(2, &records));
+}
+
+/// Runs a command and kills it after this time, if it has not ended.
+fn run_for(place: &Place, words: &[&str], time: Duration) -> bool {
+    let mut child = place.program().args(words).stdout(Stdio::null()).stderr(Stdio::null()).spawn().unwrap();
+    thread::sleep(time);
+    let _ = child.kill();
+    let ended = child.wait().unwrap();
+    assert!(ended.signal() == Some(9) || ended.success(), "{words:?}: {ended}");
+    ended.signal() == Some(9)
+}
+
+/// Evenings and trimmings in place, killed at random moments; an evening is then repeated, a trimming not always.
+#[test]
+fn killed_while_trimming() {
+    const KILLS: usize = 150;
+    let mut r = Random::new(11);
+    let place = Place::new();
+    let shape = LogShape { records: 60_000, letters: 4, hold: 20, step: 2, start: 7 };
+    let mut untouched: Vec<Record> = random::log(&mut r, shape);
+    random::visit(&mut r, &mut untouched);
+    place.ok(&["new", "card", "prev[0,9] e0 or e1 until[0,60] e2", "e3 since[0,60] not e0"]);
+    let parsed = rule::parse(&place.bytes("card/rule.krl")).unwrap();
+    fs::write(place.path("log.klg"), log::header(2)).unwrap();
+    let (mut killed, mut records, mut dropped) = (0, 0, 0);
+    let moment = |r: &mut Random| Duration::from_micros(r.below(6_000) as u64);
+    while killed < KILLS {
+        let more = (records + r.from_to(0, 400)).min(untouched.len());
+        let new = log::encode_records(&untouched[records..more]);
+        fs::write(place.path("log.klg"), [place.bytes("log.klg"), new].concat()).unwrap();
+        records = more;
+        for _ in 0..r.from_to(0, 3) {
+            killed += usize::from(run_for(&place, &["evening", "card", "log.klg"], moment(&mut r)));
+        }
+        place.ok(&["evening", "card", "log.klg"]);
+        let trim = ["trim", "card", "log.klg", "log.klg", "--force"];
+        for _ in 0..r.from_to(1, 4) {
+            killed += usize::from(run_for(&place, &trim, moment(&mut r)));
+        }
+        if r.one_in(2) {
+            place.ok(&trim);
+        }
+        let log = log::parse(&place.bytes("log.klg")).unwrap();
+        assert_eq!(log.total(), records);
+        dropped = log.dropped;
+        let expected = linear::verdicts(&parsed, &log::positions(2, &untouched[..records]));
+        assert_eq!(place.bytes("card/sheet"), expected);
+    }
+    println!("{killed} kills, {records} records, {dropped} of them dropped");
+    assert!(dropped > 0);
+}
+
+#[test]
+fn help_says_what_becomes_of_the_log() {
+    let place = Place::new();
+    let help = place.ok(&["trim", "--help"]);
+    for said in
+        ["replaced only with --force", "of version 2 or 3", "synced before OUT is written", "never a file in a card"]
+    {
+        assert!(help.contains(said), "{help}");
+    }
+    assert!(place.ok(&["evening", "--help"]).contains("`havdrims trim`"));
+}
