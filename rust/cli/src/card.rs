@@ -274,6 +274,14 @@ impl SoFar {
     }
 }
 
+/// What the calls of an evening come to, before any of it is written.
+struct Ahead {
+    words: Vec<u64>,
+    new: Vec<u8>,
+    passed_over: u64,
+    so_far: SoFar,
+}
+
 impl<'a, D: Disk> Card<'a, D> {
     /// Takes a card, alone or beside others that only read it, and looks whether its files fit together.
     pub fn open(disk: &'a mut D, alone: bool) -> Result<Card<'a, D>, Fault> {
@@ -330,9 +338,17 @@ impl<'a, D: Disk> Card<'a, D> {
         self.so_far.summary.no().len()
     }
 
-    /// Carries on with the log as far as it goes, or closes it, until caught up. When this returns, the verdicts and the
-    /// checkpoint survive a cut.
-    pub fn carry_on(&mut self, closing: bool, log: &[u8]) -> Result<Evening, Fault> {
+    pub fn rule(&self) -> &[u8] {
+        &self.rule
+    }
+
+    /// How far an evening with this log would come. Nothing is changed.
+    pub fn look(&self, log: &[u8]) -> Result<SoFar, Fault> {
+        Ok(self.ahead(false, log)?.so_far)
+    }
+
+    /// The calls with this log, or closings, until caught up, on a copy of the checkpoint.
+    fn ahead(&self, closing: bool, log: &[u8]) -> Result<Ahead, Fault> {
         let call = if closing { close } else { resume };
         let mut words = self.words.clone();
         let mut new = Vec::new();
@@ -345,8 +361,6 @@ impl<'a, D: Disk> Card<'a, D> {
                 break;
             }
         }
-        let counts = tally(&new, self.formulas()).map_err(Fault::Refused)?;
-        let first = self.verdicts.len() as u64;
         let summary = summary(&self.rule, &words).map_err(Fault::Refused)?;
         let status = status(&self.rule, &words).map_err(Fault::Refused)?;
         // Only the new records: those seen before were counted, and may be overwritten.
@@ -356,6 +370,15 @@ impl<'a, D: Disk> Card<'a, D> {
         if so_far.services > status.seen - status.given {
             return Err(Fault::LogAltered);
         }
+        Ok(Ahead { words, new, passed_over, so_far })
+    }
+
+    /// Carries on with the log as far as it goes, or closes it, until caught up. When this returns, the verdicts and the
+    /// checkpoint survive a cut.
+    pub fn carry_on(&mut self, closing: bool, log: &[u8]) -> Result<Evening, Fault> {
+        let Ahead { words, new, passed_over, so_far } = self.ahead(closing, log)?;
+        let counts = tally(&new, self.formulas()).map_err(Fault::Refused)?;
+        let first = self.verdicts.len() as u64;
         self.save(&new, words, so_far.services)?;
         self.so_far = so_far;
         Ok(Evening { first, new: new.len() as u64, counts, passed_over, so_far })

@@ -2,6 +2,7 @@
 
 use crate::card::{self, Card, Evening, Fault, SoFar};
 use crate::disk::Folder;
+use crate::waiting::{self, End, Open, Timed};
 use crate::{convert, file};
 use havdrims::{Log, Refusal};
 use std::fmt::{Display, Write};
@@ -37,7 +38,7 @@ struct Command {
     run: fn(&[&str]) -> Option<Answer>,
 }
 
-const COMMANDS: [Command; 12] = [
+const COMMANDS: [Command; 13] = [
     Command {
         name: "new",
         words: "CARD RULE..",
@@ -103,6 +104,20 @@ A card with several formulas has a line for each of them. Where service records 
 and the latest no is a position. The card is not changed. Commands that only read it may run beside each other.",
         run: |words| match words {
             [folder] => Some(summarized(folder)),
+            _ => None,
+        },
+    },
+    Command {
+        name: "open",
+        words: "CARD LOG",
+        does: "print the records that have no verdict yet, and what would settle them",
+        more: "\
+LOG is as for evening. The card is not changed. Of a rule that is one next or until over letters it is said, for each
+open record, what has to follow for yes and for no: one record can still settle it either way, so that no verdict could
+have been given sooner. A letter that has not come in time is no as soon as a later record is there. Service records do
+not count as the next record. Of other rules the open records alone are printed.",
+        run: |words| match words {
+            [folder, log] => Some(left_open(folder, log)),
             _ => None,
         },
     },
@@ -384,8 +399,7 @@ fn all(so_far: &SoFar) -> String {
     let latest = |at: &Option<u64>| at.map_or(String::new(), |at| format!(", the latest at {position} {at}"));
     let counts = summary.no().iter().zip(summary.latest()).map(|(no, at)| format!("{no} no{}", latest(at)));
     let counts = by_formula(&format!("so far: {} verdicts", status.given), ", ", counts.collect());
-    let ended = if status.closed { ", and the card is closed" } else { "" };
-    let open = format!("open: {} of {} {position}s{ended}\n", so_far.open(), so_far.positions());
+    let open = open_line(so_far);
     let service = match services {
         0 => String::new(),
         _ => format!("service: {services} of {} records\n", status.seen),
@@ -393,10 +407,46 @@ fn all(so_far: &SoFar) -> String {
     format!("{counts}{open}{service}")
 }
 
+fn open_line(so_far: &SoFar) -> String {
+    let ended = if so_far.status.closed { ", and the card is closed" } else { "" };
+    format!("open: {} of {} {}s{ended}\n", so_far.open(), so_far.positions(), position(so_far))
+}
+
 fn summarized(folder: &str) -> Answer {
     let mut disk = Folder::new(Path::new(folder));
     let card = Card::open(&mut disk, false).map_err(|fault| Failure::fault(folder, fault))?;
     Ok(all(&card.so_far))
+}
+
+fn left_open(folder: &str, path: &str) -> Answer {
+    let bytes = convert::log(path).map_err(|fault| Failure::fault(path, fault))?;
+    let mut disk = Folder::new(Path::new(folder));
+    let card = Card::open(&mut disk, false).map_err(|fault| Failure::fault(folder, fault))?;
+    if card.so_far.status.closed {
+        return Ok(open_line(&card.so_far));
+    }
+    let so_far = card.look(&bytes).map_err(|fault| unchanged(folder, path, &fault, "Nothing was printed"))?;
+    let log = Log::new(&bytes).map_err(|refusal| Failure::fault(path, refusal))?;
+    let timed = Timed::of(card.rule());
+    let end = End::of(&log);
+    let mut text = open_line(&so_far);
+    let open = waiting::open(&log, so_far.status.given, so_far.positions());
+    let open = open.ok_or_else(|| unchanged(folder, path, &Fault::LogAltered, "Nothing was printed"))?;
+    for open in open {
+        let Open { position, record, seconds } = open;
+        let settled = timed.map_or(String::new(), |timed| format!(": {}", timed.settled_by(seconds, &end)));
+        let place = if so_far.services == 0 { String::new() } else { format!("position {position}, ") };
+        let _ = writeln!(text, "{place}record {record}, second {seconds}{settled}");
+    }
+    if timed.is_none() && so_far.open() > 0 {
+        text.push_str("what would settle them is told only where the rule is one next or until over letters\n");
+    }
+    text.push_str(&match so_far.status.given - card.so_far.status.given {
+        0 => String::new(),
+        1 => "1 verdict is not on the card yet: `havdrims evening` writes it\n".to_string(),
+        new => format!("{new} verdicts are not on the card yet: `havdrims evening` writes them\n"),
+    });
+    Ok(text)
 }
 
 /// The words of `sheet`.

@@ -3,10 +3,11 @@
 //! [`card`] is the folder of one kiosk and what a command does with it; the file of its checkpoint is that of
 //! [`havdrims::save`]. [`file`](mod@file) writes a file outside of cards. [`disk`] is the few operations on files that these need, so
 //! that tests can cut a run at each of them. [`command`] reads the words of a command line, [`convert`] turns rules and logs
-//! into text and back.
+//! into text and back, [`waiting`] says what would settle the positions that a log leaves open.
 
 pub mod card;
 pub mod command;
 pub mod convert;
 pub mod disk;
 pub mod file;
+pub mod waiting;

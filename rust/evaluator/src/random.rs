@@ -200,7 +200,7 @@ pub fn visit(r: &mut Random, records: &mut [Record]) {
     }
 }
 
-/// A log of either version, its version first; in version 1 letter 31 is a letter like the others.
+/// A log of version 1 or 2, its version first; in version 1 letter 31 is a letter like the others.
 pub fn any_log(r: &mut Random, shape: LogShape) -> (u16, Vec<Record>) {
     let version = r.pick(&[1, 2, 2]);
     let mut records = log(r, shape);

@@ -3,6 +3,7 @@
 mod convert;
 mod faults;
 mod killed;
+mod open;
 mod service;
 mod trim;
 mod week;

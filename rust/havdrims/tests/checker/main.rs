@@ -12,4 +12,5 @@ mod lists;
 mod runner;
 mod simulate;
 mod single;
+mod sooner;
 mod worst;
