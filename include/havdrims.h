@@ -24,14 +24,14 @@ extern "C" {
  *
  * The caller owns every buffer, before, during and after the call. The library allocates nothing, keeps no pointer
  * and has no state of its own: all that it knows between two calls is in the point. Calls on different points may
- * run at the same time. A thread with a stack of HAVDRIMS_MOST_STACK bytes can make every call but havdrims_parse,
- * whatever the rule, and one with HAVDRIMS_PARSE_STACK bytes that one too.
+ * run at the same time. A thread with a stack of HAVDRIMS_MOST_STACK bytes can make every call but havdrims_parse and
+ * havdrims_explain, whatever the rule; these take HAVDRIMS_PARSE_STACK and HAVDRIMS_EXPLAIN_STACK bytes.
  *
  * A length counts the elements of its buffer: bytes, or 64-bit words for a point. A buffer of length 0 is not
  * touched, and its pointer may be null. Words are aligned as uint64_t is. A pointer without a length is never null; each
  * call says to how many numbers it points.
  *
- * What a call writes (point, sheet, a rule or log that it makes or trims, the numbers behind its pointers) shares no byte with
+ * What a call writes (point, sheet, a rule, log or text that it makes, the numbers behind its pointers) shares no byte with
  * anything else that the call is given. What it only reads may overlap.
  *
  * A point's words are the library's own, in the byte order of the machine: save them and hand them back as they are.
@@ -126,7 +126,8 @@ enum havdrims_refusal {
     HAVDRIMS_TRIM_VERSION = 23,
     HAVDRIMS_RECORD_DROPPED = 24,
     HAVDRIMS_SHORT_LOG = 25,
-    HAVDRIMS_SETTINGS = 26
+    HAVDRIMS_SETTINGS = 26,
+    HAVDRIMS_NO_REASON = 27
 };
 
 /* What a call's result means. Never null, also for a number that this header does not know. */
@@ -192,6 +193,8 @@ static inline const char *havdrims_refusal_text(uint32_t number) {
         return "the lent buffer for the trimmed log is short";
     case HAVDRIMS_SETTINGS:
         return "a setting, the seconds or the seed is outside its range, or the lent log buffer is short";
+    case HAVDRIMS_NO_REASON:
+        return "the formula does not exist, the position is not answered by every formula, or the lent text buffer is short";
     default:
         return "a refusal that this header does not know";
     }
@@ -212,15 +215,22 @@ static inline const char *havdrims_refusal_text(uint32_t number) {
 /* The most words that a point can need. */
 #define HAVDRIMS_MOST_WORDS 8192
 
-/* The most bytes of stack that a call other than havdrims_parse needs: measured and tested on x86-64 Linux, not proved. */
+/* The most bytes of stack that a call other than havdrims_parse and havdrims_explain needs: measured and tested on x86-64 Linux,
+   not proved. */
 #define HAVDRIMS_MOST_STACK 65536
 
 /* The most bytes of stack that havdrims_parse needs, for 1,024 open brackets: measured and tested in the same way. */
 #define HAVDRIMS_PARSE_STACK 1048576
 
+/* The most bytes of stack that havdrims_explain needs: measured and tested in the same way. */
+#define HAVDRIMS_EXPLAIN_STACK 262144
+
 /* The most bytes of a text and of a rule. */
 #define HAVDRIMS_MOST_TEXT 1024
 #define HAVDRIMS_MOST_RULE 1288
+
+/* Enough bytes for the text of every reason: 128 lines of at most 29 bytes. */
+#define HAVDRIMS_MOST_REASON 3712
 
 /*
  * Weighs a rule of rule_len bytes.
@@ -314,6 +324,49 @@ uint32_t havdrims_close(const uint8_t *rule, size_t rule_len, const uint8_t *log
  */
 uint32_t havdrims_trim(const uint8_t *rule, size_t rule_len, const uint8_t *log, size_t log_len,
                        const uint64_t *point, size_t point_len, uint8_t *out, size_t out_len, uint64_t *written);
+
+/*
+ * Writes the reason for a yes or no, as ASCII text, into the first bytes of `text`. The bytes behind them are kept: no zero ends
+ * the text. HAVDRIMS_MOST_REASON bytes are enough for every reason. No point is needed; the time is about that of two runs of
+ * the rule over the log.
+ *
+ * log        the whole log, from its first record on, with none dropped or overwritten. What was overwritten in such a way that
+ *            no time falls is not found out: the reason is then that of the log as it is.
+ * formula    the formula's number, from 0: 0 for a rule of version 1.
+ * position   a position that every formula of the rule has answered. Before a closing these are the positions with a verdict. A
+ *            position is not the number of its record where service records stand before it.
+ * written    points to one number, which becomes the number of bytes written.
+ *
+ * A reason is a list of lines, each with the number of an entry of the rule, from 0, a position, and then
+ *
+ *     e0 yes       the letter, here e0, stands there; or e0 no
+ *     not          the line of the operand follows
+ *     or           of a yes the line of an operand that is yes follows, the left one's if both are; of a no those of both
+ *     prev 40      the seconds since the position before; if they are within low and high, the line of the operand there
+ *                  follows. prev none: there is no position before
+ *     next 40      the seconds to the next position; if they are within, the line of the operand there follows
+ *     since 2      yes by this position, the earliest: right holds there, and left at every position behind it
+ *     until 9      yes by this position, the earliest: right holds there, and left at every position before it
+ *     since 2 left no: left fails at this position, the latest such; and right is no from there on wherever the gap is within
+ *     since 2 time no: this is the first position at most high before; and right is no likewise
+ *     until 9 left no: left is answered no at this position, the first such; and right is no up to there wherever the gap is
+ *                  within
+ *     until 9 time no: this is the first position more than high later; and right is no likewise
+ *
+ * with one space between the parts and a line feed at the end. The reason of a rule without entries is the line "empty". Of
+ * "not e2 or e0 until[0,90] e1", whose entries are e2, not, e0, e1, until and or, at position 5 of the log of examples/day:
+ *
+ *     5 5 or            no, by both sides:
+ *     1 5 not           not e2 is no,
+ *     0 5 e2 yes        since e2 stands there;
+ *     4 5 until 6 left  and the until is no, since e0 fails at position 6, and e1 stands at neither
+ *
+ * The facts that the lines say hold, and on every log in which they hold and no time falls the verdict is this one.
+ *
+ * Refusals: 1 to 8, then 12, 24 if any record was dropped, 14 from the first record on, and 27.
+ */
+uint32_t havdrims_explain(const uint8_t *rule, size_t rule_len, const uint8_t *log, size_t log_len,
+                          uint64_t formula, uint64_t position, uint8_t *text, size_t text_len, uint64_t *written);
 
 /*
  * What the point itself knows of the verdicts given with it, all calls together: what havdrims_tally and a scan would give over

@@ -1,7 +1,7 @@
 /*
  * A week of one kiosk in C: a log that grows, a point that is saved and carries on, a card that is overwritten, and the
- * month's end. Then two typed rules on one sheet, a log with a service visit, and one that is trimmed. `make` builds it against
- * an installed Havdrims; or, in the repository:
+ * month's end. Then two typed rules on one sheet, a log with a service visit, one that is trimmed, and the reason for a no. `make`
+ * builds it against an installed Havdrims; or, in the repository:
  *
  *     cc -std=c99 -Iinclude examples/c/week.c target/staticlib/libhavdrims.a -o week && ./week
  *
@@ -316,6 +316,39 @@ static void shorter_log(void) {
     check(number == HAVDRIMS_RECORD_DROPPED, "the refusal of a record dropped");
 }
 
+/* Why a no is a no: the reason as text, and the position that its first line names. The log is whole, with no record overwritten. */
+static void why_no(void) {
+    uint8_t text[HAVDRIMS_MOST_REASON];
+    uint64_t length;
+
+    log_file[4] = 2;
+    log_length = 8;
+    record(200, WARM);
+    record(210, SERVICE | PRINTS);
+    record(260, 0);
+    record(300, PRINTS);
+    /* The service record is no position, so record 2 is position 1. */
+    accepted("explain", havdrims_explain(rule, sizeof rule, log_file, log_length, 0, 0, text, sizeof text, &length));
+    printf("position 0 is no: %.*s", (int)length, (const char *)text);
+    static const char expected[] = "2 0 until 1 left\n";
+    check(length == strlen(expected) && memcmp(text, expected, length) == 0, "the reason");
+
+    /* A line has the entry, the position, the entry's word, and here the position at which the head had gone cold. */
+    unsigned entry, position, cold;
+    char line[sizeof expected];
+    memcpy(line, text, length);
+    line[length] = 0;
+    check(sscanf(line, "%u %u until %u left", &entry, &position, &cold) == 3, "the parts of the line");
+    check(entry == 2 && position == 0 && cold == 1, "where the head had gone cold");
+    printf("the head had gone cold at position %u, before the print started\n", cold);
+
+    /* Not below A, or no such formula, or a short buffer. */
+    uint32_t number = havdrims_explain(rule, sizeof rule, log_file, log_length, 0, 3, text, sizeof text, &length);
+    printf("position 3: refused %u: %s\n", (unsigned)number, havdrims_refusal_text(number));
+    check(number == HAVDRIMS_NO_REASON, "the refusal of a position that is not there");
+    log_file[4] = 1;
+}
+
 int main(void) {
     uint64_t words, reach, given, more, seen, wanted, closed;
     uint64_t no[HAVDRIMS_MOST_FORMULAS], yes[HAVDRIMS_MOST_FORMULAS], latest[HAVDRIMS_MOST_FORMULAS];
@@ -411,5 +444,6 @@ int main(void) {
     two_rules();
     service_visit();
     shorter_log();
+    why_no();
     return 0;
 }

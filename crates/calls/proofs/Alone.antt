@@ -4,7 +4,7 @@ use mathlib.Core.Bool.{Bool, true, false, false≢true}
 use mathlib.Core.Path.{_≡_, refl, sym, _∙_, ap, subst}
 use mathlib.Core.List.{List, [], _∷_, append-nil}
 use native.Mathlib.Omega.{arith}
-use lib.ListN.{length, getD, take, drop}
+use lib.ListN.{length, take, drop}
 use lib.Seq.{take-at, drop-append-add}
 use Rattle.mtl.specs.Formula.{Formula}
 use Rattle.mtl.specs.Log.{Log, NeverFalls, Continues}
@@ -12,7 +12,7 @@ use Rattle.mtl.specs.Satisfaction.{sat}
 use Rattle.mtl.specs.Progress.{joint-progress}
 use Rattle.mtl.proofs.Joint.{joint-le-size}
 use Rattle.bits.specs.Packed.{bit, number}
-use Rattle.verdicts.proofs.Bytes.{byte-of-one, bit-of-byte}
+use Rattle.verdicts.proofs.Bytes.{byte-of-one}
 use Rattle.rule.specs.Entries.{entries}
 use Rattle.rule.specs.Postfix.{formulas-or, postfix, postfixes, size, formula, start}
 use Rattle.rule.specs.Encoding.{rule-of}
@@ -21,31 +21,21 @@ use Rattle.rule.proofs.Acceptance.{accepted}
 use Rattle.rule.proofs.Flat.{length-postfix}
 use Rattle.rule.proofs.Alone.{alone-formulas}
 use Rattle.rule.proofs.Alone.{Alone as Accepts, alone as accepts}
-use Rattle.emit.specs.Verdicts.{formulas-of, answers-of, verdict, first-records}
-use Rattle.emit.proofs.Meaning.{joint-le, verdict-stays}
+use Rattle.emit.specs.Verdicts.{formulas-of, verdict, first-records}
+use Rattle.emit.proofs.Meaning.{joint-le, verdict-bit, verdict-stays}
 use Rattle.calls.specs.Calls.{Untouched, Call, brought-by, closed-by, Calls}
 use Rattle.calls.specs.Alone.{AloneOn, rule-alone, SameVerdicts, Comparable, SameWhereComparable, Alone}
 use Rattle.calls.proofs.Demand3.{first-longer, first-falls}
-use Rattle.calls.proofs.Truth.{length-answers, byte-at}
+use Rattle.calls.proofs.Truth.{byte-at}
 
 -- OVER THE DEFINITIONS
-
--- formula k's answer
-answer-at : (holds : Formula → Bool) (fs : List Formula) (k : ℕ) → k < length fs → getD (answers-of holds fs) k false ≡ holds (formula fs k)
-answer-at holds [] k h = absurd (omega arith)
-answer-at holds (φ ∷ fs) zero h = refl
-answer-at holds (φ ∷ []) (suc k) h = absurd (omega arith)
-answer-at holds (φ ∷ (ψ ∷ fs)) (suc k) h = answer-at holds (ψ ∷ fs) k (omega arith)
 
 -- THE THEOREM for any number of formulas
 pub alone-on : (L : Log) (fs : List Formula) (k : ℕ) → k < length fs → AloneOn L fs k
 unfolding joint-progress
 alone-on L fs k h =
     record {
-      same = λ i.
-          let holds : Formula → Bool = λ φ. sat φ L i in
-          ap number (bit-of-byte (answers-of holds fs) k (omega (arith, length-answers holds fs)) ∙ answer-at holds fs k h) ∙
-          sym (byte-of-one (sat (formula fs k) L i));
+      same = λ i. ap number (verdict-bit fs L i k h) ∙ sym (byte-of-one (sat (formula fs k) L i));
       no-fewer = omega (arith, joint-le fs L k h, joint-le-size fs L);
     }
 

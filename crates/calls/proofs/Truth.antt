@@ -8,7 +8,7 @@ use mathlib.Core.List.{List, [], _∷_, _++_}
 use native.Mathlib.Nat.{div-eq-of-lt}
 use native.Mathlib.Omega.{arith}
 use lib.Dec.{ltb}
-use lib.ListN.{length, getD, length-map, length-append, List·getD-append}
+use lib.ListN.{length, getD, length-append, List·getD-append}
 use borrow.Author.Tests.{le-ltb}
 use Rattle.mtl.specs.Formula.{Formula}
 use Rattle.mtl.specs.Log.{Log}
@@ -26,6 +26,7 @@ use Rattle.verdicts.specs.Tally.{beyond, tally-refusal}
 use Rattle.verdicts.proofs.Bytes.{byte-of-one, byte-of-lt}
 use Rattle.rule.specs.Entries.{version}
 use Rattle.emit.specs.Verdicts.{formulas-of, answers-of, columns, verdict, first-records, answered}
+use Rattle.emit.proofs.Meaning.{length-answers}
 use Rattle.monitor.specs.Summary.{counts-of}
 use Rattle.monitor.proofs.Meaning.{most-few, rule-reads, few-columns}
 use Rattle.monitor.proofs.VerdictBytes.{length-verdicts, verdict-at}
@@ -56,11 +57,6 @@ says Holds (φ ∷ (ψ ∷ fs)) K i h each =
       rw first (Iff·trans (number-iff (sat φ K i)) (each φ (omega arith))),
       subst (Says Holds (ψ ∷ fs)) others (says Holds (ψ ∷ fs) K i (omega arith) each),
     )
-
--- one answer a formula, and one of an empty rule
-pub length-answers : (holds : Formula → Bool) (fs : List Formula) → length (answers-of holds fs) ≡ columns fs
-length-answers holds [] = refl
-length-answers holds (φ ∷ fs) = omega (arith, length-map (φ ∷ fs) holds)
 
 no-bit-beyond : (fs : List Formula) (K : Log) (i : ℕ) → verdict fs K i < 2 ^ columns fs
 no-bit-beyond fs K i =

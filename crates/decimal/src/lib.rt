@@ -1,5 +1,4 @@
 // Bytes, numbers and words written into a lent text, one behind the other.
-ghost use mathlib.Core.Path.{_≡_};
 ghost use Prim.Native.Nat.{_+_, _≤_};
 ghost use lib.ListN.{length};
 ghost use Rattle.decimal.specs.Text.{decimal, word, Writes};

@@ -6,7 +6,7 @@ use mathlib.Core.List.{List, [], _∷_, map}
 use native.Mathlib.Nat.{div-eq-of-lt}
 use native.Mathlib.Omega.{arith}
 use lib.Pow.{pow-pos}
-use lib.ListN.{length, getD, take}
+use lib.ListN.{length, getD, take, length-map}
 use Rattle.mtl.specs.Formula.{Formula}
 use Rattle.mtl.specs.Log.{Log, NeverFalls, Continues}
 use Rattle.mtl.specs.Satisfaction.{sat}
@@ -17,6 +17,7 @@ use Rattle.bits.specs.Packed.{bit, Packed}
 use Rattle.bits.proofs.Laws.{packed-not}
 use Rattle.rule.specs.Postfix.{formula}
 use Rattle.verdicts.specs.Bytes.{byte-of, answers-at}
+use Rattle.verdicts.proofs.Bytes.{bit-of-byte}
 use Rattle.engine.specs.Answer.{first-read}
 use Rattle.emit.specs.Verdicts.{answers-of, columns, verdict}
 
@@ -78,6 +79,24 @@ verdict-answers [] L p i ws long few h each none =
 verdict-answers (φ ∷ fs) L p i ws long few h each none =
     let n : columns (φ ∷ fs) ≡ length (φ ∷ fs) = omega arith in
     ap byte-of (answers-match (φ ∷ fs) ws (λ ψ. sat ψ L p) i (omega arith) each ∙ ap (λ (m : ℕ). answers-at (take m ws) i) (sym n))
+
+-- one answer a formula, and one of an empty rule
+pub length-answers : (holds : Formula → Bool) (fs : List Formula) → length (answers-of holds fs) ≡ columns fs
+length-answers holds [] = refl
+length-answers holds (φ ∷ fs) = omega (arith, length-map (φ ∷ fs) holds)
+
+-- formula k's answer
+answer-at : (holds : Formula → Bool) (fs : List Formula) (k : ℕ) → k < length fs → getD (answers-of holds fs) k false ≡ holds (formula fs k)
+answer-at holds [] k h = absurd (omega arith)
+answer-at holds (φ ∷ fs) zero h = refl
+answer-at holds (φ ∷ []) (suc k) h = absurd (omega arith)
+answer-at holds (φ ∷ (ψ ∷ fs)) (suc k) h = answer-at holds (ψ ∷ fs) k (omega arith)
+
+-- is bit k of the verdict
+pub verdict-bit : (fs : List Formula) (L : Log) (i k : ℕ) → k < length fs → bit (verdict fs L i) k ≡ sat (formula fs k) L i
+verdict-bit fs L i k h =
+    let holds : Formula → Bool = λ φ. sat φ L i in
+    bit-of-byte (answers-of holds fs) k (omega (arith, length-answers holds fs)) ∙ answer-at holds fs k h
 
 map-same : (fs : List Formula) (K : Log) (i : ℕ) (f g : Formula → Bool) → i < joint-progress fs K →
     ((φ : Formula) → i < settled-to φ K → f φ ≡ g φ) → map f fs ≡ map g fs

@@ -57,7 +57,13 @@ use Rattle.worst.specs.declared.Made.the-variants.{Refused as Unmade}
 use Rattle.worst.specs.Call.{answered, Writes}
 use Rattle.worst.specs.Call.{Answer as Making, answer as made-of}
 use Rattle.worst.proofs.Outcome.{not-zero}
-use Rattle.havdrims.specs.Interface.{or-kept, flag, MeasureCall, OpenCall, HandsOver, ResumeCall, TrimCall, TallyCall, SummaryCall, FormulasCall, StatusCall, ParseCall, WorstLogCall}
+use Rattle.explain.specs.Explain.{reason-text, explain-refusal, answered as explained-as, Explains}
+use Rattle.explain.specs.Explain.{Answer as Explanation, answer as explained-of}
+use Rattle.explain.specs.declared.Explained.{Explained}
+use Rattle.explain.specs.declared.Explained.the-variants.{Written as Explaining}
+use Rattle.explain.specs.declared.Explained.the-variants.{Refused as Unexplained}
+use Rattle.havdrims.proofs.Reasons.{reason-some}
+use Rattle.havdrims.specs.Interface.{or-kept, flag, MeasureCall, OpenCall, HandsOver, ResumeCall, TrimCall, ExplainCall, TallyCall, SummaryCall, FormulasCall, StatusCall, ParseCall, WorstLogCall}
 
 -- a number that is not 0 keeps what stood behind the pointer
 pub kept : {A : Type 0} → (n : ℕ) (old new : A) → (n ≡ 0 → ⊥) → old ≡ or-kept n old new
@@ -135,6 +141,40 @@ module _ (rule log p out : List ℕ) (old : ℕ) (o : Trimmed) (out′ : List �
   pub is-trimmed : (l : ℕ) → o ≡ Shortened l → TrimCall rule log p out old 0 out′ l
   is-trimmed l is =
       trimming 0 l (ap (λ (x : Trimmed). trimmed-of x .number) (sym is)) (ap (λ (x : Trimmed). cond (trimmed-of x .refused) old (trimmed-of x .written)) (sym is))
+
+-- a refused reason has another number than 0, since every text has some byte; one that is written has 0
+abbrev explanation : (number length : ℕ) → Explanation
+explanation n l = record { number = n; length = l }
+
+not-explained-by : (b : Bool) (n m size : ℕ) → eqb n 0 ≡ b → 0 < size → explanation m 0 ≡ cond b (explanation 0 size) (explanation n 0) → (m ≡ n) × (m ≡ 0 → ⊥)
+not-explained-by true n m size t some e = absurd (omega (arith, some, ap (λ (a : Explanation). a .length) e))
+not-explained-by false n m size t some e =
+    let same : m ≡ n = ap (λ (a : Explanation). a .number) e in
+    (same, λ z. eqb-false n 0 t (sym same ∙ z))
+
+explained-by : (b : Bool) (n l size : ℕ) → eqb n 0 ≡ b → explanation 0 l ≡ cond b (explanation 0 size) (explanation n 0) → (0 ≡ n) × (l ≡ size)
+explained-by true n l size t e = (sym (eqb-true n 0 t), ap (λ (a : Explanation). a .length) e)
+explained-by false n l size t e = absurd (eqb-false n 0 t (sym (ap (λ (a : Explanation). a .number) e)))
+
+module _ (rule log : List ℕ) (k i : ℕ) (out : List ℕ) (old : ℕ) (o : Explained) (out′ : List ℕ) (h : Explains rule log k i out o out′) where
+  abbrev refusal-here : ℕ
+  refusal-here = explain-refusal rule log k i (length out)
+
+  abbrev size-here : ℕ
+  size-here = length (reason-text rule log k i)
+
+  pub not-explained : (m : ℕ) → o ≡ Unexplained m → (r : ℕ) → r ≡ explained-of o .number → ExplainCall rule log k i out old r out′ old
+  not-explained m is r number =
+      let q : explanation m 0 ≡ explained-as rule log k i (length out) = ap explained-of (sym is) ∙ h .answer in
+      let (same, z) = not-explained-by (eqb refusal-here 0) refusal-here m size-here refl (reason-some rule log k i) q in
+      let numbered : r ≡ m = number ∙ ap (λ (a : Explained). explained-of a .number) is in
+      record { number = numbered ∙ same; bytes = h .bytes; written = kept r old size-here (λ f. z (sym numbered ∙ f)) }
+
+  pub is-explained : (l : ℕ) → o ≡ Explaining l → ExplainCall rule log k i out old 0 out′ l
+  is-explained l is =
+      let q : explanation 0 l ≡ explained-as rule log k i (length out) = ap explained-of (sym is) ∙ h .answer in
+      let (number, length) = explained-by (eqb refusal-here 0) refusal-here l size-here refl q in
+      record { number = number; bytes = h .bytes; written = length }
 
 -- the counts stand in the first words where the number is 0, and all words are kept where it is not
 pub tallying : (formulas : ℕ) (s nos yeses : List ℕ) (a : TallyAnswer) (nos′ yeses′ : List ℕ) → Tallies formulas s nos yeses a nos′ yeses′ → (r : ℕ) →

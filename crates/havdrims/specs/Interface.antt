@@ -28,6 +28,7 @@ use Rattle.text.specs.Parse.{answer, Parses}
 use Rattle.worst.specs.Call.{answered, buffer-after}
 use Rattle.simulation.specs.Simulate.{simulated, log-after}
 use Rattle.simulation.specs.declared.Settings.{Settings}
+use Rattle.explain.specs.Explain.{reason-text, explain-refusal, text-after}
 
 -- the new value where the call was accepted, else the old one
 abbrev pub or-kept : {A : Type 0} → (number : ℕ) (old new : A) → A
@@ -65,6 +66,11 @@ pub record TrimCall (rule log p out : List ℕ) (w r : ℕ) (out′ : List ℕ) 
   pub number : r ≡ trim-refusal rule log p (length out)
   pub bytes : out′ ≡ or-kept r out (put out 0 (trimmed-log log p))
   pub written : w′ ≡ or-kept r w (length (trimmed-log log p))
+
+pub record ExplainCall (rule log : List ℕ) (k i : ℕ) (out : List ℕ) (w r : ℕ) (out′ : List ℕ) (w′ : ℕ) : Type 0 where
+  pub number : r ≡ explain-refusal rule log k i (length out)
+  pub bytes : out′ ≡ text-after rule log k i out
+  pub written : w′ ≡ or-kept r w (length (reason-text rule log k i))
 
 -- for formula k the count of no stands in word k of the one buffer, and that of yes in word k of the other
 pub record TallyCall (formulas : ℕ) (sheet nos yeses : List ℕ) (r : ℕ) (nos′ yeses′ : List ℕ) : Type 0 where

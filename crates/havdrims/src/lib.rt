@@ -2,7 +2,8 @@
 // behind a pointer is as it was. include/havdrims.h says what a C programmer needs to know.
 ghost use mathlib.Core.Bool.{true, false};
 ghost use Rattle.monitor.specs.Resume.{answer as resumed-of};
-ghost use Rattle.havdrims.specs.Interface.{MeasureCall, OpenCall, HandsOver, ResumeCall, TrimCall, TallyCall, SummaryCall, FormulasCall, StatusCall, ParseCall, WorstLogCall, settings, SimulateCall};
+ghost use Rattle.havdrims.specs.Interface.{MeasureCall, OpenCall, HandsOver, ResumeCall, TrimCall, ExplainCall, TallyCall, SummaryCall, FormulasCall, StatusCall, ParseCall, WorstLogCall, settings, SimulateCall};
+use explain::Explained;
 use monitor::FormulaCount;
 use monitor::Opened;
 use monitor::Resumed;
@@ -104,6 +105,26 @@ pub extern "C" fn havdrims_trim(
     let trimmed = monitor::trim(rule, log, point, out);
     let Trimmed::Written { length } = trimmed else {
         return trimmed.number();
+    };
+    *written = length as u64;
+    0
+}
+
+// Document 02's sentence under each no: writes the reason for a formula's yes or no at a position.
+#[no_mangle]
+pub extern "C" fn havdrims_explain(
+    rule: &[u8],
+    log: &[u8],
+    formula: u64,
+    position: u64,
+    text: &mut [u8],
+    written: &mut u64,
+) -> u32
+    ensures { λ r. ⌜ ExplainCall (now (rule .entry)) (now (log .entry)) formula position (now (text .entry)) (now (written .entry)) r (now (text .exit)) (now (written .exit)) ⌝ }
+{
+    let explained = explain::explain(rule, log, formula, position, text);
+    let Explained::Written { length } = explained else {
+        return explained.number();
     };
     *written = length as u64;
     0

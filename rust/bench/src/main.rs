@@ -1,9 +1,9 @@
 //! Records per second of the checker against document 002's algorithm in plain Rust and against a pass that only reads
 //! the records, as ratios of one run; several formulas in one run against runs of one; logs with service records against
-//! the same logs without them; growth with records, entries and calls; bytes of state.
+//! the same logs without them; the reason of a verdict against a run; growth with records, entries and calls; bytes of state.
 //!
 //! `cargo run --release --offline -p bench`, or with `-- quick` for a shorter run, `-- formulas` for the comparison of several
-//! formulas alone, `-- service` for that of service records. It prints tables in Markdown.
+//! formulas alone, `-- service` for that of service records, `-- reasons` for that of reasons. It prints tables in Markdown.
 
 mod multihead;
 
@@ -285,6 +285,49 @@ fn service_visits(records: usize, rounds: usize) {
     println!();
 }
 
+/// The reason of one verdict against a run over the same log: at the first, a middle and the last position.
+fn reasons(records: usize, rounds: usize) {
+    println!("## Reasons, {records} records, {rounds} rounds\n");
+    println!(
+        "Milliseconds of processor time of a resume, and how many times as long explain takes at the first, the middle"
+    );
+    println!("and the last answered position; middle of the rounds (least to most).\n");
+    println!("| rule | log | resume | first | middle | last | lines of the last |");
+    println!("|---|---|---|---|---|---|---|");
+    let [_, (_, is_service)] = rules::visits();
+    for (rule_name, entries) in rules::all().into_iter().chain(rules::many_lines()) {
+        let mut logs = rules::logs(records);
+        let mark = |(at, &record): (usize, &Record)| if is_service(at) { record.as_service() } else { record };
+        logs.push(("kiosk, service records", logs[0].1.iter().enumerate().map(mark).collect()));
+        for (log_name, log) in logs {
+            let version = if log_name.ends_with("records") { 2 } else { 1 };
+            let job = Job { file: log::encode_as(version, &log), ..Job::new(&entries, &log) };
+            let mut sheet = Vec::new();
+            let (mut runs, mut ratios) = (Vec::new(), [(); 3].map(|()| Vec::new()));
+            let mut lines = 0;
+            for _ in 0..rounds {
+                let run = job.checker(&mut sheet);
+                runs.push(run * 1e3);
+                let last = sheet.len() - 1;
+                for (ratios, position) in ratios.iter_mut().zip([0, last / 2, last]) {
+                    let mut text = [0; havdrims::MOST_REASON];
+                    let mut length = 0;
+                    let time = seconds(|| {
+                        length =
+                            havdrims::explain(&job.bytes, &job.file, 0, position as u64, &mut text).expect("explain");
+                    });
+                    ratios.push(time / run);
+                    lines = text[..length].iter().filter(|&&byte| byte == 10).count();
+                }
+            }
+            let [first, middle, last] = ratios.map(|ratios| Spread::of(ratios).text(2));
+            let run = Spread::of(runs).text(2);
+            println!("| {rule_name} | {log_name} | {run} | {first} | {middle} | {last} | {lines} |");
+        }
+    }
+    println!();
+}
+
 fn middle(rounds: usize, work: impl FnMut(usize) -> f64) -> Spread {
     Spread::of((0..rounds).map(work).collect())
 }
@@ -359,9 +402,13 @@ fn main() {
     if std::env::args().any(|word| word == "service") {
         return service_visits(records, rounds);
     }
+    if std::env::args().any(|word| word == "reasons") {
+        return reasons(records, rounds);
+    }
     rates(records, rounds);
     several_formulas(records, rounds);
     service_visits(records, rounds);
+    reasons(records, rounds);
     growth_with_records(records, rounds);
     growth_with_entries(records / 10, rounds);
     growth_with_calls(records, rounds.min(5));

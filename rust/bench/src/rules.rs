@@ -2,7 +2,7 @@
 
 use evaluator::log::Record;
 use evaluator::random::{self, LogShape, Random};
-use evaluator::rule::{Entry, NEXT, PREVIOUS, SINCE, UNTIL};
+use evaluator::rule::{Entry, NEXT, NO_END, PREVIOUS, SINCE, UNTIL};
 
 fn binary(letters: [u8; 2], entry: Entry) -> Vec<Entry> {
     vec![Entry::letter(letters[0]), Entry::letter(letters[1]), entry]
@@ -44,6 +44,26 @@ pub fn all() -> Vec<(&'static str, Vec<Entry>)> {
         ("since, ten minutes", binary([0, 1], Entry::timed(SINCE, 0, 600))),
         ("all seven kinds", mix),
         ("128 entries", most),
+    ]
+}
+
+/// Rules whose reasons have many lines, each with its name: letters, sinces and untils that are no, under ors; and previous and
+/// next in turn.
+pub fn many_lines() -> Vec<(&'static str, Vec<Entry>)> {
+    let never = Entry::letter(4);
+    let timed = |kind| binary([0, 4], Entry::timed(kind, 0, 60));
+    let under_ors = |parts: usize, part: Vec<Entry>| {
+        let mut all = part.clone();
+        (1..parts).for_each(|_| all.extend(part.iter().copied().chain([Entry::or()])));
+        all
+    };
+    let mut chain = vec![Entry::letter(0)];
+    chain.extend((0..127).map(|k| Entry::timed([PREVIOUS, NEXT][k % 2], 0, NO_END)));
+    vec![
+        ("64 letters under ors", under_ors(64, vec![never])),
+        ("32 sinces under ors", under_ors(32, timed(SINCE))),
+        ("32 untils under ors", under_ors(32, timed(UNTIL))),
+        ("127 times previous and next", chain),
     ]
 }
 

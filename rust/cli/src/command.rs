@@ -3,7 +3,7 @@
 use crate::card::{self, Card, Evening, Fault, SoFar};
 use crate::disk::Folder;
 use crate::waiting::{self, End, Open, Timed};
-use crate::{convert, file};
+use crate::{convert, file, why};
 use havdrims::{Log, Refusal};
 use std::fmt::{Display, Write};
 use std::hash::{BuildHasher, RandomState};
@@ -38,7 +38,7 @@ struct Command {
     run: fn(&[&str]) -> Option<Answer>,
 }
 
-const COMMANDS: [Command; 13] = [
+const COMMANDS: [Command; 14] = [
     Command {
         name: "new",
         words: "CARD RULE..",
@@ -131,6 +131,19 @@ over the records that are no service records: where the log has none, a position
 --csv prints them for a spreadsheet, under the line `position,verdict`; where there are several formulas each has its
 column, as in `position,formula 0,formula 1`. --from N begins with position N. The card is not changed.",
         run: sheet,
+    },
+    Command {
+        name: "why",
+        words: "RULE LOG RECORD [--formula K] [--words]",
+        does: "print the reason for the yes or no of a record",
+        more: "\
+RULE is a .krl file, as a card has it, or a formula. LOG is the whole log, with no record overwritten or dropped. RECORD
+is the record's number in it, from 0; a service record has no verdict, and an open record none yet. Of a rule with
+several formulas --formula says which, from 0.
+The reason is a line for each part of the rule that counts: the number of its entry, a position, and what makes it yes
+or no there. Positions are numbered over the records that are no service records. --words says the same in sentences,
+with records in place of positions.",
+        run: |words| Some(why::answer(&why::question(words)?)),
     },
     Command {
         name: "rule",

@@ -302,6 +302,159 @@ fn document_01() -> Vec<Case> {
     ]
 }
 
+/// The reasons of one formula at all answered positions.
+pub struct Reasoned {
+    pub name: &'static str,
+    /// The rule's bytes.
+    pub rule: Vec<u8>,
+    /// The log's bytes.
+    pub log: Vec<u8>,
+    pub formula: usize,
+    pub texts: Vec<&'static str>,
+}
+
+fn reasoned(name: &'static str, entries: &[Entry], log: &[(u32, &[u32])], texts: &[&'static str]) -> Reasoned {
+    Reasoned { name, rule: rule::encode(entries), log: log::encode(&records(log)), formula: 0, texts: texts.to_vec() }
+}
+
+/// The same of one of these formulas of a version 2 rule.
+fn reasoned_of(
+    name: &'static str,
+    formulas: &[Vec<Entry>],
+    k: usize,
+    log: &[(u32, &[u32])],
+    texts: &[&'static str],
+) -> Reasoned {
+    Reasoned { rule: rule::encode_several(formulas), formula: k, ..reasoned(name, &[], log, texts) }
+}
+
+/// Request 13: the reasons of P1 to P8, and a case for every clause of the paper.
+pub fn reasons() -> Vec<Reasoned> {
+    let p1 = p1_entries();
+    let not_p1 = [p1.as_slice(), &[Entry::not()]].concat();
+    let p2 = [&P1[..], &[(21, &[1])]].concat();
+    let [e0, e1, e2] = [0, 1, 2].map(Entry::letter);
+    let [until, since] = [UNTIL, SINCE].map(|kind| move |low, high| [e0, e1, Entry::timed(kind, low, high)]);
+    let previous = |high| [e0, Entry::timed(PREVIOUS, 0, high)];
+    let next = [e0, Entry::timed(NEXT, 1, 1)];
+    let inner = [e2, Entry::letter(3), Entry::timed(UNTIL, 0, 5)];
+    let nested = [&[e0], inner.as_slice(), &[Entry::timed(UNTIL, 0, 5)]].concat();
+    let asked = [e2, Entry::not(), e0, e1, Entry::timed(UNTIL, 0, 90), Entry::or()];
+    let day: [(u32, &[u32]); 8] = [
+        (100, &[0, 2]),
+        (130, &[0]),
+        (160, &[0, 1]),
+        (300, &[0, 2]),
+        (340, &[]),
+        (500, &[0, 2]),
+        (560, &[0]),
+        (600, &[0]),
+    ];
+    let both = [vec![e0], vec![e0, Entry::timed(NEXT, 0, 9)]];
+    let visited = |name, entries: &[Entry], log: &[(u32, &[u32])], texts: &[&'static str]| Reasoned {
+        log: log::encode_as(2, &records(log)),
+        ..reasoned(name, entries, log, texts)
+    };
+    vec![
+        reasoned("P1", &p1, &P1, &P1_REASONS[..5]),
+        reasoned("P2", &p1, &p2, &P1_REASONS),
+        reasoned(
+            "P3",
+            &since(1, NO_END),
+            &[(5, &[1]), (5, &[0]), (6, &[0]), (7, &[])],
+            &["2 0 since 0 left\n", "2 1 since 0 left\n", "2 2 since 0\n", "2 3 since 3 left\n"],
+        ),
+        reasoned(
+            "P4",
+            &previous(0),
+            &[(5, &[0]), (5, &[]), (6, &[0])],
+            &["1 0 prev none\n", "1 1 prev 0\n0 0 e0 yes\n", "1 2 prev 1\n"],
+        ),
+        reasoned("P5", &next, &[(5, &[]), (6, &[0]), (8, &[0])], &["1 0 next 1\n0 1 e0 yes\n", "1 1 next 2\n"]),
+        reasoned("P6", &not_p1, &[(10, &[0])], &[]),
+        reasoned("P7", &p1, &[(10, &[0]), (12, &[0])], &[]),
+        reasoned("P7, lengthened", &p1, &[(10, &[0]), (12, &[0]), (13, &[0])], &["2 0 until 2 time\n"]),
+        reasoned("P8", &nested, &[(0, &[0, 2]), (11, &[2])], &["4 0 until 1 left\n"]),
+        reasoned("no record", &p1, &[], &[]),
+        reasoned("left and time at once", &p1, &[(0, &[0]), (3, &[])], &["2 0 until 1 left\n", "2 1 until 1 left\n"]),
+        reasoned(
+            "right stands at both ends, too soon",
+            &until(2, 3),
+            &[(0, &[0, 1]), (1, &[1])],
+            &["2 0 until 1 left\n", "2 1 until 1 left\n"],
+        ),
+        reasoned("until, the earliest", &until(0, 9), &[(0, &[0, 1]), (1, &[1])], &["2 0 until 0\n", "2 1 until 1\n"]),
+        reasoned(
+            "since, the earliest",
+            &since(0, 9),
+            &[(0, &[1]), (1, &[0, 1]), (2, &[0, 1])],
+            &["2 0 since 0\n", "2 1 since 0\n", "2 2 since 0\n"],
+        ),
+        reasoned(
+            "since, by left or time: it fails at the first near, and before it",
+            &since(0, 2),
+            &[(0, &[0]), (1, &[]), (3, &[0]), (4, &[0])],
+            &["2 0 since 0 time\n", "2 1 since 1 left\n", "2 2 since 1 left\n", "2 3 since 2 time\n"],
+        ),
+        reasoned(
+            "or",
+            &[e0, e1, Entry::or()],
+            &[(0, &[]), (0, &[0, 1]), (0, &[1])],
+            &["2 0 or\n0 0 e0 no\n1 0 e1 no\n", "2 1 or\n0 1 e0 yes\n", "2 2 or\n1 2 e1 yes\n"],
+        ),
+        reasoned(
+            "asked for a print",
+            &asked,
+            &day,
+            &[
+                "5 0 or\n4 0 until 2\n",
+                "5 1 or\n1 1 not\n0 1 e2 no\n",
+                "5 2 or\n1 2 not\n0 2 e2 no\n",
+                "5 3 or\n1 3 not\n0 3 e2 yes\n4 3 until 4 left\n",
+                "5 4 or\n1 4 not\n0 4 e2 no\n",
+                "5 5 or\n1 5 not\n0 5 e2 yes\n4 5 until 7 time\n",
+            ],
+        ),
+        reasoned("an empty rule", &[], &[(1, &[]), (1, &[0])], &["empty\n", "empty\n"]),
+        Reasoned { formula: 1, ..reasoned("an empty rule has one formula", &[], &[(1, &[])], &[]) },
+        reasoned_of("P1 and its not", &p1_and_its_not(), 0, &P1, &P1_REASONS[..5]),
+        reasoned_of(
+            "P1 and its not, the second",
+            &p1_and_its_not(),
+            1,
+            &P1,
+            &[
+                "6 0 not\n5 0 until 2 left\n",
+                "6 1 not\n5 1 until 2 left\n",
+                "6 2 not\n5 2 until 2 left\n",
+                "6 3 not\n5 3 until 4\n",
+                "6 4 not\n5 4 until 4\n",
+            ],
+        ),
+        reasoned_of("P1 and its not, a third", &p1_and_its_not(), 2, &P1, &[]),
+        reasoned_of("a letter waits for the other formula", &both, 0, &[(0, &[0]), (1, &[])], &["0 0 e0 yes\n"]),
+        reasoned_of("for this one", &both, 1, &[(0, &[0]), (1, &[])], &["2 0 next 1\n1 1 e0 no\n"]),
+        visited(
+            "the gap to the position before a service record",
+            &previous(2),
+            &[(1, &[0]), (2, TEST_PRINT), (3, &[0])],
+            &["1 0 prev none\n", "1 1 prev 2\n0 0 e0 yes\n"],
+        ),
+        visited("P1 with service records", &p1, &P1_VISITED, &P1_REASONS[..5]),
+    ]
+}
+
+/// Of P1, and behind them of P2.
+const P1_REASONS: [&str; 7] = [
+    "2 0 until 2 left\n",
+    "2 1 until 2 left\n",
+    "2 2 until 2 left\n",
+    "2 3 until 4\n",
+    "2 4 until 4\n",
+    "2 5 until 6\n",
+    "2 6 until 6\n",
+];
+
 /// What a call does.
 #[derive(Clone, Copy, Debug, PartialEq, Eq)]
 pub enum Kind {

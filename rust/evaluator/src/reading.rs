@@ -40,6 +40,12 @@ pub(crate) fn bytes(formulas: &[Reading], n: usize) -> Vec<u8> {
 
 /// The last entry of each formula.
 fn of_formulas(rule: &Rule, log: &[Record]) -> Vec<Reading> {
+    let all = of_entries(rule, log);
+    all.into_iter().enumerate().filter(|(k, _)| rule.tops.contains(k)).map(|(_, formula)| formula).collect()
+}
+
+/// Every entry.
+pub(crate) fn of_entries(rule: &Rule, log: &[Record]) -> Vec<Reading> {
     let mut all: Vec<Reading> = Vec::new();
     for (e, ops) in rule.entries.iter().zip(&rule.operands) {
         let ops: Vec<&Reading> = ops.iter().map(|&o| &all[o]).collect();
@@ -47,7 +53,7 @@ fn of_formulas(rule: &Rule, log: &[Record]) -> Vec<Reading> {
         let answered = answered(e, &ops, log);
         all.push(Reading { holds, answered });
     }
-    all.into_iter().enumerate().filter(|(k, _)| rule.tops.contains(k)).map(|(_, formula)| formula).collect()
+    all
 }
 
 /// The plain reading of an entry at position i, given its operands' readings.

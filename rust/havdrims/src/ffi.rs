@@ -147,4 +147,20 @@ extern "C" {
         printing: *mut u64,
         waiting: *mut u64,
     ) -> u32;
+
+    /// The reason for a formula's yes or no at a position.
+    ///
+    /// # Safety
+    /// See [`havdrims_measure`].
+    pub fn havdrims_explain(
+        rule: *const u8,
+        rule_len: usize,
+        log: *const u8,
+        log_len: usize,
+        formula: u64,
+        position: u64,
+        text: *mut u8,
+        text_len: usize,
+        written: *mut u64,
+    ) -> u32;
 }

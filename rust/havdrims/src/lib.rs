@@ -19,11 +19,12 @@
 //! most programs want. Beneath it are the calls on slices, for those that lend their own memory.
 //!
 //! The calls: [`measure`] (weigh), [`open`], [`resume`] (carry on), [`close`] at the month's end, [`trim`], which writes a
-//! shorter log, [`summary`], [`status`] and [`tally`]; [`formulas`], which counts those of a rule; [`parse`], which writes a
-//! rule that is typed as text; and [`worst_log`] and [`simulate`], which write logs to try a kiosk or its settings with.
-//! Each yields its result or one [`Refusal`], and a refused call changes nothing. The checker is proved; this crate only
-//! hands slices on to it. None of them allocates, and a thread with [`MOST_STACK`] bytes of stack can make every call but
-//! `parse`, which takes [`PARSE_STACK`].
+//! shorter log, [`summary`], [`status`] and [`tally`]; [`explain`], which writes the reason for a yes or no; [`formulas`],
+//! which counts those of a rule; [`parse`], which writes a rule that is typed as text; and [`worst_log`] and [`simulate`],
+//! which write logs to try a kiosk or its settings with. Each yields its result or one [`Refusal`], and a refused call
+//! changes nothing. The checker is proved; this crate only hands slices on to it. None of them allocates, and a thread with
+//! [`MOST_STACK`] bytes of stack can make every call but `parse` and `explain`, which take [`PARSE_STACK`] and
+//! [`EXPLAIN_STACK`].
 //!
 //! The crate does without `std`, and without its feature `alloc`, which is on by default, it allocates nothing: then it has the calls
 //! on slices, [`Log`] and [`Refusal`].
@@ -75,6 +76,8 @@ pub mod ffi;
 mod log;
 #[cfg(feature = "alloc")]
 mod monitor;
+#[cfg(feature = "alloc")]
+pub mod reason;
 mod refusal;
 #[cfg(feature = "alloc")]
 mod rule;
@@ -86,16 +89,24 @@ pub mod text;
 pub use log::{Log, Record, MOST_RECORDS};
 #[cfg(feature = "alloc")]
 pub use monitor::{Answers, LoadError, Monitor, Verdict, Verdicts};
+#[cfg(feature = "alloc")]
+pub use reason::Reason;
 pub use refusal::Refusal;
 #[cfg(feature = "alloc")]
 pub use rule::Rule;
 
-/// The most bytes of stack that a call other than [`parse`] needs, whatever the rule: measured and tested on x86-64
-/// Linux, not proved.
+/// The most bytes of stack that a call other than [`parse`] and [`explain`] needs, whatever the rule: measured and tested on
+/// x86-64 Linux, not proved.
 pub const MOST_STACK: usize = 65_536;
 
 /// The most bytes of stack that [`parse`] needs, whatever the text: measured and tested on x86-64 Linux, not proved.
 pub const PARSE_STACK: usize = 1_048_576;
+
+/// The most bytes of stack that [`explain`] needs, whatever the rule: measured and tested on x86-64 Linux, not proved.
+pub const EXPLAIN_STACK: usize = 262_144;
+
+/// Enough bytes for the text of every reason: 128 lines of at most 29 bytes.
+pub const MOST_REASON: usize = 3_712;
 
 /// The most bytes of a rule: a header and 128 entries.
 pub const MOST_RULE: usize = 1_288;
@@ -347,6 +358,52 @@ pub fn trim(rule: &[u8], log: &[u8], checkpoint: &[u64], out: &mut [u8]) -> Resu
             checkpoint.len(),
             out.as_mut_ptr(),
             out.len(),
+            &mut written,
+        )
+    };
+    refusal::checked(number)?;
+    Ok(written as usize)
+}
+
+/// Writes the reason for the yes or no of one formula, by its number from 0, at an answered position, and gives the number of
+/// its bytes. The rest of the buffer keeps its bytes; [`MOST_REASON`] bytes are enough for every reason. No checkpoint is
+/// needed, but the whole log is, from its first record on, with none overwritten or dropped.
+///
+/// A reason is a text of lines: the number of an entry of the rule from 0, a position, and what there is to say of the two.
+/// [`reason`](mod@reason) has the lines one by one, and docs/FORMATS.md what each says.
+///
+/// ```
+/// use havdrims::{explain, text, Refusal, Rule, MOST_REASON};
+///
+/// let rule: Rule = "not e2 or e0 until[0,90] e1".parse()?;
+/// let log = text::log_from_text("300 e0 e2\n340 none\n395 e0 e1\n").unwrap();
+/// let mut buffer = [0; MOST_REASON];
+/// let length = explain(rule.as_bytes(), &log, 0, 0, &mut buffer)?;
+/// // no: both sides are; letter 2 stands there, and letter 0 fails at position 1, before letter 1 comes
+/// assert_eq!(&buffer[..length], b"5 0 or\n1 0 not\n0 0 e2 yes\n4 0 until 1 left\n");
+///
+/// assert_eq!(explain(rule.as_bytes(), &log, 1, 0, &mut buffer), Err(Refusal::NoReason)); // there is one formula
+/// assert_eq!(explain(rule.as_bytes(), &log, 0, 3, &mut buffer), Err(Refusal::NoReason)); // and three positions
+/// assert_eq!(explain(rule.as_bytes(), &log, 0, 0, &mut buffer[..length - 1]), Err(Refusal::NoReason));
+/// # Ok::<(), Refusal>(())
+/// ```
+///
+/// Refusals: 1 to 8, then 12, 24 for a log that has dropped any record, 14 from the first record on, and 27. A thread needs
+/// [`EXPLAIN_STACK`] bytes of stack.
+pub fn explain(rule: &[u8], log: &[u8], formula: usize, position: u64, text: &mut [u8]) -> Result<usize, Refusal> {
+    let mut written = 0;
+    // SAFETY: the pointers and lengths are those of three slices and of a number. What is written to is borrowed for this
+    // call alone, so it overlaps nothing.
+    let number = unsafe {
+        ffi::havdrims_explain(
+            rule.as_ptr(),
+            rule.len(),
+            log.as_ptr(),
+            log.len(),
+            formula as u64,
+            position,
+            text.as_mut_ptr(),
+            text.len(),
             &mut written,
         )
     };

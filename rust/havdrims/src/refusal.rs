@@ -25,7 +25,7 @@ macro_rules! refusals {
         }
 
         impl Refusal {
-            /// The paper's number: 1 to 26 but for 3; or the one that is not known.
+            /// The paper's number: 1 to 27 but for 3; or the one that is not known.
             pub fn number(self) -> u32 {
                 match self {
                     $(Refusal::$name => $number,)*
@@ -89,6 +89,7 @@ refusals! {
     24 RecordDropped "The log has dropped the first record wanted or one after it."
     25 ShortLog "The lent buffer for the trimmed log is short."
     26 Settings "A setting, the seconds or the seed is outside its range or the lent log buffer is short."
+    27 NoReason "The formula does not exist, the position is not below A or the lent text buffer is short."
 }
 
 impl fmt::Display for Refusal {
@@ -116,7 +117,7 @@ mod tests {
         let numbers: Vec<u32> = (0..1_000).filter(|&number| Refusal::from_number(number).is_some()).collect();
         assert_eq!(
             numbers,
-            [1, 2, 4, 5, 6, 7, 8, 9, 10, 11, 12, 13, 14, 15, 16, 17, 18, 19, 20, 21, 22, 23, 24, 25, 26]
+            [1, 2, 4, 5, 6, 7, 8, 9, 10, 11, 12, 13, 14, 15, 16, 17, 18, 19, 20, 21, 22, 23, 24, 25, 26, 27]
         );
         for number in numbers {
             let refusal = Refusal::from_number(number).unwrap();
@@ -129,7 +130,7 @@ mod tests {
     #[test]
     fn a_number_that_is_not_known_is_a_refusal_too() {
         assert_eq!(checked(0), Ok(()));
-        for number in [3, 27, u32::MAX] {
+        for number in [3, 28, u32::MAX] {
             let refusal = checked(number).unwrap_err();
             assert_eq!((refusal, refusal.number()), (Refusal::Unknown(number), number));
             assert_eq!(refusal.to_string(), format!("refused {number}: This crate does not know the refusal."));

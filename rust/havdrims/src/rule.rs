@@ -1,6 +1,7 @@
 //! A rule's bytes, looked at once.
 
-use crate::{formulas, measure, parse, text, Needs, Refusal, MOST_RULE};
+use crate::{explain, formulas, measure, parse, text, Log, Needs, Reason, Refusal, MOST_REASON, MOST_RULE};
+use alloc::vec;
 use alloc::vec::Vec;
 use core::fmt;
 use core::str::FromStr;
@@ -57,6 +58,30 @@ impl Rule {
     /// The number of formulas: 1 to 8.
     pub fn formulas(&self) -> usize {
         self.formulas
+    }
+
+    /// The reason for the yes or no of one formula at a position, as [`explain`] writes it. The log is the whole one, with no
+    /// record overwritten. Refusals: 24, 14, 27.
+    ///
+    /// ```
+    /// use havdrims::reason::{Cause, Said};
+    /// use havdrims::{text, Log, Refusal, Rule};
+    ///
+    /// let rule: Rule = "e0 until[0,90] e1".parse()?;
+    /// let bytes = text::log_from_text("300 e0\n340 none\n395 e0 e1\n400 e0\n").unwrap();
+    /// let log = Log::new(&bytes)?;
+    /// let reason = rule.explain(&log, 0, 0)?;
+    /// assert_eq!(reason.to_string(), "2 0 until 1 left\n");
+    /// let [line] = reason.lines() else { panic!("one line") };
+    /// assert_eq!((line.entry, line.position), (2, 0));
+    /// assert_eq!(line.said, Said::Until { position: 1, no: Some(Cause::Left) }); // letter 0 fails at position 1
+    /// assert_eq!(rule.explain(&log, 0, 3), Err(Refusal::NoReason)); // not settled yet
+    /// # Ok::<(), Refusal>(())
+    /// ```
+    pub fn explain(&self, log: &Log<'_>, formula: usize, position: u64) -> Result<Reason, Refusal> {
+        let mut text = vec![0; MOST_REASON];
+        let length = explain(&self.bytes, log.as_bytes(), formula, position, &mut text)?;
+        Ok(Reason::new(&text[..length]))
     }
 }
 

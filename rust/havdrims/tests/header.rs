@@ -1,6 +1,7 @@
 //! The C header says what this crate says: its version, its limits, its refusals, and the bytes that it shows.
 
-use havdrims::{parse, text, Refusal, MOST_FORMULAS, MOST_RECORDS, MOST_RULE, MOST_STACK, MOST_WORDS, PARSE_STACK};
+use havdrims::{explain, parse, text, Refusal, EXPLAIN_STACK, MOST_FORMULAS, MOST_REASON, MOST_RECORDS, MOST_RULE};
+use havdrims::{MOST_STACK, MOST_WORDS, PARSE_STACK};
 
 const HEADER: &str = include_str!("../../../include/havdrims.h");
 
@@ -19,6 +20,8 @@ fn version_and_limits() {
     assert_eq!(defined("MOST_RULE"), MOST_RULE);
     assert_eq!(defined("MOST_STACK"), MOST_STACK);
     assert_eq!(defined("PARSE_STACK"), PARSE_STACK);
+    assert_eq!(defined("EXPLAIN_STACK"), EXPLAIN_STACK);
+    assert_eq!(defined("MOST_REASON"), MOST_REASON);
     assert_eq!(defined("MOST_RECORDS"), MOST_RECORDS);
     assert_eq!(defined("MOST_WORDS"), MOST_WORDS);
 }
@@ -70,4 +73,18 @@ fn the_bytes_shown_are_those_of_the_formats() {
     assert_eq!(shown("Three records, the second of them a service record:\n"), log);
     let trimmed = text::log_from_text("version 3\ndropped 2\n12 e0 e1\n").unwrap();
     assert_eq!(shown("The same log trimmed, once records 0 and 1 are no longer wanted:\n"), trimmed);
+}
+
+/// The reason that the header shows: its lines, each up to two spaces.
+#[test]
+fn the_reason_shown_is_the_librarys() {
+    let (_, behind) = HEADER.split_once("at position 5 of the log of examples/day:\n *\n").expect("the example");
+    let lines = behind.lines().map_while(|line| line.strip_prefix(" *     "));
+    let shown: String = lines.map(|line| format!("{}\n", line.split("  ").next().unwrap_or(""))).collect();
+    let mut rule = [0; MOST_RULE];
+    let size = parse(b"not e2 or e0 until[0,90] e1", &mut rule).unwrap();
+    let log = include_bytes!("../../../examples/day/day.klg");
+    let mut reason = [0; MOST_REASON];
+    let length = explain(&rule[..size], log, 0, 5, &mut reason).unwrap();
+    assert_eq!(shown.as_bytes(), &reason[..length]);
 }

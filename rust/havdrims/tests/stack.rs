@@ -1,12 +1,14 @@
 //! The stack of a call: every call on the deepest and the largest rules and texts, in a thread that has no more than
-//! `MOST_STACK` bytes, or `PARSE_STACK`, its own start included. Below them lies a page that may not be touched.
+//! `MOST_STACK` bytes, or `PARSE_STACK` or `EXPLAIN_STACK`, its own start included. Below them lies a page that may not be touched.
 
-use evaluator::log;
+use evaluator::log::{self, Record};
 use evaluator::random::{self, LogShape, Random};
 use evaluator::rule::{self, Entry, NEXT, NO_END, PREVIOUS, SINCE, UNTIL};
-use evaluator::{cases, model, reading, typed};
-use havdrims::{close, formulas, measure, open, parse, resume, simulate, status, summary, tally, trim, worst_log};
-use havdrims::{Refusal, Resumed, Settings, MOST_RULE, MOST_STACK, PARSE_STACK};
+use evaluator::{cases, model, reading, reason, typed};
+use havdrims::{
+    close, explain, formulas, measure, open, parse, resume, simulate, status, summary, tally, trim, worst_log,
+};
+use havdrims::{Refusal, Resumed, Settings, EXPLAIN_STACK, MOST_REASON, MOST_RULE, MOST_STACK, PARSE_STACK};
 use std::ffi::{c_int, c_long, c_void};
 use std::io::Write;
 use std::{ptr, slice};
@@ -135,21 +137,30 @@ fn rules() -> Vec<Vec<Entry>> {
     all
 }
 
-#[test]
-fn every_call_on_a_small_stack() {
+/// A log of each of the first two versions, and their positions.
+fn logs() -> [(Vec<u8>, Vec<Record>); 2] {
     let shape = LogShape { records: 400, letters: 4, hold: 3, step: 2, start: 7 };
     let mut records = random::log(&mut Random::new(1), shape);
     records.last_mut().unwrap().time += 9_000;
     let mut visited = records.clone();
     visited.iter_mut().skip(3).step_by(7).for_each(|record| *record = record.as_service());
-    let logs = [(1, records), (2, visited)]
-        .map(|(version, records)| (log::encode_as(version, &records), log::positions(version, &records)));
-    let mut most = [0; 9];
+    [(1, records), (2, visited)]
+        .map(|(version, records)| (log::encode_as(version, &records), log::positions(version, &records)))
+}
+
+/// The bytes of all of them: of either version, and those with eight formulas.
+fn all_rules() -> Vec<Vec<u8>> {
     let version_1: Vec<Vec<u8>> = rules().iter().map(|entries| rule::encode(entries)).collect();
     // The same of version 2, where 8 words more are not too many.
     let version_2 = rules().into_iter().map(|entries| rule::encode_as(2, &entries));
     let version_2 = version_2.filter(|bytes| rule::parse(bytes).is_ok()).collect();
-    let rules = [version_1, version_2, eight_formulas()].concat();
+    [version_1, version_2, eight_formulas()].concat()
+}
+
+#[test]
+fn every_call_on_a_small_stack() {
+    let (rules, logs) = (all_rules(), logs());
+    let mut most = [0; 9];
     for (bytes, (file, positions)) in rules.iter().flat_map(|bytes| logs.iter().map(move |log| (bytes, log))) {
         let (needs, measuring) = on_small_stack(|| measure(bytes));
         let words = needs.unwrap().words;
@@ -238,6 +249,33 @@ fn parse_on_its_stack() {
     let header = include_str!("../../../include/havdrims.h");
     assert!(
         header.contains(&format!("#define HAVDRIMS_PARSE_STACK {PARSE_STACK}\n")),
+        "the header says another number"
+    );
+}
+
+/// The reasons of the deepest and the largest rules, at the first, a middle and the last position.
+#[test]
+fn explain_on_its_stack() {
+    let logs = logs();
+    let mut most = 0;
+    for (bytes, (file, positions)) in all_rules().iter().flat_map(|bytes| logs.iter().map(move |log| (bytes, log))) {
+        let rule = rule::parse(bytes).unwrap();
+        for formula in 0..rule.formulas() {
+            let all = reason::reasons(&rule, positions, formula);
+            for position in [0, all.len() / 2, all.len() - 1] {
+                let mut text = [7; MOST_REASON];
+                let (length, used) =
+                    on_stack(EXPLAIN_STACK, || explain(bytes, file, formula, position as u64, &mut text));
+                assert_eq!(&text[..length.unwrap()], all[position].as_bytes());
+                most = most.max(used);
+            }
+        }
+    }
+    let _ = writeln!(std::io::stderr(), "most bytes of stack: explain {most}");
+    assert!(most > 16 * PAGE, "the stack was not measured");
+    let header = include_str!("../../../include/havdrims.h");
+    assert!(
+        header.contains(&format!("#define HAVDRIMS_EXPLAIN_STACK {EXPLAIN_STACK}\n")),
         "the header says another number"
     );
 }

@@ -7,6 +7,7 @@ mod open;
 mod service;
 mod trim;
 mod week;
+mod why;
 
 use std::collections::BTreeMap;
 use std::io::ErrorKind;

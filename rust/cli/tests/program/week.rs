@@ -45,7 +45,7 @@ fn the_weeks_of_the_readme() {
         fs::copy(example(name), place.path(&format!("examples/day/{name}"))).unwrap();
     }
     let shown = shown();
-    assert_eq!(shown.iter().map(Vec::len).collect::<Vec<_>>(), [6, 3, 3, 4, 3]);
+    assert_eq!(shown.iter().map(Vec::len).collect::<Vec<_>>(), [6, 3, 3, 4, 3, 3]);
     for (line, output) in shown.into_iter().flatten() {
         let words = split(&line);
         let words: Vec<&str> = words.iter().map(String::as_str).collect();
@@ -197,7 +197,7 @@ fn help_and_wrong_use() {
     assert_eq!(place.fails(2, &[]), overview);
     assert_eq!(place.fails(2, &["evenings"]), format!("`evenings` is no command\n\n{overview}"));
     let usages: Vec<&str> = overview.lines().filter(|line| line.starts_with("havdrims ")).collect();
-    assert_eq!(usages.len(), 13);
+    assert_eq!(usages.len(), 14);
     for usage in usages {
         let usage = usage.split("  ").next().unwrap();
         let name = usage.split(' ').nth(1).unwrap();
@@ -217,6 +217,10 @@ fn help_and_wrong_use() {
         &["trim", "card", "log", "out", "more"],
         &["trim", "card", "log", "out", "--force", "--force"],
         &["trim", "card", "log", "--forced", "out"],
+        &["why", "rule", "log"],
+        &["why", "rule", "log", "0", "more"],
+        &["why", "rule", "log", "0", "--formula"],
+        &["why", "rule", "log", "0", "--words", "--words"],
     ] {
         assert!(place.fails(2, words).starts_with("expected: havdrims "), "{words:?}");
     }

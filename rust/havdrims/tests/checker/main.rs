@@ -5,6 +5,7 @@
 
 mod calls;
 mod cases;
+mod explain;
 mod forged;
 mod guard;
 mod large;

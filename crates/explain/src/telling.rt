@@ -1,0 +1,117 @@
+// An entry's line, and its operands' lines behind it.
+ghost use mathlib.Core.Path.{_≡_};
+ghost use mathlib.Core.Bool.{cond};
+ghost use mathlib.Core.Bool.{not as negate};
+ghost use Prim.Native.Nat.{_+_, _*_, _≤_, _<_};
+ghost use lib.ListN.{length};
+ghost use Rattle.engine.specs.Table.{column};
+ghost use Rattle.explain.specs.Code.{Lent, Shifts, Tells};
+use super::saying;
+use super::sentence;
+
+// Where the lines end, and whether the entry holds.
+pub struct Told {
+    pub end: usize,
+    pub holds: bool,
+}
+
+// Moves the bytes from `from` up to `to` forward to `at`, and gives where they end.
+fn shift(text: &mut [u8], from: usize, to: usize, at: usize) -> usize
+    requires { ⌜ (at ≤ from) × (from ≤ to) × (to ≤ length (now text)) ⌝ }
+    ensures { λ r. ⌜ Shifts (now (text .entry)) from to at r (now (text .exit)) ⌝ }
+{
+    let mut i: usize = 0;
+    while i < to - from {
+        text[at + i] = text[from + i];
+        i += 1;
+    }
+    at + i
+}
+
+// The operand's answer, turned or not.
+fn turned(turn: bool, holds: bool) -> bool
+    ensures { λ r. ⌜ r ≡ cond turn (negate holds) holds ⌝ }
+{
+    if turn { !holds } else { holds }
+}
+
+// Writes the lines of entry k at position i into the text from `at` on.
+pub fn tell(
+    table: &[u64; 1024],
+    records: &[u8],
+    view: &[u64; 4],
+    copy: &mut [u8; 520],
+    waiting: &mut [u8; 520],
+    words: &mut [u64],
+    k: usize,
+    i: u64,
+    text: &mut [u8],
+    at: usize,
+) -> Told
+    requires { ⌜ Lent (now table) (now view) (now records) (now words) (now copy) (now waiting) k × (i + k ≤ 2000000) × (at + 3 * column 7 (now table) k ≤ length (now text)) ⌝ }
+    ensures { λ r. ⌜ Tells (now (table .entry)) (now (view .entry)) (now (records .entry)) k i (now (text .entry)) at r (now (text .exit)) ⌝ }
+    ensures { λ _. ⌜ (length (now (copy .exit)) ≡ 520) × (length (now (waiting .exit)) ≡ 520) ⌝ }
+{
+    let own = saying::say(table, records, view, copy, waiting, words, k, i);
+    let start = sentence::put_line(k, i, own.says, text, at);
+    if own.operands == 0 {
+        return Told {
+            end: start,
+            holds: own.holds,
+        };
+    }
+    if own.operands == 1 {
+        let one = tell(
+            table,
+            records,
+            view,
+            copy,
+            waiting,
+            words,
+            k - 1,
+            own.at,
+            text,
+            start,
+        );
+        return Told {
+            end: one.end,
+            holds: turned(own.holds, one.holds),
+        };
+    }
+    let left = saying::field(table, k, 4) as usize;
+    let first = tell(
+        table,
+        records,
+        view,
+        copy,
+        waiting,
+        words,
+        left,
+        i,
+        text,
+        start,
+    );
+    if first.holds {
+        return first;
+    }
+    let middle = first.end;
+    let second = tell(
+        table,
+        records,
+        view,
+        copy,
+        waiting,
+        words,
+        k - 1,
+        i,
+        text,
+        middle,
+    );
+    if second.holds {
+        return Told {
+            end: shift(text, middle, second.end, start),
+            holds: true,
+        };
+    }
+    second
+}

@@ -1,0 +1,5 @@
+pub mod Finding
+pub mod Showing
+pub mod Asking
+pub mod Records
+pub mod Zeros

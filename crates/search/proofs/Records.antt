@@ -1,0 +1,87 @@
+-- The log that the records are is shown whole by the view of all records. Assumes nothing.
+use Prim.Native.Nat.{ℕ, zero, suc, _+_, _*_, _-_, _≤_, _<_}
+use mathlib.Core.Bool.{Bool, true, false}
+use mathlib.Core.Logic.{⊎-elim}
+use mathlib.Core.Path.{_≡_, refl, sym, _∙_, ap}
+use mathlib.Core.List.{List}
+use native.Mathlib.Nat.{zero-add}
+use native.Mathlib.Omega.{arith}
+use lib.ListN.{getD}
+use Rattle.mtl.proofs.Bounded.{le-or-lt}
+use Rattle.trace.specs.Format.{record-count}
+use Rattle.trace.specs.Positions.{place, positions, before}
+use Rattle.trace.specs.View.{view-of, total, skips}
+use Rattle.trace.specs.Log.{log-of}
+use Rattle.trace.proofs.Laws.{Keeps}
+use Rattle.trace.proofs.Counting.{count-position, count-grows, spot-holds}
+use Rattle.trace.proofs.Positions.{log-placed, wanted-counts}
+use Rattle.trace.proofs.Slices.{Cut, served, served-before, served-place, served-shows, slice-shows, flag-told}
+use Rattle.blocks.specs.Step.{Agrees}
+use Rattle.search.specs.Times.{Whole}
+
+before-grows : (b : Bool) (s : List ℕ) (m n : ℕ) → m ≤ n → before b s m ≤ before b s n
+before-grows true s m n h = count-grows s m n h
+before-grows false s m n h = h
+
+before-next : (b : Bool) (s : List ℕ) (i : ℕ) → i < before b s (record-count s) → before b s (suc (place b s 0 i)) ≡ suc i
+before-next true s i h = let at = spot-holds s i h in count-position s (place true s 0 i) (at .plain) ∙ ap suc (at .number)
+before-next false s i h = omega arith
+
+-- the view of all records, open
+abbrev pub whole-view : (skips : Bool) → List ℕ → List ℕ
+whole-view skips s = view-of 0 0 (served skips s) false s
+
+module _ (b : Bool) (s : List ℕ) (keeps : Keeps s) where
+  flag : skips (whole-view b s) ≡ served b s
+  flag = flag-told (served b s)
+
+  size : before (served b s) s (record-count s) ≡ before b s (record-count s)
+  size = served-before b s
+
+  pub whole-log : Whole (whole-view b s) s (log-of b s)
+  whole-log =
+      record {
+        size = zero-add (before (served b s) s (record-count s)) ∙ size;
+        all = rw flag size;
+        place = λ i h. rw flag (served-place b s i (omega arith));
+        inside = log-placed b s .below;
+        time = λ i h. refl;
+        letters = λ i k h. refl;
+        counted = λ r i most h.
+            let few : i < before (served b s) s r = rw flag at h in
+            let all = before-grows (served b s) s r (record-count s) most in
+            let inside : i < before b s (record-count s) = omega (arith, size) in
+            let (fits, number) = wanted-counts (served b s) s i (omega arith) in
+            let same = served-place b s i (omega arith) in
+            let not-behind : r ≤ place (served b s) s 0 i → ⊥ = λ l. let more = before-grows (served b s) s r (place (served b s) s 0 i) l in omega arith in
+            (inside, omega arith);
+        beyond = λ r i most h inside.
+            let few : before (served b s) s r ≤ i = rw flag at h in
+            let same = served-place b s i (omega arith) in
+            let next = before-next (served b s) s i (omega (arith, size)) in
+            let not-before : place (served b s) s 0 i < r → ⊥ = λ l. let more = before-grows (served b s) s (suc (place (served b s) s 0 i)) r l in omega arith in
+            omega arith;
+        keeps = keeps;
+      }
+
+all-of : (s : List ℕ) → Cut s s 0
+all-of s =
+    record {
+      part = record { inside = omega arith; same = λ i h b few. ap (λ (k : ℕ). getD s (k * 8 + b) 0) (sym (zero-add i)) };
+      whole = omega arith;
+    }
+
+nothing-before : (b : Bool) (s : List ℕ) → before b s 0 ≡ 0
+unfolding positions
+nothing-before true s = refl
+nothing-before false s = refl
+
+pub whole-agrees : (b : Bool) (s : List ℕ) → Agrees (whole-view b s) s (log-of b s) 0
+whole-agrees b s =
+    record {
+      ends = refl;
+      size = zero-add (before (served b s) s (record-count s)) ∙ served-before b s;
+      shows = λ i low high.
+          rw (flag-told (served b s))
+          (served-shows b s 0 (log-of b s) i (slice-shows b s s 0 (all-of s) i (let none = nothing-before b s in omega arith) high));
+    }

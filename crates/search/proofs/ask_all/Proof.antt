@@ -1,0 +1,153 @@
+-- `search::ask_all` meets its contract.
+use borrow.Author.Needs.{needs}
+use Prim.Native.Nat.{ℕ, _+_, _-_, _≤_, _<_}
+use mathlib.Core.Path.{_≡_, refl, sym, _∙_, ap}
+use native.Mathlib.Omega.{arith}
+use lib.ListN.{length}
+use Rattle.search.proofs.Asking.{Going, going-none, going-end, going-open, going-some, going-on}
+use Rattle.search.proofs.ask_all.Statement.{statement}
+use Rattle.search.proofs.ask_all.Tie as tie
+use Rattle.search.proofs.ask_all.Reads as reads
+use Rattle.search.proofs.ask_all.Lts as lts
+use Rattle.blocks.proofs.available.Reads as available-reads
+use Rattle.engine.proofs.answer.Reads as answer-reads
+use Rattle.search.proofs.after_no.Reads as after-no-reads
+use Rattle.search.proofs.clear.Reads as clear-reads
+use Rattle.search.proofs.first_of.Reads as first-of-reads
+
+abbrev Inv-loop : tie.InvT-loop
+Inv-loop table records view copy₀ waiting₀ k want from to words₀ done₀ first₀ after₀ copy waiting words done first after =
+    (length words ≡ length words₀) × (length copy ≡ 520) × (length waiting ≡ 520) × (done ≤ to) × (first ≤ done) × (after ≤ done) ×
+    Going table view records k want from to words done first after
+
+abbrev μ-loop : tie.MeasureT-loop
+μ-loop table records view copy₀ waiting₀ k want from to words₀ done₀ first₀ after₀ copy waiting words done first after =
+    to - done
+
+-- src/lib.rt:102:5
+clear-requires : tie.Need-clear-requires Inv-loop μ-loop
+clear-requires c κs = search needs
+
+-- src/lib.rt:106:5
+loop-holds : tie.Need-loop-holds Inv-loop μ-loop
+loop-holds c =
+    let a = c .before .before .before .before .before .before .args in
+    let p = c .before .before .before .before .before .before .pre in
+    (refl, p .3, p .4, omega arith, omega arith, omega arith, going-none (a .table .now) (a .view .now) (a .records .now) (a .k) (a .want) (a .from) (a .to) (c .before .before .clear .last .0) (c .before .before .clear .kept .0 ∙ p .2) (c .before .before .clear .ensures))
+
+-- src/lib.rt:107:13
+answer-requires : tie.Need-answer-requires Inv-loop μ-loop
+answer-requires c κs =
+    let p = c .before .before .before .before .before .before .before .before .before .before .before .pre in
+    let l = c .before .before .before .before .loop in
+    (p .0, p .1, l .inv .0 ∙ c .before .before .before .before .before .before .before .clear .kept .0 ∙ p .2, l .inv .1, l .inv .2, p .5)
+
+-- src/lib.rt:108:28
+enum-known-reply : tie.Need-enum-known-reply Inv-loop μ-loop
+enum-known-reply c = search needs
+
+-- src/lib.rt:109:13
+enum-told : tie.Need-enum-told Inv-loop μ-loop
+enum-told c = search needs
+
+-- src/lib.rt:109:13
+same-length : tie.Need-same-length Inv-loop μ-loop
+same-length c =
+    let l = c .before .before .before .before .before .before .before .before .before .loop in
+    c .before .before .before .before .answer .kept .1 .1 .1 .1 .1 .1 .0 ∙ l .inv .0 ∙ c .before .before .before .before .before .before .before .before .before .before .before .before .clear .kept .0
+
+-- src/lib.rt:109:13
+returns : tie.Need-returns Inv-loop μ-loop
+returns c =
+    let a = c .before .before .before .before .before .before .before .before .before .before .before .before .before .before .before .before .args in
+    let l = c .before .before .before .before .before .before .before .before .before .loop in
+    let told = c .enum-told .given .1 in
+    (((l .inv .3, l .inv .4, l .inv .5), going-open (a .table .now) (a .view .now) (a .records .now) (a .k) (a .want) (a .from) (a .to) (l .words) (l .done) (l .first) (l .after) (l .inv .6) (c .before .before .before .before .before .before .before .before .loop-test .taken) (c .before .before .before .before .answer .last .1 .1 .1 .1 .1 .1 .0) (rw told at (c .before .before .before .before .answer .ensures .0))), c .before .before .before .before .answer .ensures .1)
+
+-- src/lib.rt:111:13
+available-requires : tie.Need-available-requires Inv-loop μ-loop
+available-requires c κs = search needs
+
+-- src/lib.rt:113:13
+same-length-2 : tie.Need-same-length-2 Inv-loop μ-loop
+same-length-2 c =
+    let l = c .before .before .before .before .before .before .before .before .before .before .before .before .loop in
+    c .before .before .before .before .before .before .before .answer .kept .1 .1 .1 .1 .1 .1 .0 ∙ l .inv .0 ∙ c .before .before .before .before .before .before .before .before .before .before .before .before .before .before .before .clear .kept .0
+
+-- src/lib.rt:113:13
+returns-2 : tie.Need-returns-2 Inv-loop μ-loop
+returns-2 c =
+    let a = c .before .before .before .before .before .before .before .before .before .before .before .before .before .before .before .before .before .before .before .args in
+    let l = c .before .before .before .before .before .before .before .before .before .before .before .before .loop in
+    let r = c .before .before .before .reply .given in
+    (((l .inv .3, l .inv .4, l .inv .5), going-some (a .table .now) (a .view .now) (a .records .now) (a .k) (a .want) (a .from) (a .to) (l .words) (l .done) (l .first) (l .after) (l .inv .6) (c .before .before .before .before .before .before .before .before .before .before .before .loop-test .taken) (r .0 .0) (r .0 .1 .0) (c .before .available .result) (c .before .before .before .before .before .before .before .answer .last .1 .1 .1 .1 .1 .1 .0) (rw (r .1) at (c .before .before .before .before .before .before .before .answer .ensures .0)) (c .before .available .ensures .0) (c .if1 .taken)), c .before .before .before .before .before .before .before .answer .ensures .1)
+
+-- src/lib.rt:115:9
+first-of-requires : tie.Need-first-of-requires Inv-loop μ-loop
+first-of-requires c κs =
+    let l = c .before .before .before .before .before .before .before .before .before .before .before .before .loop in
+    (omega (arith, c .before .available .ensures .0), c .before .available .ensures .1, l .inv .4)
+
+-- src/lib.rt:116:9
+after-no-requires : tie.Need-after-no-requires Inv-loop μ-loop
+after-no-requires c κs =
+    let l = c .before .before .before .before .before .before .before .before .before .before .before .before .before .loop in
+    (omega (arith, c .before .before .available .ensures .0), c .before .before .available .ensures .1, l .inv .5)
+
+-- src/lib.rt:117:9
+add-done : tie.Need-add-done Inv-loop μ-loop
+add-done c = omega (arith, c .before .before .before .available .ensures .1)
+
+-- src/lib.rt:106:5
+loop-less : tie.Need-loop-less Inv-loop μ-loop
+loop-less c = omega (arith, c .before .before .before .available .ensures .0, c .before .before .before .before .before .before .before .before .before .before .before .before .before .loop-test .taken, c .before .before .if1 .left)
+
+-- src/lib.rt:106:5
+loop-again : tie.Need-loop-again Inv-loop μ-loop
+loop-again c =
+    let a = c .before .before .before .before .before .before .before .before .before .before .before .before .before .before .before .before .before .before .before .before .before .args in
+    let l = c .before .before .before .before .before .before .before .before .before .before .before .before .before .before .loop in
+    let r = c .before .before .before .before .before .reply .given in (
+      c .before .before .before .before .before .before .before .before .before .answer .kept .1 .1 .1 .1 .1 .1 .0 ∙ l .inv .0,
+      c .before .before .before .before .before .before .before .before .before .answer .ensures .1 .0,
+      c .before .before .before .before .before .before .before .before .before .answer .ensures .1 .1,
+      omega (arith, c .before .before .before .available .ensures .0, l .inv .3),
+      c .before .first-of .ensures .0,
+      c .after-no .ensures .0,
+      going-on (a .table .now) (a .view .now) (a .records .now) (a .k) (a .want) (a .from) (a .to) (l .words) (l .done) (l .first) (l .after) (l .inv .6) (c .before .before .before .before .before .before .before .before .before .before .before .before .before .loop-test .taken) (r .0 .0) (r .0 .1 .0) (c .before .before .before .available .result) (c .before .before .before .before .before .before .before .before .before .answer .last .1 .1 .1 .1 .1 .1 .0) (rw (r .1) at (c .before .before .before .before .before .before .before .before .before .answer .ensures .0)) (c .before .before .before .available .ensures .0) (c .before .first-of .result) (c .after-no .result) (c .before .first-of .ensures .1) (c .after-no .ensures .1),
+    )
+
+-- src/lib.rt:86:1
+same-length-3 : tie.Need-same-length-3 Inv-loop μ-loop
+same-length-3 c = c .before .loop .inv .0 ∙ c .before .before .before .before .clear .kept .0
+
+-- src/lib.rt:86:1
+returns-3 : tie.Need-returns-3 Inv-loop μ-loop
+returns-3 c =
+    let a = c .before .before .before .before .before .before .before .before .args in
+    let l = c .before .loop in
+    (((l .inv .3, l .inv .4, l .inv .5), going-end (a .table .now) (a .view .now) (a .records .now) (a .k) (a .want) (a .from) (a .to) (l .words) (l .done) (l .first) (l .after) (l .inv .6) (l .inv .3) (c .loop-test .left)), (l .inv .1, l .inv .2))
+
+pub ask-all-spec : {M : Type 1} → statement M
+ask-all-spec =
+    tie.close
+    (tie.spec
+    Inv-loop
+    μ-loop
+    clear-requires
+    loop-holds
+    answer-requires
+    enum-known-reply
+    enum-told
+    same-length
+    returns
+    available-requires
+    same-length-2
+    returns-2
+    first-of-requires
+    after-no-requires
+    add-done
+    loop-less
+    loop-again
+    same-length-3
+    returns-3)

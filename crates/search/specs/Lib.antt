@@ -1,0 +1,3 @@
+-- Searches over a whole log. Read Scan, then Times.
+pub mod Scan
+pub mod Times

@@ -1,0 +1,273 @@
+//! Reasons: what `havdrims why` prints, in the paper's form and in sentences, and where there is none.
+
+use crate::{example, Place, RULE};
+use evaluator::random::{self, Random};
+use evaluator::{cases, log, reason, rule};
+use havdrims::Refusal;
+use std::fs;
+
+impl Place {
+    /// With the logs of examples/day.
+    fn with_logs() -> Place {
+        let place = Place::new();
+        for name in ["day.klg", "visit.klg", "rule.krl"] {
+            fs::copy(example(name), place.path(name)).unwrap();
+        }
+        place
+    }
+
+    /// What `why --words` says of these records, under a formula, of a log that is typed.
+    fn says(&self, formula: &str, log: &str, records: &[(usize, &str)]) {
+        fs::write(self.path("typed.txt"), log).unwrap();
+        self.ok(&["to-log", "typed.txt", "typed.klg"]);
+        for (record, said) in records {
+            let record = record.to_string();
+            assert_eq!(
+                self.ok(&["why", formula, "typed.klg", &record, "--words"]),
+                *said,
+                "{formula}, record {record}"
+            );
+        }
+    }
+}
+
+#[test]
+fn the_reasons_of_the_sample_day() {
+    let place = Place::with_logs();
+    let reasons = [
+        ("0", "5 0 or\n1 0 not\n0 0 e2 no\n"),
+        ("2", "5 2 or\n4 2 until 4\n"),
+        ("5", "5 5 or\n1 5 not\n0 5 e2 yes\n4 5 until 6 left\n"),
+        ("8", "5 8 or\n1 8 not\n0 8 e2 yes\n4 8 until 10 time\n"),
+    ];
+    for (record, text) in reasons {
+        assert_eq!(place.ok(&["why", RULE, "day.klg", record]), text);
+        assert_eq!(place.ok(&["why", "rule.krl", "day.klg", record]), text);
+        assert_eq!(place.ok(&["why", "--formula", "0", RULE, "day.klg", record]), text);
+    }
+    // In the log with a visit records 5 to 7 are no positions: the reason's positions stay, the records of its words move.
+    assert_eq!(place.ok(&["why", RULE, "visit.klg", "8"]), reasons[2].1);
+    let said = place.ok(&["why", RULE, "visit.klg", "8", "--words"]);
+    let until = "e0 until[0,90] e1 is no at record 8: record 9 does not have e0, and no record from 8 to 9 has e1";
+    let both =
+        format!("record 8 is no: neither of these is yes\n  not e2 is no at record 8: record 8 has e2\n  {until}\n");
+    assert_eq!(said, both);
+    let said = place.ok(&["why", "--words", RULE, "day.klg", "2"]);
+    let until = "record 4 has e1, 60 seconds later, and every record from 2 to 3 has e0";
+    assert_eq!(said, format!("record 2 is yes, by (e0 until[0,90] e1): {until}\n"));
+}
+
+/// Where there is no reason it is said why, and nothing is printed.
+#[test]
+fn records_without_a_reason() {
+    let place = Place::with_logs();
+    let why = |status, words: &[&str]| place.fails(status, &[&["why"], words].concat());
+    let [day, visit] = ["day.klg: ", "visit.klg: "];
+    let open = "is open: the log ends before it is settled\n";
+    assert_eq!(why(1, &[RULE, "day.klg", "12"]), format!("{day}record 12 {open}"));
+    assert_eq!(why(1, &[RULE, "day.klg", "13", "--words"]), format!("{day}record 13 {open}"));
+    assert_eq!(why(1, &[RULE, "day.klg", "14"]), format!("{day}there is no record 14: the log has 14, 0 to 13\n"));
+    let service = "record 6 is a service record: it is no position and has no verdict\n";
+    assert_eq!(why(1, &[RULE, "visit.klg", "6"]), format!("{visit}{service}"));
+    assert_eq!(why(1, &[RULE, "visit.klg", "17"]), format!("{visit}there is no record 17: the log has 17, 0 to 16\n"));
+    assert!(why(2, &[RULE, "day.klg", "first"]).starts_with("`first` is no number"));
+    assert!(why(2, &[RULE, "day.klg", "5", "--formula", "1"]).starts_with("--formula 1: the rule has one formula, 0\n"));
+    assert!(why(1, &["e0 until e1", "day.klg", "5"]).starts_with("`e0 until e1`: refused 17"));
+    assert!(why(1, &["none.krl", "day.klg", "5"]).starts_with("none.krl: "));
+    assert!(why(1, &[RULE, "none.klg", "5"]).starts_with("none.klg: "));
+    assert_eq!(why(1, &[RULE, "rule.krl", "5"]), format!("rule.krl: {}\n", Refusal::LogFormat));
+
+    // a log that was trimmed, and one whose first records were overwritten
+    place.ok(&["new", "card", RULE]);
+    place.ok(&["evening", "card", "visit.klg"]);
+    place.ok(&["trim", "card", "visit.klg", "left.klg"]);
+    let whole = "A reason needs the whole log, as it was before it was trimmed.\n";
+    assert_eq!(why(1, &[RULE, "left.klg", "15"]), format!("left.klg: {}\n{whole}", Refusal::RecordDropped));
+    let mut bytes = fs::read(place.path("day.klg")).unwrap();
+    bytes[8..8 + 8 * 5].fill(0xFF);
+    fs::write(place.path("overwritten.klg"), bytes).unwrap();
+    let whole = "A reason needs the whole log: were records of it overwritten?\n";
+    assert_eq!(why(1, &[RULE, "overwritten.klg", "8"]), format!("overwritten.klg: {}\n{whole}", Refusal::TimeFalls));
+
+    fs::write(place.path("none.klg"), log::HEADER).unwrap();
+    assert_eq!(why(1, &[RULE, "none.klg", "0"]), "none.klg: there is no record 0: the log has none\n");
+    place.ok(&["why", "e0", "day.klg", "0"]);
+}
+
+#[test]
+fn several_formulas_and_none() {
+    let place = Place::with_logs();
+    place.ok(&["rule", RULE, "not e1 or prev[0,inf] e0", "two.krl"]);
+    let why = |words: &[&str]| place.ok(&[&["why", "two.krl", "day.klg"], words].concat());
+    assert_eq!(why(&["7", "--formula", "1"]), "10 7 or\n7 7 not\n6 7 e1 yes\n9 7 prev 55\n8 6 e0 no\n");
+    let said =
+        "record 7 is no under formula 1: neither of these is yes\n  not e1 is no at record 7: record 7 has e1\n  \
+        prev[0,inf] e0 is no at record 7: record 6 is 55 seconds before, and record 6 does not have e0\n";
+    assert_eq!(why(&["7", "--formula", "1", "--words"]), said);
+    assert_eq!(why(&["5", "--formula", "0"]), "5 5 or\n1 5 not\n0 5 e2 yes\n4 5 until 6 left\n");
+    let said = place.fails(2, &["why", "two.krl", "day.klg", "5"]);
+    assert!(said.starts_with("the rule has 2 formulas: which of them? --formula 0 to 1\n"), "{said}");
+    let said = place.fails(2, &["why", "two.krl", "day.klg", "5", "--formula", "2"]);
+    assert!(said.starts_with("--formula 2: the rule has 2 formulas, 0 to 1\n"), "{said}");
+    let said = place.fails(1, &["why", "two.krl", "day.klg", "12", "--formula", "1"]);
+    assert_eq!(said, "day.klg: record 12 is open: the log ends before every formula is settled there\n");
+
+    fs::write(place.path("empty.krl"), rule::encode(&[])).unwrap();
+    assert_eq!(place.ok(&["why", "empty.krl", "day.klg", "13"]), "empty\n");
+    let said = place.ok(&["why", "empty.krl", "day.klg", "13", "--words"]);
+    assert_eq!(said, "record 13 is yes: the rule is empty\n");
+}
+
+/// Each form of a sentence.
+#[test]
+fn reasons_in_sentences() {
+    let place = Place::new();
+    place.says(
+        "e0",
+        "1 e0\n2 none\n",
+        &[(0, "record 0 is yes: record 0 has e0\n"), (1, "record 1 is no: record 1 does not have e0\n")],
+    );
+    place.says(
+        "e0 or e1 or e2",
+        "1 e1\n2 e2\n3 none\n",
+        &[
+            (0, "record 0 is yes: record 0 has e1\n"),
+            (1, "record 1 is yes: record 1 has e2\n"),
+            (
+                2,
+                "record 2 is no: none of these is yes\n  record 2 does not have e0\n  record 2 does not have e1\n  \
+            record 2 does not have e2\n",
+            ),
+        ],
+    );
+    place.says(
+        "not (e0 or not e1)",
+        "1 e0\n2 none\n3 e1\n",
+        &[
+            (0, "record 0 is no: record 0 has e0\n"),
+            (1, "record 1 is no, by (not e1): record 1 does not have e1\n"),
+            (
+                2,
+                "record 2 is yes: neither of these is yes\n  record 2 does not have e0\n  \
+            not e1 is no at record 2: record 2 has e1\n",
+            ),
+        ],
+    );
+    place.says(
+        "prev[2,5] e0",
+        "1 e0\n2 e0\n5 none\n7 none\n",
+        &[
+            (0, "record 0 is no: no record stands before it\n"),
+            (1, "record 1 is no: record 0 is 1 second before, not 2 to 5 seconds\n"),
+            (2, "record 2 is yes: record 1 is 3 seconds before, and record 1 has e0\n"),
+            (3, "record 3 is no: record 2 is 2 seconds before, and record 2 does not have e0\n"),
+        ],
+    );
+    place.says(
+        "next[2,inf] not e0",
+        "1 e0\n2 e0\n5 none\n7 e0\n",
+        &[
+            (0, "record 0 is no: record 1 is 1 second later, not at least 2 seconds\n"),
+            (
+                1,
+                "record 1 is yes: record 2 is 3 seconds later, and (not e0) is yes at record 2\n  \
+            not e0 is yes at record 2: record 2 does not have e0\n",
+            ),
+            (
+                2,
+                "record 2 is no: record 3 is 2 seconds later, and (not e0) is no at record 3\n  \
+            not e0 is no at record 3: record 3 has e0\n",
+            ),
+        ],
+    );
+    place.says(
+        "e0 since[1,3] e1",
+        "1 e1\n2 e0\n3 e0\n5 e0\n6 none\n6 e0 e1\n7 e0\n",
+        &[
+            (0, "record 0 is no: record 0 does not have e0\n"),
+            (1, "record 1 is yes: record 0 has e1, 1 second before, and record 1 has e0\n"),
+            (2, "record 2 is yes: record 0 has e1, 2 seconds before, and every record from 1 to 2 has e0\n"),
+            (3, "record 3 is no: record 1 is the first at most 3 seconds before, and no record from 1 to 2 has e1\n"),
+            (4, "record 4 is no: record 4 does not have e0\n"),
+            (5, "record 5 is no: record 4 does not have e0, and no record from 4 to 5 is 1 to 3 seconds before\n"),
+            (6, "record 6 is yes: record 5 has e1, 1 second before, and record 6 has e0\n"),
+        ],
+    );
+    place.says(
+        "e0 since[2,inf] (e1 or e2)",
+        "1 e0\n2 e0\n3 e0\n4 e0\n",
+        &[
+            (0, "record 0 is no: none is at least 2 seconds before\n"),
+            (1, "record 1 is no: no record from 0 to 1 is at least 2 seconds before\n"),
+            (2, "record 2 is no: (e1 or e2) is no at record 0\n"),
+            (3, "record 3 is no: (e1 or e2) is yes at no record from 0 to 1\n"),
+        ],
+    );
+    place.says(
+        "e0 until[0,9] e1",
+        "1 none\n2 e1\n3 e0\n4 e0\n5 e1\n6 e0\n7 e0\n16 e0\n",
+        &[
+            (0, "record 0 is no: record 0 has neither e0 nor e1\n"),
+            (1, "record 1 is yes: record 1 has e1\n"),
+            (2, "record 2 is yes: record 4 has e1, 2 seconds later, and every record from 2 to 3 has e0\n"),
+            (5, "record 5 is no: record 7 is 10 seconds later, more than 9, and no record from 5 to 6 has e1\n"),
+        ],
+    );
+    // a service record that has the letter is not meant
+    let visited =
+        "version 2\n1 e0\n2 e1 service\n3 e0\n4 e0 service\n5 none\n6 e1 service\n7 e0\n8 e0\n8 service\n9 e1\n";
+    place.says(
+        "e0 until[0,9] e1",
+        visited,
+        &[
+            (
+                0,
+                "record 0 is no: record 4 does not have e0, and no record from 0 to 4, service records aside, has e1\n",
+            ),
+            (6, "record 6 is yes: record 9 has e1, 2 seconds later, and every record from 6 to 7 has e0\n"),
+        ],
+    );
+    place.says("(not e1) until[0,9] (e1 or e2)", visited, &[(
+        0,
+        "record 0 is yes: (e1 or e2) is yes at record 9, 8 seconds later, and (not e1) is yes at every record from 0 to 7, \
+         service records aside\n",
+    )]);
+}
+
+/// The text is the evaluator's for random rules and logs, and there are sentences for it.
+#[test]
+fn random_reasons() {
+    let place = Place::new();
+    let mut r = Random::new(13);
+    for _ in 0..60 {
+        let (rule_shape, log_shape) = random::shapes(&mut r, 12, 20);
+        let bytes = random::rule(&mut r, rule_shape);
+        let (version, records) = random::any_log(&mut r, log_shape);
+        let rule = rule::parse(&bytes).unwrap();
+        fs::write(place.path("rule.krl"), &bytes).unwrap();
+        fs::write(place.path("log.klg"), log::encode_as(version, &records)).unwrap();
+        let formula = r.below(rule.formulas());
+        let all = reason::reasons(&rule, &log::positions(version, &records), formula);
+        for (text, record) in all.iter().zip(log::places(version, &records)) {
+            let [record, formula] = [record, formula].map(|number| number.to_string());
+            let words = ["why", "rule.krl", "log.klg", &record, "--formula", &formula];
+            assert_eq!(place.ok(&words), *text);
+            let said = place.ok(&[&words[..], &["--words"]].concat());
+            let yes = reason::taken_apart(&rule, text).unwrap().yes;
+            assert!(said.starts_with(&format!("record {record} is {}", if yes { "yes" } else { "no" })), "{said}");
+        }
+    }
+    let worked = cases::reasons().into_iter().filter(|case| !case.texts.is_empty());
+    for case in worked {
+        fs::write(place.path("rule.krl"), &case.rule).unwrap();
+        fs::write(place.path("log.klg"), &case.log).unwrap();
+        let file = log::parse(&case.log).unwrap();
+        let [record, formula] = [log::places(file.version, &file.records)[0], case.formula].map(|n| n.to_string());
+        assert_eq!(
+            place.ok(&["why", "rule.krl", "log.klg", &record, "--formula", &formula]),
+            case.texts[0],
+            "{}",
+            case.name
+        );
+    }
+}
