@@ -11,8 +11,12 @@ use borrow.Author.Tests.{eq-eqb, ne-eqb, leb-true, leb-false}
 use lib.Bits.{bitAnd, bitOr, and-high, and-shr, and-mod, or-shr, or-mod}
 use lib.Arith.{digits-lt}
 use lib.Dec.{eqb, leb}
-use lib.Pow.{field, mod-mod-pow, pow-add, pow-pos, shr-shr}
+use lib.Pow.{field, mod-mod-pow, pow-add, pow-pos, shl-exact, shr-shr}
 use Rattle.bits.specs.Packed.{bit, number, with-bit, Packed}
+
+-- the power of two as the code computes it
+pub power : (n : ℕ) → n < 64 → 1 * 2 ^ n % 2 ^ 64 ≡ 2 ^ n
+power n h = let one : 1 * 2 ^ n ≡ 2 ^ n = omega arith in shl-exact 1 n 64 (omega arith) (omega arith) ∙ one
 
 pub number-lt : (x : Bool) → number x < 2
 number-lt true = omega arith
@@ -60,12 +64,12 @@ bit-mod w n i h =
     ∙ ap (λ (v : ℕ). eqb v 1) (mod-mod-pow (w / 2 ^ i) j 1)
 
 -- a bit behind the first n is above them
-bit-below : (w n y i : ℕ) → i < n → bit (w + y * 2 ^ n) i ≡ bit w i
+pub bit-below : (w n y i : ℕ) → i < n → bit (w + y * 2 ^ n) i ≡ bit w i
 bit-below w n y i h =
     sym (bit-mod (w + y * 2 ^ n) n i h) ∙ ap (λ (v : ℕ). bit v i) (add-mul-mod-self-right w y (2 ^ n)) ∙ bit-mod w n i h
 
 -- above the first n bits stand the others
-above : (w n y : ℕ) → w < 2 ^ n → (w + y * 2 ^ n) / 2 ^ n ≡ y
+pub above : (w n y : ℕ) → w < 2 ^ n → (w + y * 2 ^ n) / 2 ^ n ≡ y
 above w n y h = add-mul-div-right w y (pow-pos n) ∙ ap (λ (v : ℕ). v + y) (div-eq-of-lt h) ∙ zero-add y
 
 bit-number : (x : Bool) → eqb ((0 + number x) % 2) 1 ≡ x
@@ -125,7 +129,7 @@ pub pushed-more : (f : ℕ → Bool) (p i w : ℕ) (x : Bool) (w′ : ℕ) → i
 pushed-more f p i w x w′ few here gave so-far =
     record { small = gave .1; packed = rw (gave .0) (packed-push f p i w x few (so-far .small) here (so-far .packed)) }
 
-le-or-lt : (a b : ℕ) → (a ≤ b) ⊎ (b < a)
+pub le-or-lt : (a b : ℕ) → (a ≤ b) ⊎ (b < a)
 le-or-lt a b = at (leb a b) refl
   where
     at : (t : Bool) → leb a b ≡ t → (a ≤ b) ⊎ (b < a)
@@ -189,7 +193,7 @@ or-digits (suc zero) (suc zero) h l = refl
 or-digits (suc zero) (suc (suc y)) h l = absurd (omega arith)
 or-digits (suc (suc x)) y h l = absurd (omega arith)
 
-bit-or : (v w i : ℕ) → bit (bitOr v w) i ≡ bit v i || bit w i
+pub bit-or : (v w i : ℕ) → bit (bitOr v w) i ≡ bit v i || bit w i
 bit-or v w i =
     ap (λ (u : ℕ). eqb (u % 2) 1) (or-shr v w i)
     ∙ ap (λ (u : ℕ). eqb u 1) (or-mod (v / 2 ^ i) (w / 2 ^ i) 1)
@@ -208,7 +212,7 @@ and-digits (suc zero) (suc zero) h l = refl
 and-digits (suc zero) (suc (suc y)) h l = absurd (omega arith)
 and-digits (suc (suc x)) y h l = absurd (omega arith)
 
-bit-and : (v w i : ℕ) → bit (bitAnd v w) i ≡ bit v i && bit w i
+pub bit-and : (v w i : ℕ) → bit (bitAnd v w) i ≡ bit v i && bit w i
 bit-and v w i =
     ap (λ (u : ℕ). eqb (u % 2) 1) (and-shr v w i)
     ∙ ap (λ (u : ℕ). eqb u 1) (and-mod (v / 2 ^ i) (w / 2 ^ i) 1)

@@ -1,9 +1,10 @@
 -- The bits of a word that are 0, counted and found by what the machine counts of its turned bits. Assumes nothing.
 use Prim.Native.Nat.{ℕ, zero, suc, _+_, _*_, _-_, _%_, _≤_, _<_, _^_}
-use native.Mathlib.Nat.{mod-lt, pow-suc}
+use native.Mathlib.Nat.{eq-or-lt-of-le, mod-lt, pow-suc}
 use native.Mathlib.Omega.{arith}
 use mathlib.Core.Bool.{Bool, true, false, cond}
 use mathlib.Core.Bool.{not as negate}
+use mathlib.Core.Logic.{_⊎_, ⊎-elim}
 use mathlib.Core.Path.{_≡_, refl, sym, ap, _∙_}
 use lib.Count.{ones, ones-cat, ones-le, leadingZeros, leading-unique}
 use lib.Pow.{mod-pow-add, pow-pos}
@@ -76,3 +77,23 @@ module _ (w : ℕ) (small : w < 2 ^ 64) where
         let within = length-is n few .within in
         let found : leadingZeros 64 t ≡ 64 - last-zero n w = ap (leadingZeros 64) turned ∙ last-is n few in
         (omega arith, omega arith, omega arith)
+
+-- the last bit that is 0 is 0, and those behind it are 1
+pub last-is-zero : (n w : ℕ) → 0 < last-zero n w → bit w (last-zero n w - 1) ≡ false
+unfolding last-zero
+last-is-zero zero w h = absurd (omega arith)
+last-is-zero (suc n) w h = by (bit w n) refl (λ l. last-is-zero n w l) h
+  where
+    by : (b : Bool) → bit w n ≡ b → (0 < last-zero n w → bit w (last-zero n w - 1) ≡ false) → 0 < cond b (last-zero n w) (suc n) →
+        bit w (cond b (last-zero n w) (suc n) - 1) ≡ false
+    by true e before h = before h
+    by false e before h = let s : suc n - 1 ≡ n = omega arith in ap (bit w) s ∙ e
+
+pub one-behind-last : (n w i : ℕ) → last-zero n w ≤ i → i < n → bit w i ≡ true
+unfolding last-zero
+one-behind-last zero w i h l = absurd (omega arith)
+one-behind-last (suc n) w i h l = by (bit w n) refl (λ a b. one-behind-last n w i a b) h
+  where
+    by : (b : Bool) → bit w n ≡ b → (last-zero n w ≤ i → i < n → bit w i ≡ true) → cond b (last-zero n w) (suc n) ≤ i → bit w i ≡ true
+    by true e before h = ⊎-elim (λ s. ap (bit w) s ∙ e) (λ m. before h m) (eq-or-lt-of-le {n = i} {m = n} (omega arith))
+    by false e before h = absurd (omega arith)

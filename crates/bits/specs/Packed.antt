@@ -1,6 +1,6 @@
 -- Words of answers: bit i of a word answers the i-th of up to 64 positions.
-use Prim.Native.Nat.{ℕ, zero, suc, _+_, _*_, _/_, _%_, _^_, _≤_, _<_}
-use mathlib.Core.Bool.{Bool, true, false, cond}
+use Prim.Native.Nat.{ℕ, zero, suc, _+_, _-_, _*_, _/_, _%_, _^_, _≤_, _<_}
+use mathlib.Core.Bool.{Bool, true, false, cond, _&&_, _||_}
 use mathlib.Core.Path.{_≡_}
 use lib.Dec.{eqb}
 
@@ -31,3 +31,17 @@ last-zero (suc n) word = cond (bit word n) (last-zero n word) (suc n)
 pub record Packed (f : ℕ → Bool) (p n word : ℕ) : Type 0 where
   pub few : n ≤ 64
   pub same : (i : ℕ) → i < n → f (p + i) ≡ bit word i
+
+-- bit i of a word, where right holds at some j ≥ i and left from i up to j - 1: right holds at i, or left does and the bit behind it is one
+abbrev pub FilledDown : (left right word : ℕ) → Type 0
+FilledDown left right word = (i : ℕ) → i < 64 → bit word i ≡ bit right i || (bit left i && bit word (suc i))
+
+-- where right holds at some j ≤ i and left from j + 1 up to i: right holds at i, or left does and the bit before it is one
+abbrev pub FilledUp : (left right word : ℕ) → Type 0
+FilledUp left right word =
+    (bit word 0 ≡ bit right 0) × ((i : ℕ) → suc i < 64 → bit word (suc i) ≡ bit right (suc i) || (bit left (suc i) && bit word i))
+
+-- a word with n bits more in front of its own, each like its first
+pub record Prolonged (word n longer : ℕ) : Type 0 where
+  pub front : (i : ℕ) → i < n → bit longer i ≡ bit word 0
+  pub own : (i : ℕ) → n ≤ i → i < 64 → bit longer i ≡ bit word (i - n)

@@ -1,7 +1,7 @@
 // Words of answers: bit i of a word, the one worth 2 to the i, answers the i-th of up to 64 positions.
 ghost use mathlib.Core.Path.{_≡_};
-ghost use Prim.Native.Nat.{_+_, _-_, _/_, _%_, _≤_, _<_, _^_};
-ghost use Rattle.bits.specs.Packed.{bit, number, with-bit, zeros, last-zero};
+ghost use Prim.Native.Nat.{ℕ, _+_, _-_, _/_, _%_, _≤_, _<_, _^_};
+ghost use Rattle.bits.specs.Packed.{bit, number, with-bit, zeros, last-zero, FilledDown, FilledUp, Prolonged};
 
 // 1 for true.
 pub fn flag(x: bool) -> u64
@@ -55,4 +55,50 @@ pub fn find_last_zero(word: u64, n: u64) -> u64
     ensures { λ r. ⌜ (r ≡ last-zero n word) × (r ≤ n) ⌝ }
 {
     64 - u64::leading_zeros(turned(word, n)) as u64
+}
+
+// Bit i where right holds at some j ≥ i, and left from i up to j - 1. With each turn what is found lies up to twice as far.
+pub fn fill_down(left: u64, right: u64) -> u64
+    ensures { λ r. ⌜ FilledDown left right r ⌝ }
+{
+    let mut found = right;
+    let mut held = left;
+    let mut far: u64 = 1;
+    while far < 64 {
+        found = found | (held & (found >> far));
+        held = held & (held >> far);
+        far += far;
+    }
+    found
+}
+
+// Bit i where right holds at some j ≤ i, and left from j + 1 up to i.
+pub fn fill_up(left: u64, right: u64) -> u64
+    ensures { λ r. ⌜ FilledUp left right r ⌝ }
+{
+    let mut found = right;
+    let mut held = left;
+    let mut far: u64 = 1;
+    while far < 64 {
+        found = found | (held & (found << far));
+        held = held & (held << far);
+        far += far;
+    }
+    found
+}
+
+// n bits, each of them x.
+fn repeat(x: bool, n: u64) -> u64
+    requires { ⌜ n < 64 ⌝ }
+    ensures { λ r. ⌜ (r < 2 ^ n) × ((i : ℕ) → i < n → bit r i ≡ x) ⌝ }
+{
+    if x { (1 << n) - 1 } else { 0 }
+}
+
+// The word with n bits more in front of its own, each like its first.
+pub fn prolong(word: u64, n: u64) -> u64
+    requires { ⌜ n < 64 ⌝ }
+    ensures { λ r. ⌜ Prolonged word n r ⌝ }
+{
+    repeat(test(word, 0), n) | (word << n)
 }

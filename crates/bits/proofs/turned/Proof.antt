@@ -1,16 +1,13 @@
 -- `bits::turned` meets its contract: a remainder by a power of two leaves the first bits, and 64 bits are all.
 -- Assumes nothing.
-use Prim.Native.Nat.{ℕ, _*_, _-_, _%_, _^_, _<_}
+use Prim.Native.Nat.{ℕ, _-_, _%_, _^_}
 use native.Mathlib.Omega.{arith}
-use mathlib.Core.Path.{_≡_, ap, _∙_}
-use lib.Pow.{pow-pos, shl-exact}
+use mathlib.Core.Path.{_≡_, ap}
+use lib.Pow.{pow-pos}
 use borrow.Author.Needs.{needs}
+use Rattle.bits.proofs.Laws.{power}
 use Rattle.bits.proofs.turned.Statement.{statement}
 use Rattle.bits.proofs.turned.Tie as tie
-
--- the power of two as the code computes it
-power : (n : ℕ) → n < 64 → 1 * 2 ^ n % 2 ^ 64 ≡ 2 ^ n
-power n h = let one : 1 * 2 ^ n ≡ 2 ^ n = omega arith in shl-exact 1 n 64 (omega arith) (omega arith) ∙ one
 
 shl-result : tie.Need-shl-result
 shl-result c = search needs
