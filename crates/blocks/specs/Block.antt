@@ -142,11 +142,11 @@ abbrev pub Trails : Log → (g p : ℕ) → Type 0
 Trails L g p = (g ≡ p - 1) ⊎ ((L .closed ≡ true) × (p ≡ L .size) × (g ≡ L .size))
 
 -- since: the ring holds the times of the witnesses still alive
-pub record Since (high : ℕ) (time : ℕ → ℕ) (left right : ℕ → Bool) (g : ℕ) (b : List ℕ) : Type 0 where
+pub record Since (low high : ℕ) (time : ℕ → ℕ) (left right : ℕ → Bool) (g : ℕ) (b : List ℕ) : Type 0 where
   pub at : taken b ≡ g
   pub times : List ℕ
   pub ring : Ring (ring-words high) b times
-  pub alive : Witnesses high time left right g times
+  pub alive : Witnesses low high time left right g times
 
 -- until: g is the next position to answer, p ≥ g the next to take, and of g up to p - 1 it is known that ..
 pub record Until (low high : ℕ) (time : ℕ → ℕ) (left right : ℕ → Bool) (g p ll lr lt : ℕ) : Type 0 where
@@ -176,7 +176,7 @@ Own (not φ) L g b = taken b ≡ g
 Own (or φ ψ) L g b = taken b ≡ g
 Own (previous low high φ) L g b = (answered b ≡ g) × (taken b ≡ g - 1)
 Own (next low high φ) L g b = (answered b ≡ g) × Trails L g (taken b)
-Own (since low high φ ψ) L g b = Since high (L .time) (sat φ L) (sat ψ L) g b
+Own (since low high φ ψ) L g b = Since low high (L .time) (sat φ L) (sat ψ L) g b
 Own (until low high φ ψ) L g b =
     (answered b ≡ g) ×
     Until low high (L .time) (sat φ L) (sat ψ L) g (taken b) (last-left b) (last-right b) (last-time b)

@@ -34,8 +34,8 @@ module _ (time time′ : ℕ → ℕ) (n : ℕ) (times : (k : ℕ) → k < n →
     (left right left′ right′ : ℕ → Bool)
     (lefts : (k : ℕ) → k < n → left k ≡ left′ k)
     (rights : (k : ℕ) → k < n → right k ≡ right′ k) where
-  witnesses-same : (high : ℕ) (qs : List ℕ) → Witnesses high time left right n qs → Witnesses high time′ left′ right′ n qs
-  witnesses-same high qs w =
+  witnesses-same : (low high : ℕ) (qs : List ℕ) → Witnesses low high time left right n qs → Witnesses low high time′ left′ right′ n qs
+  witnesses-same low high qs w =
       record {
         rising = w .rising;
         sound = λ i h.
@@ -116,7 +116,7 @@ module _ (K L : Log) (longer : Continues K L) (falls : NeverFalls L) where
         times = o .times;
         ring = o .ring;
         alive = witnesses-same (K .time) (L .time) g (time-stays φ g l) (sat φ K) (sat ψ K) (sat φ L) (sat ψ L)
-            (sat-stays φ g l) (sat-stays ψ g r) high (o .times) (o .alive);
+            (sat-stays φ g l) (sat-stays ψ g r) low high (o .times) (o .alive);
       }
   own-longer (until low high φ ψ) g b h x o =
       let l : taken b ≤ settled-to φ K = (let w = x .0 .within in omega arith) in

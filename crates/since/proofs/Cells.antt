@@ -12,7 +12,9 @@ use lib.ListN.{length, getD, set, length-append, length-set, List·getD-append}
 use lib.Seq.{getD-append-seam, getD-set-same, getD-set-other}
 use borrow.Author.Tests.{lt-ltb, le-ltb, eq-eqb, ne-eqb}
 use Rattle.mtl.proofs.Bounded.{le-or-lt}
-use Rattle.blocks.specs.Ring.{Ring, Rings, wrap, dropped, kept, newest-is, pushed, reaches}
+use Rattle.bits.specs.Packed.{bit, number}
+use Rattle.bits.proofs.Laws.{number-lt}
+use Rattle.blocks.specs.Ring.{Ring, Rings, wrap, dropped, kept, newest-is, pushed, reaches, newest-of, oldest-of, one, pushes}
 
 -- places in the ring
 
@@ -304,6 +306,90 @@ oldest cells b start cell low at gap s e g (q ∷ qs) r =
     ap (λ (k : ℕ). getD b k 0) e ∙ ap (λ (k : ℕ). getD b (16 + wrap cells k) 0) (s (r .start)) ∙ first cells b (getD b 9 0) (getD b 10 0) q qs (held cells b (q ∷ qs) r) in
     rw (r .count, g, f)
 
+-- the newest, where there is one
+pub none-newest : (cells : ℕ) (b : List ℕ) (count : ℕ) → (getD b 10 0 ≤ cells → count ≡ getD b 10 0) → count ≡ 0 →
+    (none : ℕ) (qs : List ℕ) → Ring cells b qs → none ≡ newest-of none qs
+none-newest cells b count n z none qs r =
+    let f = r .fits in
+    let e = r .count in
+    let c = n (omega arith) in
+    rw (le-ltb 0 (length qs) (omega arith)) refl
+
+pub some-newest : (cells : ℕ) (b : List ℕ) (start count cell : ℕ) → (getD b 9 0 < cells → start ≡ getD b 9 0) → (getD b 10 0 ≤ cells → count ≡ getD b 10 0) → 0 < count →
+    (start < cells → count ≤ cells → cell ≡ 16 + wrap cells (start + count - 1)) → (none : ℕ) (qs : List ℕ) → Ring cells b qs → getD b cell 0 ≡ newest-of none qs
+some-newest cells b start count cell s n some e none qs r =
+    let c = count-is cells b start count s n qs r in
+    let st = start-is cells b start count s n qs r in
+    let low = r .start in
+    let f = r .fits in
+    rw (lt-ltb 0 (length qs) (omega arith))
+    (at-place cells b start count s n qs r (length qs - 1) (omega arith) cell
+    (e (omega arith) (omega arith) ∙ ap (λ (i : ℕ). 16 + wrap cells i) (omega arith)))
+
+-- the oldest, where there is one
+pub none-oldest : (cells : ℕ) (b : List ℕ) → getD b 10 0 ≡ 0 → (none : ℕ) (qs : List ℕ) → Ring cells b qs → none ≡ oldest-of none qs
+none-oldest cells b z none qs r = let e = r .count in rw (le-ltb 0 (length qs) (omega arith)) refl
+
+pub some-oldest : (cells : ℕ) (b : List ℕ) (start cell : ℕ) → (getD b 10 0 ≡ 0 → ⊥) → (getD b 9 0 < cells → start ≡ getD b 9 0) → cell ≡ 16 + wrap cells start →
+    (none : ℕ) (qs : List ℕ) → Ring cells b qs → getD b cell 0 ≡ oldest-of none qs
+some-oldest cells b start cell some s e none [] r = absurd (some (r .count))
+some-oldest cells b start cell some s e none (q ∷ qs) r =
+    rw (lt-ltb 0 (length (q ∷ qs)) (omega arith))
+    (ap (λ (k : ℕ). getD b k 0) e ∙ ap (λ (k : ℕ). getD b (16 + wrap cells k) 0) (s (r .start)) ∙ first cells b (getD b 9 0) (getD b 10 0) q qs (held cells b (q ∷ qs) r))
+
+-- one time alone, or none
+module _ (b : List ℕ) (some : Bool) (flag time : ℕ) (is : flag ≡ number some) (room : 17 ≤ length b) where
+  abbrev pub alone : List ℕ
+  alone = set (set (set b 9 0) 10 flag) 16 time
+
+  alone-other : (i : ℕ) → (i ≡ 9 → ⊥) → (i ≡ 10 → ⊥) → (i ≡ 16 → ⊥) → getD alone i 0 ≡ getD b i 0
+  alone-other i n9 n10 n16 =
+      getD-set-other (set (set b 9 0) 10 flag) 16 i time 0 n16 ∙ getD-set-other (set b 9 0) 10 i flag 0 n10 ∙ getD-set-other b 9 i 0 0 n9
+
+  alone-start : getD alone 9 0 ≡ 0
+  alone-start =
+      getD-set-other (set (set b 9 0) 10 flag) 16 9 time 0 (omega arith) ∙ getD-set-other (set b 9 0) 10 9 flag 0 (omega arith) ∙ getD-set-same b 9 0 0 (omega arith)
+
+  alone-count : getD alone 10 0 ≡ flag
+  alone-count =
+      getD-set-other (set (set b 9 0) 10 flag) 16 10 time 0 (omega arith) ∙ getD-set-same (set b 9 0) 10 flag 0 (let e = length-set b 9 0 in omega arith)
+
+  alone-time : getD alone 16 0 ≡ time
+  alone-time =
+      getD-set-same (set (set b 9 0) 10 flag) 16 time 0 (let e = length-set b 9 0 in let f = length-set (set b 9 0) 10 flag in omega arith)
+
+  how-many : (x : Bool) → length (one x time) ≡ number x
+  how-many true = refl
+  how-many false = refl
+
+  the-time : (x : Bool) → 0 < length (one x time) → getD (one x time) 0 0 ≡ time
+  the-time true h = refl
+  the-time false h = absurd (omega arith)
+
+  pub put-alone : (cells : ℕ) → Rings cells (λ qs. one some time) b alone
+  put-alone cells = record {
+    others = λ i k n9 n10. alone-other i n9 n10 (omega arith);
+    ring = λ qs r.
+        let low = r .start in
+        let n = how-many some in
+        let few = number-lt some in
+        let e = length-set b 9 0 in
+        let f = length-set (set b 9 0) 10 flag in
+        let k = length-set (set (set b 9 0) 10 flag) 16 time in
+        let s = alone-start in
+        let all = r .room in
+        record {
+          room = omega arith;
+          start = omega arith;
+          count = alone-count ∙ is ∙ sym n;
+          fits = omega arith;
+          at = λ i h.
+              let z : i ≡ 0 = omega arith in
+              let w : 16 + wrap cells (0 + 0) ≡ 16 = ap (λ (k : ℕ). 16 + k) (wrap-low cells 0 (omega arith)) in
+              rw (z, s, w) (alone-time ∙ sym (the-time some (omega arith)));
+        };
+  }
+
 -- words below the ring's own, and the head, are no part of it
 pub ring-kept : (cells : ℕ) (b b′ qs : List ℕ) → length b′ ≡ length b → ((i : ℕ) → 9 ≤ i → (i ≡ 11 → ⊥) → getD b′ i 0 ≡ getD b i 0) → Ring cells b qs → Ring cells b′ qs
 ring-kept cells b b′ qs l same r =
@@ -325,3 +411,20 @@ followed {f} p q =
       others = λ i k n9 n10. q .others i k n9 n10 ∙ p .others i k n9 n10;
       ring = λ qs r. q .ring (f qs) (p .ring qs r);
     }
+
+-- the times of some positions, one after the other
+module _ (cells : ℕ) (at : ℕ → ℕ) (right from : ℕ) where
+  pub pushing-none : (b : List ℕ) → Rings cells (pushes cells at right from (from - from)) b b
+  unfolding pushes
+  pushing-none b =
+      let none : from - from ≡ 0 = omega arith in
+      rw none (record { others = λ i k n9 n10. refl; ring = λ qs r. r })
+
+  pub pushing-next : (i : ℕ) (b d e : List ℕ) → from ≤ i → Rings cells (pushes cells at right from (i - from)) b d →
+      Rings cells (pushed cells (bit right i) (at i)) d e → Rings cells (pushes cells at right from (i + 1 - from)) b e
+  unfolding pushes
+  pushing-next i b d e h p q =
+      let more : i + 1 - from ≡ suc (i - from) = omega arith in
+      let here : from + (i - from) ≡ i = omega arith in
+      let both = followed p q in
+      record { others = both .others; ring = λ qs r. rw more (rw here (both .ring qs r)) }

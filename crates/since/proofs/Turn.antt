@@ -23,13 +23,14 @@ use Rattle.trace.specs.Window.{window-of, Opened}
 use Rattle.trace.specs.declared.window.Window.{Window}
 use Rattle.trace.proofs.Reading.{shown-time-bound}
 use Rattle.blocks.specs.Block.{word, taken, left-count, left-bits, right-count, right-bits, head, Onward, Ready, took-both}
-use Rattle.blocks.specs.Ring.{Ring, Rings, Witnesses, Turns, turned, turns, reaches, reached}
+use Rattle.blocks.specs.Ring.{Ring, Rings, Witnesses, Turns, turned, turns, reaches, reached, Shown, Takes}
 use Rattle.blocks.specs.Step.{Agrees, Stepped, Steps}
 use Rattle.blocks.specs.declared.Step.the-variants.{Batch, Left, Right, Open}
 use Rattle.blocks.proofs.Words.{put, word-stores, after, fits, Available}
 use Rattle.blocks.proofs.Taking.{both-stores, first-of, taken-both}
 use Rattle.blocks.proofs.Reading.{end-onward, read-time, head-end}
 use Rattle.since.proofs.Witnesses.{turn-keeps, oldest-decides}
+use Rattle.since.proofs.Shown.{next, falls-here, time-small}
 use Rattle.since.proofs.Cells.{ring-kept, followed}
 
 -- the loop of `turn_all`: after i turns block b has become d, and `answers` has what they answer
@@ -71,42 +72,31 @@ module _ (low high : ℕ) (at : ℕ → ℕ) (left right : ℕ) (b : List ℕ) w
         };
       }
 
--- n positions from g on: `at` tells their times, two words what left and right answer there
-module _ (low high : ℕ) (time : ℕ → ℕ) (left right : ℕ → Bool) (g n : ℕ) (falls : (i j : ℕ) → i ≤ j → j < g + n → time i ≤ time j)
-    (at : ℕ → ℕ) (small : (i : ℕ) → i < n → at i < 4294967296) (same : (i : ℕ) → i < n → time (g + i) ≡ at i)
-    (v w : ℕ) (lefts : Packed left g n v) (rights : Packed right g n w) (times : List ℕ) (alive : Witnesses high time left right g times) where
-  abbrev after-turns : ℕ → List ℕ
+module _ (low high : ℕ) (time : ℕ → ℕ) (left right : ℕ → Bool) (g n : ℕ) (at : ℕ → ℕ) (v w : ℕ) (shown : Shown time left right g n at v w)
+    (times : List ℕ) (alive : Witnesses low high time left right g times) where
+  abbrev pub after-turns : ℕ → List ℕ
   after-turns i = turns (ring-words high) high at v w i times
 
   module _ (i : ℕ) (h : i < n) where
-    time-small : time (g + i) ≤ unbounded
-    time-small = omega (arith, small i h, same i h)
-
-    falls-here : (j k : ℕ) → j ≤ k → k ≤ g + i → time j ≤ time k
-    falls-here j k l m = falls j k l (omega arith)
-
-    next : g + suc i ≡ g + i + 1
-    next = omega arith
-
-    keeps : (qs : List ℕ) → Witnesses high time left right (g + i) qs →
-        Witnesses high time left right (g + suc i) (turned (ring-words high) high (bit v i) (bit w i) (at i) qs)
+    pub keeps : (qs : List ℕ) → Witnesses low high time left right (g + i) qs →
+        Witnesses low high time left right (g + suc i) (turned (ring-words high) high (bit v i) (bit w i) (at i) qs)
     keeps qs here =
-        rw (next, ← lefts .same i h, ← rights .same i h, ← same i h)
-        (turn-keeps high time left right (g + i) falls-here time-small qs here)
+        rw (next g i, ← shown .left-word .same i h, ← shown .right-word .same i h, ← shown .same i h)
+        (turn-keeps low high time left right (g + i) (falls-here shown i h) (time-small shown i h) qs here)
 
-    decides : Witnesses high time left right (g + suc i) (after-turns (suc i)) →
+    decides : Witnesses low high time left right (g + suc i) (after-turns (suc i)) →
         since-at low high time left right (g + i) ≡ reached low (ring-words high) high at v w times i
     decides here =
-        rw (← same i h) (sym (oldest-decides high time left right (g + i) falls-here time-small low _ (rw next at here)))
+        rw (← shown .same i h) (sym (oldest-decides low high time left right (g + i) (falls-here shown i h) (time-small shown i h) _ (rw (next g i) at here)))
 
-  keep : (i : ℕ) → i ≤ n → Witnesses high time left right (g + i) (after-turns i)
+  pub keep : (i : ℕ) → i ≤ n → Witnesses low high time left right (g + i) (after-turns i)
   unfolding turns
   keep zero h = rw (add-zero g) alive
   keep (suc i) h = keeps i h _ (keep i (omega arith))
 
   -- THEOREM: their turns keep the times of the witnesses, and answer since at each of them.
   turns-answer : (answers : ℕ) → Packed (reached low (ring-words high) high at v w times) 0 n answers →
-      Witnesses high time left right (g + n) (after-turns n) × Packed (since-at low high time left right) g n answers
+      Witnesses low high time left right (g + n) (after-turns n) × Packed (since-at low high time left right) g n answers
   turns-answer answers packed =
       let answer = reached low (ring-words high) high at v w times in (
         keep n (omega arith),
@@ -114,6 +104,16 @@ module _ (low high : ℕ) (time : ℕ → ℕ) (left right : ℕ → Bool) (g n 
             (λ i h. decides i h (keep (suc i) h) ∙ ap answer (sym (zero-add i)))
             packed,
       )
+
+pub turns-take : {low high : ℕ} {at : ℕ → ℕ} {left right n : ℕ} {b : List ℕ} {answers : ℕ} {d : List ℕ} → Turns low high at left right n b answers d →
+    Takes low high at left right n b answers d
+turns-take {low} {high} {at} {left} {right} {n} {b} {answers} {d} t =
+    record {
+      others = t .rings .others;
+      takes = λ time lefts rights g times shown ring alive.
+          let (later, packed) = turns-answer low high time lefts rights g n at left right shown times alive answers (t .packed times ring) in
+          ((_, t .rings .ring times ring, later), packed);
+    }
 
 module _ (low high : ℕ) (v s b : List ℕ) where
   pub since-left : (φ ψ : Formula) → Steps (since low high φ ψ) v s b Left b
@@ -142,9 +142,9 @@ module _ (low high : ℕ) (v s b : List ℕ) where
     -- a window of them is open, and d is the block after their turns
     module _ (some : 0 < n) (w : Window) (copy : List ℕ) (opened : Opened (skips v) s (in-slice (first v) (head b)) n w copy)
         (d : List ℕ) (long : length d ≡ length b) (answers : ℕ)
-        (turn : Turns low high (time-at (window-of w s copy)) (left-bits b) (right-bits b) n b answers d) where
+        (turn : Takes low high (time-at (window-of w s copy)) (left-bits b) (right-bits b) n b answers d) where
       turned-word : (i : ℕ) → i < 9 → word d i ≡ word b i
-      turned-word i h = turn .rings .others i (omega arith) (omega arith) (omega arith)
+      turned-word i h = turn .others i (omega arith) (omega arith) (omega arith)
 
       -- what the taking requires
       pub takable : taken b + n < 2 ^ 64 → (16 ≤ length d) × (n ≤ left-count d) × (n ≤ right-count d) × (taken d + n < 2 ^ 64)
@@ -165,7 +165,7 @@ module _ (low high : ℕ) (v s b : List ℕ) where
           words i ∙ rw (ne-eqb i 0 (omega arith), ne-eqb i 1 (omega arith), ne-eqb i 2 (omega arith), ne-eqb i 3 (omega arith), ne-eqb i 4 (omega arith), ne-eqb i 11 n11) refl
 
       kept : (i : ℕ) → (4 < i) × (i < 16) × (i ≡ 9 → ⊥) × (i ≡ 10 → ⊥) × (i ≡ 11 → ⊥) → word passed i ≡ word b i
-      kept i (h, k, n9, n10, n11) = behind i h n11 ∙ turn .rings .others i k n9 n10
+      kept i (h, k, n9, n10, n11) = behind i h n11 ∙ turn .others i k n9 n10
 
       at-passed : taken passed ≡ taken b + n
       at-passed = omega (arith, words 0, turned-word 0 (omega arith))
@@ -209,28 +209,23 @@ module _ (low high : ℕ) (v s b : List ℕ) where
             let at = at-passed in
             let count-left : left-count passed ≡ left-count b - n = omega (arith, words 1, turned-word 1 (omega arith)) in
             let count-right : right-count passed ≡ right-count b - n = omega (arith, words 3, turned-word 3 (omega arith)) in
-            let (alive, answer) =
-            turns-answer low high (L .time) (sat φ L) (sat ψ L) (taken b) n
-            (λ i j h k. falls i j h (omega arith))
-            (time-at (window-of w s copy))
-            (λ i h. omega (arith, time-here i h, shown-time-bound byte (agrees .shows (taken b + i) (omega arith) (omega (arith, inside-log)))))
-            (λ i h. sym (time-here i h))
-            (left-bits b)
-            (right-bits b)
-            (first-of n (omega arith) left)
-            (first-of n (omega arith) right)
-            (own .times)
-            (own .alive)
-            answers
-            (turn .packed (own .times) (own .ring)) in
-            let ring = ring-kept (ring-words high) d passed _ (simp length-set) (λ i h n11. behind i (omega arith) n11) (turn .rings .ring (own .times) (own .ring)) in
+            let shown : Shown (L .time) (sat φ L) (sat ψ L) (taken b) n (time-at (window-of w s copy)) (left-bits b) (right-bits b) =
+            record {
+              falls = λ i j h k. falls i j h (omega arith);
+              small = λ i h. omega (arith, time-here i h, shown-time-bound byte (agrees .shows (taken b + i) (omega arith) (omega (arith, inside-log))));
+              same = λ i h. sym (time-here i h);
+              left-word = first-of n (omega arith) left;
+              right-word = first-of n (omega arith) right;
+            } in
+            let (held, answer) = turn .takes (L .time) (sat φ L) (sat ψ L) (taken b) (own .times) shown (own .ring) (own .alive) in
+            let ring = ring-kept (ring-words high) d passed (held .0) (simp length-set) (λ i h n11. behind i (omega arith) n11) (held .1) in
             let start = ring .start in
             let count = ring .count in
             let cells = ring .fits in
             let moved =
             taken-both (since low high φ ψ) b n (taken b + n) passed within-settled
             (omega (arith, kept 5 (omega arith), kept 6 (omega arith), kept 7 (omega arith), kept 8 (omega arith)))
-            (record { at = at; times = _; ring = ring; alive = alive })
+            (record { at = at; times = held .0; ring = ring; alive = held .2 })
             (words 11 ∙ head-end agrees (taken b) heads (omega arith) inside-log opened some ∙ ap (head-of L) (sym at))
             (λ x. x) (omega arith) (omega arith)
             (record {

@@ -15,7 +15,7 @@ use Rattle.mtl.specs.Satisfaction.{since-at}
 use Rattle.mtl.specs.Formula.{unbounded}
 use Rattle.mtl.proofs.Bounded.{true-and-false, same-test, and-iff, at-most-small, since-at-iff}
 use Rattle.rule.specs.Words.{ring-words}
-use Rattle.blocks.specs.Ring.{Witness, Witnesses, dropped, kept, newest-is, turned, reaches}
+use Rattle.blocks.specs.Ring.{Witness, Serves, Witnesses, dropped, kept, newest-is, turned, reaches}
 
 -- dropped: the first k, each more than high before `at`; the next one is not
 record Drops (high at : ℕ) (qs : List ℕ) (k : ℕ) : Type 0 where
@@ -49,18 +49,31 @@ drops high at (q ∷ qs) = step (drops high at qs) (ltb high (at - q)) refl
       },
     )
 
-module _ (high : ℕ) (time : ℕ → ℕ) where
-  -- the time of position j stands among the times; without upper end one as early is enough
+-- one position more
+module _ (left right : ℕ → Bool) (g j : ℕ) where
+  pub longer : left g ≡ true → Witness left right g j → Witness left right (g + 1) j
+  longer l w =
+      record {
+        before = let h = w .before in omega arith;
+        held = w .held;
+        since = λ k h h′. ⊎-elim (λ e. ap left e ∙ l) (λ b. w .since k h b) (eq-or-lt-of-le {n = k} {m = g} (omega arith));
+      }
+
+  pub shorter : j < g → Witness left right (g + 1) j → Witness left right g j
+  shorter h w = record { before = h; held = w .held; since = λ k a b. w .since k a (omega arith) }
+
+-- times that rise from place to place
+abbrev Rising : List ℕ → Type 0
+Rising times = (i j : ℕ) → i < j → j < length times → getD times i 0 < getD times j 0
+
+pub no-later : (times : List ℕ) → Rising times → (i j : ℕ) → i ≤ j → j < length times → getD times i 0 ≤ getD times j 0
+no-later times rising i j l h =
+    ⊎-elim (λ e. rw e (omega arith)) (λ b. let r = rising i j b h in omega arith) (eq-or-lt-of-le {n = i} {m = j} l)
+
+module _ (low high : ℕ) (time : ℕ → ℕ) where
+  -- a time that serves for position j stands among the times
   abbrev Stands : List ℕ → ℕ → Type 0
-  Stands times j = (i : ℕ) × (i < length times) × ((getD times i 0 ≡ time j) ⊎ ((high ≡ unbounded) × (getD times i 0 ≤ time j)))
-
-  -- times that rise from place to place
-  abbrev Rising : List ℕ → Type 0
-  Rising times = (i j : ℕ) → i < j → j < length times → getD times i 0 < getD times j 0
-
-  no-later : (times : List ℕ) → Rising times → (i j : ℕ) → i ≤ j → j < length times → getD times i 0 ≤ getD times j 0
-  no-later times rising i j l h =
-      ⊎-elim (λ e. rw e (omega arith)) (λ b. let r = rising i j b h in omega arith) (eq-or-lt-of-le {n = i} {m = j} l)
+  Stands times j = (i : ℕ) × (i < length times) × Serves low high (getD times i 0) (time j)
 
   -- they are as far apart as their places
   apart : (times : List ℕ) → Rising times → (i : ℕ) → i < length times → getD times 0 0 + i ≤ getD times i 0
@@ -76,19 +89,8 @@ module _ (high : ℕ) (time : ℕ → ℕ) where
           (j : ℕ) × (j < g) × Witness left right (g + 1) j × (time j ≡ getD times i 0) × (time g - getD times i 0 ≤ high)
       complete : (j : ℕ) → j < g → Witness left right (g + 1) j → time g - time j ≤ high → Stands times j
 
-    longer : (j : ℕ) → left g ≡ true → Witness left right g j → Witness left right (g + 1) j
-    longer j l w =
-        record {
-          before = let h = w .before in omega arith;
-          held = w .held;
-          since = λ k h h′. ⊎-elim (λ e. ap left e ∙ l) (λ b. w .since k h b) (eq-or-lt-of-le {n = k} {m = g} (omega arith));
-        }
-
-    shorter : (j : ℕ) → j < g → Witness left right (g + 1) j → Witness left right g j
-    shorter j h w = record { before = h; held = w .held; since = λ k a b. w .since k a (omega arith) }
-
     -- what is left of them at g, where left holds there
-    earlier : (times : List ℕ) (l : Bool) → left g ≡ l → Witnesses high time left right g times → Earlier (kept l (dropped high (time g) times))
+    earlier : (times : List ℕ) (l : Bool) → left g ≡ l → Witnesses low high time left right g times → Earlier (kept l (dropped high (time g) times))
     earlier times false e w =
         record {
           rising = λ i j h h′. absurd (omega arith);
@@ -108,19 +110,19 @@ module _ (high : ℕ) (time : ℕ → ℕ) where
               let (j, v, t, b) = w .sound (k + i) l in
               let near = d .next (omega arith) in
               let m = no-later times (w .rising) k (k + i) (omega arith) l in
-              rw (at i 0) (j, v .before, longer j e v, t, omega arith);
-          complete = λ j h v b. found k d n (w .complete j (shorter j h v) (let f = falls (g - 1) g (omega arith) (omega arith) in omega arith)) b;
+              rw (at i 0) (j, v .before, longer left right g j e v, t, omega arith);
+          complete = λ j h v b. found k d n (w .complete j (shorter left right g j h v) (let f = falls (g - 1) g (omega arith) (omega arith) in omega arith)) b;
         })
       where
         found : (k : ℕ) → Drops high (time g) times k → length (drop k times) ≡ length times - k → {j : ℕ} →
             Stands times j → time g - time j ≤ high → Stands (drop k times) j
         found k d n {j} (i, l, s) b =
-            let late : i < k → ⊥ = λ h. let o = d .old i h in ⊎-elim (λ q. omega arith) (λ q. omega arith) s in
+            let late : i < k → ⊥ = λ h. let o = d .old i h in ⊎-elim (λ q. omega arith) (λ q. ⊎-elim (λ u. let f = u .1 in omega arith) (λ z. let f = z .1 in omega arith) q) s in
             let p : k + (i - k) ≡ i = omega arith in
             (i - k, omega arith, rw (getD-drop k times (i - k) 0, p) s)
 
     -- g needs no place of its own
-    unchanged : (times : List ℕ) → Earlier times → (right g ≡ true → Stands times g) → Witnesses high time left right (g + 1) times
+    unchanged : (times : List ℕ) → Earlier times → (right g ≡ true → Stands times g) → Witnesses low high time left right (g + 1) times
     unchanged times w there =
         let last : g + 1 - 1 ≡ g = omega arith in
         record {
@@ -150,7 +152,7 @@ module _ (high : ℕ) (time : ℕ → ℕ) where
 
       -- and there is room for it, but in a ring of one cell
       room : newest-is (time g) times ≡ false → (b : Bool) → eqb high unbounded ≡ b → cond b 1 (high + 1) ≤ length times → Stands times g
-      room e true u full = (0, omega arith, inr (eqb-true high unbounded u, not-after 0 (omega arith)))
+      room e true u full = (0, omega arith, inr (inl (eqb-true high unbounded u, not-after 0 (omega arith))))
       room e false u full =
           let last = length times - 1 in
           let (j, l, v, t, near) = w .sound 0 (omega arith) in
@@ -164,7 +166,7 @@ module _ (high : ℕ) (time : ℕ → ℕ) where
           let some = ltb-true 0 (length times) (both .0) in
           (length times - 1, omega arith, inl (eqb-true (getD times (length times - 1) 0) (time g) (both .1)))
 
-      added : newest-is (time g) times ≡ false → right g ≡ true → Witnesses high time left right (g + 1) (times ++ (time g ∷ []))
+      added : newest-is (time g) times ≡ false → right g ≡ true → Witnesses low high time left right (g + 1) (times ++ (time g ∷ []))
       added e r =
           let last : g + 1 - 1 ≡ g = omega arith in
           let n : length (times ++ (time g ∷ [])) ≡ length times + 1 = length-append times (time g ∷ []) in
@@ -193,7 +195,7 @@ module _ (high : ℕ) (time : ℕ → ℕ) where
           }
 
       push : (r f n : Bool) → right g ≡ r → ltb (length times) (ring-words high) ≡ f → newest-is (time g) times ≡ n →
-          Witnesses high time left right (g + 1) (cond (r && (f && negate n)) (times ++ (time g ∷ [])) times)
+          Witnesses low high time left right (g + 1) (cond (r && (f && negate n)) (times ++ (time g ∷ [])) times)
       push false f n er ef en = unchanged times w (λ r. absurd (true-and-false r er))
       push true false true er ef en = unchanged times w (λ r. already en)
       push true false false er ef en =
@@ -202,15 +204,15 @@ module _ (high : ℕ) (time : ℕ → ℕ) where
       push true true false er ef en = added en er
 
     -- THEOREM: one position's turn keeps the times of the witnesses, and the oldest of them decides since at g.
-    pub turn-keeps : (times : List ℕ) → Witnesses high time left right g times →
-        Witnesses high time left right (g + 1) (turned (ring-words high) high (left g) (right g) (time g) times)
+    pub turn-keeps : (times : List ℕ) → Witnesses low high time left right g times →
+        Witnesses low high time left right (g + 1) (turned (ring-words high) high (left g) (right g) (time g) times)
     turn-keeps times w =
         let es = kept (left g) (dropped high (time g) times) in
         push es (earlier times (left g) refl w) (right g) (ltb (length es) (ring-words high)) (newest-is (time g) es) refl refl refl
 
-    pub oldest-decides : (low : ℕ) (times : List ℕ) → Witnesses high time left right (g + 1) times →
+    pub oldest-decides : (times : List ℕ) → Witnesses low high time left right (g + 1) times →
         reaches low (time g) times ≡ since-at low high time left right g
-    oldest-decides low times w =
+    oldest-decides times w =
         let last : g + 1 - 1 ≡ g = omega arith in
         let both = and-iff (ltb 0 (length times)) (leb low (time g - getD times 0 0)) in
         let some = since-at-iff low high time left right g in
@@ -228,6 +230,7 @@ module _ (high : ℕ) (time : ℕ → ℕ) where
               let (i, l, s) = w .complete j v (rw last (at-most-small high (time j) (time g) small (within .1))) in
               let far = within .0 in
               let f = no-later times (w .rising) 0 i (omega arith) l in
-              let near : getD times i 0 ≤ time j = ⊎-elim (λ q. omega arith) (λ q. q .1) s in
-              both .1 (lt-ltb 0 (length times) (omega arith), le-leb low (time g - getD times 0 0) (omega arith)),
+              let back : low ≤ time g - getD times 0 0 =
+              ⊎-elim (λ q. omega arith) (λ q. ⊎-elim (λ u. let n = u .1 in omega arith) (λ z. let n = z .0 in omega arith) q) s in
+              both .1 (lt-ltb 0 (length times) (omega arith), le-leb low (time g - getD times 0 0) back),
         )

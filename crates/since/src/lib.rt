@@ -1,7 +1,9 @@
 // since: the times of the witnesses still alive, in a ring.
 ghost use mathlib.Core.Path.{_≡_};
-ghost use mathlib.Core.Bool.{true};
-ghost use Prim.Native.Nat.{_+_, _*_, _≤_, _<_, _^_};
+ghost use mathlib.Core.Bool.{true, cond, _&&_};
+ghost use Prim.Native.Nat.{ℕ, _+_, _-_, _*_, _≤_, _<_, _^_};
+ghost use mathlib.Core.List.{List};
+ghost use lib.Bits.{bitAnd, bitOr};
 ghost use lib.ListN.{length};
 ghost use Rattle.mtl.specs.Formula.{Formula};
 ghost use Rattle.mtl.specs.Formula.Formula.{since};
@@ -11,15 +13,24 @@ ghost use Rattle.trace.specs.Window.{window-of};
 ghost use Rattle.blocks.specs.Block.{left-bits, right-bits};
 ghost use Rattle.blocks.specs.Step.{Steps, Ends};
 ghost use Rattle.rule.specs.Words.{ring-words};
-ghost use Rattle.blocks.specs.Ring.{Turns};
+ghost use Rattle.blocks.specs.Ring.{Ring, Rings, Turns, newest-at, oldest-of, in-reach, word-turned, Rises, Takes};
+ghost use Rattle.bits.specs.Packed.{bit, Packed, FilledUp};
 
 mod ring;
 
 use blocks::Step;
+use blocks::time;
 use blocks::word;
 use trace::Window;
 use trace::view;
 use trace::window;
+
+// a where it is told so, else b.
+fn choose(yes: bool, a: u64, b: u64) -> u64
+    ensures { λ r. ⌜ r ≡ cond yes a b ⌝ }
+{
+    if yes { a } else { b }
+}
 
 // The turns of n positions of a window, where left and right are the operands' words of answers; gives the since's.
 fn turn_all(
@@ -48,8 +59,143 @@ fn turn_all(
     answers
 }
 
-// The turns of n positions that both operands have answered.
-fn turn_window<'a>(
+// Which of n positions lie at least low and at most high after the last that is marked, or after `first` where none is.
+fn find_within(low: u64, high: u64, window: &[u8], n: usize, marks: u64, first: u64) -> u64
+    requires { ⌜ (n ≤ record-count (now window)) × (n ≤ 64) ⌝ }
+    ensures { λ r. ⌜ Packed (in-reach low high (time-at (now (window .entry))) marks first) 0 n r ⌝ }
+{
+    let mut last = first;
+    let mut answers: u64 = 0;
+    let mut i: usize = 0;
+    while i < n {
+        let now = trace::time(window, i);
+        last = choose(bits::test(marks, i as u64), now, last);
+        let gap = time::gap(last, now);
+        answers = bits::push(answers, i as u64, (low <= gap) & (gap <= high));
+        i += 1;
+    }
+    answers
+}
+
+// Those that `alive` has and that lie at most high after the last right; all that it has where the last lies at most high after `first`.
+fn keep_reached(high: u64, window: &[u8], n: usize, right: u64, first: u64, alive: u64) -> u64
+    requires { ⌜ (0 < n) × (n ≤ record-count (now window)) × (n ≤ 64) ⌝ }
+    ensures { λ r. ⌜ (Rises (time-at (now (window .entry))) n first → Packed (λ i. bit alive i && in-reach 0 high (time-at (now (window .entry))) right first i) 0 n r) ⌝ }
+{
+    if time::gap(first, trace::time(window, n - 1)) <= high {
+        return alive;
+    }
+    alive & find_within(0, high, window, n, right, first)
+}
+
+// The time of the last right, or `first` where there is none.
+fn newest_right(window: &[u8], n: usize, right: u64, first: u64) -> u64
+    requires { ⌜ (n ≤ record-count (now window)) × (n ≤ 64) ⌝ }
+    ensures { λ r. ⌜ r ≡ newest-at (time-at (now (window .entry))) right first n ⌝ }
+{
+    let behind = bits::find_last_zero(!right, n as u64);
+    if behind == 0 {
+        return first;
+    }
+    trace::time(window, behind as usize - 1)
+}
+
+// Behind which positions a witness is alive, where `begun` is 1 if one was before them.
+fn find_alive(left: u64, right: u64, begun: u64) -> u64
+    ensures { λ r. ⌜ FilledUp left (bitOr right (bitAnd left begun)) r ⌝ }
+{
+    bits::fill_up(left, right | (left & begun))
+}
+
+// n positions by whole words, where low is 0: the newest witness alone is kept.
+fn take_word(high: u64, window: &[u8], n: usize, left: u64, right: u64, block: &mut [u64]) -> u64
+    requires { ⌜ (high < 2 ^ 32) × (16 + ring-words high ≤ length (now block)) × (0 < n) × (n ≤ record-count (now window)) × (n ≤ 64) ⌝ }
+    ensures { λ r. ⌜ Takes 0 high (time-at (now (window .entry))) left right n (now (block .entry)) r (now (block .exit)) ⌝ }
+{
+    let first = ring::newest(ring::cells_for(high), trace::time(window, 0), block);
+    let begun = bits::flag(ring::has_some(block));
+    let alive = find_alive(left, right, begun);
+    let answers = keep_reached(high, window, n, right, first, alive);
+    let last = bits::test(answers, n as u64 - 1);
+    ring::put_one(last, newest_right(window, n, right, first), block);
+    answers
+}
+
+// The ring after n positions of which none drops a time.
+fn turn_word(high: u64, window: &[u8], n: usize, left: u64, right: u64, block: &mut [u64])
+    requires { ⌜ (high < 2 ^ 32) × (16 + ring-words high ≤ length (now block)) × (n ≤ record-count (now window)) × (n ≤ 64) ⌝ }
+    ensures { λ _. ⌜ Rings (ring-words high) (word-turned (ring-words high) (time-at (now (window .entry))) left right n) (now (block .entry)) (now (block .exit)) ⌝ }
+{
+    let after = bits::find_last_zero(left, n as u64);
+    ring::keep_if(after == 0, block);
+    let from = time::gap(1, after) as usize;
+    ring::push_all(ring::cells_for(high), window, from, n, right, block);
+}
+
+// n positions by whole words, where low is above 0 and the last lies at most high after `first`, the oldest witness or the first of the
+// positions: the oldest witness decides. It is another one wherever left fails or none was alive before.
+fn take_inside(
+    low: u64,
+    high: u64,
+    window: &[u8],
+    n: usize,
+    left: u64,
+    right: u64,
+    first: u64,
+    block: &mut [u64],
+) -> u64
+    requires { ⌜ (0 < low) × (high < 2 ^ 32) × (16 + ring-words high ≤ length (now block)) × (0 < n) × (n ≤ record-count (now window)) × (n ≤ 64) × (time-at (now window) (n - 1) - first ≤ high) ⌝ }
+    ensures { λ r. ⌜ (((qs : List ℕ) → Ring (ring-words high) (now (block .entry)) qs → first ≡ oldest-of (time-at (now (window .entry)) 0) qs) → Takes low high (time-at (now (window .entry))) left right n (now (block .entry)) r (now (block .exit))) ⌝ }
+{
+    let begun = bits::flag(ring::has_some(block));
+    let alive = find_alive(left, right, begun);
+    let marks = !(left & ((alive << 1) | begun));
+    let old = find_within(low, high, window, n, marks, first);
+    turn_word(high, window, n, left, right, block);
+    alive & old
+}
+
+// n positions where low is above 0: by whole words where none drops a time, else by turns.
+fn take_late(
+    low: u64,
+    high: u64,
+    window: &[u8],
+    n: usize,
+    left: u64,
+    right: u64,
+    block: &mut [u64],
+) -> u64
+    requires { ⌜ (0 < low) × (high < 2 ^ 32) × (16 + ring-words high ≤ length (now block)) × (0 < n) × (n ≤ record-count (now window)) × (n ≤ 64) ⌝ }
+    ensures { λ r. ⌜ Takes low high (time-at (now (window .entry))) left right n (now (block .entry)) r (now (block .exit)) ⌝ }
+{
+    let first = ring::oldest(ring::cells_for(high), trace::time(window, 0), block);
+    if time::gap(first, trace::time(window, n - 1)) <= high {
+        return take_inside(low, high, window, n, left, right, first, block);
+    }
+    turn_all(low, high, window, n, left, right, block)
+}
+
+// n positions, by whole words where that can be.
+fn take_all(
+    low: u64,
+    high: u64,
+    window: &[u8],
+    n: usize,
+    left: u64,
+    right: u64,
+    block: &mut [u64],
+) -> u64
+    requires { ⌜ (high < 2 ^ 32) × (16 + ring-words high ≤ length (now block)) × (0 < n) × (n ≤ record-count (now window)) × (n ≤ 64) ⌝ }
+    ensures { λ r. ⌜ Takes low high (time-at (now (window .entry))) left right n (now (block .entry)) r (now (block .exit)) ⌝ }
+{
+    if low == 0 {
+        return take_word(high, window, n, left, right, block);
+    }
+    take_late(low, high, window, n, left, right, block)
+}
+
+// The n positions that both operands have answered.
+fn take_window<'a>(
     low: u64,
     high: u64,
     window: Window,
@@ -58,13 +204,13 @@ fn turn_window<'a>(
     n: u64,
     block: &mut [u64],
 ) -> u64
-    requires { ⌜ (high < 2 ^ 32) × (16 + ring-words high ≤ length (now block)) × (window .dense ≡ true → window .at * 8 ≤ length (now records)) × (n ≤ record-count (window-of window (now records) (now copy))) × (n ≤ 64) ⌝ }
-    ensures { λ r. ⌜ Turns low high (time-at (window-of window (now (records .entry)) (now (copy .entry)))) (left-bits (now (block .entry))) (right-bits (now (block .entry))) n (now (block .entry)) r (now (block .exit)) ⌝ }
+    requires { ⌜ (high < 2 ^ 32) × (16 + ring-words high ≤ length (now block)) × (window .dense ≡ true → window .at * 8 ≤ length (now records)) × (n ≤ record-count (window-of window (now records) (now copy))) × (0 < n) × (n ≤ 64) ⌝ }
+    ensures { λ r. ⌜ Takes low high (time-at (window-of window (now (records .entry)) (now (copy .entry)))) (left-bits (now (block .entry))) (right-bits (now (block .entry))) n (now (block .entry)) r (now (block .exit)) ⌝ }
 {
     let left = block[word::LEFT_BITS];
     let right = block[word::RIGHT_BITS];
     let read = window::read(window, records, copy);
-    turn_all(low, high, read, n as usize, left, right, block)
+    take_all(low, high, read, n as usize, left, right, block)
 }
 
 // Takes as many positions as both operands have answered.
@@ -94,7 +240,7 @@ pub fn step_since(
         return Step::Open;
     }
     let window = window::open(records, view, block[word::HEAD], count, copy);
-    let bits = turn_window(low, high, window, records, copy, count, block);
+    let bits = take_window(low, high, window, records, copy, count, block);
     blocks::take_both(block, count);
     block[word::HEAD] = window::pass_all(window, view);
     Step::Batch { bits, count }

@@ -2,12 +2,16 @@
 // stands and how many there are; whatever they hold, only the ring's own cells are read and written.
 ghost use mathlib.Core.Path.{_≡_};
 ghost use mathlib.Core.List.{List};
-ghost use Prim.Native.Nat.{ℕ, _+_, _≤_, _<_, _^_};
+ghost use Prim.Native.Nat.{ℕ, _+_, _-_, _≤_, _<_, _^_};
+ghost use lib.Dec.{ltb};
 ghost use lib.ListN.{length};
 ghost use Rattle.rule.specs.Words.{ring-words};
-ghost use Rattle.blocks.specs.Ring.{Ring, Rings, wrap, dropped, kept, pushed, reaches, turned};
+ghost use Rattle.trace.specs.Format.{record-count, time-at};
+ghost use Rattle.blocks.specs.Ring.{Ring, Rings, wrap, dropped, kept, pushed, reaches, turned, newest-of, oldest-of, one, pushes};
 use blocks::time;
 use blocks::word;
+
+const FIRST_CELL: usize = 16;
 
 // The number of cells that a since with this high has.
 pub fn cells_for(high: u64) -> u64
@@ -55,7 +59,7 @@ fn drop_old(cells: u64, high: u64, at: u64, block: &mut [u64])
 }
 
 // Drops all of them, unless `left` holds.
-fn keep_if(left: bool, block: &mut [u64])
+pub fn keep_if(left: bool, block: &mut [u64])
     requires { ⌜ 16 ≤ length (now block) ⌝ }
     ensures { λ _. ⌜ ((cells : ℕ) → Rings cells (kept left) (now (block .entry)) (now (block .exit))) ⌝ }
 {
@@ -108,4 +112,60 @@ pub fn turn(
     keep_if(left, block);
     push_if(cells, right, at, block);
     reaches_back(cells, low, at, block)
+}
+
+// Whether it has a time.
+pub fn has_some(block: &[u64]) -> bool
+    requires { ⌜ 16 ≤ length (now block) ⌝ }
+    ensures { λ r. ⌜ ((cells : ℕ) (qs : List ℕ) → Ring cells (now (block .entry)) qs → r ≡ ltb 0 (length qs)) ⌝ }
+{
+    0 < block[word::RING_COUNT]
+}
+
+// The newest of its times, and `none` where there is none.
+pub fn newest(cells: u64, none: u64, block: &[u64]) -> u64
+    requires { ⌜ (0 < cells) × (cells < 2 ^ 32) × (16 + cells ≤ length (now block)) ⌝ }
+    ensures { λ r. ⌜ ((qs : List ℕ) → Ring cells (now (block .entry)) qs → r ≡ newest-of none qs) ⌝ }
+{
+    let held = at_most(block[word::RING_COUNT], cells);
+    if held == 0 {
+        return none;
+    }
+    let start = at_most(block[word::RING_START], cells - 1);
+    block[cell(cells, start + held - 1)]
+}
+
+// The oldest of its times, and `none` where there is none.
+pub fn oldest(cells: u64, none: u64, block: &[u64]) -> u64
+    requires { ⌜ (0 < cells) × (cells < 2 ^ 32) × (16 + cells ≤ length (now block)) ⌝ }
+    ensures { λ r. ⌜ ((qs : List ℕ) → Ring cells (now (block .entry)) qs → r ≡ oldest-of none qs) ⌝ }
+{
+    if block[word::RING_COUNT] == 0 {
+        return none;
+    }
+    let start = at_most(block[word::RING_START], cells - 1);
+    block[cell(cells, start)]
+}
+
+// Adds the times of the positions from `from` to n at which right holds.
+pub fn push_all(cells: u64, window: &[u8], from: usize, n: usize, right: u64, block: &mut [u64])
+    requires { ⌜ (0 < cells) × (cells < 2 ^ 32) × (16 + cells ≤ length (now block)) × (from ≤ n) × (n ≤ 64) × (n ≤ record-count (now window)) ⌝ }
+    ensures { λ _. ⌜ Rings cells (pushes cells (time-at (now (window .entry))) right from (n - from)) (now (block .entry)) (now (block .exit)) ⌝ }
+{
+    let mut i = from;
+    while i < n {
+        let now = trace::time(window, i);
+        push_if(cells, bits::test(right, i as u64), now, block);
+        i += 1;
+    }
+}
+
+// One time alone, or none.
+pub fn put_one(some: bool, time: u64, block: &mut [u64])
+    requires { ⌜ 17 ≤ length (now block) ⌝ }
+    ensures { λ _. ⌜ ((cells : ℕ) → Rings cells (λ qs. one some time) (now (block .entry)) (now (block .exit))) ⌝ }
+{
+    block[word::RING_START] = 0;
+    block[word::RING_COUNT] = bits::flag(some);
+    block[FIRST_CELL] = time;
 }

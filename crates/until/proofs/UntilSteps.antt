@@ -301,7 +301,7 @@ module _ {low high most : ℕ} {v s b : List ℕ} {r : Room} {ahead : Window} {c
     module _ (none : w .count ≡ 0) (nothing : w .took ≡ 0) where
       -- what is known of it
       unknown : Waiting low most (starts-of starts s waiting) (ahead-of ahead s copy (r .take) (r .look) (closed v)) (taken b - answered b) (r .take) (w .count) (w .took) (w .last)
-      unknown = went .walk .waiting (omega arith)
+      unknown = went .walk .waiting none nothing
 
       behind : taken b + w .took ≤ both-settled φ ψ L
       behind = let x = lefts .within in let y = rights .within in omega arith

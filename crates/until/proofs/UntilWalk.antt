@@ -25,7 +25,7 @@ use Rattle.blocks.proofs.Words.{fits}
 use Rattle.until.proofs.UntilLogic as logic
 
 -- an answer as a word
-is-number : (x : Bool) → eqb (number x) 1 ≡ x
+pub is-number : (x : Bool) → eqb (number x) 1 ≡ x
 is-number true = refl
 is-number false = refl
 

@@ -81,12 +81,11 @@ Walks low most start next lead n left right from bits count took last =
 -- what it promises on any words
 pub record Limits (lead n bits count took : ℕ) (from last : Last) : Type 0 where
   pub few : count ≤ 64
-  pub small : bits < 2 ^ count
   pub most : took ≤ n
   pub behind : count ≤ lead + took
   pub bound : from .time < 2 ^ 32 → last .time < 2 ^ 32
 
--- where a walk ends with fewer than 64 answers: all n positions are taken, and the next to answer waits
+-- where a walk answers none and takes none: there is none to take, and the next to answer waits
 pub record Waiting (low most : ℕ) (start next : ℕ → ℕ) (lead n count took : ℕ) (last : Last) : Type 0 where
   pub all : took ≡ n
   pub unknown : look-spec low most start next lead count took last ≡ Unknown
@@ -94,8 +93,19 @@ pub record Waiting (low most : ℕ) (start next : ℕ → ℕ) (lead n count too
 -- a whole walk
 pub record Walk (low most : ℕ) (start next : ℕ → ℕ) (lead n left right : ℕ) (from : Last) (w : Walked) : Type 0 where
   pub limits : Limits lead n (w .bits) (w .count) (w .took) from (w .last)
-  pub waiting : w .count < 64 → Waiting low most start next lead n (w .count) (w .took) (w .last)
+  pub waiting : w .count ≡ 0 → w .took ≡ 0 → Waiting low most start next lead n (w .count) (w .took) (w .last)
   pub walks : Walks low most start next lead n left right from (w .bits) (w .count) (w .took) (w .last)
+
+-- what was taken settles none of those that wait, where low is 0
+abbrev pub Quiet : (lead : ℕ) → Last → Type 0
+Quiet lead last = 0 < lead → (last .left ≡ true) × (last .right ≡ false)
+
+-- a walk with low 0 can go by whole words: the last of n positions to take lies no more than high after the first that waits
+pub record ByWords (high : ℕ) (start time : ℕ → ℕ) (lead n : ℕ) (from : Last) : Type 0 where
+  pub some : 0 < n
+  pub few : lead < 64
+  pub quiet : Quiet lead from
+  pub inside : time (n - 1) - start 0 ≤ high
 
 -- a window that has n records
 pub record Holds (w : Window) (s copy : List ℕ) (n : ℕ) : Type 0 where

@@ -1,7 +1,7 @@
 // until: two reading heads and no history.
 ghost use mathlib.Core.Path.{_≡_};
 ghost use mathlib.Core.Bool.{true};
-ghost use Prim.Native.Nat.{_+_, _-_, _≤_, _<_, _^_, min};
+ghost use Prim.Native.Nat.{ℕ, _+_, _-_, _≤_, _<_, _^_, min};
 ghost use lib.ListN.{length};
 ghost use Rattle.mtl.specs.Formula.{Formula};
 ghost use Rattle.mtl.specs.Formula.Formula.{until};
@@ -9,7 +9,7 @@ ghost use Rattle.trace.specs.Format.{record-count, time-at};
 ghost use Rattle.trace.specs.View.{Numbered};
 ghost use Rattle.blocks.specs.Block.{taken, left-count, left-bits, right-count, right-bits, answered};
 ghost use Rattle.blocks.specs.Step.{Steps, Ends};
-ghost use Rattle.until.specs.Settle.{settle-spec, time-of-none, next-of, look-spec, take-spec, Walk, Holds, starts-of, ahead-of, last-taken, walked, Wants, Fits};
+ghost use Rattle.until.specs.Settle.{settle-spec, time-of-none, next-of, look-spec, take-spec, Walk, ByWords, Holds, starts-of, ahead-of, last-taken, walked, Wants, Fits};
 use blocks::Step;
 use blocks::time;
 use blocks::word;
@@ -161,6 +161,78 @@ fn walk(
     }
 }
 
+// How many of n positions are taken where the first `known` are answered behind `lead` others: all, unless that were more than 64 answers.
+fn taken_for(lead: u64, known: u64, n: u64) -> u64
+    requires { ⌜ (lead < 64) × (known ≤ 64) ⌝ }
+    ensures { λ r. ⌜ (lead + known ≤ 64 → r ≡ n) × (64 < lead + known → r ≡ 64 - lead) ⌝ }
+{
+    if lead + known <= 64 { n } else { 64 - lead }
+}
+
+// A walk by whole words: low is 0, no position to take lies more than high after the first that waits, and nothing that was taken settles
+// one that waits. So each is settled by the first behind it at which right holds or left fails.
+fn walk_inside(ahead: &[u8], lead: u64, n: u64, left: u64, right: u64) -> Walked
+    requires { ⌜ (0 < n) × (n ≤ 64) × (n ≤ record-count (now ahead)) × (lead < 64) ⌝ }
+    ensures { λ r. ⌜ ((high after : ℕ) (start : ℕ → ℕ) (from : Last) → ByWords high start (time-at (now (ahead .entry))) lead n from → Walk 0 high start (next-of (time-at (now (ahead .entry))) n after) lead n left right from r) ⌝ }
+{
+    let known = bits::find_last_zero(left & !right, n);
+    if known == 0 {
+        return Walked {
+            bits: 0,
+            count: 0,
+            took: n,
+            last: take(ahead, n - 1, left, right),
+        };
+    }
+    let took = taken_for(lead, known, n);
+    Walked {
+        bits: bits::prolong(bits::fill_down(left, right), lead),
+        count: blocks::smaller(lead + known, 64),
+        took,
+        last: take(ahead, took - 1, left, right),
+    }
+}
+
+// Whether a walk with low 0 can go by whole words.
+fn by_words(high: u64, starts: &[u8], ahead: &[u8], lead: u64, n: u64, from: Last) -> bool
+    requires { ⌜ (n ≤ record-count (now ahead)) × (lead + n < 2 ^ 64) × (min (lead + n) 64 ≤ record-count (now starts)) ⌝ }
+    ensures { λ r. ⌜ (r ≡ true → ByWords high (time-at (now (starts .entry))) (time-at (now (ahead .entry))) lead n from) ⌝ }
+{
+    if (n == 0) | (64 <= lead) {
+        return false;
+    }
+    let quiet = (lead == 0) | (from.left & !from.right);
+    let start = trace::time(starts, 0);
+    let last = trace::time(ahead, n as usize - 1);
+    quiet & (time::gap(start, last) <= high)
+}
+
+// As `walk`, by whole words where low is 0 and that can be.
+fn walk_words(
+    low: u64,
+    high: u64,
+    starts: &[u8],
+    ahead: &[u8],
+    lead: u64,
+    n: u64,
+    after: u64,
+    left: u64,
+    right: u64,
+    from: Last,
+) -> Walked
+    requires { ⌜ (n ≤ 64) × (n ≤ record-count (now ahead)) × (lead + n < 2 ^ 64) × (min (lead + n) 64 ≤ record-count (now starts)) ⌝ }
+    ensures { λ r. ⌜ Walk low high (time-at (now (starts .entry))) (next-of (time-at (now (ahead .entry))) n after) lead n left right from r ⌝ }
+{
+    // Two calls of `walk` keep it a function of its own: what goes by words does not take registers from its loop.
+    if low != 0 {
+        return walk(low, high, starts, ahead, lead, n, after, left, right, from);
+    }
+    if by_words(high, starts, ahead, lead, n, from) {
+        return walk_inside(ahead, lead, n, left, right);
+    }
+    walk(low, high, starts, ahead, lead, n, after, left, right, from)
+}
+
 // Writes a walk's end back, and the two reading heads.
 fn put_back(block: &mut [u64], w: Walked, ahead: u64, waiting: u64)
     requires { ⌜ (17 ≤ length (now block)) × (w .took ≤ left-count (now block)) × (w .took ≤ right-count (now block)) × (taken (now block) + w .took < 2 ^ 64) × (answered (now block) + w .count < 2 ^ 64) ⌝ }
@@ -222,7 +294,7 @@ fn walk_windows<'a>(
 {
     let next = window::read(ahead, records, copy);
     let after = next_time(next, n, end, time_of_none(closed));
-    walk(
+    walk_words(
         low,
         high,
         window::read(starts, records, waiting),

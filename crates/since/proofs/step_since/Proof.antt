@@ -68,18 +68,18 @@ slice-read-open c = search needs
 open-requires : tie.Need-open-requires
 open-requires c κs = let few = taking (c .before .before .before) .few in (omega arith, c .before .before .before .before .before .before .before .before .before .before .before .before .before .before .before .pre .2)
 
-turn-window-requires : tie.Need-turn-window-requires
-turn-window-requires c κs =
+take-window-requires : tie.Need-take-window-requires
+take-window-requires c κs =
     let a = c .before .before .before .before .before .before .before .before .before .before .before .before .before .before .before .before .before .before .before .args in
     let pre = c .before .before .before .before .before .before .before .before .before .before .before .before .before .before .before .before .before .before .before .pre in
     let opened = c .before .before .before .«open» .ensures in
-    (pre .0, pre .1, readable (a .view .now) (head (a .block .now)) opened, opened .long, taking (c .before .before .before .before .before .before .before) .few)
+    (pre .0, pre .1, readable (a .view .now) (head (a .block .now)) opened, opened .long, pos-of-ne-zero (c .before .before .before .before .before .before .if3 .left), taking (c .before .before .before .before .before .before .before) .few)
 
 take-both-requires : tie.Need-take-both-requires
 take-both-requires c κs =
     let a = c .before .before .before .before .before .before .before .before .before .before .before .before .before .before .before .before .before .before .before .before .before .before .before .args in
     let (left, right, room) = both (c .before .before .before .before .before .before .before .before .before .before .before .before .before .before .before .before) in
-    let turn = c .before .before .before .turn-window in
+    let turn = c .before .before .before .take-window in
     takable (a .low) (a .high) (a .view .now) (a .records .now) (a .block .now) (c .before .before .before .before .before .before .before .before .before .before .before .available .result) left right room (taking (c .before .before .before .before .before .before .before .before .before .before .before))
     (pos-of-ne-zero (c .before .before .before .before .before .before .before .before .before .before .if3 .left))
     (c .before .before .before .before .before .before .before .«open» .result)
@@ -100,13 +100,13 @@ slice-write-block : tie.Need-slice-write-block
 slice-write-block c = search needs
 
 same-length : tie.Need-same-length
-same-length c = length-set (c .before .before .before .take-both .last .0) 11 (c .pass-all .result) ∙ c .before .before .before .take-both .kept .0 ∙ c .before .before .before .before .before .before .before .turn-window .kept .1 .1 .1 .1 .1 .1 .0
+same-length c = length-set (c .before .before .before .take-both .last .0) 11 (c .pass-all .result) ∙ c .before .before .before .take-both .kept .0 ∙ c .before .before .before .before .before .before .before .take-window .kept .1 .1 .1 .1 .1 .1 .0
 
 returns-4 : tie.Need-returns-4
 returns-4 c =
     let a = c .before .before .before .before .before .before .before .before .before .before .before .before .before .before .before .before .before .before .before .before .before .before .before .before .before .before .before .args in
     let (left, right, room) = both (c .before .before .before .before .before .before .before .before .before .before .before .before .before .before .before .before .before .before .before .before) in
-    let turn = c .before .before .before .before .before .before .before .turn-window in
+    let turn = c .before .before .before .before .before .before .before .take-window in
     let av = taking (c .before .before .before .before .before .before .before .before .before .before .before .before .before .before .before) in
     let some = pos-of-ne-zero (c .before .before .before .before .before .before .before .before .before .before .before .before .before .before .if3 .left) in
     let opened = c .before .before .before .before .before .before .before .before .before .before .before .«open» .ensures in (
@@ -145,7 +145,7 @@ step-since-spec =
     returns-3
     slice-read-open
     open-requires
-    turn-window-requires
+    take-window-requires
     take-both-requires
     pass-all-requires
     slice-write-block

@@ -1,5 +1,5 @@
 -- `until::walk` meets its contract. The loop's invariant is its promise, by the laws of UntilWalk. Assumes nothing.
-use Prim.Native.Nat.{_+_, _-_}
+use Prim.Native.Nat.{_+_, _-_, _<_, _^_}
 use native.Mathlib.Omega.{arith}
 use mathlib.Core.Path.{_≡_, sym, _∙_}
 use borrow.Author.Needs.{needs}
@@ -12,6 +12,7 @@ use Rattle.until.proofs.walk.Tie as tie
 
 abbrev Inv-loop : tie.InvT-loop
 Inv-loop low high starts ahead lead n after left right last₀ bits₀ count₀ took₀ last bits count took =
+    (bits < 2 ^ count) ×
     Limits lead n bits count took last₀ last ×
     Walks low high (time-at starts) (next-of (time-at ahead) n after) lead n left right last₀ bits count took last
 
@@ -20,7 +21,8 @@ abbrev μ-loop : tie.MeasureT-loop
 
 loop-holds : tie.Need-loop-holds Inv-loop μ-loop
 loop-holds c = (
-  record { few = omega arith; small = omega arith; most = omega arith; behind = omega arith; bound = λ h. h },
+  omega arith,
+  record { few = omega arith; most = omega arith; behind = omega arith; bound = λ h. h },
   λ high φ ψ L g at clamp behind falls reads left right begun. begun,
 )
 
@@ -30,14 +32,14 @@ loop-again c =
     let q = k .before .before in
     let l = q .before .before .loop in
     let a = q .before .before .before .before .before .args in
-    let w = l .inv .0 in
+    let w = l .inv .1 in
     let start = time-at (a .starts .now) in
     let next = next-of (time-at (a .ahead .now)) (a .n) (a .after) in
     let e = sym (q .look .ensures) ∙ k .holds .given .1 in
     let some = known-behind (a .low) (a .high) start next (a .lead) (l .count) (l .took) (l .last) (k .holds .given .0 .0) e in (
+      c .push .ensures .1,
       record {
         few = omega arith;
-        small = c .push .ensures .1;
         most = w .most;
         behind = omega arith;
         bound = w .bound;
@@ -48,8 +50,8 @@ loop-again c =
           (w .most)
           (k .holds .given .0 .0)
           e
-          (w .small)
-          (l .inv .1)),
+          (l .inv .0)
+          (l .inv .2)),
     )
 
 loop-again-2 : tie.Need-loop-again-2 Inv-loop μ-loop
@@ -58,23 +60,24 @@ loop-again-2 c =
     let q = k .before .before in
     let l = q .before .before .loop in
     let a = q .before .before .before .before .before .args in
-    let w = l .inv .0 in
+    let w = l .inv .1 in
     let start = time-at (a .starts .now) in
     let next = next-of (time-at (a .ahead .now)) (a .n) (a .after) in
     let t = c .take .ensures in
     let here : next (l .took) ≡ time-at (a .ahead .now) (l .took) = simp (lt-ltb (l .took) (a .n) (omega arith)) in (
-      record { few = w .few; small = w .small; most = omega arith; behind = omega arith; bound = λ h. t .1 },
+      l .inv .0,
+      record { few = w .few; most = omega arith; behind = omega arith; bound = λ h. t .1 },
       rw (t .0, ← here)
           (walks-unknown (a .low) (a .high) start next (a .lead) (a .n) (a .left) (a .right) (a .from) (l .bits) (l .count) (l .took) (l .last)
           (omega arith)
           (w .most)
           (sym (q .look .ensures) ∙ k .enum-told .given .1)
           (omega arith)
-          (l .inv .1)),
+          (l .inv .2)),
     )
 
 returns-full : tie.Need-returns Inv-loop μ-loop
-returns-full c = let l = c .before .loop in record { limits = l .inv .0; waiting = λ h. absurd (omega arith); walks = l .inv .1 }
+returns-full c = let l = c .before .loop in record { limits = l .inv .1; waiting = λ h t. absurd (omega arith); walks = l .inv .2 }
 
 returns-waiting : tie.Need-returns-2 Inv-loop μ-loop
 returns-waiting c =
@@ -82,9 +85,9 @@ returns-waiting c =
     let q = k .before .before in
     let l = q .before .before .loop in
     record {
-      limits = l .inv .0;
-      waiting = λ h. record { all = c .if1 .taken; unknown = sym (q .look .ensures) ∙ k .enum-told .given .1 };
-      walks = l .inv .1;
+      limits = l .inv .1;
+      waiting = λ h t. record { all = c .if1 .taken; unknown = sym (q .look .ensures) ∙ k .enum-told .given .1 };
+      walks = l .inv .2;
     }
 
 pub walk-spec : {M : Type 1} → statement M

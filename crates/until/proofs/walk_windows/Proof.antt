@@ -15,7 +15,7 @@ next-time-requires c κs =
 read-starts : tie.Need-read-requires-2
 read-starts c κs = c .before .before .before .before .before .before .before .pre .1 .1 .inside
 
-walk-requires : tie.Need-walk-requires
+walk-requires : tie.Need-walk-words-requires
 walk-requires c κs =
     let gap = c .before .before .before .gap in
     let starts = c .before .before .before .before .before .before .read2 in
@@ -29,7 +29,7 @@ returns c =
     let k = c .before .before .before .before in
     let q = k .before .before .before in
     rw (c .before .last-of .ensures, k .gap .ensures, q .read2 .ensures, q .before .next-time .ensures, q .before .before .time-of-none .ensures, q .before .before .before .read .ensures)
-    at (c .walk .ensures)
+    at (c .walk-words .ensures)
 
 pub walk-windows-spec : {M : Type 1} → statement M
 walk-windows-spec =
