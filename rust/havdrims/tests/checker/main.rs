@@ -14,4 +14,5 @@ mod runner;
 mod simulate;
 mod single;
 mod sooner;
+mod words;
 mod worst;
