@@ -1,29 +1,33 @@
 //! A card: the folder of one kiosk, with its rule, its checkpoint and its sheet.
 //!
 //! A verdict that was given once cannot be had again, since its record may be overwritten. So the verdicts of an evening
-//! go first into the sheet, behind those that the saved checkpoint counts, and are synced. Then the checkpoint that
-//! counts them is written to a second file, synced, and renamed over the first; then the folder is synced. Only then is
+//! go first into the sheet, behind those that the saved checkpoint counts, and are synced; and so is a row of checksums
+//! ([`crate::evenings`]) by which the next evening knows the log again. Then the checkpoint that counts them is written to a second file, synced, and renamed over the first; then the folder is synced. Only then is
 //! it said which records may be overwritten. A run that is cut before leaves the checkpoint as it was, and is repeated
 //! from there: it writes the same bytes again.
 
 use crate::disk::{Disk, Lock};
-use havdrims::save::{checksum, Saved, Unreadable};
+use crate::evenings::{bound_to, rows, Known, Row, ROW};
+use havdrims::save::{checksum, checksum_from, Saved, Unreadable};
 use havdrims::{close, measure, open, resume, status, summary, tally, trim, Log, Refusal, Status, Summary, Tally};
+use std::borrow::Cow;
 use std::fmt;
 use std::io::{self, ErrorKind};
 
-/// The card's number in a line of text. A command locks this file.
+/// The card's number in a line of text, and where it begins in another. A command locks this file.
 pub const CARD: &str = "card.txt";
 /// The rule, a .krl file.
 pub const RULE: &str = "rule.krl";
 /// The verdicts, a byte each, with a bit for each formula of the rule.
 pub const SHEET: &str = "sheet";
+/// A row of numbers for each evening: how far the card had come, and checksums of verdicts and records.
+pub const EVENINGS: &str = "evenings";
 /// The checkpoint, with the sheet's length and a checksum.
 pub const POINT: &str = "point";
 /// The checkpoint to be, until it is renamed.
 pub const NEW_POINT: &str = "point.new";
 
-const OWN: [&str; 5] = [CARD, RULE, SHEET, POINT, NEW_POINT];
+const OWN: [&str; 6] = [CARD, RULE, SHEET, EVENINGS, POINT, NEW_POINT];
 
 /// Whether a folder with these names is a card, a damaged one or one that is being made included.
 pub fn is_card(names: &[String]) -> bool {
@@ -67,6 +71,26 @@ pub enum Fault {
         has: u64,
     },
     SheetDamaged,
+    EveningsMissing,
+    /// No row that is whole is that of the checkpoint.
+    EveningsDamaged,
+    /// The records from the first wanted one to the last seen are others than the card has seen.
+    OtherRecords {
+        from: u64,
+        to: u64,
+    },
+    /// The log ends before the card's first record.
+    LogBefore {
+        has: usize,
+        first: u64,
+    },
+    /// The log has fewer records than the card whose place this one takes has seen.
+    LogShort {
+        has: u64,
+        seen: u64,
+    },
+    /// The card is of an earlier program: the number of its first wanted position is known with its next evening.
+    PositionUnknown,
     /// The log has more positions than it can have if its open records are those of the evenings before.
     LogAltered,
     Refused(Refusal),
@@ -120,6 +144,25 @@ impl fmt::Display for Fault {
                 write!(f, "the file `sheet` has {has} verdicts, but {given} were given")
             }
             Fault::SheetDamaged => write!(f, "the file `sheet` is damaged: its checksum does not fit"),
+            Fault::EveningsMissing => write!(f, "the file `evenings` is missing"),
+            Fault::EveningsDamaged => {
+                write!(f, "the file `evenings` is damaged, or not of this card: it lacks the evening of the point")
+            }
+            Fault::OtherRecords { from, to } if from + 1 == *to => {
+                write!(f, "record {from} is not the one that this card has seen")
+            }
+            Fault::OtherRecords { from, to } => {
+                write!(f, "records {from} to {} are not those that this card has seen", to - 1)
+            }
+            Fault::LogBefore { has, first } => {
+                write!(f, "the log has {has} records, and this card begins at record {first}")
+            }
+            Fault::LogShort { has, seen } => {
+                write!(f, "the log has {has} records, and the card before this one has seen {seen}")
+            }
+            Fault::PositionUnknown => {
+                write!(f, "this card was made by an earlier program: run `havdrims evening` with it once more")
+            }
             Fault::LogAltered => write!(f, "service records that may not be overwritten yet were altered"),
             Fault::Refused(refusal) => write!(f, "{refusal}"),
             Fault::Disk { doing, fault } => write!(f, "cannot {doing}: {fault}"),
@@ -144,18 +187,57 @@ fn unsure(doing: &'static str) -> impl Fn(io::Error) -> Fault {
 }
 
 /// What the file `card.txt` holds.
-fn card_line(number: u64) -> String {
-    format!("havdrims card {number:016x}\n")
+#[derive(Clone, Copy, Debug, PartialEq, Eq)]
+pub(crate) struct Label {
+    pub(crate) number: u64,
+    /// Where the card begins. None in a card of an earlier program, which begins with record 0 and may have no rows.
+    pub(crate) first: Option<First>,
 }
 
-fn card_number(bytes: &[u8]) -> Option<u64> {
-    let digits = std::str::from_utf8(bytes).ok()?.strip_prefix("havdrims card ")?.strip_suffix('\n')?;
-    let number = u64::from_str_radix(digits, 16).ok()?;
-    (card_line(number).as_bytes() == bytes).then_some(number)
+/// The first record of a card, and the number of its first position.
+#[derive(Clone, Copy, Debug, Default, PartialEq, Eq)]
+pub struct First {
+    pub record: u64,
+    pub position: u64,
 }
 
-/// Makes a card for a rule. If it was cut, it may be made again.
-pub fn new(disk: &mut impl Disk, number: u64, rule: &[u8]) -> Result<(), Fault> {
+/// Where a new card begins, and the records from there on that it knows from the card whose place it takes.
+#[derive(Clone, Copy, Debug, PartialEq, Eq)]
+pub struct Begins {
+    pub first: First,
+    pub open: Known,
+}
+
+impl From<First> for Begins {
+    fn from(first: First) -> Begins {
+        Begins { first, open: Known::none() }
+    }
+}
+
+impl Label {
+    fn encode(&self) -> String {
+        let begins = |First { record, position }| format!("begins at record {record}, position {position}\n");
+        format!("havdrims card {:016x}\n{}", self.number, self.first.map_or(String::new(), begins))
+    }
+
+    pub(crate) fn decode(bytes: &[u8]) -> Option<Label> {
+        let (line, begins) = std::str::from_utf8(bytes).ok()?.split_once('\n')?;
+        let number = u64::from_str_radix(line.strip_prefix("havdrims card ")?, 16).ok()?;
+        let first = match begins {
+            "" => None,
+            begins => {
+                let (record, position) =
+                    begins.strip_prefix("begins at record ")?.trim_end().split_once(", position ")?;
+                Some(First { record: record.parse().ok()?, position: position.parse().ok()? })
+            }
+        };
+        let label = Label { number, first };
+        (label.encode().as_bytes() == bytes).then_some(label)
+    }
+}
+
+/// Makes a card for a rule, which begins at this place of its log. If it was cut, it may be made again.
+pub fn new(disk: &mut impl Disk, number: u64, begins: Begins, rule: &[u8]) -> Result<(), Fault> {
     let mut words = vec![0; measure(rule).map_err(Fault::Refused)?.words];
     open(rule, &mut words).map_err(Fault::Refused)?;
     if !may_be_made(disk)? {
@@ -168,7 +250,9 @@ pub fn new(disk: &mut impl Disk, number: u64, rule: &[u8]) -> Result<(), Fault> 
     take(disk, Lock::Making)?;
     may_be_made(disk)?;
     no_verdicts(disk)?;
-    for (name, bytes) in [(CARD, card_line(number).as_bytes()), (RULE, rule), (SHEET, b"")] {
+    let label = Label { number, first: Some(begins.first) }.encode();
+    let row = Row::first(begins.open).encode(bound_to(label.as_bytes(), rule));
+    for (name, bytes) in [(CARD, label.as_bytes()), (RULE, rule), (SHEET, b""), (EVENINGS, &row)] {
         disk.write(name, 0, bytes).map_err(failed("write the card's files"))?;
         disk.sync(name).map_err(failed("sync the card's files"))?;
     }
@@ -228,10 +312,27 @@ fn has_files(disk: &mut impl Disk) -> Result<(bool, bool), Fault> {
     Ok((has(CARD), has(POINT)))
 }
 
+/// The rows of the card, as they are, if there are any.
+fn read_evenings(disk: &mut impl Disk) -> Result<Option<Vec<u8>>, Fault> {
+    match disk.read(EVENINGS) {
+        Err(fault) if fault.kind() == ErrorKind::NotFound => Ok(None),
+        read => read.map(Some).map_err(failed("read the file `evenings`")),
+    }
+}
+
+/// The last row of which this holds, and which it is.
+fn last(rows: &[Option<Row>], holds: impl Fn(&Row) -> bool) -> Option<(usize, Row)> {
+    rows.iter().copied().enumerate().rev().find_map(|(at, row)| row.filter(&holds).map(|row| (at, row)))
+}
+
 /// A card whose files fit together.
 pub struct Card<'a, D: Disk> {
     disk: &'a mut D,
     number: u64,
+    /// What its rows are bound to.
+    bound: u64,
+    /// Which row is that of the checkpoint. None in a card of an earlier program.
+    row: Option<(usize, Row)>,
     rule: Vec<u8>,
     words: Vec<u64>,
     /// The verdicts that the checkpoint counts.
@@ -250,6 +351,8 @@ pub struct Evening {
     pub counts: Tally,
     /// The service records among the records that were new.
     pub passed_over: u64,
+    /// The card, of an earlier program, could not tell whether the log is its own. From now on it can.
+    pub unknown: bool,
     pub so_far: SoFar,
 }
 
@@ -260,9 +363,21 @@ pub struct SoFar {
     pub status: Status,
     /// The service records among the records seen.
     pub services: u64,
+    /// Where the card begins: all other numbers here count from there.
+    pub first: First,
 }
 
 impl SoFar {
+    /// The first record still wanted, by its number in the log.
+    pub fn wanted(&self) -> u64 {
+        self.first.record + self.status.wanted
+    }
+
+    /// The records before this one may be overwritten.
+    pub fn released(&self) -> u64 {
+        self.first.record + kept_from(&self.status)
+    }
+
     /// The positions of the records seen.
     pub fn positions(&self) -> u64 {
         self.status.seen - self.services
@@ -274,12 +389,24 @@ impl SoFar {
     }
 }
 
+/// From which record on a card wants its log as it is: all that are still wanted, and the last one seen in any case, so that the next
+/// log can be told from another kiosk's. After a closing no log follows.
+fn kept_from(status: &Status) -> u64 {
+    let Status { wanted, seen, closed, .. } = *status;
+    if closed {
+        wanted
+    } else {
+        wanted.min(seen.saturating_sub(1))
+    }
+}
+
 /// What the calls of an evening come to, before any of it is written.
 struct Ahead {
     words: Vec<u64>,
     new: Vec<u8>,
     passed_over: u64,
     so_far: SoFar,
+    row: Row,
 }
 
 impl<'a, D: Disk> Card<'a, D> {
@@ -298,7 +425,8 @@ impl<'a, D: Disk> Card<'a, D> {
             (true, true) => {}
         }
         let mut read = |name, doing| disk.read(name).map_err(failed(doing));
-        let number = card_number(&read(CARD, "read the file `card.txt`")?).ok_or(Fault::CardDamaged)?;
+        let card = read(CARD, "read the file `card.txt`")?;
+        let Label { number, first } = Label::decode(&card).ok_or(Fault::CardDamaged)?;
         let saved = Saved::decode(&read(POINT, "read the file `point`")?).map_err(Fault::PointUnreadable)?;
         let rule = read(RULE, "read the file `rule.krl`")?;
         let mut verdicts = read(SHEET, "read the file `sheet`")?;
@@ -325,8 +453,17 @@ impl<'a, D: Disk> Card<'a, D> {
         if saved.services > others {
             return Err(Fault::PointServices { services: saved.services, others });
         }
-        let so_far = SoFar { summary, status, services: saved.services };
-        Ok(Card { disk, number, rule, words: saved.words, verdicts, so_far })
+        let so_far = SoFar { summary, status, services: saved.services, first: first.unwrap_or_default() };
+        let bound = bound_to(&card, &rule);
+        let all = read_evenings(disk)?;
+        let fits = |row: &Row| (row.status, row.sheet, row.services) == (status, saved.sheet, saved.services);
+        let row = all.as_ref().and_then(|all| last(&rows(all, bound), fits));
+        match (row, &all, first) {
+            (None, None, Some(_)) => return Err(Fault::EveningsMissing),
+            (None, Some(_), Some(_)) => return Err(Fault::EveningsDamaged),
+            _ => {}
+        }
+        Ok(Card { disk, number, bound, row, rule, words: saved.words, verdicts, so_far })
     }
 
     pub fn verdicts(&self) -> &[u8] {
@@ -342,82 +479,187 @@ impl<'a, D: Disk> Card<'a, D> {
         &self.rule
     }
 
+    /// Where a card goes on that takes the place of this one: at its first record still wanted.
+    pub fn after(&self) -> Result<Begins, Fault> {
+        let SoFar { status, services, first, .. } = self.so_far;
+        let (position, open) = match self.row {
+            Some((_, row)) => (row.position, row.wanted()),
+            None if services == 0 => (status.wanted, Known::none()),
+            None => return Err(Fault::PositionUnknown),
+        };
+        let first = First { record: first.record + status.wanted, position: first.position + position };
+        Ok(Begins { first, open })
+    }
+
+    /// The log from the card's first record on.
+    fn own_part<'l>(&self, log: &'l [u8]) -> Result<Cow<'l, [u8]>, Fault> {
+        let first = self.so_far.first.record;
+        if first == 0 {
+            return Ok(Cow::Borrowed(log));
+        }
+        let whole = Log::new(log).map_err(Fault::Refused)?;
+        let before = || Fault::LogBefore { has: whole.len(), first };
+        let from = usize::try_from(first).ok().filter(|&first| first <= whole.len()).ok_or_else(before)?;
+        let kept = whole.record_bytes(from.max(whole.dropped())..whole.len()).ok_or_else(before)?;
+        let dropped = (whole.dropped().saturating_sub(from) as u64).to_be_bytes();
+        let dropped = if whole.version() == 3 { &dropped[..] } else { &[] };
+        Ok(Cow::Owned([&log[..8], dropped, kept].concat()))
+    }
+
     /// How far an evening with this log would come. Nothing is changed.
     pub fn look(&self, log: &[u8]) -> Result<SoFar, Fault> {
         Ok(self.ahead(false, log)?.so_far)
     }
 
-    /// The calls with this log, or closings, until caught up, on a copy of the checkpoint.
-    fn ahead(&self, closing: bool, log: &[u8]) -> Result<Ahead, Fault> {
+    /// Whether the log has the records that are still wanted as they were seen: else it is that of another kiosk, or the card is an
+    /// older one than the log. One that has dropped some of them is refused by the library.
+    fn knows(&self, log: &[u8]) -> Result<(), Fault> {
+        let (Some((_, row)), Ok(log)) = (self.row, Log::new(log)) else { return Ok(()) };
+        let (from, to) = row.compared();
+        let first = self.so_far.first.record;
+        match Known::of(&log, from, to) {
+            Some(known) if known != row.open => Err(Fault::OtherRecords { from: first + from, to: first + to }),
+            // Of a card that has seen nothing itself: the library cannot miss them.
+            None if (log.len() as u64) < to => Err(Fault::LogShort { has: first + log.len() as u64, seen: first + to }),
+            _ => Ok(()),
+        }
+    }
+
+    /// The records that the next log must have. The last one seen may be dropped where it is no longer wanted: then none.
+    fn known(&self, log: &Log<'_>, status: &Status) -> Known {
+        Known::of(log, kept_from(status), status.seen).unwrap_or(Known::none())
+    }
+
+    /// What the library gave for this log, if it is that of the card. What is wrong with the log as a whole comes first.
+    fn of_this_log<T>(&self, log: &[u8], given: Result<T, Refusal>) -> Result<T, Fault> {
+        if matches!(given, Ok(_) | Err(Refusal::TimeFalls | Refusal::PointRange)) {
+            self.knows(log)?;
+        }
+        given.map_err(Fault::Refused)
+    }
+
+    /// The calls with this log, or closings, until caught up: the checkpoint after them, and the verdicts.
+    fn calls(&self, closing: bool, log: &[u8]) -> Result<(Vec<u64>, Vec<u8>), Refusal> {
         let call = if closing { close } else { resume };
         let mut words = self.words.clone();
         let mut new = Vec::new();
         loop {
             let from = new.len();
             new.resize(from + ROOM, 0);
-            let given = call(&self.rule, log, &mut words, &mut new[from..]).map_err(Fault::Refused)?;
+            let given = call(&self.rule, log, &mut words, &mut new[from..])?;
             new.truncate(from + given.verdicts);
             if !given.more {
-                break;
+                return Ok((words, new));
             }
         }
+    }
+
+    /// What an evening with this log, or a closing, comes to. Nothing is changed.
+    fn ahead(&self, closing: bool, log: &[u8]) -> Result<Ahead, Fault> {
+        let log = &self.own_part(log)?;
+        let (words, new) = self.of_this_log(log, self.calls(closing, log))?;
         let summary = summary(&self.rule, &words).map_err(Fault::Refused)?;
         let status = status(&self.rule, &words).map_err(Fault::Refused)?;
         // Only the new records: those seen before were counted, and may be overwritten.
         let log = Log::new(log).map_err(Fault::Refused)?;
-        let passed_over = log.services(self.so_far.status.seen as usize) as u64;
-        let so_far = SoFar { summary, status, services: self.so_far.services + passed_over };
-        if so_far.services > status.seen - status.given {
+        let seen = self.so_far.status.seen;
+        let passed_over = log.services(seen as usize) as u64;
+        let services = self.so_far.services + passed_over;
+        let so_far = SoFar { summary, status, services, first: self.so_far.first };
+        if services > status.seen - status.given {
             return Err(Fault::LogAltered);
         }
-        Ok(Ahead { words, new, passed_over, so_far })
+        let wanted = status.seen - status.wanted - log.services(status.wanted as usize) as u64;
+        let row = Row {
+            status,
+            sheet: checksum_from(checksum(&self.verdicts), &new),
+            services,
+            position: so_far.positions() - wanted,
+            open: self.known(&log, &status),
+            new: Known::of(&log, seen, status.seen).ok_or(Fault::LogAltered)?.sum,
+        };
+        Ok(Ahead { words, new, passed_over, so_far, row })
     }
 
     /// Carries on with the log as far as it goes, or closes it, until caught up. When this returns, the verdicts and the
     /// checkpoint survive a cut.
     pub fn carry_on(&mut self, closing: bool, log: &[u8]) -> Result<Evening, Fault> {
-        let Ahead { words, new, passed_over, so_far } = self.ahead(closing, log)?;
+        let Ahead { words, new, passed_over, so_far, row } = self.ahead(closing, log)?;
         let counts = tally(&new, self.formulas()).map_err(Fault::Refused)?;
         let first = self.verdicts.len() as u64;
-        self.save(&new, words, so_far.services)?;
+        let unknown = self.row.is_none();
+        self.save(&new, words, row)?;
         self.so_far = so_far;
-        Ok(Evening { first, new: new.len() as u64, counts, passed_over, so_far })
+        Ok(Evening { first, new: new.len() as u64, counts, passed_over, unknown, so_far })
     }
 
     /// What is left of the log without the records that the card no longer wants. When this returns, the card survives a cut: a
     /// checkpoint that came back after one might want what is dropped here. The point may be of a run that was killed before it
     /// could sync, or the card a copy.
     pub fn trim(&mut self, log: &[u8]) -> Result<Vec<u8>, Fault> {
+        let log = &self.own_part(log)?;
         let mut left = vec![0; log.len() + 8];
-        let length = trim(&self.rule, log, &self.words, &mut left).map_err(Fault::Refused)?;
+        let length = self.of_this_log(log, trim(&self.rule, log, &self.words, &mut left))?;
         left.truncate(length);
-        for name in [CARD, RULE, SHEET, POINT] {
+        // All that was dropped, by the log's own numbers.
+        left[8..16].copy_from_slice(&self.so_far.wanted().to_be_bytes());
+        let evenings = self.row.map(|_| EVENINGS);
+        for name in [CARD, RULE, SHEET].into_iter().chain(evenings).chain([POINT]) {
             self.disk.sync(name).map_err(failed("sync the card's files"))?;
         }
         self.disk.sync_folder().map_err(failed("sync the folder"))?;
         Ok(left)
     }
 
-    /// Saves further verdicts, and the checkpoint that counts them. It does so too where nothing is new: what is there may
-    /// be of a run that was killed before it could sync.
-    fn save(&mut self, new: &[u8], words: Vec<u64>, services: u64) -> Result<(), Fault> {
+    /// Saves further verdicts, the evening's row, and the checkpoint that counts them. It does so too where nothing is new: what
+    /// is there may be of a run that was killed before it could sync.
+    fn save(&mut self, new: &[u8], words: Vec<u64>, row: Row) -> Result<(), Fault> {
         let before = self.verdicts.len();
         self.verdicts.extend(new);
-        let (given, sheet) = (self.verdicts.len() as u64, checksum(&self.verdicts));
+        let Row { sheet, services, status: Status { given, .. }, .. } = row;
         let saved = Saved { owner: self.number, rule: checksum(&self.rule), given, sheet, services, words };
-        let written = write_sheet(self.disk, before as u64, new).and_then(|()| write_point(self.disk, &saved));
+        let (at, row) = self.placed(row);
+        let written = write_sheet(self.disk, before as u64, new)
+            .and_then(|()| write_row(self.disk, at, &row.encode(self.bound)))
+            .and_then(|()| write_point(self.disk, &saved));
         if written.is_err() {
             // The checkpoint is as it was. What was written besides does not count, and is taken away if that can be.
             self.verdicts.truncate(before);
             let _ = self.disk.write(SHEET, before as u64, b"");
+            let _ = match self.row {
+                Some((at, _)) => self.disk.write(EVENINGS, row_start(at + 1), b""),
+                None => self.disk.remove(EVENINGS),
+            };
             let _ = self.disk.remove(NEW_POINT);
             return written;
         }
         // From here on nothing is taken away: an operation may do its work and fail all the same.
         self.words = saved.words;
+        self.row = Some((at, row));
         self.disk.rename(NEW_POINT, POINT).map_err(unsure("replace the point"))?;
         self.disk.sync_folder().map_err(unsure("sync the folder"))
     }
+
+    /// Which row is that of an evening, and where it goes: behind that of the checkpoint, or, where it has seen and given nothing
+    /// new, that one again.
+    fn placed(&self, row: Row) -> (usize, Row) {
+        match self.row {
+            None => (0, row),
+            Some((at, last)) if last.status == row.status => (at, last),
+            Some((at, _)) => (at + 1, row),
+        }
+    }
+}
+
+/// The byte with which a row begins.
+fn row_start(at: usize) -> u64 {
+    (at * ROW) as u64
+}
+
+/// Writes a row in this place, and none behind it.
+fn write_row(disk: &mut impl Disk, at: usize, row: &[u8]) -> Result<(), Fault> {
+    disk.write(EVENINGS, row_start(at), row).map_err(failed("write the file `evenings`"))?;
+    disk.sync(EVENINGS).map_err(failed("sync the file `evenings`"))
 }
 
 /// Writes verdicts behind those that count.

@@ -1,21 +1,25 @@
 //! The commands: their words, their help, and what each prints.
 
-use crate::card::{self, Card, Evening, Fault, SoFar};
+use crate::card::{self, Begins, Card, Evening, Fault, First, SoFar};
 use crate::disk::Folder;
+use crate::kept::{self, Kept};
 use crate::waiting::{self, End, Open, Timed};
 use crate::{convert, file, why};
-use havdrims::{Log, Refusal};
+use havdrims::save::Unreadable;
+use havdrims::{Log, Refusal, MOST_RECORDS};
 use std::fmt::{Display, Write};
 use std::hash::{BuildHasher, RandomState};
 use std::path::Path;
 
-/// Why a command printed nothing of what it was asked for.
+/// Why a command did not do all of what it was asked for.
 #[derive(Debug, PartialEq, Eq)]
 pub enum Failure {
     /// Wrong use: exit status 2.
     Use(String),
     /// A refusal or a fault: exit status 1.
     Fault(String),
+    /// What could be printed all the same, and the fault: exit status 1.
+    Partly { printed: String, fault: String },
 }
 
 impl Failure {
@@ -38,29 +42,30 @@ struct Command {
     run: fn(&[&str]) -> Option<Answer>,
 }
 
-const COMMANDS: [Command; 14] = [
+const COMMANDS: [Command; 15] = [
     Command {
         name: "new",
-        words: "CARD RULE..",
+        words: "CARD RULE.. [--after OLD] [--from N]",
         does: "make the folder CARD for one kiosk",
         more: "\
 RULE is a .krl file, or a text such as 'not e2 or e0 until[0,90] e1'. Several of them, with up to eight formulas, are
 judged together: a position has its verdicts when every formula has answered it. The folder must not be there yet, or be
-empty; if making it was cut short, it can be made again.",
-        run: |words| match words {
-            [folder, rules @ ..] if !rules.is_empty() => Some(new(folder, rules)),
-            _ => None,
-        },
+empty; if making it was cut short, it can be made again.
+The card begins at record 0 of its log; with --from N at record N, and with --after OLD, which is the card whose place
+it takes, at the first record that OLD still wants. What stands before is never read: previous finds nothing there. All
+commands go on speaking of the log's own records. With --from N positions are numbered from N on.",
+        run: new_words,
     },
     Command {
         name: "evening",
         words: "CARD LOG",
         does: "carry on with the log as far as it goes",
         more: "\
-LOG is the kiosk's whole log, a .klg file, or what `havdrims trim` left of it, with new records behind. Its records
-before the one that the last evening named may be overwritten, the others not. The new verdicts go into the card's
-sheet. Once this command has said so, and not before, the records that it names may be overwritten. A run that was cut,
-for whatever reason, is simply repeated.
+LOG is the kiosk's whole log, a .klg file, or what `havdrims trim` left of it, with new records behind. The records that
+the last evening named may have been overwritten, the others not: the card has a checksum of those that are still wanted
+and of the last one, and refuses a log in which they are others, as that of another kiosk. The new verdicts go into the
+card's sheet. Once this command has said so, and not before, the records that it names may be overwritten. A run that
+was cut, for whatever reason, is simply repeated.
 From log version 2 on service records are passed over: they are no positions and get no verdict. It is said how many
 there were, the verdicts are then counted in positions, and what may be overwritten in records all the same.",
         run: |words| match words {
@@ -70,14 +75,14 @@ there were, the verdicts are then counted in positions, and what may be overwrit
     },
     Command {
         name: "close",
-        words: "CARD LOG",
+        words: "CARD LOG --final",
         does: "the month's end: no record will follow",
         more: "\
 LOG is as for evening. Every remaining position gets its verdict on the log as it ends. From then on the card is closed:
-it can be closed again with the same log, but takes no further records.",
-        run: |words| match words {
-            [folder, log] => Some(carry_on(true, folder, log)),
-            _ => None,
+it can be closed again with the same log, but takes no further records. It cannot be undone, so --final has to be there.",
+        run: |words| {
+            let ([folder, log], [meant]) = options(words, &["--final"])?;
+            Some(if meant { carry_on(true, folder, log) } else { Err(Failure::Use(NOT_MEANT.to_string())) })
         },
     },
     Command {
@@ -101,7 +106,9 @@ so OUT may be LOG itself, to which the kiosk must then add nothing meanwhile. OU
         does: "print how many verdicts were given, how many no, and the latest",
         more: "\
 A card with several formulas has a line for each of them. Where service records were passed over it is said how many,
-and the latest no is a position. The card is not changed. Commands that only read it may run beside each other.",
+and the latest no is a position. The card is not changed. Commands that only read it may run beside each other.
+Of a card that is damaged it tells what the verdicts come to that a checksum vouches for, says what is wrong, and ends
+with status 1.",
         run: |words| match words {
             [folder] => Some(summarized(folder)),
             _ => None,
@@ -129,8 +136,22 @@ not count as the next record. Of other rules the open records alone are printed.
 A line has the position's number and then a word, yes or no, for each formula of the rule. Positions are numbered from 0
 over the records that are no service records: where the log has none, a position is the record of the same number.
 --csv prints them for a spreadsheet, under the line `position,verdict`; where there are several formulas each has its
-column, as in `position,formula 0,formula 1`. --from N begins with position N. The card is not changed.",
+column, as in `position,formula 0,formula 1`. --from N begins with position N. The card is not changed.
+Of a card that is damaged the verdicts are printed that a checksum vouches for; what is wrong is said besides, and the
+exit status is 1.",
         run: sheet,
+    },
+    Command {
+        name: "check",
+        words: "CARD",
+        does: "look at every file of the card, and say what can be done where they do not fit together",
+        more: "\
+It says of each file whether it is good, whether all of them fit together, and if not, how many verdicts are vouched
+for by a checksum and how to go on. The card is not changed. The exit status is 0 where all is good, and 1 where not.",
+        run: |words| match words {
+            [folder] => Some(checked(folder)),
+            _ => None,
+        },
     },
     Command {
         name: "why",
@@ -147,14 +168,16 @@ with records in place of positions.",
     },
     Command {
         name: "rule",
-        words: "FORMULA.. RULE",
+        words: "FORMULA.. RULE [--force]",
         does: "write the rule file that the formula says, or several",
         more: "\
 FORMULA is one argument, as in 'not e2 or e0 until[0,90] e1'. Several of them, up to eight, make a rule of version 2:
-they are judged together. RULE is the .krl file to be written.",
-        run: |words| match words {
-            [formulas @ .., rule] if !formulas.is_empty() => Some(convert::rule(formulas, rule)),
-            _ => None,
+they are judged together. RULE is the .krl file to be written. A file that is there is replaced only with --force, and
+no file is put into a card.",
+        run: |words| {
+            let (words, force) = forced(words)?;
+            let (rule, formulas) = words.split_last()?;
+            (!formulas.is_empty()).then(|| convert::rule(formulas, rule, force))
         },
     },
     Command {
@@ -169,16 +192,17 @@ they are judged together. RULE is the .krl file to be written.",
     },
     Command {
         name: "to-log",
-        words: "TEXT LOG",
+        words: "TEXT LOG [--force]",
         does: "write the log file that a text describes",
         more:
             "\
 TEXT is a file with a line for each record, the seconds and then the letters, as in `12 e0 e3` or `12 none`.
 What follows a # is passed over. The line `version 2` before the first record says that the log is of version 2: then
-`12 service` is a service record, which is no position. A trimmed log has `version 3` and a line as `dropped 40` there.",
-        run: |words| match words {
-            [text, log] => Some(convert::to_log(text, log)),
-            _ => None,
+`12 service` is a service record, which is no position. A trimmed log has `version 3` and a line as `dropped 40` there.
+A file that is there is replaced only with --force, and no file is put into a card.",
+        run: |words| {
+            let ([text, log], [force]) = options(words, &["--force"])?;
+            Some(convert::to_log(text, log, force))
         },
     },
     Command {
@@ -195,24 +219,28 @@ the number of records dropped.",
     },
     Command {
         name: "worst",
-        words: "LOW HIGH N LOG",
+        words: "LOW HIGH N LOG [--force]",
         does: "write the log of N records that keeps most seconds waiting",
-        more: "It does so for the rule e0 until[LOW,HIGH] e1.",
-        run: |words| match words {
-            [low, high, records, log] => Some(convert::worst(low, high, records, log)),
-            _ => None,
+        more: "\
+It does so for the rule e0 until[LOW,HIGH] e1. A file that is there is replaced only with --force, and no file is put
+into a card.",
+        run: |words| {
+            let ([low, high, records, log], [force]) = options(words, &["--force"])?;
+            Some(convert::worst(low, high, records, log, force))
         },
     },
     Command {
         name: "simulate",
-        words: "LOG OPTIONS",
+        words: "LOG OPTIONS [--force]",
         does: "write the log of a simulated kiosk, a record for each second",
         more: "\
 All options, in any order, each with its number: --seconds (0 to 3600), --warm-up and --print-time (1 to 600),
---switch-off and --mean-gap (1 to 3600), --seed (1 to 4294967295).",
-        run: |words| match words {
-            [log, options @ ..] => Some(convert::simulated(log, options)),
-            _ => None,
+--switch-off and --mean-gap (1 to 3600), --seed (1 to 4294967295). A file that is there is replaced only with --force,
+and no file is put into a card.",
+        run: |words| {
+            let (words, force) = flag(words, "--force")?;
+            let (log, settings) = words.split_first()?;
+            Some(convert::simulated(log, settings, force))
         },
     },
 ];
@@ -268,16 +296,56 @@ fn card_number() -> u64 {
     RandomState::new().hash_one(std::process::id())
 }
 
-fn new(folder: &str, rules: &[&str]) -> Answer {
+/// The words of `new`.
+fn new_words(words: &[&str]) -> Option<Answer> {
+    let (words, after) = option(words, "--after")?;
+    let (words, from) = option(&words, "--from")?;
+    let (folder, rules) = words.split_first()?;
+    if rules.is_empty() || words.iter().any(|word| word.starts_with("--")) {
+        return None;
+    }
+    let begins = match (after, from) {
+        (None, None) => Ok(First::default().into()),
+        (Some(old), None) => after_card(old),
+        (None, Some(from)) => from_record(from).map(Begins::from),
+        _ => return None,
+    };
+    Some(begins.and_then(|begins| new(folder, rules, begins)))
+}
+
+/// Where a card goes on that takes the place of this one, which may be damaged or of another version of the library.
+fn after_card(folder: &str) -> Result<Begins, Failure> {
+    let mut disk = Folder::new(Path::new(folder));
+    let fault = match Card::open(&mut disk, false).and_then(|card| card.after()) {
+        Ok(begins) => return Ok(begins),
+        Err(fault) => fault,
+    };
+    vouched(&mut disk, &fault).and_then(|kept| kept.after).ok_or_else(|| Failure::fault(folder, fault))
+}
+
+fn from_record(word: &str) -> Result<First, Failure> {
+    let record = convert::number(word)?;
+    if record > MOST_RECORDS as u64 {
+        return Err(Failure::Use(format!("a log has at most {MOST_RECORDS} records")));
+    }
+    Ok(First { record, position: record })
+}
+
+fn new(folder: &str, rules: &[&str], begins: Begins) -> Answer {
     let bytes = convert::rule_said(rules)?;
     let (formulas, needs) = convert::described(rules[0], &bytes)?;
-    card::new(&mut Folder::new(Path::new(folder)), card_number(), &bytes)
+    card::new(&mut Folder::new(Path::new(folder)), card_number(), begins, &bytes)
         .map_err(|fault| Failure::fault(folder, fault))?;
     let made = match formulas.len() {
         1 => folder.to_string(),
         number => format!("{folder}: {number} formulas"),
     };
-    Ok(format!("{}{needs}", by_formula(&made, ": ", formulas)))
+    let begins = match begins.first {
+        First { record: 0, .. } => String::new(),
+        First { record, position } if record == position => format!("begins at record {record}\n"),
+        First { record, position } => format!("begins at record {record}, position {position}\n"),
+    };
+    Ok(format!("{}{needs}{begins}", by_formula(&made, ": ", formulas)))
 }
 
 fn carry_on(closing: bool, folder: &str, path: &str) -> Answer {
@@ -287,39 +355,43 @@ fn carry_on(closing: bool, folder: &str, path: &str) -> Answer {
     evening.map(|evening| told(&evening)).map_err(|fault| unchanged(folder, path, &fault, "No verdict was counted"))
 }
 
+/// The words without this one, which stands at most once, and whether it does.
+fn flag<'a>(words: &[&'a str], name: &str) -> Option<(Vec<&'a str>, bool)> {
+    let others: Vec<&str> = words.iter().copied().filter(|&word| word != name).collect();
+    let times = words.len() - others.len();
+    (times <= 1).then_some((others, times == 1))
+}
+
+/// The words without this one and the one behind it, which stand at most once, and the latter.
+fn option<'a>(words: &[&'a str], name: &str) -> Option<(Vec<&'a str>, Option<&'a str>)> {
+    let Some(at) = words.iter().position(|&word| word == name) else { return Some((words.to_vec(), None)) };
+    let value = words.get(at + 1)?;
+    let others = [&words[..at], &words[at + 2..]].concat();
+    (!others.contains(&name)).then_some((others, Some(value)))
+}
+
+/// The words without --force, and whether it is there. None if there is another option.
+fn forced<'a>(words: &[&'a str]) -> Option<(Vec<&'a str>, bool)> {
+    flag(words, "--force").filter(|(others, _)| !others.iter().any(|word| word.starts_with("--")))
+}
+
 /// The words that are no options, and whether each of these options, which stand at most once, is among them. None if there is
 /// another.
 fn options<'a, const N: usize, const M: usize>(
     words: &[&'a str],
     known: &[&str; M],
 ) -> Option<([&'a str; N], [bool; M])> {
+    let mut others = words.to_vec();
     let mut given = [false; M];
-    let mut others = Vec::new();
-    for &word in words {
-        match known.iter().position(|&option| option == word) {
-            Some(at) if !given[at] => given[at] = true,
-            None if !word.starts_with("--") => others.push(word),
-            _ => return None,
-        }
+    for (at, name) in known.iter().enumerate() {
+        (others, given[at]) = flag(&others, name)?;
     }
-    Some((others.try_into().ok()?, given))
-}
-
-/// The folder of a file, and its name there.
-fn folder_and_name(path: &str) -> Result<(Folder, &str), Failure> {
-    let name = Path::new(path).file_name().and_then(|name| name.to_str());
-    let name = name
-        .filter(|name| path.ends_with(name))
-        .ok_or_else(|| Failure::Use(format!("`{path}` is no name of a file")))?;
-    let folder = match &path[..path.len() - name.len()] {
-        "" => ".",
-        folder => folder,
-    };
-    Ok((Folder::new(Path::new(folder)), name))
+    let none_left = !others.iter().any(|word| word.starts_with("--"));
+    Some((others.try_into().ok().filter(|_| none_left)?, given))
 }
 
 fn trimmed(folder: &str, path: &str, out: &str, force: bool) -> Answer {
-    let (mut into, name) = folder_and_name(out)?;
+    let (mut into, name) = file::named(out)?;
     if file::passes_over(out, path) {
         return Err(Failure::fault(out, file::Fault::OverItsSource));
     }
@@ -328,7 +400,7 @@ fn trimmed(folder: &str, path: &str, out: &str, force: bool) -> Answer {
     let failed = |fault| unchanged(folder, path, &fault, "Nothing was written");
     let mut card = Card::open(&mut disk, true).map_err(failed)?;
     let left = card.trim(&log).map_err(failed)?;
-    file::put(&mut into, name, &left, force).map_err(|fault| Failure::fault(out, fault))?;
+    file::put(&mut into, &name, &left, force).map_err(|fault| Failure::fault(out, fault))?;
     let left = Log::new(&left).map_err(|refusal| Failure::fault(out, refusal))?;
     let dropped = match left.dropped() {
         0 => "no record dropped".to_string(),
@@ -337,6 +409,12 @@ fn trimmed(folder: &str, path: &str, out: &str, force: bool) -> Answer {
     };
     Ok(format!("{out}: {dropped}, {} left\n", left.records().count()))
 }
+
+/// What closing means, to one who may have typed it for `evening`.
+const NOT_MEANT: &str = "\
+closing says that no record will follow: every open record gets its verdict on the log as it ends, and the card
+takes no further records. It cannot be undone. With --final it is done; `havdrims evening` carries on.
+Nothing was changed.";
 
 const UNCHANGED: &str = "Nothing was changed.";
 
@@ -350,6 +428,10 @@ fn unchanged(folder: &str, log: &str, fault: &Fault, nothing: &str) -> Failure {
         }
         Fault::Refused(Refusal::PointClosed) => (folder, "The month is closed: the card takes no further records. "),
         Fault::Refused(Refusal::FewerRecords) => (log, "Is this the whole log? "),
+        Fault::LogBefore { .. } | Fault::LogShort { .. } => (log, "Is this the whole log? "),
+        Fault::OtherRecords { .. } => {
+            (log, "Is this the log of another kiosk, or was the card put back from an older copy? ")
+        }
         Fault::Refused(Refusal::TimeFalls) => (log, "Is this the log of another kiosk? "),
         Fault::Refused(Refusal::OtherVersion) => {
             (log, "A card keeps to the version of its first log, 2 and 3 counting as one; another needs a card of its own. ")
@@ -366,7 +448,12 @@ fn unchanged(folder: &str, log: &str, fault: &Fault, nothing: &str) -> Failure {
 
 /// An evening in plain words.
 fn told(evening: &Evening) -> String {
-    let Evening { first, new, counts, passed_over, so_far } = evening;
+    let Evening { first, new, counts, passed_over, unknown, so_far } = evening;
+    let unknown = match unknown {
+        true => "this card was made by an earlier program: from now on it knows its log again\n",
+        false => "",
+    };
+    let first = first + so_far.first.position;
     let which = match new {
         0 => "no new verdict".to_string(),
         1 => format!("{} {first}", position(so_far)),
@@ -379,17 +466,17 @@ fn told(evening: &Evening) -> String {
         1 => "1 service record passed over\n".to_string(),
         _ => format!("{passed_over} service records passed over\n"),
     };
-    let released = match so_far.status.wanted {
+    let released = match so_far.released() {
         0 => "no record may be overwritten yet".to_string(),
         1 => "record 0 may be overwritten".to_string(),
         wanted => format!("records 0 to {} may be overwritten", wanted - 1),
     };
-    format!("{given}{passed_over}{}{released}\n", all(so_far))
+    format!("{unknown}{given}{passed_over}{}{released}\n", all(so_far))
 }
 
 /// What has a verdict: where no service record was seen every record is a position, and has its number.
 fn position(so_far: &SoFar) -> &'static str {
-    if so_far.services == 0 {
+    if so_far.services == 0 && so_far.first.record == so_far.first.position {
         "record"
     } else {
         "position"
@@ -407,9 +494,11 @@ fn by_formula(first: &str, between: &str, said: Vec<String>) -> String {
 
 /// All evenings together.
 fn all(so_far: &SoFar) -> String {
-    let SoFar { summary, status, services } = so_far;
-    let position = position(so_far);
-    let latest = |at: &Option<u64>| at.map_or(String::new(), |at| format!(", the latest at {position} {at}"));
+    let SoFar { summary, status, services, first } = so_far;
+    let latest = |at: &Option<u64>| match at {
+        None => String::new(),
+        Some(at) => format!(", the latest at {} {}", position(so_far), first.position + at),
+    };
     let counts = summary.no().iter().zip(summary.latest()).map(|(no, at)| format!("{no} no{}", latest(at)));
     let counts = by_formula(&format!("so far: {} verdicts", status.given), ", ", counts.collect());
     let open = open_line(so_far);
@@ -422,13 +511,92 @@ fn all(so_far: &SoFar) -> String {
 
 fn open_line(so_far: &SoFar) -> String {
     let ended = if so_far.status.closed { ", and the card is closed" } else { "" };
-    format!("open: {} of {} {}s{ended}\n", so_far.open(), so_far.positions(), position(so_far))
+    let begun = match so_far.first.record {
+        0 => String::new(),
+        record => format!(" from record {record} on"),
+    };
+    format!("open: {} of {} {}s{begun}{ended}\n", so_far.open(), so_far.positions(), position(so_far))
+}
+
+/// What a card can be asked without a log. Where its files do not fit together: what is vouched for, and the fault.
+struct Told {
+    so_far: SoFar,
+    verdicts: Vec<u8>,
+    fault: Option<Fault>,
+}
+
+impl Told {
+    fn of(folder: &str) -> Result<Told, Failure> {
+        let mut disk = Folder::new(Path::new(folder));
+        let fault = match Card::open(&mut disk, false) {
+            Ok(card) => return Ok(Told { so_far: card.so_far, verdicts: card.verdicts().to_vec(), fault: None }),
+            Err(fault) => fault,
+        };
+        match vouched(&mut disk, &fault).filter(|kept| !kept.verdicts.is_empty()) {
+            Some(Kept { so_far, verdicts, .. }) => Ok(Told { so_far, verdicts, fault: Some(fault) }),
+            None => Err(Failure::fault(folder, fault)),
+        }
+    }
+
+    /// Ends with what was to be printed, and with the fault if there is one.
+    fn end(&self, folder: &str, printed: String) -> Answer {
+        let Some(fault) = &self.fault else { return Ok(printed) };
+        let vouched = format!("This is of the first {} verdicts, which a checksum vouches for.", self.verdicts.len());
+        let fault = format!("{folder}: {fault}\n{vouched} `havdrims check` says what can be done.");
+        Err(Failure::Partly { printed, fault })
+    }
+}
+
+/// What is vouched for of a card with this fault. While another command is at work nothing is read.
+fn vouched(disk: &mut Folder, fault: &Fault) -> Option<Kept> {
+    (!matches!(fault, Fault::InUse)).then(|| kept::kept(disk)).flatten()
 }
 
 fn summarized(folder: &str) -> Answer {
+    let told = Told::of(folder)?;
+    told.end(folder, all(&told.so_far))
+}
+
+fn checked(folder: &str) -> Answer {
     let mut disk = Folder::new(Path::new(folder));
-    let card = Card::open(&mut disk, false).map_err(|fault| Failure::fault(folder, fault))?;
-    Ok(all(&card.so_far))
+    let opened = Card::open(&mut disk, false).map(|card| card.so_far);
+    if let Err(fault @ (Fault::NoCard | Fault::InUse)) = opened {
+        return Err(Failure::fault(folder, fault));
+    }
+    let files = kept::looked_at(&mut disk);
+    let mut text: String = files.iter().map(|(name, said)| format!("{name}: {said}\n")).collect();
+    match opened {
+        Ok(so_far) => {
+            let _ = write!(text, "all files fit together\n{}", all(&so_far));
+            Ok(text)
+        }
+        Err(fault) => {
+            text.push_str(&advice(folder, &fault, vouched(&mut disk, &fault)));
+            Err(Failure::Partly { printed: text, fault: format!("{folder}: {fault}") })
+        }
+    }
+}
+
+/// What can be done with a card that has this fault.
+fn advice(folder: &str, fault: &Fault, kept: Option<Kept>) -> String {
+    if let Fault::Unfinished = fault {
+        return String::new();
+    }
+    let given = kept.as_ref().map_or(0, |kept| kept.verdicts.len());
+    let mut text = match given {
+        0 => "no verdict is vouched for\n".to_string(),
+        _ => format!("the first {given} verdicts are vouched for: `havdrims sheet` prints them\n"),
+    };
+    text.push_str("what can be done:\n");
+    if let Fault::PointUnreadable(Unreadable::Version) | Fault::PointRefused(Refusal::ForeignPoint) = fault {
+        text.push_str("  the program that wrote the point can carry on with this card\n");
+    }
+    text.push_str("  a copy of the card can be put back, all its files together\n");
+    if let Some(Begins { first: First { record, .. }, .. }) = kept.and_then(|kept| kept.after) {
+        let new = format!("havdrims new NEW {folder}/{} --after {folder}", card::RULE);
+        let _ = writeln!(text, "  a new card can go on at record {record}: {new}");
+    }
+    text
 }
 
 fn left_open(folder: &str, path: &str) -> Answer {
@@ -443,12 +611,16 @@ fn left_open(folder: &str, path: &str) -> Answer {
     let timed = Timed::of(card.rule());
     let end = End::of(&log);
     let mut text = open_line(&so_far);
-    let open = waiting::open(&log, so_far.status.given, so_far.positions());
+    let begun = so_far.first.position;
+    let open = waiting::open(&log, begun + so_far.status.given, begun + so_far.positions());
     let open = open.ok_or_else(|| unchanged(folder, path, &Fault::LogAltered, "Nothing was printed"))?;
     for open in open {
         let Open { position, record, seconds } = open;
         let settled = timed.map_or(String::new(), |timed| format!(": {}", timed.settled_by(seconds, &end)));
-        let place = if so_far.services == 0 { String::new() } else { format!("position {position}, ") };
+        let place = match self::position(&so_far) {
+            "record" => String::new(),
+            named => format!("{named} {position}, "),
+        };
         let _ = writeln!(text, "{place}record {record}, second {seconds}{settled}");
     }
     if timed.is_none() && so_far.open() > 0 {
@@ -479,19 +651,20 @@ fn sheet(words: &[&str]) -> Option<Answer> {
     Some(from.and_then(|from| lines(folder, csv, from)))
 }
 
-fn lines(folder: &str, csv: bool, from: usize) -> Answer {
-    let mut disk = Folder::new(Path::new(folder));
-    let card = Card::open(&mut disk, false).map_err(|fault| Failure::fault(folder, fault))?;
+fn lines(folder: &str, csv: bool, from: u64) -> Answer {
+    let told = Told::of(folder)?;
+    let formulas = told.so_far.summary.no().len();
     let between = if csv { "," } else { " " };
-    let mut text = if csv { heading(card.formulas()) } else { String::new() };
-    for (position, &verdict) in card.verdicts().iter().enumerate().skip(from) {
+    let mut text = if csv { heading(formulas) } else { String::new() };
+    let first = told.so_far.first.position;
+    for (position, &verdict) in (first..).zip(&told.verdicts).filter(|&(position, _)| position >= from) {
         let _ = write!(text, "{position}");
-        for formula in 0..card.formulas() {
+        for formula in 0..formulas {
             let _ = write!(text, "{between}{}", if verdict >> formula & 1 == 1 { "yes" } else { "no" });
         }
         text.push('\n');
     }
-    Ok(text)
+    told.end(folder, text)
 }
 
 /// The first line for a spreadsheet.

@@ -2,6 +2,7 @@
 
 use crate::command::Failure;
 use crate::disk::read_file;
+use crate::file;
 use havdrims::{formulas, measure, parse, simulate, text, worst_log};
 use havdrims::{Log, Refusal, Settings, MOST_FORMULAS, MOST_RECORDS, MOST_RULE};
 use std::str::FromStr;
@@ -11,10 +12,6 @@ use std::{fs, io};
 const MOST_LOG: usize = 16 + 8 * MOST_RECORDS;
 
 type Answer = Result<String, Failure>;
-
-fn write(path: &str, bytes: &[u8]) -> Result<(), Failure> {
-    fs::write(path, bytes).map_err(|fault| Failure::fault(path, fault))
-}
 
 /// The bytes of a log file. What is longer than every log is cut behind that length: it is refused all the same.
 pub fn log(path: &str) -> io::Result<Vec<u8>> {
@@ -74,12 +71,12 @@ pub fn described(name: &str, rule: &[u8]) -> Result<(Vec<String>, String), Failu
     Ok((formulas.lines().map(str::to_string).collect(), format!("words {}, reach {reach}\n", needs.words)))
 }
 
-pub fn to_log(path: &str, log: &str) -> Answer {
+pub fn to_log(path: &str, log: &str, force: bool) -> Answer {
     let bytes = fs::read(path).map_err(|fault| Failure::fault(path, fault))?;
     let typed = String::from_utf8(bytes).map_err(|_| Failure::fault(path, "not a text"))?;
     let bytes = text::log_from_text(&typed).map_err(|fault| Failure::Fault(format!("{path}, {fault}")))?;
     let made = Log::new(&bytes).map_err(|refusal| Failure::fault(path, refusal))?;
-    write(log, &bytes)?;
+    file::write(log, &bytes, force)?;
     let services = match made.services(0) {
         0 => String::new(),
         number => format!(", {number} of them service"),
@@ -96,14 +93,14 @@ pub fn to_text(path: &str) -> Answer {
     text::log_to_text(&log).map_err(|refusal| Failure::fault(path, refusal))
 }
 
-pub fn rule(formulas: &[&str], path: &str) -> Answer {
+pub fn rule(formulas: &[&str], path: &str, force: bool) -> Answer {
     if !path.ends_with(".krl") {
         // It may be a formula, with the file's name forgotten.
         return Err(Failure::Use(format!("`{path}` is no name of a rule file: that ends in .krl")));
     }
     let rules = formulas.iter().map(|formula| parsed(formula)).collect::<Result<_, _>>()?;
     let bytes = joined(formulas, rules)?;
-    write(path, &bytes)?;
+    file::write(path, &bytes, force)?;
     let number = if formulas.len() == 1 { String::new() } else { format!("{} formulas, ", formulas.len()) };
     Ok(format!("{path}: {number}{} entries\n", (bytes.len() - 8) / 10))
 }
@@ -119,12 +116,12 @@ pub fn number<T: FromStr>(word: &str) -> Result<T, Failure> {
     word.parse().map_err(|_| Failure::Use(format!("`{word}` is no number, or too large a one")))
 }
 
-pub fn worst(low: &str, high: &str, records: &str, log: &str) -> Answer {
+pub fn worst(low: &str, high: &str, records: &str, log: &str, force: bool) -> Answer {
     let (low, high, records): (u32, u32, u64) = (number(low)?, number(high)?, number(records)?);
     // With more records than a log may have the call is refused, whatever the room.
     let mut bytes = vec![0; 8 + 8 * records.min(MOST_RECORDS as u64) as usize];
     let length = worst_log(low, high, records, &mut bytes).map_err(|refusal| Failure::Fault(refusal.to_string()))?;
-    write(log, &bytes[..length])?;
+    file::write(log, &bytes[..length], force)?;
     Ok(format!("{log}: {records} records, {} seconds waiting\n", records.min(u64::from(high) + 1)))
 }
 
@@ -149,13 +146,13 @@ fn numbers(words: &[&str]) -> Result<[u32; 6], String> {
     Ok(all)
 }
 
-pub fn simulated(log: &str, words: &[&str]) -> Answer {
+pub fn simulated(log: &str, words: &[&str], force: bool) -> Answer {
     let [seconds, warm_up, print_time, switch_off, mean_gap, seed] = numbers(words).map_err(Failure::Use)?;
     let settings = Settings { warm_up, print_time, switch_off, mean_gap };
     let mut bytes = vec![0; 8 + 8 * seconds.min(3600) as usize];
     let given =
         simulate(&settings, seconds, seed, &mut bytes).map_err(|refusal| Failure::Fault(refusal.to_string()))?;
-    write(log, &bytes[..given.written])?;
+    file::write(log, &bytes[..given.written], force)?;
     let numbers = [("finished", given.finished), ("printing", given.printing), ("waiting", given.waiting)];
     let numbers = numbers.map(|(name, number)| format!("{name} {number}")).join(", ");
     Ok(format!("{log}: {seconds} records, {numbers}\n"))

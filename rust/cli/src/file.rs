@@ -1,15 +1,18 @@
 //! Files outside of cards: written beside and renamed, so that a run that is cut leaves what was there, or the whole new file.
 
 use crate::card;
-use crate::disk::Disk;
-use std::fmt;
-use std::io;
+use crate::command::Failure;
+use crate::disk::{Disk, Folder};
+use std::path::{Path, PathBuf};
+use std::{fmt, fs, io};
 
 /// Why a file was not written.
 #[derive(Debug)]
 pub enum Fault {
     /// A file with this name is there, and may not be replaced.
     There,
+    /// What is there is a folder or a device.
+    NoFile,
     /// The folder is a card.
     InCard,
     /// It would be written, as long as it is not whole, over a file that it is made from.
@@ -31,6 +34,7 @@ impl fmt::Display for Fault {
     fn fmt(&self, f: &mut fmt::Formatter<'_>) -> fmt::Result {
         match self {
             Fault::There => write!(f, "a file is here already; --force replaces it"),
+            Fault::NoFile => write!(f, "what is here is no file, and is not replaced"),
             Fault::InCard => write!(f, "this would be a file in a card, which holds no others than its own"),
             Fault::OverItsSource => write!(f, "until it is whole this file has the name of the log itself; choose another name"),
             Fault::NoFolder => write!(f, "its folder is not there"),
@@ -38,6 +42,34 @@ impl fmt::Display for Fault {
             Fault::Unsure { doing, fault } => write!(f, "cannot {doing}: {fault}; it may be as it was before"),
         }
     }
+}
+
+/// Writes the file of this name, in place of one that is there only if so told.
+pub fn write(path: &str, bytes: &[u8], replace: bool) -> Result<(), Failure> {
+    let (mut folder, name) = named(path)?;
+    put(&mut folder, &name, bytes, replace).map_err(|fault| Failure::fault(path, fault))
+}
+
+/// The folder of a file, and its name there. A link stands for the file that it leads to.
+pub fn named(path: &str) -> Result<(Folder, String), Failure> {
+    let no_name = || Failure::Use(format!("`{path}` is no name of a file"));
+    Path::new(path)
+        .file_name()
+        .filter(|name| name.to_str().is_some_and(|name| path.ends_with(name)))
+        .ok_or_else(no_name)?;
+    let place = match fs::symlink_metadata(path) {
+        Ok(there) if there.is_symlink() => fs::canonicalize(path).map_err(|fault| Failure::fault(path, fault))?,
+        _ => PathBuf::from(path),
+    };
+    if fs::metadata(&place).is_ok_and(|there| !there.is_file()) {
+        return Err(Failure::fault(path, Fault::NoFile));
+    }
+    let folder = match place.parent() {
+        Some(folder) if folder != Path::new("") => folder,
+        _ => Path::new("."),
+    };
+    let name = place.file_name().and_then(|name| name.to_str()).ok_or_else(no_name)?;
+    Ok((Folder::new(folder), name.to_string()))
 }
 
 /// The file as long as it is not whole.

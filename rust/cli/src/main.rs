@@ -28,6 +28,10 @@ fn main() -> ExitCode {
     let (text, status) = match answer().and_then(|text| print(&text)) {
         Ok(()) => return ExitCode::SUCCESS,
         Err(Failure::Fault(text)) => (text, 1),
+        Err(Failure::Partly { printed, fault }) => match print(&printed) {
+            Err(Failure::Fault(text)) => (format!("{fault}\n{text}"), 1),
+            _ => (fault, 1),
+        },
         Err(Failure::Use(text)) => (text, 2),
     };
     let _ = writeln!(io::stderr(), "{}", text.trim_end());

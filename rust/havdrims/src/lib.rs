@@ -154,6 +154,25 @@ impl Summary {
     pub fn latest(&self) -> &[Option<u64>] {
         &self.latest[..self.formulas]
     }
+
+    /// What [`summary`] gives after all the verdicts of a sheet, from the sheet alone. Refusal: 15.
+    ///
+    /// ```
+    /// use havdrims::{Refusal, Summary};
+    ///
+    /// let of_two = Summary::of(&[3, 2, 3], 2)?;
+    /// assert_eq!((of_two.no(), of_two.latest()), (&[1, 0][..], &[Some(1), None][..]));
+    /// assert_eq!(Summary::of(&[3, 2, 3], 1), Err(Refusal::SheetByte));
+    /// # Ok::<(), Refusal>(())
+    /// ```
+    pub fn of(sheet: &[u8], formulas: usize) -> Result<Summary, Refusal> {
+        let counts = tally(sheet, formulas)?;
+        let mut latest = [None; MOST_FORMULAS];
+        for (formula, latest) in latest.iter_mut().enumerate().take(formulas) {
+            *latest = sheet.iter().rposition(|verdict| verdict >> formula & 1 == 0).map(|at| at as u64);
+        }
+        Ok(Summary { formulas, no: counts.no, latest })
+    }
 }
 
 /// How far a checkpoint has come.

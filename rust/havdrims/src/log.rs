@@ -1,6 +1,7 @@
 //! A log's bytes, looked at once.
 
 use crate::Refusal;
+use core::ops::Range;
 
 /// The most records of a log, service records and dropped ones included.
 pub const MOST_RECORDS: usize = 1_000_000;
@@ -100,6 +101,22 @@ impl<'a> Log<'a> {
     /// The bytes of the records that were not dropped.
     fn kept(&self) -> &'a [u8] {
         &self.bytes[before_records(self.version)..]
+    }
+
+    /// The bytes of these records, 8 each, by their numbers: none if the log does not have all of them.
+    ///
+    /// ```
+    /// use havdrims::{text::log_from_text, Log};
+    ///
+    /// let log = log_from_text("version 3\ndropped 5\n10 e0\n11 e1\n").unwrap();
+    /// let log = Log::new(&log).unwrap();
+    /// assert_eq!(log.record_bytes(6..7), Some(&[0, 0, 0, 11, 0, 0, 0, 2][..]));
+    /// assert_eq!((log.record_bytes(4..6), log.record_bytes(6..8)), (None, None));
+    /// ```
+    pub fn record_bytes(&self, records: Range<usize>) -> Option<&'a [u8]> {
+        let from = records.start.checked_sub(self.dropped)?;
+        let to = records.end.checked_sub(self.dropped)?;
+        self.kept().get(from.checked_mul(8)?..to.checked_mul(8)?)
     }
 
     /// The records in turn, from record [`Log::dropped`] on. Those before the first still wanted may have been overwritten, and

@@ -120,6 +120,13 @@ impl Simulated {
         file.synced = file.now.clone();
     }
 
+    /// Another program takes a file away, for good.
+    pub fn take_away(&mut self, name: &str) {
+        self.changes.retain(|change| !matches!(change, Change::Made(made, _) if made == name));
+        self.names.remove(name);
+        self.synced.remove(name);
+    }
+
     /// The cut that was due did come.
     pub fn was_cut(&self) -> bool {
         self.dead

@@ -6,13 +6,15 @@
 
 mod disk;
 
-use cli::card::{self, Card, Evening, Fault};
+use cli::card::{self, Begins, Card, Evening, Fault, First};
 use cli::disk::Disk;
-use cli::file;
+use cli::evenings::Known;
+use cli::{file, kept};
 use disk::{Simulated, Trouble, Way, Work};
 use evaluator::log::{self, Record};
 use evaluator::random::{self, Random};
 use evaluator::{reading, rule};
+use havdrims::save::checksum;
 use havdrims::Refusal;
 
 const NUMBER: u64 = 0x0123_4567_89ab_cdef;
@@ -44,6 +46,10 @@ struct Week {
     days: Vec<Day>,
     /// The commands, from `new` on.
     steps: Vec<Step>,
+    /// The card was made by an earlier program.
+    old: bool,
+    /// The card's first record: the log's records before it mean nothing.
+    first: usize,
 }
 
 impl Week {
@@ -51,7 +57,9 @@ impl Week {
         let (rule_shape, log_shape) = random::shapes(r, 8, 30);
         let rule = random::rule(r, rule_shape);
         let (version, untouched) = random::any_log(r, log_shape);
-        let mut ends: Vec<usize> = (0..r.from_to(1, 6)).map(|_| r.from_to(0, untouched.len())).collect();
+        let (old, later) = (r.one_in(4), r.one_in(3));
+        let first = if later && !old { r.from_to(0, untouched.len()) } else { 0 };
+        let mut ends: Vec<usize> = (0..r.from_to(1, 6)).map(|_| r.from_to(first, untouched.len())).collect();
         ends.sort();
         let last = ends[ends.len() - 1];
         let mut days: Vec<Day> = ends.into_iter().map(|records| Day { records, closing: false }).collect();
@@ -61,12 +69,12 @@ impl Week {
             steps.push(Step::Evening(day));
             steps.extend((version == 2 && r.one_in(2)).then_some(Step::Trim(day)));
         }
-        Week { rule, untouched, version, days, steps }
+        Week { rule, untouched, version, days, steps, old, first }
     }
 
     /// The positions of this day's log.
     fn positions(&self, day: Day) -> Vec<Record> {
-        log::positions(self.version, &self.untouched[..day.records])
+        log::positions(self.version, &self.untouched[self.first..day.records])
     }
 
     /// The sheet after this day.
@@ -108,12 +116,20 @@ struct Run<'a> {
 
 impl<'a> Run<'a> {
     fn new(week: &'a Week, seed: u64) -> Run<'a> {
-        let shop = Simulated::with_file(seed + 1, LOG, &log::header(week.version));
-        Run { week, disk: Simulated::new(seed), shop, r: Random::new(!seed) }
+        let mut r = Random::new(!seed);
+        let mut before = vec![0; 8 * week.first];
+        r.fill(&mut before);
+        let shop = Simulated::with_file(seed + 1, LOG, &[log::header(week.version).to_vec(), before].concat());
+        Run { week, disk: Simulated::new(seed), shop, r }
     }
 
     fn make(&mut self) -> Result<(), Fault> {
-        card::new(&mut self.disk, NUMBER, &self.week.rule)
+        let first = First { record: self.week.first as u64, position: self.week.first as u64 / 2 };
+        // Half of the first day's records are known from the card before.
+        let known = &self.week.untouched[self.week.first..(self.week.first + self.week.days[0].records).div_ceil(2)];
+        let sum = checksum(&log::encode_records(known));
+        let open = Known { records: known.len() as u64, sum };
+        card::new(&mut self.disk, NUMBER, Begins { first, open }, &self.week.rule)
     }
 
     /// The log of this day: the kiosk has added its records.
@@ -153,33 +169,42 @@ impl<'a> Run<'a> {
 
     /// The command has ended well: what it released is overwritten.
     fn overwrite(&mut self, evening: &Evening) {
-        let wanted = evening.so_far.status.wanted as usize;
+        let released = evening.so_far.released() as usize;
         let r = &mut self.r;
         self.shop.change(LOG, |log| {
             let log::Log { version, dropped, .. } = log::parse(log).unwrap();
             let from = if version == 3 { 16 } else { 8 };
-            r.fill(&mut log[from..from + 8 * (wanted - dropped)]);
+            r.fill(&mut log[from..from + 8 * released.saturating_sub(dropped)]);
         });
     }
 
     /// Makes the card, or makes it again if the last time was cut after it was there.
     fn make_again(&mut self) {
         match self.make() {
-            Ok(()) | Err(Fault::AlreadyThere) => {}
+            Ok(()) | Err(Fault::AlreadyThere) => self.make_old(),
             Err(fault) => panic!("{fault}: {:?}", self.week),
+        }
+    }
+
+    /// What an earlier program would have made.
+    fn make_old(&mut self) {
+        if self.week.old {
+            self.disk.change(card::CARD, |label| label.truncate(31));
+            self.disk.take_away(card::EVENINGS);
         }
     }
 
     fn evening_again(&mut self, day: Day) {
         let evening = self.evening(day).unwrap_or_else(|fault| panic!("{fault}: {:?}", self.week));
-        assert_eq!(evening.so_far.services, (day.records - self.week.positions(day).len()) as u64, "{:?}", self.week);
+        let services = day.records - self.week.first - self.week.positions(day).len();
+        assert_eq!(evening.so_far.services, services as u64, "{:?}", self.week);
         self.overwrite(&evening);
     }
 
     fn trim_again(&mut self, day: Day) {
         self.trim(day).unwrap_or_else(|fault| panic!("{fault:?}: {:?}", self.week));
         let left = log::parse(&self.shop.read(LOG).unwrap()).unwrap();
-        let wanted = Card::open(&mut self.disk, false).unwrap().so_far.status.wanted;
+        let wanted = Card::open(&mut self.disk, false).unwrap().so_far.wanted();
         assert_eq!((left.dropped as u64, left.total()), (wanted, day.records), "{:?}", self.week);
     }
 
@@ -271,6 +296,55 @@ fn a_cut_at_every_operation() {
     assert!(trims > 0);
 }
 
+/// The point is lost after a cut: the rows vouch for all verdicts that it counted, and for none that is wrong, and they tell from
+/// which record on another card can go on, none of which was overwritten.
+fn without_its_point(run: &Run) -> Option<bool> {
+    let mut disk = run.disk.clone();
+    let counted = Card::open(&mut disk, false).ok().map(|card| (card.verdicts().len(), card.so_far.wanted()))?;
+    disk.change(card::POINT, |point| point.clear());
+    let kept = kept::kept(&mut disk)?;
+    assert!(kept.verdicts.len() >= counted.0, "{:?}", run.week);
+    assert!(run.week.sheet().starts_with(&kept.verdicts), "{:?}", run.week);
+    let Some(Begins { first: First { record, position }, .. }) = kept.after else { return Some(false) };
+    assert!(record >= counted.1, "{:?}", run.week);
+    let log = log::parse(&run.shop.clone().read(LOG).unwrap()).unwrap();
+    let (from, untouched) = (record as usize, &run.week.untouched);
+    assert_eq!(log.records[from - log.dropped..], untouched[from..log.total()], "{:?}", run.week);
+    let before = log::positions(run.week.version, &untouched[run.week.first..from]).len();
+    assert_eq!(position as usize, run.week.first / 2 + before, "{:?}", run.week);
+    Some(true)
+}
+
+#[test]
+fn a_sheet_outlives_its_point() {
+    let (mut lost, mut gone_on) = (0, 0);
+    for seed in 0..60 {
+        let week = Week::new(&mut Random::new(seed));
+        let mut run = Run::new(&week, seed);
+        for &step in &week.steps {
+            for (way, work) in [(Way::Synced, Work::All), (Way::Killed, Work::Part), (Way::Part, Work::Part)] {
+                for operation in 0.. {
+                    let mut tried = run.clone();
+                    tried.prepare(step, operation, Trouble::Cut(work));
+                    let ended = tried.step(step);
+                    tried.cut(way);
+                    if let Some(known) = without_its_point(&tried) {
+                        lost += 1;
+                        gone_on += usize::from(known);
+                    }
+                    if ended.is_ok() {
+                        assert!(week.old || without_its_point(&tried) == Some(true), "{week:?}");
+                        break;
+                    }
+                }
+            }
+            run.again(step);
+        }
+    }
+    println!("{lost} points lost, {gone_on} of them with a record to go on at");
+    assert!(lost > gone_on && gone_on > 1_000);
+}
+
 /// Cuts one after the other: a run is repeated until it is not cut, and the power is cut between runs too. After a run that was
 /// cut the log may be trimmed before it is repeated.
 #[test]
@@ -317,6 +391,9 @@ fn many_cuts_in_one_week() {
             }
             if r.one_in(2) {
                 run.cut(Way::Synced);
+            }
+            if at == 0 && run.disk.contents().contains_key(card::POINT) {
+                run.make_old();
             }
         }
         assert_eq!(run.sheet(), week.sheet(), "seed {seed}: {week:?}");
@@ -443,4 +520,44 @@ fn a_failure_at_every_operation_of_new() {
     }
     println!("{failures} failures, {made} of them when the card was made");
     assert!(failures > 0 && made > 0);
+}
+
+/// A file that is written in place of another, and one that is new, cut at every operation, and with each of them failing: it is the
+/// old one or the new one, and once this has ended well it survives a cut.
+#[test]
+fn a_cut_at_every_operation_of_a_file() {
+    let (old, new) = (vec![1; 40], vec![2; 60]);
+    let left = |disk: &Simulated| disk.contents().get(LOG).cloned();
+    let mut runs = 0;
+    for there in [true, false] {
+        let before = there.then(|| old.clone());
+        for work in [Work::Nothing, Work::Part, Work::All] {
+            let troubles = [Trouble::Cut(work), Trouble::Full, Trouble::Late, Trouble::Broken];
+            for (trouble, way, seed) in troubles.into_iter().flat_map(|trouble| {
+                [Way::Synced, Way::Killed, Way::Part, Way::Part]
+                    .into_iter()
+                    .zip(0..)
+                    .map(move |(way, at)| (trouble, way, at))
+            }) {
+                for operation in 0.. {
+                    let mut disk = Simulated::with_file(seed, if there { LOG } else { "other" }, &old);
+                    disk.trouble = Some((operation, trouble));
+                    let ended = file::put(&mut disk, LOG, &new, there);
+                    disk.trouble = None;
+                    disk.cut(way);
+                    let found = left(&disk);
+                    if ended.is_ok() {
+                        assert_eq!(found, Some(new.clone()));
+                        break;
+                    }
+                    assert!(found == before || found == Some(new.clone()), "{trouble:?} at {operation}, {way:?}");
+                    file::put(&mut disk, LOG, &new, true).unwrap();
+                    disk.cut(Way::Synced);
+                    assert_eq!(left(&disk), Some(new.clone()));
+                    runs += 1;
+                }
+            }
+        }
+    }
+    assert!(runs > 100, "{runs}");
 }

@@ -4,6 +4,7 @@ use crate::Place;
 use evaluator::{cases, log, rule};
 use havdrims::Refusal;
 use std::fs;
+use std::os::unix::fs::symlink;
 
 const P1: &str = "10 e0\n11 e0\n11 none\n12 e0\n13 e1\n20 e0\n";
 
@@ -120,7 +121,7 @@ fn several_formulas_in_one_rule() {
     assert!(!place.path("none").exists());
     // the file's name is forgotten
     let said = place.fails(2, &["rule", "e0", "e1"]);
-    let expected = "expected: havdrims rule FORMULA.. RULE\n";
+    let expected = "expected: havdrims rule FORMULA.. RULE [--force]\n";
     assert_eq!(said, format!("`e1` is no name of a rule file: that ends in .krl\n{expected}"));
     assert!(!place.path("e1").exists());
     let said = place.fails(1, &["rule", "e0", "e1 or", "none.krl"]);
@@ -142,7 +143,7 @@ fn logs_to_try_a_kiosk_with() {
     assert_eq!(place.fails(1, &["worst", "3", "2", "5", "bad.klg"]), format!("{}\n", Refusal::Interval));
     assert_eq!(place.fails(1, &["worst", "0", "2", "1000001", "bad.klg"]), format!("{}\n", Refusal::LogRoom));
     let said = place.fails(2, &["worst", "0", "2", "-1", "bad.klg"]);
-    assert_eq!(said, "`-1` is no number, or too large a one\nexpected: havdrims worst LOW HIGH N LOG\n");
+    assert_eq!(said, "`-1` is no number, or too large a one\nexpected: havdrims worst LOW HIGH N LOG [--force]\n");
     assert!(!place.path("bad.klg").exists());
 
     let options = "simulate run.klg --seed 6 --seconds 9 --warm-up 1 --print-time 2 --switch-off 1 --mean-gap 3";
@@ -158,10 +159,70 @@ fn logs_to_try_a_kiosk_with() {
     let refused = format!("{}\n", Refusal::Settings);
     assert_eq!(with(1, 3, "0"), refused);
     assert_eq!(with(1, 5, "3601"), refused);
-    let expected = "expected: havdrims simulate LOG OPTIONS\n";
+    let expected = "expected: havdrims simulate LOG OPTIONS [--force]\n";
     assert_eq!(with(2, 3, "x"), format!("--seed: `x` is no number\n{expected}"));
     assert_eq!(with(2, 4, "--seed"), format!("--seed is there twice\n{expected}"));
     assert_eq!(with(2, 4, "--second"), format!("`--second` is no option of simulate\n{expected}"));
     assert_eq!(place.fails(2, &options[..12]), format!("--mean-gap is missing\n{expected}"));
     assert_eq!(place.fails(2, &options[..13]), format!("--mean-gap needs a number\n{expected}"));
+}
+
+/// A file that is there is replaced only if so told, none is put into a card, and what is no file stays.
+#[test]
+fn where_files_go() {
+    let place = Place::with_card(1);
+    fs::write(place.path("day.txt"), P1).unwrap();
+    let settings = "--seed 6 --seconds 9 --warm-up 1 --print-time 2 --switch-off 1 --mean-gap 3";
+    let commands = |file: &str| {
+        let simulate = format!("simulate {file} {settings}");
+        ["rule e0 ", "to-log day.txt ", "worst 0 2 5 "]
+            .map(|words| format!("{words}{file}"))
+            .into_iter()
+            .chain([simulate])
+    };
+    let fails = |line: &str, text: &str| {
+        let words: Vec<&str> = line.split(' ').collect();
+        assert_eq!(place.fails(1, &words), text, "{line}");
+    };
+    let before = place.card();
+    for line in commands("out.krl") {
+        let words: Vec<&str> = line.split(' ').collect();
+        let said = place.ok(&words);
+        let made = fs::read(place.path("out.krl")).unwrap();
+        fs::write(place.path("out.krl"), b"kept").unwrap();
+        fails(&line, "out.krl: a file is here already; --force replaces it\n");
+        assert_eq!(fs::read(place.path("out.krl")).unwrap(), b"kept");
+        assert_eq!(place.ok(&[&words[..], &["--force"]].concat()), said, "{line}");
+        assert_eq!(fs::read(place.path("out.krl")).unwrap(), made, "{line}");
+        fs::remove_file(place.path("out.krl")).unwrap();
+        assert!(place.fails(2, &[&words[..], &["--force", "--force"]].concat()).starts_with("expected: "));
+    }
+    for file in ["card/out.krl", "card/rule.krl", "./card/../card/rule.krl"] {
+        for line in commands(file) {
+            let text = format!("{file}: this would be a file in a card, which holds no others than its own\n");
+            fails(&line, &text);
+            fails(&format!("{line} --force"), &text);
+        }
+    }
+    fs::create_dir(place.path("folder.krl")).unwrap();
+    fails("rule e0 folder.krl --force", "folder.krl: what is here is no file, and is not replaced\n");
+    fails("to-log day.txt /dev/null --force", "/dev/null: what is here is no file, and is not replaced\n");
+    // a link stands for what it leads to: it stays, and leads into no card
+    symlink("card/rule.krl", place.path("link.krl")).unwrap();
+    let text = "link.krl: this would be a file in a card, which holds no others than its own\n";
+    fails("rule e0 link.krl --force", text);
+    fs::create_dir(place.path("away")).unwrap();
+    fs::write(place.path("away/rule.krl"), b"old").unwrap();
+    symlink("away/rule.krl", place.path("other.krl")).unwrap();
+    fails("rule e0 other.krl", "other.krl: a file is here already; --force replaces it\n");
+    place.ok(&["rule", "e0", "other.krl", "--force"]);
+    assert!(place.path("other.krl").is_symlink());
+    assert_eq!(fs::read(place.path("away/rule.krl")).unwrap(), rule::encode(&[rule::Entry::letter(0)]));
+    symlink("none/rule.krl", place.path("nowhere.krl")).unwrap();
+    fails("rule e0 nowhere.krl", "nowhere.krl: No such file or directory (os error 2)\n");
+    for command in ["rule", "to-log", "worst", "simulate", "trim"] {
+        let help = place.ok(&[command, "--help"]);
+        assert!(help.contains("replaced only with --force") && help.contains("card"), "{help}");
+    }
+    assert_eq!(place.card(), before);
 }

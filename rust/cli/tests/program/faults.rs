@@ -1,6 +1,6 @@
 //! What can go wrong, each with its words, exit status 1, and the card unchanged.
 
-use crate::{contents, ended, Place, RULE};
+use crate::{contents, ended, Place, CARRY_ON, RULE};
 use havdrims::save::{checksum, Saved};
 use havdrims::Refusal;
 use std::fs::{self, File, Permissions};
@@ -29,14 +29,13 @@ fn logs_that_are_refused() {
         fs::write(place.path("other.klg"), bytes).unwrap();
         let text = format!("other.klg: {refusal}\n{hint}Nothing was changed.\n");
         refuses(&place, &["evening", "card", "other.klg"], &text);
-        refuses(&place, &["close", "card", "other.klg"], &text);
+        refuses(&place, &["close", "card", "other.klg", "--final"], &text);
     };
     // a log that shrank
     evening(&whole[..whole.len() - 8], Refusal::FewerRecords, "Is this the whole log? ");
-    // the log of another kiosk: its times fall
-    let mut other = whole.clone();
-    other[8 + 8 * 13..].fill(0);
-    evening(&other, Refusal::TimeFalls, "Is this the log of another kiosk? ");
+    // a new record whose time falls
+    let falls = [whole.as_slice(), &[0, 0, 2, 0xd9, 0, 0, 0, 0]].concat();
+    evening(&falls, Refusal::TimeFalls, "Is this the log of another kiosk? ");
     // a log of the other version
     let mut second = whole.clone();
     second[4] = 2;
@@ -53,10 +52,133 @@ fn logs_that_are_refused() {
     refuses(&place, &["evening", "card", "none.klg"], none);
 }
 
+const OTHER: &str =
+    "Is this the log of another kiosk, or was the card put back from an older copy? Nothing was changed.\n";
+
+/// Later times, more records, and the same version: only the records that are still wanted tell it.
+#[test]
+fn the_log_of_another_kiosk() {
+    let place = Place::with_card(1);
+    let whole = fs::read(place.path("tuesday.klg")).unwrap();
+    let brought = |change: &dyn Fn(&mut Vec<u8>)| {
+        let mut bytes = whole.clone();
+        change(&mut bytes);
+        fs::write(place.path("other.klg"), bytes).unwrap();
+    };
+    let others = format!("other.klg: records 12 to 13 are not those that this card has seen\n{OTHER}");
+    let later = |bytes: &mut Vec<u8>| bytes[8..].chunks_exact_mut(8).for_each(|record| record[2] += 1);
+    let changes: [fn(&mut Vec<u8>); 4] =
+        [later, |bytes| bytes[8 + 8 * 12 + 3] ^= 1, |bytes| bytes[8 + 8 * 14 - 1] ^= 1, |bytes| bytes[8..].fill(0)];
+    for change in changes {
+        brought(&change);
+        for words in [
+            &["evening", "card", "other.klg"][..],
+            &["close", "card", "other.klg", "--final"],
+            &["open", "card", "other.klg"],
+        ] {
+            refuses(&place, words, &others);
+        }
+    }
+    // what was released, and what is new, may be anything
+    brought(&|bytes| bytes[8..8 + 8 * 12].fill(0xff));
+    place.ok(&["evening", "card", "other.klg"]);
+    brought(&|bytes| bytes[8 + 8 * 18 + 7] ^= 1);
+    let one = format!("other.klg: record 18 is not the one that this card has seen\n{OTHER}");
+    refuses(&place, &["evening", "card", "other.klg"], &one);
+    // closed, nothing is wanted any more
+    place.ok(&["close", "card", "tuesday.klg", "--final"]);
+    place.ok(&["close", "card", "other.klg", "--final"]);
+}
+
+/// Where every record has its verdict the last one is kept all the same, to know the log by; not after a closing, nor in a log that was
+/// trimmed.
+#[test]
+fn a_log_that_leaves_nothing_open() {
+    let place = Place::new();
+    place.ok(&["new", "card", "e0"]);
+    let log = |name: &str, records: &str| place.log(name, records);
+    log("log.klg", "10 e0\n11 e1\n12 e0\n");
+    assert!(place.ok(&["evening", "card", "log.klg"]).ends_with("records 0 to 1 may be overwritten\n"));
+    log("other.klg", "10 e0\n11 e1\n12 e1\n13 e0\n");
+    let one = format!("other.klg: record 2 is not the one that this card has seen\n{OTHER}");
+    for words in [&["evening", "card", "other.klg"][..], &["close", "card", "other.klg", "--final"]] {
+        refuses(&place, words, &one);
+    }
+    refuses(&place, &["trim", "card", "other.klg", "out.klg"], &one);
+    // a card in its place begins behind that record
+    assert!(place.ok(&["new", "next", "e0", "--after", "card"]).ends_with("begins at record 3\n"));
+    place.ok(&["evening", "next", "log.klg"]);
+    assert_eq!(place.ok(&["trim", "card", "log.klg", "left.klg"]), "left.klg: records 0 to 2 dropped, 0 left\n");
+    assert!(place.ok(&["evening", "card", "left.klg"]).ends_with("records 0 to 1 may be overwritten\n"));
+    log("log.klg", "0 e0\n0 e1\n12 e0\n13 e0\n");
+    assert!(place.ok(&["evening", "card", "log.klg"]).starts_with("record 3: 1 yes, 0 no\n"));
+    assert!(place.ok(&["close", "card", "log.klg", "--final"]).ends_with("records 0 to 3 may be overwritten\n"));
+}
+
+/// A card that was put back, as a whole: its evenings would be of records that were overwritten since.
+#[test]
+fn a_card_that_was_put_back() {
+    let place = Place::with_card(1);
+    let monday = place.card();
+    place.ok(&["evening", "card", "tuesday.klg"]);
+    let put_back = || monday.iter().for_each(|(name, bytes)| fs::write(place.path("card").join(name), bytes).unwrap());
+    let mut log = fs::read(place.path("tuesday.klg")).unwrap();
+    // nothing was overwritten yet: the evening is repeated
+    put_back();
+    assert!(place.ok(&["evening", "card", "tuesday.klg"]).starts_with("records 12 to 17: 5 yes, 1 no\n"));
+    log[8..8 + 8 * 18].fill(0);
+    fs::write(place.path("tuesday.klg"), &log).unwrap();
+    place.ok(&["evening", "card", "tuesday.klg"]);
+    put_back();
+    let others = format!("tuesday.klg: records 12 to 13 are not those that this card has seen\n{OTHER}");
+    for command in CARRY_ON {
+        refuses(&place, &[command, &["card", "tuesday.klg"]].concat(), &others);
+    }
+}
+
+/// A card as an earlier program made it: it is taken as it is once, and told apart from then on.
+#[test]
+fn a_card_of_an_earlier_program() {
+    let place = Place::with_card(1);
+    place.make_old();
+    let before = place.ok(&["summary", "card"]);
+    assert!(before.starts_with("so far: 12 verdicts"), "{before}");
+    let said = place.ok(&["evening", "card", "tuesday.klg"]);
+    let earlier = "this card was made by an earlier program: from now on it knows its log again\n";
+    assert!(said.starts_with(&format!("{earlier}records 12 to 17: 5 yes, 1 no\n")), "{said}");
+    assert!(place.ok(&["evening", "card", "tuesday.klg"]).starts_with("no new verdict\n"));
+    let mut log = fs::read(place.path("tuesday.klg")).unwrap();
+    log[8 + 8 * 18 + 7] ^= 1;
+    fs::write(place.path("other.klg"), log).unwrap();
+    let one = format!("other.klg: record 18 is not the one that this card has seen\n{OTHER}");
+    refuses(&place, &["evening", "card", "other.klg"], &one);
+    // rows that are of no use are as none
+    fs::write(place.path("card/evenings"), [7; 100]).unwrap();
+    assert!(place.ok(&["evening", "card", "tuesday.klg"]).starts_with(earlier));
+    assert_eq!(fs::read(place.path("card/evenings")).unwrap().len(), 88);
+}
+
+/// `close` typed for `evening`.
+#[test]
+fn a_closing_is_meant() {
+    let place = Place::with_card(1);
+    let before = place.card();
+    let text = "closing says that no record will follow: every open record gets its verdict on the log as it ends, and the card\n\
+                takes no further records. It cannot be undone. With --final it is done; `havdrims evening` carries on.\n\
+                Nothing was changed.\n\
+                expected: havdrims close CARD LOG --final\n";
+    assert_eq!(place.fails(2, &["close", "card", "tuesday.klg"]), text);
+    assert_eq!(place.fails(2, &["close", "none", "none.klg"]), text);
+    assert_eq!(place.card(), before);
+    place.ok(&["evening", "card", "tuesday.klg"]);
+    place.ok(&["close", "--final", "card", "tuesday.klg"]);
+    assert!(place.ok(&["close", "--help"]).contains("It cannot be undone"));
+}
+
 #[test]
 fn a_closed_card() {
     let place = Place::with_card(1);
-    place.ok(&["close", "card", "day.klg"]);
+    place.ok(&["close", "card", "day.klg", "--final"]);
     let closed = format!(
         "card: {}\nThe month is closed: the card takes no further records. Nothing was changed.\n",
         Refusal::PointClosed
@@ -64,8 +186,8 @@ fn a_closed_card() {
     refuses(&place, &["evening", "card", "day.klg"], &closed);
     refuses(&place, &["evening", "card", "tuesday.klg"], &closed);
     let more = format!("tuesday.klg: {}\nNothing was changed.\n", Refusal::MoreRecords);
-    refuses(&place, &["close", "card", "tuesday.klg"], &more);
-    assert!(place.ok(&["close", "card", "day.klg"]).starts_with("no new verdict\n"));
+    refuses(&place, &["close", "card", "tuesday.klg", "--final"], &more);
+    assert!(place.ok(&["close", "card", "day.klg", "--final"]).starts_with("no new verdict\n"));
     assert!(place.ok(&["summary", "card"]).ends_with("open: 0 of 14 records, and the card is closed\n"));
 }
 
@@ -103,23 +225,43 @@ fn folders_that_are_no_card_and_cards_that_are_there() {
     place.ok(&["new", "empty", RULE]);
 }
 
+/// What `sheet` and `summary` say of a card with this fault after one evening: the verdicts, if they are vouched for.
+fn reads(place: &Place, text: &str, vouched: bool) {
+    let before = place.card();
+    if !vouched {
+        refuses(place, &["summary", "card"], &format!("card: {text}\n"));
+        refuses(place, &["sheet", "card"], &format!("card: {text}\n"));
+        return;
+    }
+    let hint =
+        "This is of the first 12 verdicts, which a checksum vouches for. `havdrims check` says what can be done.";
+    let err = format!("card: {text}\n{hint}\n");
+    let so_far = "so far: 12 verdicts, 2 no, the latest at record 8\nopen: 2 of 14 records\n";
+    assert_eq!(place.partly(&["summary", "card"]), (so_far.to_string(), err.clone()));
+    assert_eq!(place.partly(&["sheet", "card", "--from", "10"]), ("10 yes\n11 yes\n".to_string(), err));
+    assert_eq!(place.card(), before);
+}
+
 /// A card without its point is not made again: its verdicts would be gone.
 #[test]
 fn files_that_are_missing() {
     let place = Place::with_card(1);
-    let missing = |text: &str| {
-        refuses(&place, &["summary", "card"], &format!("card: {text}\n"));
-        refuses(&place, &["sheet", "card"], &format!("card: {text}\n"));
+    let missing = |text: &str, vouched: bool| {
+        reads(&place, text, vouched);
         refuses(&place, &["evening", "card", "tuesday.klg"], &format!("card: {text}\nNothing was changed.\n"));
     };
     let point = fs::read(place.path("card/point")).unwrap();
     fs::remove_file(place.path("card/point")).unwrap();
     let text = "the file `point` is missing, but the sheet has 12 verdicts";
-    missing(text);
+    missing(text, true);
     refuses(&place, &["new", "card", RULE], &format!("card: {text}\n"));
     fs::write(place.path("card/point"), point).unwrap();
+    let rows = fs::read(place.path("card/evenings")).unwrap();
+    fs::remove_file(place.path("card/evenings")).unwrap();
+    missing("the file `evenings` is missing", false);
+    fs::write(place.path("card/evenings"), rows).unwrap();
     fs::remove_file(place.path("card/card.txt")).unwrap();
-    missing("the file `card.txt` is missing");
+    missing("the file `card.txt` is missing", false);
     refuses(&place, &["new", "card", RULE], "card: a card is here already\n");
 }
 
@@ -140,16 +282,25 @@ fn an_output_that_cannot_be_written() {
 
 #[test]
 fn damaged_cards() {
-    let damage = |file: &str, change: &dyn Fn(&mut Vec<u8>), text: &str| {
+    let damage_and = |vouched: bool, file: &str, change: &dyn Fn(&mut Vec<u8>), text: &str| {
         let place = Place::with_card(1);
         let path = place.path("card").join(file);
         let mut bytes = fs::read(&path).unwrap();
         change(&mut bytes);
         fs::write(&path, bytes).unwrap();
         refuses(&place, &["evening", "card", "tuesday.klg"], &format!("card: {text}\nNothing was changed.\n"));
-        refuses(&place, &["close", "card", "tuesday.klg"], &format!("card: {text}\nNothing was changed.\n"));
-        refuses(&place, &["summary", "card"], &format!("card: {text}\n"));
-        refuses(&place, &["sheet", "card"], &format!("card: {text}\n"));
+        refuses(&place, &["close", "card", "tuesday.klg", "--final"], &format!("card: {text}\nNothing was changed.\n"));
+        reads(&place, text, vouched);
+        // `check` says it too
+        let (printed, said) = place.partly(&["check", "card"]);
+        assert_eq!(said, format!("card: {text}\n"));
+        assert!(printed.contains("what can be done:\n") && printed.contains(&format!("{file}: ")), "{printed}");
+        assert_eq!(printed.contains("the first 12 verdicts are vouched for"), vouched, "{printed}");
+        assert_eq!(printed.contains("no verdict is vouched for"), !vouched, "{printed}");
+    };
+    let damage = |file: &str, change: &dyn Fn(&mut Vec<u8>), text: &str| {
+        // the point, and a damaged row, leave the verdicts vouched for; without card, rule or sheet there is no telling
+        damage_and(file == "point", file, change, text);
     };
     let point = "the file `point` is damaged: its checksum does not fit";
     damage("point", &|bytes| bytes[100] ^= 1, point);
@@ -165,6 +316,12 @@ fn damaged_cards() {
     damage("rule.krl", &|bytes| bytes[9] ^= 1, "the file `rule.krl` is not the rule that this card was made for");
     damage("sheet", &|bytes| bytes.truncate(11), "the file `sheet` has 11 verdicts, but 12 were given");
     damage("sheet", &|bytes| bytes[3] ^= 1, "the file `sheet` is damaged: its checksum does not fit");
+    let evenings = "the file `evenings` is damaged, or not of this card: it lacks the evening of the point";
+    damage_and(true, "evenings", &|bytes| bytes[100] ^= 1, evenings);
+    damage_and(true, "evenings", &|bytes| bytes.truncate(175), evenings);
+    damage("evenings", &|bytes| bytes.clear(), evenings);
+    damage("card.txt", &|bytes| bytes[48] = b'1', evenings);
+    damage("card.txt", &|bytes| bytes[47] = b'x', card);
     // a checkpoint of another library's format, one whose words are out of range, and one that counts other verdicts
     let saved = |change: fn(&mut Saved)| {
         move |bytes: &mut Vec<u8>| {
@@ -202,9 +359,12 @@ fn what_a_cut_run_left_is_passed_over() {
     let before = fs::read(&sheet).unwrap();
     fs::write(&sheet, [before.as_slice(), &[1, 0, 7, 7]].concat()).unwrap();
     fs::write(place.path("card/point.new"), b"half").unwrap();
+    let rows = fs::read(place.path("card/evenings")).unwrap();
+    fs::write(place.path("card/evenings"), [rows.as_slice(), &rows[..88], &[7; 40]].concat()).unwrap();
     assert_eq!(place.ok(&["sheet", "card"]).lines().count(), before.len());
     place.ok(&["evening", "card", "day.klg"]);
     assert_eq!(fs::read(&sheet).unwrap(), before);
+    assert_eq!(fs::read(place.path("card/evenings")).unwrap(), rows);
     assert!(!place.path("card/point.new").exists());
 }
 
@@ -236,7 +396,7 @@ fn a_card_that_is_being_made() {
     // made, but not yet locked
     refuses(&place, &["summary", "card"], "card: no card is here; `havdrims new` makes one\n");
     lock.lock().unwrap();
-    for file in ["card.txt", "rule.krl", "sheet", "point"] {
+    for file in ["card.txt", "rule.krl", "sheet", "evenings", "point"] {
         let bytes = fs::read(place.path("made").join(file)).unwrap();
         fs::write(place.path("card").join(file), bytes).unwrap();
         refuses(&place, &["summary", "card"], IN_USE);
@@ -363,7 +523,7 @@ fn a_folder_that_is_only_read() {
             fs::set_permissions(place.path(file), Permissions::from_mode(mode)).unwrap();
         }
     };
-    modes(0o444, &["card/card.txt", "card/rule.krl", "card/point", "card/sheet"]);
+    modes(0o444, &["card/card.txt", "card/rule.krl", "card/point", "card/sheet", "card/evenings"]);
     modes(0o555, &["card", "."]);
     let before = place.card();
     let refused = |doing: &str| {
@@ -375,6 +535,8 @@ fn a_folder_that_is_only_read() {
     refused("lock the card");
     // the files may be written, but the folder not
     modes(0o666, &["card/card.txt", "card/sheet"]);
+    refused("write the file `evenings`");
+    modes(0o666, &["card/evenings"]);
     refused("write the point");
     let (status, out, _) = run(&["summary", "card"]);
     assert_eq!((status, out.lines().count()), (0, 2));

@@ -1,6 +1,6 @@
 //! The program killed at random moments, and repeated: in the end the sheet is that of the evaluator.
 
-use crate::Place;
+use crate::{Place, CARRY_ON};
 use evaluator::log::{self, Record};
 use evaluator::random::{self, LogShape, Random};
 use evaluator::{linear, rule};
@@ -43,7 +43,7 @@ fn killed_at_random_moments() {
         records = (records + r.from_to(0, 400)).min(untouched.len());
         let closing = r.one_in(10);
         fs::write(place.path("log.klg"), &file[..8 + 8 * records]).unwrap();
-        let words = [if closing { "close" } else { "evening" }, "card", "log.klg"];
+        let words = [CARRY_ON[usize::from(closing)], &["card", "log.klg"]].concat();
         // Killed some times, at any moment up to the time that a whole run takes.
         for _ in 0..r.from_to(1, 8) {
             let moment = longest.mul_f64(r.below(1_000) as f64 / 1_000.0);

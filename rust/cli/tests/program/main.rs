@@ -1,5 +1,7 @@
 //! The program `havdrims` on real folders: what it prints, its exit status, its faults, and runs that are killed.
 
+mod change;
+mod check;
 mod convert;
 mod faults;
 mod killed;
@@ -18,6 +20,9 @@ use std::{fs, process};
 
 /// The rule of examples/day.
 const RULE: &str = "not e2 or e0 until[0,90] e1";
+
+/// The words before card and log: an evening, and a closing.
+const CARRY_ON: [&[&str]; 2] = [&["evening"], &["close", "--final"]];
 
 /// A folder for one test, removed with it.
 struct Place(PathBuf);
@@ -86,6 +91,20 @@ impl Place {
         let (ended, out, err) = self.run(words);
         assert_eq!((ended, out.as_str()), (status, ""), "{words:?}: {err}");
         err
+    }
+
+    /// What a command prints, and what it says, that ends with exit status 1 and prints what it can.
+    fn partly(&self, words: &[&str]) -> (String, String) {
+        let (ended, out, err) = self.run(words);
+        assert_eq!(ended, 1, "{words:?}: {out}{err}");
+        (out, err)
+    }
+
+    /// Makes the card one as an earlier program wrote it: where it begins is not said, and there are no rows.
+    fn make_old(&self) {
+        let label = fs::read_to_string(self.path("card/card.txt")).unwrap();
+        fs::write(self.path("card/card.txt"), format!("{}\n", label.lines().next().unwrap())).unwrap();
+        fs::remove_file(self.path("card/evenings")).unwrap();
     }
 
     /// Every file of the card.

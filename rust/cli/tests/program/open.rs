@@ -66,7 +66,8 @@ fn open_records_that_were_altered() {
     bytes[8..].fill(255);
     fs::write(place.path("log.klg"), bytes).unwrap();
     let said = place.fails(1, &["open", "card", "log.klg"]);
-    assert_eq!(said, "log.klg: service records that may not be overwritten yet were altered\nNothing was changed.\n");
+    assert_eq!(said, "log.klg: records 0 to 1 are not those that this card has seen\n\
+         Is this the log of another kiosk, or was the card put back from an older copy? Nothing was changed.\n");
 }
 
 #[test]
@@ -127,7 +128,7 @@ fn of_other_rules_the_records_alone() {
     assert_eq!(said, format!("open: 2 of 14 records\nrecord 12, second 700\nrecord 13, second 730\n{told}"));
     assert_eq!(place.card(), before);
 
-    place.ok(&["close", "card", "day.klg"]);
+    place.ok(&["close", "card", "day.klg", "--final"]);
     assert_eq!(place.ok(&["open", "card", "day.klg"]), "open: 0 of 14 records, and the card is closed\n");
 
     place.ok(&["new", "two", "e0 until[0,90] e1", RULE]);

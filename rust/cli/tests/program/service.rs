@@ -1,6 +1,6 @@
 //! Service visits: records of a version 2 log that are no positions.
 
-use crate::{example, Place, RULE};
+use crate::{example, Place, CARRY_ON, RULE};
 use havdrims::text::log_from_text;
 use havdrims::Refusal;
 use std::fs;
@@ -52,7 +52,7 @@ fn a_week_with_service_visits() {
     assert_eq!(said, format!("positions 12 to 17: 5 yes, 1 no\n6 service records passed over\n{so_far}{released}"));
     tuesday[8..8 + 8 * 37].fill(0);
     fs::write(place.path("tuesday.klg"), &tuesday).unwrap();
-    let said = place.ok(&["close", "visited", "tuesday.klg"]);
+    let said = place.ok(&["close", "visited", "tuesday.klg", "--final"]);
     let so_far = "so far: 19 verdicts, 4 no, the latest at position 18\n\
                   open: 0 of 19 positions, and the card is closed\nservice: 20 of 39 records\n";
     assert_eq!(said, format!("position 18: 0 yes, 1 no\n{so_far}records 0 to 38 may be overwritten\n"));
@@ -62,7 +62,7 @@ fn a_week_with_service_visits() {
         fs::copy(example(log), place.path(log)).unwrap();
         place.ok(&["evening", "card", log]);
     }
-    place.ok(&["close", "card", "tuesday.klg"]);
+    place.ok(&["close", "card", "tuesday.klg", "--final"]);
     for words in [&["sheet"][..], &["sheet", "--csv"], &["sheet", "--from", "15"]] {
         let of = |card: &str| place.ok(&[words, &[card]].concat());
         assert_eq!(of("visited"), of("card"), "{words:?}");
@@ -76,19 +76,20 @@ fn few_visits_and_none() {
     place.log("none.klg", "10 e0\n11 e1\n");
     place.ok(&["new", "some", "e0 until[0,2] e1"]);
     let said = place.ok(&["evening", "some", "none.klg"]);
-    let end = "records 0 to 1 may be overwritten\n";
+    let end = "record 0 may be overwritten\n";
     let so_far = "so far: 2 verdicts, 0 no\nopen: 0 of 2 records\n";
     assert_eq!(said, format!("records 0 to 1: 2 yes, 0 no\n{so_far}{end}"));
     place.log("one.klg", "10 e0\n11 e1\n12 service\n");
     let said = place.ok(&["evening", "some", "one.klg"]);
     let so_far = "so far: 2 verdicts, 0 no\nopen: 0 of 2 positions\nservice: 1 of 3 records\n";
-    let end = "records 0 to 2 may be overwritten\n";
+    let end = "records 0 to 1 may be overwritten\n";
     assert_eq!(said, format!("no new verdict\n1 service record passed over\n{so_far}{end}"));
+    let end = "records 0 to 2 may be overwritten\n";
     place.log("more.klg", "10 e0\n11 e1\n12 service\n13 e0\n13 e1 service\n");
     let said = place.ok(&["evening", "some", "more.klg"]);
     let so_far = "so far: 2 verdicts, 0 no\nopen: 1 of 3 positions\nservice: 2 of 5 records\n";
     assert_eq!(said, format!("no new verdict\n1 service record passed over\n{so_far}{end}"));
-    let said = place.ok(&["close", "some", "more.klg"]);
+    let said = place.ok(&["close", "some", "more.klg", "--final"]);
     assert!(
         said.starts_with("position 2: 0 yes, 1 no\nso far: 3 verdicts, 1 no, the latest at position 2\n"),
         "{said}"
@@ -97,10 +98,7 @@ fn few_visits_and_none() {
     place.log("alone.klg", "10 service\n11 service\n");
     let said = place.ok(&["evening", "card", "alone.klg"]);
     let so_far = "so far: 0 verdicts, 0 no\nopen: 0 of 0 positions\nservice: 2 of 2 records\n";
-    assert_eq!(
-        said,
-        format!("no new verdict\n2 service records passed over\n{so_far}records 0 to 1 may be overwritten\n")
-    );
+    assert_eq!(said, format!("no new verdict\n2 service records passed over\n{so_far}record 0 may be overwritten\n"));
     assert_eq!(place.ok(&["sheet", "card"]), "");
 }
 
@@ -130,8 +128,8 @@ fn a_log_that_changes_its_version() {
     let refuses = |log: &str| {
         let before = place.card();
         let text = format!("{log}: {}\n{OTHER_VERSION}Nothing was changed.\n", Refusal::OtherVersion);
-        for command in ["evening", "close"] {
-            assert_eq!(place.fails(1, &[command, "card", log]), text);
+        for command in CARRY_ON {
+            assert_eq!(place.fails(1, &[command, &["card", log]].concat()), text);
         }
         assert_eq!(place.card(), before);
     };
@@ -168,13 +166,14 @@ fn service_records_are_records() {
     let shorter = place.log("other.klg", "10 e0\n");
     let text = format!("other.klg: {}\nIs this the whole log? Nothing was changed.\n", Refusal::FewerRecords);
     assert_eq!((shorter.len(), place.fails(1, &["evening", "card", "other.klg"])), (16, text));
-    place.ok(&["close", "card", "day.klg"]);
+    place.ok(&["close", "card", "day.klg", "--final"]);
     place.log("other.klg", "10 e0\n12 service\n12 service\n");
     let text = format!("other.klg: {}\nNothing was changed.\n", Refusal::MoreRecords);
-    assert_eq!(place.fails(1, &["close", "card", "other.klg"]), text);
+    assert_eq!(place.fails(1, &["close", "card", "other.klg", "--final"]), text);
 }
 
-/// A service record that was seen and is now a position: its card could never be right again, so nothing is written.
+/// A service record that was seen and is now a position: its card could never be right again, so nothing is written. A card of an
+/// earlier program cannot compare the records, but counts them.
 #[test]
 fn service_records_that_were_altered() {
     let place = Place::new();
@@ -182,14 +181,19 @@ fn service_records_that_were_altered() {
     place.log("after.klg", "1 e0\n2 e1\n");
     place.ok(&["new", "card", "e0 until[0,2] e1"]);
     place.ok(&["evening", "card", "before.klg"]);
-    let before = place.card();
-    for command in ["evening", "close"] {
-        let said = place.fails(1, &[command, "card", "after.klg"]);
-        let altered = "after.klg: service records that may not be overwritten yet were altered";
-        assert_eq!(said, format!("{altered}\nNothing was changed.\n"));
-        assert_eq!(place.card(), before);
-    }
-    assert!(place.ok(&["close", "card", "before.klg"]).starts_with("position 0: 0 yes, 1 no\n"));
+    let refuses = |altered: &str| {
+        let before = place.card();
+        for command in CARRY_ON {
+            let said = place.fails(1, &[command, &["card", "after.klg"]].concat());
+            assert_eq!(said, format!("after.klg: {altered}Nothing was changed.\n"));
+            assert_eq!(place.card(), before);
+        }
+    };
+    let hint = "Is this the log of another kiosk, or was the card put back from an older copy? ";
+    refuses(&format!("records 0 to 1 are not those that this card has seen\n{hint}"));
+    place.make_old();
+    refuses("service records that may not be overwritten yet were altered\n");
+    assert!(place.ok(&["close", "card", "before.klg", "--final"]).contains("\nposition 0: 0 yes, 1 no\n"));
 }
 
 /// What is a position, in the help of the commands that print numbers of positions.

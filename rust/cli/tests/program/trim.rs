@@ -1,7 +1,7 @@
 //! Shorter logs: what a card no longer wants is dropped, and the log goes on from there.
 
 use crate::service::with_visits;
-use crate::{contents, Place, RULE};
+use crate::{contents, Place, CARRY_ON, RULE};
 use evaluator::log::{self, Record};
 use evaluator::random::{self, LogShape, Random};
 use evaluator::{linear, rule};
@@ -36,12 +36,12 @@ fn a_week_on_trimmed_logs() {
     for card in ["whole", "trimmed"] {
         place.ok(&["new", card, RULE]);
     }
-    let both = |words: [&str; 3], other: [&str; 3]| {
-        let said = place.ok(&words);
-        assert_eq!(place.ok(&other), said, "{words:?}");
+    let both = |words: &[&str], other: &[&str]| {
+        let said = place.ok(words);
+        assert_eq!(place.ok(other), said, "{words:?}");
         said
     };
-    let said = both(["evening", "whole", "monday.klg"], ["evening", "trimmed", "monday.klg"]);
+    let said = both(&["evening", "whole", "monday.klg"], &["evening", "trimmed", "monday.klg"]);
     assert!(said.ends_with("records 0 to 24 may be overwritten\n"), "{said}");
     let card = contents(&place.path("trimmed"));
     let said = place.ok(&["trim", "trimmed", "monday.klg", "left.klg"]);
@@ -52,21 +52,21 @@ fn a_week_on_trimmed_logs() {
     assert!(text.starts_with("version 3\ndropped 25\n"), "{text}");
 
     // nothing new: the same log; and the log itself may be brought again
-    both(["evening", "whole", "monday.klg"], ["evening", "trimmed", "left.klg"]);
-    both(["evening", "whole", "monday.klg"], ["evening", "trimmed", "monday.klg"]);
+    both(&["evening", "whole", "monday.klg"], &["evening", "trimmed", "left.klg"]);
+    both(&["evening", "whole", "monday.klg"], &["evening", "trimmed", "monday.klg"]);
     place.ok(&["trim", "trimmed", "left.klg", "again.klg"]);
     assert_eq!(place.bytes("again.klg"), place.bytes("left.klg"));
 
     place.grow("left.klg", "tuesday.klg", 28);
-    let said = both(["evening", "whole", "tuesday.klg"], ["evening", "trimmed", "left.klg"]);
+    let said = both(&["evening", "whole", "tuesday.klg"], &["evening", "trimmed", "left.klg"]);
     assert!(said.contains("6 service records passed over\n") && said.ends_with("records 0 to 36 may be overwritten\n"));
     let said = place.ok(&["trim", "trimmed", "left.klg", "left.klg", "--force"]);
     assert_eq!(said, "left.klg: records 0 to 36 dropped, 2 left\n");
-    both(["close", "whole", "tuesday.klg"], ["close", "trimmed", "left.klg"]);
+    both(&["close", "whole", "tuesday.klg", "--final"], &["close", "trimmed", "left.klg", "--final"]);
     let said = place.ok(&["trim", "--force", "trimmed", "left.klg", "left.klg"]);
     assert_eq!(said, "left.klg: records 0 to 38 dropped, 0 left\n");
     assert_eq!(place.bytes("left.klg"), trimmed_header(39));
-    both(["close", "whole", "tuesday.klg"], ["close", "trimmed", "left.klg"]);
+    both(&["close", "whole", "tuesday.klg", "--final"], &["close", "trimmed", "left.klg", "--final"]);
     for words in [&["summary"][..], &["sheet"], &["sheet", "--csv"]] {
         let of = |card: &str| place.ok(&[words, &[card]].concat());
         assert_eq!(of("whole"), of("trimmed"), "{words:?}");
@@ -106,7 +106,7 @@ fn little_to_drop() {
     many.resize(8 + 8 * 1_000_000, 0);
     fs::write(place.path("many.klg"), many).unwrap();
     assert_eq!(place.ok(&["trim", "many", "many.klg", "fewer.klg"]), "fewer.klg: no record dropped, 1000000 left\n");
-    assert!(place.ok(&["evening", "many", "fewer.klg"]).ends_with("records 0 to 999999 may be overwritten\n"));
+    assert!(place.ok(&["evening", "many", "fewer.klg"]).ends_with("records 0 to 999998 may be overwritten\n"));
     let said = place.ok(&["trim", "many", "fewer.klg", "fewer.klg", "--force"]);
     assert_eq!(said, "fewer.klg: records 0 to 999999 dropped, 0 left\n");
 }
@@ -147,17 +147,22 @@ fn logs_that_are_not_trimmed() {
     trim("short.klg", Refusal::FewerRecords, "Is this the whole log? ");
     fs::write(place.path("none.klg"), &whole[..9]).unwrap();
     trim("none.klg", Refusal::LogFormat, "");
-    let mut falls = whole.clone();
-    falls[8 + 8 * 3 + 3] = 1;
-    fs::write(place.path("falls.klg"), &falls).unwrap();
+    let falls = [whole.as_slice(), &[0, 0, 0, 16, 0, 0, 0, 0]].concat();
+    fs::write(place.path("falls.klg"), falls).unwrap();
     trim("falls.klg", Refusal::TimeFalls, "Is this the log of another kiosk? ");
+    let mut other = whole.clone();
+    other[8 + 8 * 3 + 3] = 18;
+    fs::write(place.path("other.klg"), other).unwrap();
+    let hint = "Is this the log of another kiosk, or was the card put back from an older copy? ";
+    let text = format!("other.klg: records 2 to 3 are not those that this card has seen\n{hint}Nothing was changed.\n");
+    refuses(&place, &["trim", "card", "other.klg", "out.klg"], &text);
     let dropped = log::encode_trimmed(3, &[Record { time: 17, letters: log::SERVICE }]);
     fs::write(place.path("dropped.klg"), dropped).unwrap();
     let hint = "Was it trimmed for another card? The log before it was trimmed can still be brought. ";
     trim("dropped.klg", Refusal::RecordDropped, hint);
-    for command in ["evening", "close"] {
+    for command in CARRY_ON {
         let text = format!("dropped.klg: {}\n{hint}Nothing was changed.\n", Refusal::RecordDropped);
-        refuses(&place, &[command, "card", "dropped.klg"], &text);
+        refuses(&place, &[command, &["card", "dropped.klg"]].concat(), &text);
     }
     let none = "none: no card is here; `havdrims new` makes one\nNothing was changed.\n";
     refuses(&place, &["trim", "none", "whole.klg", "out.klg"], none);
@@ -238,7 +243,7 @@ fn logs_that_cannot_be_written() {
     place.log("day.klg", "10 e0\n13 e0\n");
     place.ok(&["evening", "card", "day.klg"]);
     fs::create_dir(place.path("folder.klg")).unwrap();
-    let text = "cannot put it in its place: Is a directory (os error 21); it may be as it was before\n";
+    let text = "what is here is no file, and is not replaced\n";
     refuses(&place, &["trim", "card", "day.klg", "folder.klg", "--force"], &format!("folder.klg: {text}"));
     fs::create_dir(place.path("out.klg.new")).unwrap();
     let text = "cannot write it: Is a directory (os error 21); there is no new file\n";

@@ -45,7 +45,7 @@ fn the_weeks_of_the_readme() {
         fs::copy(example(name), place.path(&format!("examples/day/{name}"))).unwrap();
     }
     let shown = shown();
-    assert_eq!(shown.iter().map(Vec::len).collect::<Vec<_>>(), [6, 3, 3, 4, 3, 3]);
+    assert_eq!(shown.iter().map(Vec::len).collect::<Vec<_>>(), [6, 3, 3, 4, 4, 3, 3]);
     for (line, output) in shown.into_iter().flatten() {
         let words = split(&line);
         let words: Vec<&str> = words.iter().map(String::as_str).collect();
@@ -58,7 +58,7 @@ fn the_texts_of_the_examples_are_their_logs() {
     let place = Place::new();
     for name in ["day", "tuesday", "visit"] {
         let text = example(&format!("{name}.txt"));
-        place.ok(&["to-log", text.to_str().unwrap(), "made.klg"]);
+        place.ok(&["to-log", text.to_str().unwrap(), "made.klg", "--force"]);
         let log = fs::read(example(&format!("{name}.klg"))).unwrap();
         assert_eq!(fs::read(place.path("made.klg")).unwrap(), log, "{name}");
     }
@@ -158,7 +158,7 @@ fn several_formulas_on_one_sheet() {
         sheet.lines().map(|line| line.split(' ').nth(at).unwrap().to_string()).collect()
     };
     assert_eq!(column(place.ok(&["sheet", "three"]), 2), column(place.ok(&["sheet", "card"]), 1));
-    let said = place.ok(&["close", "three", "tuesday.klg"]);
+    let said = place.ok(&["close", "three", "tuesday.klg", "--final"]);
     let last = formulas(["1 yes, 0 no", "0 yes, 1 no", "1 yes, 0 no"]);
     assert!(said.starts_with(&format!("record 18\n{last}so far: 19 verdicts\n")), "{said}");
     assert!(place.ok(&["summary", "three"]).ends_with("open: 0 of 19 records, and the card is closed\n"));
@@ -197,7 +197,7 @@ fn help_and_wrong_use() {
     assert_eq!(place.fails(2, &[]), overview);
     assert_eq!(place.fails(2, &["evenings"]), format!("`evenings` is no command\n\n{overview}"));
     let usages: Vec<&str> = overview.lines().filter(|line| line.starts_with("havdrims ")).collect();
-    assert_eq!(usages.len(), 14);
+    assert_eq!(usages.len(), 15);
     for usage in usages {
         let usage = usage.split("  ").next().unwrap();
         let name = usage.split(' ').nth(1).unwrap();

@@ -19,7 +19,7 @@ impl Place {
     /// What `why --words` says of these records, under a formula, of a log that is typed.
     fn says(&self, formula: &str, log: &str, records: &[(usize, &str)]) {
         fs::write(self.path("typed.txt"), log).unwrap();
-        self.ok(&["to-log", "typed.txt", "typed.klg"]);
+        self.ok(&["to-log", "typed.txt", "typed.klg", "--force"]);
         for (record, said) in records {
             let record = record.to_string();
             assert_eq!(

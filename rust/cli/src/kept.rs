@@ -1,0 +1,125 @@
+//! What can be told of a card whose files do not fit together: which are damaged, and the verdicts that a checksum vouches for.
+//!
+//! The sheet has its checksums in two places, in the point and in the rows of `evenings`; the latter are bound to `card.txt` and
+//! `rule.krl` and need no point.
+
+use crate::card::{Begins, First, Label, SoFar, CARD, EVENINGS, NEW_POINT, POINT, RULE, SHEET};
+use crate::disk::Disk;
+use crate::evenings::{bound_to, rows, Known, Row};
+use havdrims::save::{checksum, Saved};
+use havdrims::{formulas, measure, status, Summary};
+
+/// The verdicts that are vouched for, and how far the card had come with them.
+pub struct Kept {
+    pub so_far: SoFar,
+    pub verdicts: Vec<u8>,
+    /// Where another card can go on, if that is known.
+    pub after: Option<Begins>,
+}
+
+/// The files as they are, those that can be read.
+struct Files {
+    card: Option<Vec<u8>>,
+    rule: Option<Vec<u8>>,
+    sheet: Option<Vec<u8>>,
+    evenings: Option<Vec<u8>>,
+    point: Option<Vec<u8>>,
+}
+
+impl Files {
+    fn read(disk: &mut impl Disk) -> Files {
+        let mut read = |name| disk.read(name).ok();
+        Files { card: read(CARD), rule: read(RULE), sheet: read(SHEET), evenings: read(EVENINGS), point: read(POINT) }
+    }
+
+    /// The rows, with nothing in the place of one that is damaged or not bound to this card and rule.
+    fn rows(&self) -> Vec<Option<Row>> {
+        match (&self.card, &self.rule, &self.evenings) {
+            (Some(card), Some(rule), Some(evenings)) => rows(evenings, bound_to(card, rule)),
+            (_, _, evenings) => vec![None; evenings.as_ref().map_or(0, |bytes| rows(bytes, 0).len())],
+        }
+    }
+
+    /// What the point says, as a row would, but of records and positions.
+    fn of_point(&self, number: u64) -> Option<Row> {
+        let rule = self.rule.as_ref()?;
+        let saved = Saved::decode(self.point.as_ref()?).ok()?;
+        let status = status(rule, &saved.words).ok()?;
+        let fits = (saved.owner, saved.rule, saved.given) == (number, checksum(rule), status.given);
+        let Saved { sheet, services, .. } = saved;
+        let counted = services <= status.seen - status.given;
+        (fits && counted).then_some(Row { status, sheet, services, ..Row::first(Known::none()) })
+    }
+
+    /// The verdicts that a row counts, if its checksum vouches for them.
+    fn vouched(&self, row: &Row) -> Option<&[u8]> {
+        let given = usize::try_from(row.status.given).ok()?;
+        self.sheet.as_ref()?.get(..given).filter(|verdicts| checksum(verdicts) == row.sheet)
+    }
+}
+
+/// The row of how far the card had come. Without a point it is the last, but only if nothing stands behind it: records that an
+/// earlier row wants may have been overwritten since. A point without its row does not count positions, but for a log in which every
+/// record is one.
+fn latest(files: &Files, rows: &[Option<Row>], point: Option<Row>) -> Option<Row> {
+    let Some(point) = point else {
+        let row = (*rows.last()?)?;
+        return (row.status.given == files.sheet.as_ref()?.len() as u64).then_some(row);
+    };
+    let row = rows.iter().flatten().rev().find(|row| row.status == point.status).copied();
+    row.or_else(|| (point.services == 0).then_some(Row { position: point.status.wanted, ..point }))
+}
+
+/// The verdicts that the point vouches for, or else the last row that does. None where there is no such.
+pub fn kept(disk: &mut impl Disk) -> Option<Kept> {
+    let files = Files::read(disk);
+    let label = Label::decode(files.card.as_ref()?)?;
+    let first = label.first.unwrap_or_default();
+    let rows = files.rows();
+    // Where the card begins is vouched for by its rows alone.
+    let begins = label.first.is_none() || rows.iter().any(Option::is_some);
+    let point = files.of_point(label.number).filter(|_| begins);
+    let mut all = point.into_iter().chain(rows.iter().rev().copied().flatten());
+    let (row, verdicts) = all.find_map(|row| Some((row, files.vouched(&row)?)))?;
+    let summary = Summary::of(verdicts, formulas(files.rule.as_ref()?).ok()?).ok()?;
+    let so_far = SoFar { summary, status: row.status, services: row.services, first };
+    let after = latest(&files, &rows, point).map(|row| {
+        let (record, position) = (first.record + row.status.wanted, first.position + row.position);
+        Begins { first: First { record, position }, open: row.wanted() }
+    });
+    Some(Kept { so_far, verdicts: verdicts.to_vec(), after })
+}
+
+/// What there is to say of each file, and of others that stand in the folder.
+pub fn looked_at(disk: &mut impl Disk) -> Vec<(String, String)> {
+    let files = Files::read(disk);
+    let missing = || "missing".to_string();
+    let good = |is_good: bool, or: &str| if is_good { "good".to_string() } else { or.to_string() };
+    let card = files.card.as_ref().map(|card| good(Label::decode(card).is_some(), "damaged"));
+    let rule = files.rule.as_ref().map(|rule| match measure(rule) {
+        Ok(_) => "good".to_string(),
+        Err(refusal) => refusal.to_string(),
+    });
+    let sheet = files.sheet.as_ref().map(|sheet| format!("{} verdicts", sheet.len()));
+    let rows = files.rows();
+    let whole = rows.iter().flatten().count();
+    let evenings = files.evenings.as_ref().map(|_| match whole {
+        _ if whole == rows.len() => format!("{whole} rows"),
+        whole => format!("{whole} rows, {} damaged, cut or of another card", rows.len() - whole),
+    });
+    let point = files.point.as_ref().map(|point| match Saved::decode(point) {
+        Ok(_) => "good".to_string(),
+        Err(why) => why.to_string(),
+    });
+    let own = [(CARD, card), (RULE, rule), (SHEET, sheet), (EVENINGS, evenings), (POINT, point)];
+    let mut said: Vec<(String, String)> =
+        own.into_iter().map(|(name, said)| (name.to_string(), said.unwrap_or_else(missing))).collect();
+    for name in disk.names().ok().flatten().unwrap_or_default() {
+        if name == NEW_POINT {
+            said.push((name, "left by a run that was cut; it does not count".to_string()));
+        } else if ![CARD, RULE, SHEET, EVENINGS, POINT].contains(&name.as_str()) {
+            said.push((name, "not of this card".to_string()));
+        }
+    }
+    said
+}
