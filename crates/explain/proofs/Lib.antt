@@ -9,3 +9,4 @@ pub mod Sayings
 pub mod Following
 pub mod Formulas
 pub mod Calling
+pub mod Claims
