@@ -574,7 +574,8 @@ impl<'a, D: Disk> Card<'a, D> {
             status,
             sheet: checksum_from(checksum(&self.verdicts), &new),
             services,
-            position: so_far.positions() - wanted,
+            // Below zero where a card of an earlier program counted services that the log no longer has.
+            position: so_far.positions().checked_sub(wanted).ok_or(Fault::LogAltered)?,
             open: self.known(&log, &status),
             new: Known::of(&log, seen, status.seen).ok_or(Fault::LogAltered)?.sum,
         };

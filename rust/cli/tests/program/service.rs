@@ -193,6 +193,9 @@ fn service_records_that_were_altered() {
     refuses(&format!("records 0 to 1 are not those that this card has seen\n{hint}"));
     place.make_old();
     refuses("service records that may not be overwritten yet were altered\n");
+    // open as before, but with one position more than the card has counted
+    place.log("after.klg", "1 e0\n2 e0\n");
+    refuses("service records that may not be overwritten yet were altered\n");
     assert!(place.ok(&["close", "card", "before.klg", "--final"]).contains("\nposition 0: 0 yes, 1 no\n"));
 }
 
