@@ -390,14 +390,9 @@ impl SoFar {
 }
 
 /// From which record on a card wants its log as it is: all that are still wanted, and the last one seen in any case, so that the next
-/// log can be told from another kiosk's. After a closing no log follows.
+/// log can be told from another kiosk's. So it is after a closing: the log may be brought to be closed again, or to be trimmed.
 fn kept_from(status: &Status) -> u64 {
-    let Status { wanted, seen, closed, .. } = *status;
-    if closed {
-        wanted
-    } else {
-        wanted.min(seen.saturating_sub(1))
-    }
+    status.wanted.min(status.seen.saturating_sub(1))
 }
 
 /// What the calls of an evening come to, before any of it is written.

@@ -85,12 +85,14 @@ fn the_log_of_another_kiosk() {
     brought(&|bytes| bytes[8 + 8 * 18 + 7] ^= 1);
     let one = format!("other.klg: record 18 is not the one that this card has seen\n{OTHER}");
     refuses(&place, &["evening", "card", "other.klg"], &one);
-    // closed, nothing is wanted any more
+    // closed: nothing is wanted any more, but the last record is that of the log
     place.ok(&["close", "card", "tuesday.klg", "--final"]);
+    refuses(&place, &["close", "card", "other.klg", "--final"], &one);
+    brought(&|bytes| bytes[8..8 + 8 * 18].fill(0));
     place.ok(&["close", "card", "other.klg", "--final"]);
 }
 
-/// Where every record has its verdict the last one is kept all the same, to know the log by; not after a closing, nor in a log that was
+/// Where every record has its verdict the last one is kept all the same, to know the log by, after a closing too; not in a log that was
 /// trimmed.
 #[test]
 fn a_log_that_leaves_nothing_open() {
@@ -112,7 +114,12 @@ fn a_log_that_leaves_nothing_open() {
     assert!(place.ok(&["evening", "card", "left.klg"]).ends_with("records 0 to 1 may be overwritten\n"));
     log("log.klg", "0 e0\n0 e1\n12 e0\n13 e0\n");
     assert!(place.ok(&["evening", "card", "log.klg"]).starts_with("record 3: 1 yes, 0 no\n"));
-    assert!(place.ok(&["close", "card", "log.klg", "--final"]).ends_with("records 0 to 3 may be overwritten\n"));
+    // a closed card trims its own log alone
+    assert!(place.ok(&["close", "card", "log.klg", "--final"]).ends_with("records 0 to 2 may be overwritten\n"));
+    log("other.klg", "10 e0\n11 e1\n12 e0\n13 e1\n");
+    let one = format!("other.klg: record 3 is not the one that this card has seen\n{OTHER}");
+    refuses(&place, &["trim", "card", "other.klg", "out.klg"], &one);
+    assert!(!place.path("out.klg").exists());
 }
 
 /// A card that was put back, as a whole: its evenings would be of records that were overwritten since.

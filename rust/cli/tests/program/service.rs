@@ -55,7 +55,7 @@ fn a_week_with_service_visits() {
     let said = place.ok(&["close", "visited", "tuesday.klg", "--final"]);
     let so_far = "so far: 19 verdicts, 4 no, the latest at position 18\n\
                   open: 0 of 19 positions, and the card is closed\nservice: 20 of 39 records\n";
-    assert_eq!(said, format!("position 18: 0 yes, 1 no\n{so_far}records 0 to 38 may be overwritten\n"));
+    assert_eq!(said, format!("position 18: 0 yes, 1 no\n{so_far}records 0 to 37 may be overwritten\n"));
     assert_eq!(place.ok(&["summary", "visited"]), so_far);
 
     for log in ["day.klg", "tuesday.klg"] {
