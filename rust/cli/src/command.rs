@@ -391,10 +391,7 @@ fn options<'a, const N: usize, const M: usize>(
 }
 
 fn trimmed(folder: &str, path: &str, out: &str, force: bool) -> Answer {
-    let (mut into, name) = file::named(out)?;
-    if file::passes_over(out, path) {
-        return Err(Failure::fault(out, file::Fault::OverItsSource));
-    }
+    let (mut into, name) = file::named_apart(out, path)?;
     let log = convert::log(path).map_err(|fault| Failure::fault(path, format!("{fault}\n{UNCHANGED}")))?;
     let mut disk = Folder::new(Path::new(folder));
     let failed = |fault| unchanged(folder, path, &fault, "Nothing was written");

@@ -72,11 +72,12 @@ pub fn described(name: &str, rule: &[u8]) -> Result<(Vec<String>, String), Failu
 }
 
 pub fn to_log(path: &str, log: &str, force: bool) -> Answer {
+    let (mut folder, name) = file::named_apart(log, path)?;
     let bytes = fs::read(path).map_err(|fault| Failure::fault(path, fault))?;
     let typed = String::from_utf8(bytes).map_err(|_| Failure::fault(path, "not a text"))?;
     let bytes = text::log_from_text(&typed).map_err(|fault| Failure::Fault(format!("{path}, {fault}")))?;
     let made = Log::new(&bytes).map_err(|refusal| Failure::fault(path, refusal))?;
-    file::write(log, &bytes, force)?;
+    file::put(&mut folder, &name, &bytes, force).map_err(|fault| Failure::fault(log, fault))?;
     let services = match made.services(0) {
         0 => String::new(),
         number => format!(", {number} of them service"),

@@ -58,6 +58,10 @@ impl Folder {
         Folder { path: path.to_path_buf(), lock: None }
     }
 
+    pub fn path(&self) -> &Path {
+        &self.path
+    }
+
     fn parent(&self) -> &Path {
         match self.path.parent() {
             Some(parent) if parent != Path::new("") => parent,

@@ -36,7 +36,7 @@ impl fmt::Display for Fault {
             Fault::There => write!(f, "a file is here already; --force replaces it"),
             Fault::NoFile => write!(f, "what is here is no file, and is not replaced"),
             Fault::InCard => write!(f, "this would be a file in a card, which holds no others than its own"),
-            Fault::OverItsSource => write!(f, "until it is whole this file has the name of the log itself; choose another name"),
+            Fault::OverItsSource => write!(f, "until it is whole this file has the name of what it is made from; choose another name"),
             Fault::NoFolder => write!(f, "its folder is not there"),
             Fault::Disk { doing, fault } => write!(f, "cannot {doing}: {fault}; there is no new file"),
             Fault::Unsure { doing, fault } => write!(f, "cannot {doing}: {fault}; it may be as it was before"),
@@ -72,15 +72,20 @@ pub fn named(path: &str) -> Result<(Folder, String), Failure> {
     Ok((Folder::new(folder), name.to_string()))
 }
 
-/// The file as long as it is not whole.
-fn beside(name: &str) -> String {
-    format!("{name}.new")
+/// The same of a file that is made from another, which it may replace when it is whole, but not pass over before.
+pub fn named_apart(path: &str, source: &str) -> Result<(Folder, String), Failure> {
+    let (folder, name) = named(path)?;
+    let there = |place: &Path| fs::canonicalize(place).ok();
+    let unfinished = there(&folder.path().join(beside(&name)));
+    if unfinished.is_some() && unfinished == there(Path::new(source)) {
+        return Err(Failure::fault(path, Fault::OverItsSource));
+    }
+    Ok((folder, name))
 }
 
-/// Whether this file, as long as it is not whole, has the place of another.
-pub fn passes_over(path: &str, other: &str) -> bool {
-    let place = |path: &str| std::fs::canonicalize(path).ok();
-    place(other).is_some_and(|there| place(&beside(path)) == Some(there))
+/// The file as long as it is not whole: a name that nobody types, since it is replaced without a question.
+fn beside(name: &str) -> String {
+    format!(".{name}.havdrims-new")
 }
 
 /// Writes a file of a folder that is no card, in place of one that is there only if so told. When this returns, it survives a cut.

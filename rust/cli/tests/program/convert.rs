@@ -220,6 +220,15 @@ fn where_files_go() {
     assert_eq!(fs::read(place.path("away/rule.krl")).unwrap(), rule::encode(&[rule::Entry::letter(0)]));
     symlink("none/rule.krl", place.path("nowhere.krl")).unwrap();
     fails("rule e0 nowhere.krl", "nowhere.krl: No such file or directory (os error 2)\n");
+    // what a file is made from stays, whatever its name
+    let typed = fs::read(place.path("day.txt")).unwrap();
+    fs::write(place.path("made.klg.new"), &typed).unwrap();
+    place.ok(&["to-log", "made.klg.new", "made.klg"]);
+    assert_eq!(fs::read(place.path("made.klg.new")).unwrap(), typed);
+    fs::write(place.path(".made.klg.havdrims-new"), &typed).unwrap();
+    let text = "made.klg: until it is whole this file has the name of what it is made from; choose another name\n";
+    fails("to-log .made.klg.havdrims-new made.klg --force", text);
+    assert_eq!(fs::read(place.path(".made.klg.havdrims-new")).unwrap(), typed);
     for command in ["rule", "to-log", "worst", "simulate", "trim"] {
         let help = place.ok(&[command, "--help"]);
         assert!(help.contains("replaced only with --force") && help.contains("card"), "{help}");

@@ -7,6 +7,7 @@ use evaluator::random::{self, LogShape, Random};
 use evaluator::{linear, rule};
 use havdrims::Refusal;
 use std::fs;
+use std::os::unix::fs::symlink;
 use std::os::unix::process::ExitStatusExt;
 use std::path::Path;
 use std::process::Stdio;
@@ -198,12 +199,23 @@ fn where_the_shorter_log_goes() {
     refuses(&place, &["trim", "card", "day.klg", "./day.klg"], &format!("./day.klg: {there}"));
     assert_eq!((place.bytes("there.klg").as_slice(), place.bytes("day.klg")), (&b"kept"[..], whole.clone()));
     // as long as it is not whole the new log has a name of its own, which may not be that of the log that is read
-    fs::copy(place.path("day.klg"), place.path("late.klg.new")).unwrap();
-    let itself = "until it is whole this file has the name of the log itself; choose another name\n";
-    for words in [&["trim", "card", "late.klg.new", "late.klg"][..], &["trim", "card", "./late.klg.new", "late.klg", "--force"]] {
-        refuses(&place, words, &format!("late.klg: {itself}"));
+    let unfinished = ".late.klg.havdrims-new";
+    fs::copy(place.path("day.klg"), place.path(unfinished)).unwrap();
+    fs::write(place.path("late.klg"), b"kept").unwrap();
+    fs::create_dir(place.path("links")).unwrap();
+    symlink(place.path("late.klg"), place.path("links/link.klg")).unwrap();
+    let itself = "until it is whole this file has the name of what it is made from; choose another name\n";
+    for log in [unfinished, "./.late.klg.havdrims-new"] {
+        for out in ["late.klg", "links/link.klg"] {
+            refuses(&place, &["trim", "card", log, out, "--force"], &format!("{out}: {itself}"));
+        }
     }
-    assert_eq!(place.bytes("late.klg.new"), whole);
+    assert_eq!((place.bytes(unfinished), place.bytes("late.klg")), (whole.clone(), b"kept".to_vec()));
+    // a name that somebody may have typed is left alone
+    fs::write(place.path("late.klg.new"), b"kept").unwrap();
+    place.ok(&["trim", "card", "day.klg", "links/link.klg", "--force"]);
+    assert_eq!(place.bytes("late.klg.new"), b"kept");
+    assert!(place.bytes("late.klg").starts_with(b"KLG") && !place.path(unfinished).exists());
 
     let in_card = "this would be a file in a card, which holds no others than its own\n";
     let before = contents(&place.path("other"));
@@ -223,7 +235,7 @@ fn where_the_shorter_log_goes() {
 
     // what a run that was cut has left beside does not matter
     fs::create_dir(place.path("logs")).unwrap();
-    fs::write(place.path("logs/out.klg.new"), b"half").unwrap();
+    fs::write(place.path("logs/.out.klg.havdrims-new"), b"half").unwrap();
     place.ok(&["trim", "card", "day.klg", "logs/out.klg"]);
     let left = log::encode_trimmed(1, &[Record { time: 13, letters: 1 }]);
     assert_eq!((names(&place.path("logs")), place.bytes("logs/out.klg")), (vec!["out.klg".to_string()], left.clone()));
@@ -231,7 +243,7 @@ fn where_the_shorter_log_goes() {
     place.ok(&["trim", "card", "day.klg", full.to_str().unwrap(), "--force"]);
     place.ok(&["trim", "card", "day.klg", "day.klg", "--force"]);
     assert_eq!((place.bytes("there.klg"), place.bytes("day.klg")), (left.clone(), left));
-    assert!(!place.path("day.klg.new").exists());
+    assert!(!place.path(".day.klg.havdrims-new").exists());
     place.ok(&["evening", "card", "day.klg"]);
 }
 
@@ -245,7 +257,7 @@ fn logs_that_cannot_be_written() {
     fs::create_dir(place.path("folder.klg")).unwrap();
     let text = "what is here is no file, and is not replaced\n";
     refuses(&place, &["trim", "card", "day.klg", "folder.klg", "--force"], &format!("folder.klg: {text}"));
-    fs::create_dir(place.path("out.klg.new")).unwrap();
+    fs::create_dir(place.path(".out.klg.havdrims-new")).unwrap();
     let text = "cannot write it: Is a directory (os error 21); there is no new file\n";
     refuses(&place, &["trim", "card", "day.klg", "out.klg"], &format!("out.klg: {text}"));
     let text = "day.klg/out.klg: cannot read its folder: Not a directory (os error 20); there is no new file\n";
@@ -259,7 +271,7 @@ fn logs_that_cannot_be_written() {
     assert_eq!(said, format!("card: {text}"));
     fs::remove_dir(place.path("card/point")).unwrap();
     fs::write(place.path("card/point"), point).unwrap();
-    fs::remove_dir(place.path("out.klg.new")).unwrap();
+    fs::remove_dir(place.path(".out.klg.havdrims-new")).unwrap();
     place.ok(&["trim", "card", "day.klg", "out.klg"]);
 }
 
