@@ -42,6 +42,8 @@ const ROOM: usize = 65_536;
 pub enum Fault {
     NoCard,
     Unfinished,
+    /// A card whose making was cut was to begin at this record, another than is asked for.
+    OtherBeginning(First),
     AlreadyThere,
     NotEmpty,
     InUse,
@@ -112,7 +114,13 @@ impl fmt::Display for Fault {
     fn fmt(&self, f: &mut fmt::Formatter<'_>) -> fmt::Result {
         match self {
             Fault::NoCard => write!(f, "no card is here; `havdrims new` makes one"),
-            Fault::Unfinished => write!(f, "making this card was cut short; make it again with `havdrims new`"),
+            Fault::Unfinished => {
+                write!(f, "making this card was cut short; make it again by `havdrims new` with the same words")
+            }
+            Fault::OtherBeginning(First { record, .. }) => {
+                write!(f, "making this card was cut short, and it was to begin at record {record}; ")?;
+                write!(f, "make it again with the same words, or take this folder away")
+            }
             Fault::AlreadyThere => write!(f, "a card is here already"),
             Fault::NotEmpty => write!(f, "this folder holds other files"),
             Fault::InUse => write!(f, "another command is at work on this card; try again when it has ended"),
@@ -250,6 +258,7 @@ pub fn new(disk: &mut impl Disk, number: u64, begins: Begins, rule: &[u8]) -> Re
     take(disk, Lock::Making)?;
     may_be_made(disk)?;
     no_verdicts(disk)?;
+    same_beginning(disk, begins.first)?;
     let label = Label { number, first: Some(begins.first) }.encode();
     let row = Row::first(begins.open).encode(bound_to(label.as_bytes(), rule));
     for (name, bytes) in [(CARD, label.as_bytes()), (RULE, rule), (SHEET, b""), (EVENINGS, &row)] {
@@ -283,6 +292,16 @@ fn no_verdicts(disk: &mut impl Disk) -> Result<(), Fault> {
         Err(fault) if fault.kind() == ErrorKind::NotFound => Ok(()),
         Ok(sheet) if sheet.is_empty() => Ok(()),
         sheet => Err(Fault::PointMissing { has: sheet.map_err(failed("read the file `sheet`"))?.len() as u64 }),
+    }
+}
+
+/// A `new` that was cut is made again as it was: one without its `--after` would read what may have been overwritten. Of a line that
+/// was cut nothing is known. The folder is taken already.
+fn same_beginning(disk: &mut impl Disk, first: First) -> Result<(), Fault> {
+    let line = disk.read(CARD).map_err(failed("read the file `card.txt`"))?;
+    match Label::decode(&line).and_then(|label| label.first).filter(|&was| was != first) {
+        Some(was) => Err(Fault::OtherBeginning(was)),
+        None => Ok(()),
     }
 }
 

@@ -50,7 +50,7 @@ const COMMANDS: [Command; 15] = [
         more: "\
 RULE is a .krl file, or a text such as 'not e2 or e0 until[0,90] e1'. Several of them, with up to eight formulas, are
 judged together: a position has its verdicts when every formula has answered it. The folder must not be there yet, or be
-empty; if making it was cut short, it can be made again.
+empty; if making it was cut short, it can be made again with the same words.
 The card begins at record 0 of its log; with --from N at record N, and with --after OLD, which is the card whose place
 it takes, at the first record that OLD still wants. What stands before is never read: previous finds nothing there. All
 commands go on speaking of the log's own records. With --from N positions are numbered from N on.",

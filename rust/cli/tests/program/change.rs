@@ -145,6 +145,30 @@ fn a_card_from_a_record() {
     assert!(place.ok(&["evening", "end", "tuesday.klg"]).starts_with("records 14 to 18: "));
 }
 
+/// A card whose making was cut is made again where it was to begin, or not at all.
+#[test]
+fn made_again_with_the_same_words() {
+    let place = Place::with_card(1);
+    let after = ["new", "next", STRICT, "--after", "card"];
+    let made = place.ok(&after);
+    fs::remove_file(place.path("next/point")).unwrap();
+    let before = contents(&place.path("next"));
+    let text = "next: making this card was cut short, and it was to begin at record 12; \
+                make it again with the same words, or take this folder away\n";
+    for words in [&["new", "next", STRICT][..], &["new", "next", STRICT, "--from", "11"]] {
+        assert_eq!(place.fails(1, words), text);
+    }
+    assert_eq!(contents(&place.path("next")), before);
+    assert_eq!(place.ok(&after), made);
+    // cut while that was written: nothing is known of it
+    fs::remove_file(place.path("next/point")).unwrap();
+    for bytes in [0, 20, 31, 40] {
+        fs::write(place.path("next/card.txt"), &before["card.txt"][..bytes]).unwrap();
+        place.ok(&["new", "next", STRICT, "--from", "3"]);
+        fs::remove_file(place.path("next/point")).unwrap();
+    }
+}
+
 #[test]
 fn where_no_card_can_begin() {
     let place = Place::with_card(1);

@@ -148,6 +148,6 @@ fn a_card_that_is_not_made_yet() {
     let place = Place::with_card(0);
     fs::remove_file(place.path("card/point")).unwrap();
     let (printed, said) = place.partly(&["check", "card"]);
-    assert_eq!(said, "card: making this card was cut short; make it again with `havdrims new`\n");
+    assert_eq!(said, "card: making this card was cut short; make it again by `havdrims new` with the same words\n");
     assert!(printed.ends_with("point: missing\n"), "{printed}");
 }

@@ -224,7 +224,7 @@ fn folders_that_are_no_card_and_cards_that_are_there() {
     // what a `new` that was cut leaves, and an empty folder, are made again
     place.ok(&["new", "cut", RULE]);
     fs::remove_file(place.path("cut/point")).unwrap();
-    let cut = "cut: making this card was cut short; make it again with `havdrims new`\n";
+    let cut = "cut: making this card was cut short; make it again by `havdrims new` with the same words\n";
     assert_eq!(place.fails(1, &["summary", "cut"]), cut);
     place.ok(&["new", "cut", RULE]);
     assert!(place.ok(&["summary", "cut"]).starts_with("so far: 0 verdicts"));
