@@ -539,7 +539,8 @@ impl<'a, D: Disk> Card<'a, D> {
         }
     }
 
-    /// The records that the next log must have. The last one seen may be dropped where it is no longer wanted: then none.
+    /// The records that the next log must have. A log that the library itself has trimmed lacks the last one seen where that is no
+    /// longer wanted: then none.
     fn known(&self, log: &Log<'_>, status: &Status) -> Known {
         Known::of(log, kept_from(status), status.seen).unwrap_or(Known::none())
     }
@@ -608,22 +609,33 @@ impl<'a, D: Disk> Card<'a, D> {
         Ok(Evening { first, new: new.len() as u64, counts, passed_over, unknown, so_far })
     }
 
-    /// What is left of the log without the records that the card no longer wants. When this returns, the card survives a cut: a
-    /// checkpoint that came back after one might want what is dropped here. The point may be of a run that was killed before it
-    /// could sync, or the card a copy.
+    /// What is left of the log without the records that were released. When this returns, the card survives a cut: a checkpoint
+    /// that came back after one might want what is dropped here. The point may be of a run that was killed before it could sync,
+    /// or the card a copy.
     pub fn trim(&mut self, log: &[u8]) -> Result<Vec<u8>, Fault> {
-        let log = &self.own_part(log)?;
-        let mut left = vec![0; log.len() + 8];
-        let length = self.of_this_log(log, trim(&self.rule, log, &self.words, &mut left))?;
+        let own = &self.own_part(log)?;
+        let mut left = vec![0; own.len() + 8];
+        let length = self.of_this_log(own, trim(&self.rule, own, &self.words, &mut left))?;
         left.truncate(length);
-        // All that was dropped, by the log's own numbers.
-        left[8..16].copy_from_slice(&self.so_far.wanted().to_be_bytes());
+        let (dropped, kept) = self.kept_back(&Log::new(log).map_err(Fault::Refused)?);
+        left.splice(16..16, kept.iter().copied());
+        left[8..16].copy_from_slice(&dropped.to_be_bytes());
         let evenings = self.row.map(|_| EVENINGS);
         for name in [CARD, RULE, SHEET].into_iter().chain(evenings).chain([POINT]) {
             self.disk.sync(name).map_err(failed("sync the card's files"))?;
         }
         self.disk.sync_folder().map_err(failed("sync the folder"))?;
         Ok(left)
+    }
+
+    /// How many records of the log are dropped, by its own numbers, and those before the first wanted one that are not: the one to
+    /// know the log by, where the log has it still.
+    fn kept_back<'l>(&self, log: &Log<'l>) -> (u64, &'l [u8]) {
+        let (released, wanted) = (self.so_far.released(), self.so_far.wanted());
+        match log.record_bytes(released as usize..wanted as usize) {
+            Some(kept) => (released, kept),
+            None => (wanted, &[]),
+        }
     }
 
     /// Saves further verdicts, the evening's row, and the checkpoint that counts them. It does so too where nothing is new: what

@@ -91,8 +91,9 @@ it can be closed again with the same log, but takes no further records. It canno
         does: "write a shorter log, without the records that the card no longer wants",
         more: "\
 LOG is as for evening, of version 2 or 3. OUT becomes a log of version 3, which says how many records were dropped and
-has the others, from the first on that the card still wants. From then on it may be brought in place of LOG, with new
-records behind it; records keep their numbers. The card is not changed. It is synced before OUT is written.
+has the others, from the first on that the card still wants; the last one that it has seen is kept in any case, to know
+the log by. From then on OUT may be brought in place of LOG, with new records behind it; records keep their numbers. The
+card is not changed. It is synced before OUT is written.
 OUT is written beside and renamed, so that it is whole or not there. A file that is there is replaced only with --force;
 so OUT may be LOG itself, to which the kiosk must then add nothing meanwhile. OUT is never a file in a card.",
         run: |words| {

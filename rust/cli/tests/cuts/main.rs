@@ -204,8 +204,8 @@ impl<'a> Run<'a> {
     fn trim_again(&mut self, day: Day) {
         self.trim(day).unwrap_or_else(|fault| panic!("{fault:?}: {:?}", self.week));
         let left = log::parse(&self.shop.read(LOG).unwrap()).unwrap();
-        let wanted = Card::open(&mut self.disk, false).unwrap().so_far.wanted();
-        assert_eq!((left.dropped as u64, left.total()), (wanted, day.records), "{:?}", self.week);
+        let so_far = Card::open(&mut self.disk, false).unwrap().so_far;
+        assert_eq!((left.dropped as u64, left.total()), (so_far.released(), day.records), "{:?}", self.week);
     }
 
     fn again(&mut self, step: Step) {

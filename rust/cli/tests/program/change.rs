@@ -115,7 +115,7 @@ fn after_service_visits() {
     let said = place.ok(&["close", "card", "out.klg", "--final"]);
     assert!(said.starts_with("positions 12 to 13: 0 yes, 2 no\n"), "{said}");
     assert_eq!(place.ok(&["sheet", "card", "--csv"]), "position,verdict\n12,no\n13,no\n");
-    assert_eq!(place.ok(&["trim", "card", "out.klg", "none.klg"]), "none.klg: records 0 to 16 dropped, 0 left\n");
+    assert_eq!(place.ok(&["trim", "card", "out.klg", "none.klg"]), "none.klg: records 0 to 15 dropped, 1 left\n");
     // a trimmed log that lacks the first record
     place.ok(&["new", "early", "e0", "--from", "14"]);
     let said = place.fails(1, &["evening", "early", "left.klg"]);

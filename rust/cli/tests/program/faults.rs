@@ -92,8 +92,8 @@ fn the_log_of_another_kiosk() {
     place.ok(&["close", "card", "other.klg", "--final"]);
 }
 
-/// Where every record has its verdict the last one is kept all the same, to know the log by, after a closing too; not in a log that was
-/// trimmed.
+/// Where every record has its verdict the last one is kept all the same, to know the log by, after a closing too, and in a log
+/// that was trimmed.
 #[test]
 fn a_log_that_leaves_nothing_open() {
     let place = Place::new();
@@ -110,7 +110,7 @@ fn a_log_that_leaves_nothing_open() {
     // a card in its place begins behind that record
     assert!(place.ok(&["new", "next", "e0", "--after", "card"]).ends_with("begins at record 3\n"));
     place.ok(&["evening", "next", "log.klg"]);
-    assert_eq!(place.ok(&["trim", "card", "log.klg", "left.klg"]), "left.klg: records 0 to 2 dropped, 0 left\n");
+    assert_eq!(place.ok(&["trim", "card", "log.klg", "left.klg"]), "left.klg: records 0 to 1 dropped, 1 left\n");
     assert!(place.ok(&["evening", "card", "left.klg"]).ends_with("records 0 to 1 may be overwritten\n"));
     log("log.klg", "0 e0\n0 e1\n12 e0\n13 e0\n");
     assert!(place.ok(&["evening", "card", "log.klg"]).starts_with("record 3: 1 yes, 0 no\n"));

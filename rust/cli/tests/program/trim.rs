@@ -65,8 +65,8 @@ fn a_week_on_trimmed_logs() {
     assert_eq!(said, "left.klg: records 0 to 36 dropped, 2 left\n");
     both(&["close", "whole", "tuesday.klg", "--final"], &["close", "trimmed", "left.klg", "--final"]);
     let said = place.ok(&["trim", "--force", "trimmed", "left.klg", "left.klg"]);
-    assert_eq!(said, "left.klg: records 0 to 38 dropped, 0 left\n");
-    assert_eq!(place.bytes("left.klg"), trimmed_header(39));
+    assert_eq!(said, "left.klg: records 0 to 37 dropped, 1 left\n");
+    assert_eq!(place.bytes("left.klg"), [&trimmed_header(38)[..], &place.bytes("tuesday.klg")[8 + 8 * 38..]].concat());
     both(&["close", "whole", "tuesday.klg", "--final"], &["close", "trimmed", "left.klg", "--final"]);
     for words in [&["summary"][..], &["sheet"], &["sheet", "--csv"]] {
         let of = |card: &str| place.ok(&[words, &[card]].concat());
@@ -109,7 +109,36 @@ fn little_to_drop() {
     assert_eq!(place.ok(&["trim", "many", "many.klg", "fewer.klg"]), "fewer.klg: no record dropped, 1000000 left\n");
     assert!(place.ok(&["evening", "many", "fewer.klg"]).ends_with("records 0 to 999998 may be overwritten\n"));
     let said = place.ok(&["trim", "many", "fewer.klg", "fewer.klg", "--force"]);
-    assert_eq!(said, "fewer.klg: records 0 to 999999 dropped, 0 left\n");
+    assert_eq!(said, "fewer.klg: records 0 to 999998 dropped, 1 left\n");
+}
+
+/// The last record seen is kept to know the log by, where the log still has it: the library itself drops it.
+#[test]
+fn a_trimmed_log_that_is_known() {
+    let place = Place::new();
+    place.ok(&["new", "card", "e0"]);
+    place.log("log.klg", "1 e0\n2 service\n");
+    place.ok(&["evening", "card", "log.klg"]);
+    let trim = ["trim", "card", "log.klg", "left.klg", "--force"];
+    assert_eq!(place.ok(&trim), "left.klg: record 0 dropped, 1 left\n");
+    let left = place.bytes("left.klg");
+    place.log("log.klg", "1 e0\n2 service\n3 e0\n");
+    place.ok(&trim);
+    assert_eq!(place.bytes("left.klg"), [left.as_slice(), &[0, 0, 0, 3, 0, 0, 0, 1]].concat());
+    let mut other = place.bytes("left.klg");
+    other[16 + 7] ^= 1;
+    fs::write(place.path("other.klg"), other).unwrap();
+    let hint = "Is this the log of another kiosk, or was the card put back from an older copy? ";
+    let text = format!("other.klg: record 1 is not the one that this card has seen\n{hint}Nothing was changed.\n");
+    for words in [&["evening", "card", "other.klg"][..], &["trim", "card", "other.klg", "out.klg"]] {
+        refuses(&place, words, &text);
+    }
+    // a log that has dropped it can be trimmed and carried on with all the same
+    let dropped = log::encode_trimmed(2, &[Record { time: 3, letters: 1 }]);
+    fs::write(place.path("log.klg"), &dropped).unwrap();
+    assert_eq!(place.ok(&trim), "left.klg: records 0 to 1 dropped, 1 left\n");
+    assert_eq!(place.bytes("left.klg"), dropped);
+    assert!(place.ok(&["evening", "card", "left.klg"]).starts_with("position 1: 1 yes, 0 no\n"));
 }
 
 /// The command fails with this text; the card is as it was, and there is no new file.
