@@ -214,11 +214,13 @@ pub struct First {
 pub struct Begins {
     pub first: First,
     pub open: Known,
+    /// The checksum of the record before, where the other card left none open.
+    pub before: Option<u64>,
 }
 
 impl From<First> for Begins {
     fn from(first: First) -> Begins {
-        Begins { first, open: Known::none() }
+        Begins { first, open: Known::none(), before: None }
     }
 }
 
@@ -260,7 +262,7 @@ pub fn new(disk: &mut impl Disk, number: u64, begins: Begins, rule: &[u8]) -> Re
     no_verdicts(disk)?;
     same_beginning(disk, begins.first)?;
     let label = Label { number, first: Some(begins.first) }.encode();
-    let row = Row::first(begins.open).encode(bound_to(label.as_bytes(), rule));
+    let row = Row::first(begins.open, begins.before).encode(bound_to(label.as_bytes(), rule));
     for (name, bytes) in [(CARD, label.as_bytes()), (RULE, rule), (SHEET, b""), (EVENINGS, &row)] {
         disk.write(name, 0, bytes).map_err(failed("write the card's files"))?;
         disk.sync(name).map_err(failed("sync the card's files"))?;
@@ -392,9 +394,11 @@ impl SoFar {
         self.first.record + self.status.wanted
     }
 
-    /// The records before this one may be overwritten.
+    /// The records before this one may be overwritten. Of a card that has seen nothing yet the one before its first is kept: it may
+    /// be all that is known of the log.
     pub fn released(&self) -> u64 {
-        self.first.record + kept_from(&self.status)
+        let behind = self.first.record + self.status.seen;
+        self.wanted().min(behind.saturating_sub(1))
     }
 
     /// The positions of the records seen.
@@ -496,13 +500,13 @@ impl<'a, D: Disk> Card<'a, D> {
     /// Where a card goes on that takes the place of this one: at its first record still wanted.
     pub fn after(&self) -> Result<Begins, Fault> {
         let SoFar { status, services, first, .. } = self.so_far;
-        let (position, open) = match self.row {
-            Some((_, row)) => (row.position, row.wanted()),
-            None if services == 0 => (status.wanted, Known::none()),
+        let (position, open, before) = match self.row {
+            Some((_, row)) => (row.position, row.wanted(), row.before_wanted()),
+            None if services == 0 => (status.wanted, Known::none(), None),
             None => return Err(Fault::PositionUnknown),
         };
         let first = First { record: first.record + status.wanted, position: first.position + position };
-        Ok(Begins { first, open })
+        Ok(Begins { first, open, before })
     }
 
     /// The log from the card's first record on.
@@ -539,16 +543,28 @@ impl<'a, D: Disk> Card<'a, D> {
         }
     }
 
+    /// The same of the record before the card's first one, where that alone is known.
+    fn follows(&self, whole: &[u8]) -> Result<(), Fault> {
+        let (Some((_, row)), Ok(log), to) = (self.row, Log::new(whole), self.so_far.first.record) else { return Ok(()) };
+        let (Some(before), Some(from)) = (row.before(), to.checked_sub(1)) else { return Ok(()) };
+        match Known::of(&log, from, to) {
+            Some(known) if known.sum != before => Err(Fault::OtherRecords { from, to }),
+            _ => Ok(()),
+        }
+    }
+
     /// The records that the next log must have. A log that the library itself has trimmed lacks the last one seen where that is no
     /// longer wanted: then none.
     fn known(&self, log: &Log<'_>, status: &Status) -> Known {
         Known::of(log, kept_from(status), status.seen).unwrap_or(Known::none())
     }
 
-    /// What the library gave for this log, if it is that of the card. What is wrong with the log as a whole comes first.
-    fn of_this_log<T>(&self, log: &[u8], given: Result<T, Refusal>) -> Result<T, Fault> {
+    /// What the library gave for the card's part of this log, if it is that of the card. What is wrong with the log as a whole comes
+    /// first.
+    fn of_this_log<T>(&self, whole: &[u8], own: &[u8], given: Result<T, Refusal>) -> Result<T, Fault> {
         if matches!(given, Ok(_) | Err(Refusal::TimeFalls | Refusal::PointRange)) {
-            self.knows(log)?;
+            self.follows(whole)?;
+            self.knows(own)?;
         }
         given.map_err(Fault::Refused)
     }
@@ -571,12 +587,12 @@ impl<'a, D: Disk> Card<'a, D> {
 
     /// What an evening with this log, or a closing, comes to. Nothing is changed.
     fn ahead(&self, closing: bool, log: &[u8]) -> Result<Ahead, Fault> {
-        let log = &self.own_part(log)?;
-        let (words, new) = self.of_this_log(log, self.calls(closing, log))?;
+        let own = &self.own_part(log)?;
+        let (words, new) = self.of_this_log(log, own, self.calls(closing, own))?;
         let summary = summary(&self.rule, &words).map_err(Fault::Refused)?;
         let status = status(&self.rule, &words).map_err(Fault::Refused)?;
         // Only the new records: those seen before were counted, and may be overwritten.
-        let log = Log::new(log).map_err(Fault::Refused)?;
+        let log = Log::new(own).map_err(Fault::Refused)?;
         let seen = self.so_far.status.seen;
         let passed_over = log.services(seen as usize) as u64;
         let services = self.so_far.services + passed_over;
@@ -584,6 +600,9 @@ impl<'a, D: Disk> Card<'a, D> {
         if services > status.seen - status.given {
             return Err(Fault::LogAltered);
         }
+        let records = Known::of(&log, seen, status.seen).ok_or(Fault::LogAltered)?.sum;
+        // Closed before it has seen anything, it still knows the record before its first one.
+        let before = self.row.and_then(|(_, row)| row.before()).filter(|_| status.seen == 0);
         let wanted = status.seen - status.wanted - log.services(status.wanted as usize) as u64;
         let row = Row {
             status,
@@ -592,7 +611,7 @@ impl<'a, D: Disk> Card<'a, D> {
             // Below zero where a card of an earlier program counted services that the log no longer has.
             position: so_far.positions().checked_sub(wanted).ok_or(Fault::LogAltered)?,
             open: self.known(&log, &status),
-            new: Known::of(&log, seen, status.seen).ok_or(Fault::LogAltered)?.sum,
+            new: before.unwrap_or(records),
         };
         Ok(Ahead { words, new, passed_over, so_far, row })
     }
@@ -615,7 +634,7 @@ impl<'a, D: Disk> Card<'a, D> {
     pub fn trim(&mut self, log: &[u8]) -> Result<Vec<u8>, Fault> {
         let own = &self.own_part(log)?;
         let mut left = vec![0; own.len() + 8];
-        let length = self.of_this_log(own, trim(&self.rule, own, &self.words, &mut left))?;
+        let length = self.of_this_log(log, own, trim(&self.rule, own, &self.words, &mut left))?;
         left.truncate(length);
         let (dropped, kept) = self.kept_back(&Log::new(log).map_err(Fault::Refused)?);
         left.splice(16..16, kept.iter().copied());

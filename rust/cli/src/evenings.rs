@@ -43,7 +43,8 @@ pub struct Row {
     /// The records from the first still wanted to the last seen, or the last seen alone. Of a new card that takes the place of
     /// another: from its first one to the last that the other had seen.
     pub open: Known,
-    /// The checksum of the records that this evening was the first to see.
+    /// The checksum of the records that this evening was the first to see. Of a card that has seen nothing yet: of the record before
+    /// its first one, if that is the only one known from another, else of nothing.
     pub new: u64,
 }
 
@@ -53,11 +54,11 @@ pub fn bound_to(card: &[u8], rule: &[u8]) -> u64 {
 }
 
 impl Row {
-    /// That of a card that has seen nothing, and knows these records from another.
-    pub fn first(open: Known) -> Row {
+    /// That of a card that has seen nothing, and knows these records from another, or the one before them.
+    pub fn first(open: Known, before: Option<u64>) -> Row {
         let none = checksum(b"");
         let status = Status { given: 0, seen: 0, wanted: 0, closed: false };
-        Row { status, sheet: none, services: 0, position: 0, open, new: none }
+        Row { status, sheet: none, services: 0, position: 0, open, new: before.unwrap_or(none) }
     }
 
     /// The numbers of the records that are compared, from one to before another: the last seen, or the first of a new card.
@@ -73,6 +74,17 @@ impl Row {
         } else {
             self.open
         }
+    }
+
+    /// The checksum of the record before the card's first one, as long as nothing else tells whether a log is its own.
+    pub fn before(&self) -> Option<u64> {
+        (self.status.seen == 0 && self.new != checksum(b"")).then_some(self.new)
+    }
+
+    /// The same of a card that begins with the first record still wanted: that record is the last one seen.
+    pub fn before_wanted(&self) -> Option<u64> {
+        let last = self.compared().0 < self.status.wanted;
+        self.before().or_else(|| last.then_some(self.open.sum))
     }
 
     pub fn encode(&self, bound: u64) -> Vec<u8> {
@@ -111,9 +123,9 @@ mod tests {
         let bound = bound_to(b"card", b"rule");
         let status = Status { given: 1, seen: 4, wanted: 3, closed: true };
         let row = Row { status, sheet: 2, services: 5, position: 6, open: Known { records: 7, sum: 8 }, new: 9 };
-        let bytes = [Row::first(Known::none()).encode(bound), row.encode(bound)].concat();
+        let bytes = [Row::first(Known::none(), None).encode(bound), row.encode(bound)].concat();
         assert_eq!(bytes.len(), 2 * ROW);
-        assert_eq!(rows(&bytes, bound), [Some(Row::first(Known::none())), Some(row)]);
+        assert_eq!(rows(&bytes, bound), [Some(Row::first(Known::none(), None)), Some(row)]);
         for at in 0..ROW {
             for bit in 0..8 {
                 let mut damaged = bytes.clone();

@@ -48,7 +48,7 @@ impl Files {
         let fits = (saved.owner, saved.rule, saved.given) == (number, checksum(rule), status.given);
         let Saved { sheet, services, .. } = saved;
         let counted = services <= status.seen - status.given;
-        (fits && counted).then_some(Row { status, sheet, services, ..Row::first(Known::none()) })
+        (fits && counted).then_some(Row { status, sheet, services, ..Row::first(Known::none(), None) })
     }
 
     /// The verdicts that a row counts, if its checksum vouches for them.
@@ -85,7 +85,7 @@ pub fn kept(disk: &mut impl Disk) -> Option<Kept> {
     let so_far = SoFar { summary, status: row.status, services: row.services, first };
     let after = latest(&files, &rows, point).map(|row| {
         let (record, position) = (first.record + row.status.wanted, first.position + row.position);
-        Begins { first: First { record, position }, open: row.wanted() }
+        Begins { first: First { record, position }, open: row.wanted(), before: row.before_wanted() }
     });
     Some(Kept { so_far, verdicts: verdicts.to_vec(), after })
 }

@@ -111,6 +111,8 @@ struct Run<'a> {
     disk: Simulated,
     /// The folder with the kiosk's log: what was released is overwritten or dropped.
     shop: Simulated,
+    /// The checksum of the record before the card's first one.
+    before: Option<u64>,
     r: Random,
 }
 
@@ -119,8 +121,9 @@ impl<'a> Run<'a> {
         let mut r = Random::new(!seed);
         let mut before = vec![0; 8 * week.first];
         r.fill(&mut before);
+        let last = before.last_chunk::<8>().map(|record| checksum(record));
         let shop = Simulated::with_file(seed + 1, LOG, &[log::header(week.version).to_vec(), before].concat());
-        Run { week, disk: Simulated::new(seed), shop, r }
+        Run { week, disk: Simulated::new(seed), shop, before: last, r }
     }
 
     fn make(&mut self) -> Result<(), Fault> {
@@ -129,7 +132,8 @@ impl<'a> Run<'a> {
         let known = &self.week.untouched[self.week.first..(self.week.first + self.week.days[0].records).div_ceil(2)];
         let sum = checksum(&log::encode_records(known));
         let open = Known { records: known.len() as u64, sum };
-        card::new(&mut self.disk, NUMBER, Begins { first, open }, &self.week.rule)
+        let before = self.before.filter(|_| known.is_empty());
+        card::new(&mut self.disk, NUMBER, Begins { first, open, before }, &self.week.rule)
     }
 
     /// The log of this day: the kiosk has added its records.

@@ -1,6 +1,7 @@
 //! A new rule in the middle of a week: a card that begins where another has come to, or at a given record.
 
 use crate::{contents, example, Place, CARRY_ON, RULE};
+use evaluator::log::{self, Record};
 use havdrims::Refusal;
 use std::fs;
 
@@ -90,6 +91,51 @@ fn what_the_old_card_has_seen() {
     assert_eq!(place.fails(1, &["evening", "next", "other.klg"]), format!("other.klg: {others}"));
 }
 
+/// The old card left nothing open: the last record that it has seen tells the log, until the new card has seen one itself.
+#[test]
+fn after_a_card_that_left_nothing_open() {
+    let place = Place::new();
+    place.ok(&["new", "card", "e0"]);
+    place.log("log.klg", "10 e0\n11 e1\n12 e0\n");
+    place.ok(&["evening", "card", "log.klg"]);
+    assert!(place.ok(&["new", "next", "e1", "--after", "card"]).ends_with("begins at record 3\n"));
+    // a card after one that has seen nothing, and one after a card whose point is damaged
+    place.ok(&["new", "third", "e1", "--after", "next"]);
+    fs::write(place.path("card/point"), b"").unwrap();
+    place.ok(&["new", "fourth", "e1", "--after", "card"]);
+    let hint = "Is this the log of another kiosk, or was the card put back from an older copy? Nothing was changed.\n";
+    let refused = |card: &str| {
+        let text = format!("other.klg: record 2 is not the one that this card has seen\n{hint}");
+        for command in CARRY_ON {
+            assert_eq!(place.fails(1, &[command, &[card, "other.klg"]].concat()), text);
+        }
+        assert_eq!(place.fails(1, &["open", card, "other.klg"]), text);
+        assert_eq!(place.fails(1, &["trim", card, "other.klg", "out.klg"]), text);
+    };
+    place.log("other.klg", "10 e0\n11 e1\n12 e1\n13 e1\n");
+    ["next", "third", "fourth"].iter().for_each(|card| refused(card));
+    // an evening that brings nothing new, and a trimming, keep that record
+    let said = place.ok(&["evening", "next", "log.klg"]);
+    assert!(said.ends_with("open: 0 of 0 records from record 3 on\nrecords 0 to 1 may be overwritten\n"), "{said}");
+    assert_eq!(place.ok(&["trim", "next", "log.klg", "left.klg"]), "left.klg: records 0 to 1 dropped, 1 left\n");
+    place.ok(&["evening", "next", "left.klg"]);
+    refused("next");
+    // closed with nothing seen
+    place.ok(&["close", "third", "left.klg", "--final"]);
+    place.log("other.klg", "10 e0\n11 e1\n12 e1\n");
+    let said = place.fails(1, &["trim", "third", "other.klg", "out.klg"]);
+    assert!(said.starts_with("other.klg: record 2 is not the one that this card has seen\n"), "{said}");
+    // once it has seen a record, that one counts
+    place.log("log.klg", "10 e0\n11 e1\n12 e0\n13 e1\n");
+    assert!(place.ok(&["evening", "next", "log.klg"]).starts_with("record 3: 1 yes, 0 no\n"));
+    place.log("log.klg", "0 e0\n0 e1\n0 e1\n13 e1\n");
+    place.ok(&["evening", "next", "log.klg"]);
+    // a log that has dropped that record is known by its count alone
+    let dropped = log::encode_trimmed(3, &[Record { time: 13, letters: 2 }]);
+    fs::write(place.path("left.klg"), dropped).unwrap();
+    place.ok(&["evening", "fourth", "left.klg"]);
+}
+
 /// Records and positions differ there, and both go on; the log may be trimmed, before and after.
 #[test]
 fn after_service_visits() {
@@ -141,7 +187,7 @@ fn a_card_from_a_record() {
         assert_eq!(place.fails(1, words), text);
     }
     place.ok(&["new", "end", "e0", "--from", "14"]);
-    assert!(place.ok(&["evening", "end", "day.klg"]).ends_with("records 0 to 13 may be overwritten\n"));
+    assert!(place.ok(&["evening", "end", "day.klg"]).ends_with("records 0 to 12 may be overwritten\n"));
     assert!(place.ok(&["evening", "end", "tuesday.klg"]).starts_with("records 14 to 18: "));
 }
 
