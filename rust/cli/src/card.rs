@@ -545,7 +545,8 @@ impl<'a, D: Disk> Card<'a, D> {
 
     /// The same of the record before the card's first one, where that alone is known.
     fn follows(&self, whole: &[u8]) -> Result<(), Fault> {
-        let (Some((_, row)), Ok(log), to) = (self.row, Log::new(whole), self.so_far.first.record) else { return Ok(()) };
+        let (Some((_, row)), Ok(log)) = (self.row, Log::new(whole)) else { return Ok(()) };
+        let to = self.so_far.first.record;
         let (Some(before), Some(from)) = (row.before(), to.checked_sub(1)) else { return Ok(()) };
         match Known::of(&log, from, to) {
             Some(known) if known.sum != before => Err(Fault::OtherRecords { from, to }),

@@ -63,9 +63,10 @@ commands go on speaking of the log's own records. With --from N positions are nu
         more: "\
 LOG is the kiosk's whole log, a .klg file, or what `havdrims trim` left of it, with new records behind. The records that
 the last evening named may have been overwritten, the others not: the card has a checksum of those that are still wanted
-and of the last one, and refuses a log in which they are others, as that of another kiosk. The new verdicts go into the
-card's sheet. Once this command has said so, and not before, the records that it names may be overwritten. A run that
-was cut, for whatever reason, is simply repeated.
+and of the last one, and refuses a log in which they are others, as that of another kiosk. It compares no others: where
+nothing is open, a log passes whose record of the last one's number is the same, whatever stands before it.
+The new verdicts go into the card's sheet. Once this command has said so, and not before, the records that it names may
+be overwritten. A run that was cut, for whatever reason, is simply repeated.
 From log version 2 on service records are passed over: they are no positions and get no verdict. It is said how many
 there were, the verdicts are then counted in positions, and what may be overwritten in records all the same.",
         run: |words| match words {

@@ -36,7 +36,9 @@ impl fmt::Display for Fault {
             Fault::There => write!(f, "a file is here already; --force replaces it"),
             Fault::NoFile => write!(f, "what is here is no file, and is not replaced"),
             Fault::InCard => write!(f, "this would be a file in a card, which holds no others than its own"),
-            Fault::OverItsSource => write!(f, "until it is whole this file has the name of what it is made from; choose another name"),
+            Fault::OverItsSource => {
+                write!(f, "until it is whole this file has the name of what it is made from; choose another name")
+            }
             Fault::NoFolder => write!(f, "its folder is not there"),
             Fault::Disk { doing, fault } => write!(f, "cannot {doing}: {fault}; there is no new file"),
             Fault::Unsure { doing, fault } => write!(f, "cannot {doing}: {fault}; it may be as it was before"),
