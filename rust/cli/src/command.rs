@@ -165,7 +165,10 @@ is the record's number in it, from 0; a service record has no verdict, and an op
 several formulas --formula says which, from 0.
 The reason is a line for each part of the rule that counts: the number of its entry, a position, and what makes it yes
 or no there. Positions are numbered over the records that are no service records. --words says the same in sentences,
-with records in place of positions.",
+with records in place of positions.
+It explains the rule on this log from record 0 on. A card's sheet may say otherwise where the card was made with --after
+or --from, since it reads nothing before its first record, and where a record got its verdict by a closing and the log
+went on.",
         run: |words| Some(why::answer(&why::question(words)?)),
     },
     Command {
