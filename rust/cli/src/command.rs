@@ -45,7 +45,7 @@ struct Command {
 const COMMANDS: [Command; 15] = [
     Command {
         name: "new",
-        words: "CARD RULE.. [--after OLD] [--from N]",
+        words: "CARD RULE.. [--after OLD | --from N]",
         does: "make the folder CARD for one kiosk",
         more: "\
 RULE is a .krl file, or a text such as 'not e2 or e0 until[0,90] e1'. Several of them, with up to eight formulas, are
@@ -135,8 +135,9 @@ not count as the next record. Of other rules the open records alone are printed.
         words: "CARD [--csv] [--from N]",
         does: "print the verdicts, a line for each position",
         more: "\
-A line has the position's number and then a word, yes or no, for each formula of the rule. Positions are numbered from 0
-over the records that are no service records: where the log has none, a position is the record of the same number.
+A line has the position's number and then a word, yes or no, for each formula of the rule. Positions are numbered over
+the records that are no service records, from 0, or from N for a card made with --from N: where the log has no service
+records, a position is the record of the same number. A card made with --after goes on with the old card's numbers.
 --csv prints them for a spreadsheet, under the line `position,verdict`; where there are several formulas each has its
 column, as in `position,formula 0,formula 1`. --from N begins with position N. The card is not changed.
 Of a card that is damaged the verdicts are printed that a checksum vouches for; what is wrong is said besides, and the

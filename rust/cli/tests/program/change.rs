@@ -218,7 +218,7 @@ fn made_again_with_the_same_words() {
 #[test]
 fn where_no_card_can_begin() {
     let place = Place::with_card(1);
-    let expected = "expected: havdrims new CARD RULE.. [--after OLD] [--from N]\n";
+    let expected = "expected: havdrims new CARD RULE.. [--after OLD | --from N]\n";
     for words in [
         &["new", "more", "e0", "--after"][..],
         &["new", "more", "e0", "--from"],

@@ -205,7 +205,7 @@ fn help_says_what_is_a_position() {
     let place = Place::new();
     let help = place.ok(&["sheet", "--help"]);
     for said in
-        ["Positions are numbered from 0\nover the records that are no service records", "begins with position N"]
+        ["numbered over\nthe records that are no service records, from 0, or from N for a card", "begins with position N"]
     {
         assert!(help.contains(said), "{help}");
     }
