@@ -204,9 +204,10 @@ fn service_records_that_were_altered() {
 fn help_says_what_is_a_position() {
     let place = Place::new();
     let help = place.ok(&["sheet", "--help"]);
-    for said in
-        ["numbered over\nthe records that are no service records, from 0, or from N for a card", "begins with position N"]
-    {
+    for said in [
+        "numbered over\nthe records that are no service records, from 0, or from N for a card",
+        "begins with position N",
+    ] {
         assert!(help.contains(said), "{help}");
     }
     for name in ["evening", "summary", "to-log"] {
