@@ -1,5 +1,5 @@
-//! Records per second of the checker against document 002's algorithm in plain Rust and against a pass that only reads
-//! the records, as ratios of one run; several formulas in one run against runs of one; logs with service records against
+//! The time of the checker against that of document 002's algorithm in plain Rust and of a pass that only reads the
+//! records, as ratios of one run, with their limits; several formulas in one run against runs of one; logs with service records against
 //! the same logs without them; the reason of a verdict against a run; growth with records, entries and calls; bytes of state.
 //!
 //! `cargo run --release --offline -p bench`, or with `-- quick` for a shorter run, `-- formulas` for the comparison of several
@@ -7,7 +7,7 @@
 
 mod multihead;
 
-use bench::rules;
+use bench::rules::{self, Limited};
 use bench::time::{seconds, Spread};
 use evaluator::log::{self, Record};
 use evaluator::rule::{self, Entry, Rule};
@@ -105,15 +105,21 @@ impl Job {
     }
 }
 
+/// A ratio and the limit that it has, as two cells of a table.
+fn cells(ratio: Spread, limit: Option<f64>) -> String {
+    let limit = limit.map_or("-".to_string(), |limit| format!("{limit}"));
+    format!("{} | {limit}", ratio.text(2))
+}
+
 /// Each rule over each log: three ways in turn, round by round.
 fn rates(records: usize, rounds: usize) {
-    println!("## Records per second, {records} records, {rounds} rounds\n");
-    println!("Millions of records a second of processor time, middle of the rounds (least to most). A ratio is of one");
-    println!("round's two times: above 1, the checker is faster.\n");
-    println!("| rule | log | checker | document 002 in Rust | reading alone | checker / 002 | checker / reading | verdicts | 002's |");
+    println!("## Against document 002's algorithm and against reading alone, {records} records, {rounds} rounds\n");
+    println!("Nanoseconds of processor time a record, middle of the rounds (least to most). A ratio is of the checker's time and");
+    println!("the other's in one round: below 1, the checker is faster. Beside it its limit.\n");
+    println!("| rule | log | checker | document 002 in Rust | checker / 002 | limit | checker / reading | limit | verdicts |");
     println!("|---|---|---|---|---|---|---|---|---|");
-    for (rule_name, entries) in rules::all() {
-        for (log_name, log) in rules::logs(records) {
+    for Limited { name, entries, limits } in rules::limited() {
+        for (log_name, log) in rules::four_logs(records) {
             let job = Job::new(&entries, &log);
             let (mut sheet, mut other) = (Vec::new(), Vec::new());
             let mut times: [Vec<f64>; 3] = Default::default();
@@ -121,24 +127,21 @@ fn rates(records: usize, rounds: usize) {
                 times[0].push(job.checker(&mut sheet));
                 times[1].push(job.multihead(&mut other).0);
                 times[2].push(job.reading());
-                assert!(sheet.starts_with(&other), "{rule_name} over {log_name}: verdicts differ");
+                assert!(sheet.starts_with(&other), "{name} over {log_name}: verdicts differ");
                 let counts_agree = multihead::may_answer_later(&job.rule) || sheet.len() == other.len();
-                assert!(counts_agree, "{rule_name} over {log_name}: counts differ");
+                assert!(counts_agree, "{name} over {log_name}: counts differ");
             }
-            let rate = |way: usize| Spread::of(times[way].iter().map(|t| records as f64 / t / 1e6).collect()).text(1);
+            let each = |way: usize| Spread::of(times[way].iter().map(|t| t / records as f64 * 1e9).collect()).text(2);
             let ratio = |way: usize| {
-                let all = times[0].iter().zip(&times[way]).map(|(checker, other)| other / checker);
-                Spread::of(all.collect()).text(2)
+                Spread::of(times[0].iter().zip(&times[way]).map(|(checker, other)| checker / other).collect())
             };
             println!(
-                "| {rule_name} | {log_name} | {} | {} | {} | {} | {} | {} | {} |",
-                rate(0),
-                rate(1),
-                rate(2),
-                ratio(1),
-                ratio(2),
+                "| {name} | {log_name} | {} | {} | {} | {} | {} |",
+                each(0),
+                each(1),
+                cells(ratio(1), limits.algorithm),
+                cells(ratio(2), limits.reading),
                 sheet.len(),
-                other.len()
             );
         }
     }

@@ -3,7 +3,8 @@
 
 use bench::rules;
 use bench::time::Spread;
-use evaluator::{log, rule};
+use evaluator::log::{self, Record};
+use evaluator::rule::{self, Entry};
 use std::env;
 use std::io::{self, Read, Write};
 use std::process::{Child, Command, ExitCode, Stdio};
@@ -89,21 +90,42 @@ fn row(old: &mut Runner, new: &mut Runner, calls: usize, rounds: usize) -> io::R
     Ok((row, equal))
 }
 
+/// What is run: rules and logs by name, and in how many calls.
+struct Table {
+    rules: Vec<(String, Vec<Entry>)>,
+    logs: Vec<(&'static str, Vec<Record>)>,
+    calls: Vec<usize>,
+}
+
+impl Table {
+    /// Five rules and two logs, in one call and in calls of 100 records.
+    fn usual(records: usize) -> Table {
+        let rules = rules::all().into_iter().map(|(name, entries)| (name.to_string(), entries)).collect();
+        Table { rules, logs: rules::logs(records), calls: vec![1, records / 100] }
+    }
+
+    /// Many rules and nine logs, in one call.
+    fn wide(records: usize) -> Table {
+        Table { rules: rules::many(), logs: rules::nine_logs(records), calls: vec![1] }
+    }
+}
+
 /// The whole table; whether all sheets are equal.
-fn compare(programs: [&str; 2], records: usize, rounds: usize) -> io::Result<bool> {
+fn compare(programs: [&str; 2], table: Table, rounds: usize) -> io::Result<bool> {
     let [mut old, mut new] = [Runner::start(programs[0])?, Runner::start(programs[1])?];
+    let records = table.logs[0].1.len();
     println!("{records} records, {rounds} rounds. Milliseconds of processor time for all calls, middle of the rounds (least to");
     println!("most). A ratio is of one round's two times: above 1, the new archive is faster.\n");
     println!(
         "| rule | log | calls | old | new | old / new | each round | verdicts |\n|---|---|---|---|---|---|---|---|"
     );
     let mut all_equal = true;
-    for (rule_name, entries) in rules::all() {
-        for (log_name, records) in rules::logs(records) {
-            let (bytes, file) = (rule::encode(&entries), log::encode(&records));
+    for (rule_name, entries) in &table.rules {
+        for (log_name, records) in &table.logs {
+            let (bytes, file) = (rule::encode(entries), log::encode(records));
             old.take(&bytes, &file)?;
             new.take(&bytes, &file)?;
-            for calls in [1, records.len() / 100] {
+            for &calls in &table.calls {
                 let (row, equal) = row(&mut old, &mut new, calls, rounds)?;
                 println!("| {rule_name} | {log_name} | {row}");
                 all_equal &= equal;
@@ -117,10 +139,11 @@ fn main() -> ExitCode {
     let words: Vec<String> = env::args().skip(1).collect();
     let words: Vec<&str> = words.iter().map(String::as_str).collect();
     let done = match words.as_slice() {
-        [old, new] => compare([old, new], 1_000_000, 11),
-        [old, new, "quick"] => compare([old, new], 100_000, 3),
+        [old, new] => compare([old, new], Table::usual(1_000_000), 11),
+        [old, new, "quick"] => compare([old, new], Table::usual(100_000), 3),
+        [old, new, "wide"] => compare([old, new], Table::wide(1_000_000), 5),
         _ => {
-            eprintln!("compare OLD NEW [quick], two runners; the script rust/bench/compare takes two archives");
+            eprintln!("compare OLD NEW [quick | wide], two runners; the script rust/bench/compare takes two archives");
             return ExitCode::FAILURE;
         }
     };
