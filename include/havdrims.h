@@ -165,8 +165,9 @@ static inline const char *havdrims_refusal_text(uint32_t number) {
     case HAVDRIMS_FEWER_RECORDS:
         return "the log has fewer records than the point has seen, service records and dropped ones included";
     case HAVDRIMS_TIME_FALLS:
-        return "some record after the first still wanted has a time below that of the record before it, or the first new "
-               "record's time is below the last time seen, service records included";
+        return "some record after the first still wanted, or where a reason is asked for after the first of all, has a time "
+               "below that of the record before it, or the first new record's time is below the last time seen, service "
+               "records included";
     case HAVDRIMS_SHEET_BYTE:
         return "a sheet given to tally has a byte with a bit beyond the number of formulas, or that number is outside 1 to 8";
     case HAVDRIMS_UNKNOWN_WORD:
@@ -188,13 +189,13 @@ static inline const char *havdrims_refusal_text(uint32_t number) {
     case HAVDRIMS_TRIM_VERSION:
         return "a log of version 1 is to be trimmed";
     case HAVDRIMS_RECORD_DROPPED:
-        return "the log has dropped the first record still wanted or one after it";
+        return "the log has dropped the first record still wanted or one after it, or any record where a reason is asked for";
     case HAVDRIMS_SHORT_LOG:
         return "the lent buffer for the trimmed log is short";
     case HAVDRIMS_SETTINGS:
         return "a setting, the seconds or the seed is outside its range, or the lent log buffer is short";
     case HAVDRIMS_NO_REASON:
-        return "the formula does not exist, the position is not answered by every formula, or the lent text buffer is short";
+        return "the formula does not exist, the position has no verdict yet, or the lent text buffer is short";
     default:
         return "a refusal that this header does not know";
     }

@@ -119,9 +119,9 @@ module _ (left right : ℕ → Bool) where
         f .finds i
         ∙ ap (λ (x : Bool). right i || (left i && x)) (sym (enough s (suc i) (omega arith)) ∙ sym (f .finds (suc i)))
 
--- a word has no bit from 64 on
-pub no-bit : (w i : ℕ) → w < 2 ^ 64 → 64 ≤ i → bit w i ≡ false
-no-bit w i small h = ap (λ (v : ℕ). eqb (v % 2) 1) (div-eq-of-lt (lt-of-lt-of-le small (pow-mono h)))
+-- a word of n bits has none from n on
+pub no-bit : (n w i : ℕ) → w < 2 ^ n → n ≤ i → bit w i ≡ false
+no-bit n w i small h = ap (λ (v : ℕ). eqb (v % 2) 1) (div-eq-of-lt (lt-of-lt-of-le small (pow-mono h)))
 
 pub zero-bit : (i : ℕ) → bit 0 i ≡ false
 zero-bit i = ap (λ (v : ℕ). eqb (v % 2) 1) (div-eq-of-lt (pow-pos i))
@@ -141,7 +141,7 @@ down-more left right s found held f =
 
 pub down-filled : (left right s found held : ℕ) → right < 2 ^ 64 → 64 ≤ s → Filling (bit left) (bit right) s (bit found) (bit held) → FilledDown left right found
 down-filled left right s found held small far f i h =
-    filled (bit left) (bit right) (λ k m. no-bit right k small m) s (bit found) (bit held) far f i
+    filled (bit left) (bit right) (λ k m. no-bit 64 right k small m) s (bit found) (bit held) far f i
 
 -- UPWARDS: place i is bit 63 - i
 abbrev pub from-top : (w i : ℕ) → Bool
@@ -235,20 +235,16 @@ ones-bit n i h =
 
 -- more bits in front
 module _ (word n : ℕ) (few : n < 64) where
-  no-ones : (v i : ℕ) → v < 2 ^ n → n ≤ i → bit v i ≡ false
-  no-ones v i small h = ap (λ (u : ℕ). eqb (u % 2) 1) (div-eq-of-lt (lt-of-lt-of-le small (pow-mono h)))
-
-  pub prolonged : (front : ℕ) → front < 2 ^ n → ((i : ℕ) → i < n → bit front i ≡ bit word 0) → Prolonged word n (bitOr front (word * 2 ^ n % 2 ^ 64))
-  prolonged front small like = record {
-    front = λ i h.
+  pub prolonged : (front : ℕ) → front < 2 ^ n → Prolonged word front n (bitOr front (word * 2 ^ n % 2 ^ 64))
+  prolonged front small = record {
+    front-bits = λ i h.
         bit-or front (word * 2 ^ n % 2 ^ 64) i
         ∙ ap (λ (x : Bool). bit front i || x) (bit-mod (word * 2 ^ n) 64 i (omega arith) ∙ bit-before word n i h)
-        ∙ by (bit front i)
-        ∙ like i h;
+        ∙ by (bit front i);
     own = λ i h l.
         let e : i ≡ n + (i - n) = omega arith in
         bit-or front (word * 2 ^ n % 2 ^ 64) i
-        ∙ ap (λ (x : Bool). x || bit (word * 2 ^ n % 2 ^ 64) i) (no-ones front i small h)
+        ∙ ap (λ (x : Bool). x || bit (word * 2 ^ n % 2 ^ 64) i) (no-bit n front i small h)
         ∙ bit-mod (word * 2 ^ n) 64 i l
         ∙ ap (bit (word * 2 ^ n)) e
         ∙ bit-shifted word n (i - n);

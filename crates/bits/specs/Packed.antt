@@ -41,7 +41,7 @@ abbrev pub FilledUp : (left right word : ℕ) → Type 0
 FilledUp left right word =
     (bit word 0 ≡ bit right 0) × ((i : ℕ) → suc i < 64 → bit word (suc i) ≡ bit right (suc i) || (bit left (suc i) && bit word i))
 
--- a word with n bits more in front of its own, each like its first
-pub record Prolonged (word n longer : ℕ) : Type 0 where
-  pub front : (i : ℕ) → i < n → bit longer i ≡ bit word 0
+-- a word with the n bits of another in front of its own
+pub record Prolonged (word front n longer : ℕ) : Type 0 where
+  pub front-bits : (i : ℕ) → i < n → bit longer i ≡ bit front i
   pub own : (i : ℕ) → n ≤ i → i < 64 → bit longer i ≡ bit word (i - n)

@@ -88,17 +88,17 @@ pub fn fill_up(left: u64, right: u64) -> u64
 }
 
 // n bits, each of them x.
-fn repeat(x: bool, n: u64) -> u64
+pub fn repeat(x: bool, n: u64) -> u64
     requires { ⌜ n < 64 ⌝ }
     ensures { λ r. ⌜ (r < 2 ^ n) × ((i : ℕ) → i < n → bit r i ≡ x) ⌝ }
 {
     if x { (1 << n) - 1 } else { 0 }
 }
 
-// The word with n bits more in front of its own, each like its first.
-pub fn prolong(word: u64, n: u64) -> u64
-    requires { ⌜ n < 64 ⌝ }
-    ensures { λ r. ⌜ Prolonged word n r ⌝ }
+// The word with the n bits of another in front of its own.
+pub fn prolong(word: u64, front: u64, n: u64) -> u64
+    requires { ⌜ (n < 64) × (front < 2 ^ n) ⌝ }
+    ensures { λ r. ⌜ Prolonged word front n r ⌝ }
 {
-    repeat(test(word, 0), n) | (word << n)
+    front | (word << n)
 }

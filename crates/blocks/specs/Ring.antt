@@ -110,7 +110,7 @@ abbrev pub in-reach : (low high : ℕ) (at : ℕ → ℕ) (marks first : ℕ) �
 in-reach low high at marks first i =
     leb low (at i - newest-at at marks first (suc i)) && leb (at i - newest-at at marks first (suc i)) high
 
--- the times of n positions from the one on are added where right holds
+-- the times of n positions from `from` on are added where right holds
 unfoldable pub pushes : (cells : ℕ) (at : ℕ → ℕ) (right from : ℕ) → ℕ → List ℕ → List ℕ
 pushes cells at right from zero qs = qs
 pushes cells at right from (suc n) qs = pushed cells (bit right (from + n)) (at (from + n)) (pushes cells at right from n qs)

@@ -1,22 +1,31 @@
-// Refusals 1 to 14 (3 no longer occurs) and 20 to 25: each check over all entries before the next begins. Nothing is written.
+// Refusals 1 to 14 (3 no longer occurs) and 20 to 25: the first that applies. Nothing is written.
 ghost use mathlib.Core.Path.{_≡_};
 ghost use Prim.Native.Nat.{_+_, _-_, _≤_, _<_};
 ghost use lib.ListN.{length, drop};
-ghost use lib.Dec.{ltb};
+ghost use lib.Dec.{eqb, ltb};
+ghost use mathlib.Core.Bool.{_&&_, _||_};
+ghost use mathlib.Core.Bool.{not as negate};
 ghost use Rattle.mtl.specs.Satisfaction.{any};
 ghost use Rattle.rule.specs.Refusal.{first};
 ghost use Rattle.rule.specs.Words.{header-words, own, offset};
-ghost use Rattle.checkpoint.specs.Checkpoint.{seen, last, closed-with, kind-of-log, first-wanted, copy-start, copy-head, copy-ends, copy-differs, foreign, room, block-in-range, waiting-in-range, block-outside, noes-outside, closed-in-range, kind-in-range, outside};
+ghost use Rattle.checkpoint.specs.Checkpoint.{format, seen, last, closed-with, kind-of-log, first-wanted, copy-start, copy-head, copy-ends, copy-differs, room, block-in-range, waiting-in-range, block-outside, noes-outside, closed-in-range, kind-in-range, header-in-range};
 ghost use Rattle.verdicts.specs.Counts.{noes-in-range};
 ghost use Rattle.checkpoint.specs.Code.{sized-by, sized-number, checked-by, checked-number, Covers, own-checked};
 ghost use Rattle.checkpoint.specs.Refusal.{closes-more, other-version, records-refusal, log-refusal, trimming-refusal, words-refusal, point-refusal};
 ghost use Rattle.trace.specs.Format.{total-records};
 ghost use Rattle.trace.specs.Making.{trimmed};
-ghost use Rattle.blocks.specs.Block.{cells-of};
+ghost use Rattle.blocks.specs.Block.{word, cells-of};
+ghost use Rattle.rule.specs.Postfix.{most};
 use super::header;
 use blocks::word;
 use rule::Entry;
 use rule::Measured;
+
+// What one walk over the blocks finds.
+struct Faults {
+    copies: bool,
+    ranges: bool,
+}
 
 // The number in a checkpoint's first word: the bytes HAVD, and the format's number.
 pub const FORMAT: u64 = 5206537494274768903;
@@ -97,34 +106,21 @@ pub fn ends_of(e: Entry) -> u64
     e.low as u64 * 4294967296 + e.high as u64
 }
 
-// Some entry's block, of the first count, has another copy than the entry's. The first block begins at `base`.
-fn copies_differ(base: usize, entries: [Entry; 128], count: usize, point: &[u64]) -> bool
-    requires { ⌜ (count ≤ 128) × (base + offset entries count ≤ length (now point)) ⌝ }
-    ensures { λ r. ⌜ r ≡ any count (copy-differs base entries (now (point .entry))) ⌝ }
+// The block that begins at `at` has another copy than the entry's.
+fn copy_differs(e: Entry, point: &[u64], at: usize) -> bool
+    requires { ⌜ at + 16 ≤ length (now point) ⌝ }
+    ensures { λ r. ⌜ r ≡ negate (eqb (word (now (point .entry)) (at + 14)) (copy-head e) && eqb (word (now (point .entry)) (at + 15)) (copy-ends e)) ⌝ }
 {
-    let mut at = base;
-    let mut k: usize = 0;
-    let mut differ = false;
-    while k < count {
-        let e = entries[k];
-        differ = differ
-            | !((point[at + word::COPY_HEAD] == head_of(e))
-                & (point[at + word::COPY_ENDS] == ends_of(e)));
-        at += rule::own_words(e) as usize;
-        k += 1;
-    }
-    differ
+    !((point[at + word::COPY_HEAD] == head_of(e)) & (point[at + word::COPY_ENDS] == ends_of(e)))
 }
 
-// Refusal 10.
-fn is_foreign(version: usize, entries: [Entry; 128], count: usize, point: &[u64]) -> bool
-    requires { ⌜ (version ≤ 2) × (count ≤ 128) × (header-words version + offset entries count ≤ length (now point)) ⌝ }
-    ensures { λ r. ⌜ r ≡ foreign version entries count (now (point .entry)) ⌝ }
+// Refusal 10, where it is known whether some block has another copy than its entry's.
+fn is_foreign(version: usize, count: usize, copies: bool, point: &[u64]) -> bool
+    requires { ⌜ (version ≤ 2) × (count ≤ 128) × (16 ≤ length (now point)) ⌝ }
+    ensures { λ r. ⌜ r ≡ negate (eqb (word (now (point .entry)) 0) format) || (negate (eqb (word (now (point .entry)) 4) (copy-start version count)) || copies) ⌝ }
 {
-    let base = rule::header_words(version);
     (point[header::FORMAT] != FORMAT)
-        | ((point[header::COPY_START] != copy_start(version, count))
-            | copies_differ(base, entries, count, point))
+        | ((point[header::COPY_START] != copy_start(version, count)) | copies)
 }
 
 // count positions from `at` on lie within so many.
@@ -180,24 +176,27 @@ fn waiting_fits(e: Entry, size: u64, point: &[u64], at: usize) -> bool
     }
 }
 
-// Some entry's block, of the first count, has a word outside its range. The first block begins at `base`.
-fn blocks_outside(base: usize, entries: [Entry; 128], count: usize, point: &[u64]) -> bool
+// What is wrong with some entry's block, of the first count: it has another copy than the entry's, or a word outside its range. The first
+// block begins at `base`. One walk looks at both, since the entries are copied at each call that takes them.
+fn block_faults(base: usize, entries: [Entry; 128], count: usize, point: &[u64]) -> Faults
     requires { ⌜ (count ≤ 128) × (16 ≤ base) × (base + offset entries count ≤ length (now point)) ⌝ }
-    ensures { λ r. ⌜ r ≡ any count (block-outside base entries (now (point .entry))) ⌝ }
+    ensures { λ r. ⌜ (r .copies ≡ any count (copy-differs base entries (now (point .entry)))) × (r .ranges ≡ any count (block-outside base entries (now (point .entry)))) ⌝ }
 {
     let given = point[header::GIVEN];
     let size = point[header::SEEN];
     let mut at = base;
     let mut k: usize = 0;
-    let mut outside = false;
+    let mut copies = false;
+    let mut ranges = false;
     while k < count {
         let e = entries[k];
-        outside = outside
+        copies = copies | copy_differs(e, point, at);
+        ranges = ranges
             | !(block_fits(given, size, cells(e), point, at) & waiting_fits(e, size, point, at));
         at += rule::own_words(e) as usize;
         k += 1;
     }
-    outside
+    Faults { copies, ranges }
 }
 
 // The count of no and the end of the latest are among so many verdicts, and both are 0 or neither is.
@@ -251,13 +250,12 @@ fn behind(first: usize, seen: usize) -> usize
     if first <= seen { seen - first } else { 0 }
 }
 
-// Refusal 11.
-fn is_outside(version: usize, entries: [Entry; 128], count: usize, point: &[u64]) -> bool
-    requires { ⌜ (version ≤ 2) × (count ≤ 128) × (header-words version + offset entries count ≤ length (now point)) ⌝ }
-    ensures { λ r. ⌜ r ≡ outside version entries count (now (point .entry)) ⌝ }
+// Refusal 11, where it is known whether some block has a word outside its range.
+fn is_outside(version: usize, ranges: bool, point: &[u64]) -> bool
+    requires { ⌜ (16 ≤ length (now point)) × (header-words version ≤ length (now point)) ⌝ }
+    ensures { λ r. ⌜ r ≡ negate (header-in-range (most version) (now (point .entry))) || ranges ⌝ }
 {
     let most = rule::most_of(version);
-    let base = rule::header_words(version);
     let seen = point[header::SEEN];
     let fits = (seen <= 1000000)
         & (point[header::GIVEN] <= seen)
@@ -266,7 +264,7 @@ fn is_outside(version: usize, entries: [Entry; 128], count: usize, point: &[u64]
         & kind_fits(point[header::LOG_KIND], seen, point[header::CLOSED_WITH])
         & (point[header::WANTED] <= seen)
         & !some_noes_outside(most, point);
-    !fits | blocks_outside(base, entries, count, point)
+    !fits | ranges
 }
 
 // Refusal 22: a log of another version was noted.
@@ -365,10 +363,11 @@ fn words_reason(
     requires { ⌜ (version ≤ 2) × (count ≤ 128) × (header-words version + offset entries count ≤ length (now point)) ⌝ }
     ensures { λ r. ⌜ r ≡ words-refusal version entries count (now (point .entry)) other ⌝ }
 {
+    let faults = block_faults(rule::header_words(version), entries, count, point);
     refuse(
         10,
-        is_foreign(version, entries, count, point),
-        refuse(11, is_outside(version, entries, count, point), other),
+        is_foreign(version, count, faults.copies, point),
+        refuse(11, is_outside(version, faults.ranges, point), other),
     )
 }
 

@@ -15,13 +15,14 @@ use Rattle.verdicts.proofs.Noes.{noes}
 use Rattle.rule.specs.declared.Entry.{Entry}
 use Rattle.trace.specs.Format.{record-count}
 use Rattle.trace.specs.Order.{last-time}
-use Rattle.trace.specs.Positions.{place}
-use Rattle.trace.specs.View.{total, view-of}
+use Rattle.trace.specs.Positions.{place, before}
+use Rattle.trace.specs.View.{total, view-of, ViewOf}
 use Rattle.trace.specs.View.{skips as view-skips}
 use Rattle.trace.specs.Window.{Found}
 use Rattle.trace.proofs.Laws.{last-time-bound}
 use Rattle.trace.proofs.Reading.{wanted-shown}
-use Rattle.trace.proofs.Slices.{served, served-before, served-shows, flag-told}
+use Rattle.trace.proofs.Slices.{served-before, served-shows, flag-told}
+use Rattle.trace.proofs.Marks.{first-told, total-told, skips-told, closed-told}
 use Rattle.blocks.specs.Block.{word}
 use Rattle.blocks.specs.Step.{Agrees}
 use Rattle.blocks.proofs.Words.{Store, put, after, word-stores}
@@ -29,7 +30,7 @@ use Rattle.engine.specs.Tops.{Tops, Ended}
 use Rattle.engine.proofs.Formulas.{rule-size}
 use Rattle.checkpoint.specs.Checkpoint.{given, seen, last, first-wanted, kind-of-log, stored-noes}
 use Rattle.emit.specs.Top.{part-of, Top}
-use Rattle.emit.specs.Code.{Fits, Gave, viewed, noted, Notes, Ready, Emits}
+use Rattle.emit.specs.Code.{Fits, Gave, Viewed, noted, Notes, Ready, Emits}
 use Rattle.emit.specs.declared.Emitted.{Emitted}
 use Rattle.emit.proofs.Places.{part-same}
 
@@ -46,29 +47,26 @@ fits-of t n ends number most base deep s ws table tops ready fs ended laid =
 
 -- THE VIEW
 
--- where no service record lies in the slice, none is passed over, and it tells the same log
-viewed-agrees : (skips closed : Bool) (s : List ℕ) (first q : ℕ) (L : Log) (g : ℕ) → Agrees (view-of first q skips closed s) s L g →
-    Agrees (view-of first q (served skips s) closed s) s L g
-viewed-agrees skips closed s first q L g agrees =
-    record {
-      ends = agrees .ends;
-      size = ap (λ (n : ℕ). q + n) (served-before skips s) ∙ agrees .size;
-      shows = λ i low high. rw (flag-told (served skips s)) (served-shows skips s first L i (rw (flag-told skips) at (agrees .shows i low high)));
-    }
+module _ (skips closed : Bool) (s : List ℕ) (first q : ℕ) (L : Log) (v : List ℕ) (made : ViewOf first q skips closed s v) where
+  -- where no service record lies in the slice, none is passed over, and it tells the same log
+  viewed-agrees : (g : ℕ) → Agrees (view-of first q skips closed s) s L g → Agrees v s L g
+  viewed-agrees g agrees =
+      record {
+        ends = agrees .ends ∙ flag-told closed ∙ sym (closed-told made);
+        size = total-told made ∙ agrees .size;
+        shows = λ i low high. rw (skips-told made, first-told made) (served-shows skips s first L i (rw (flag-told skips) at (agrees .shows i low high)));
+      }
 
--- the record found is the first still wanted
-found-wanted : (skips closed : Bool) (s : List ℕ) (first q : ℕ) (L : Log) (q′ n : ℕ) → head-of L q ≤ first → q ≤ q′ → q′ ≤ L .size →
-    let v = view-of first q skips closed s in
-    Agrees v s L q → Found (view-skips v) s (total v - q′) n → first + n ≡ wanted-record L (first + record-count s) q′
-found-wanted skips closed s first q L q′ n starts later inside agrees found =
-    let v = view-of first q skips closed s in
-    let flag = flag-told skips in
-    let found′ : Found skips s (total v - q′) n = rw flag at found in
-    let size = agrees .size in
-    let there : q + (q′ - q) ≡ q′ = omega arith in
-    ap (λ (m : ℕ). first + m) (found′ .at (omega arith) ∙ ap (place skips s 0) (omega arith)) ∙
-    sym (wanted-shown skips s first L q starts size (λ i low high. rw flag at (agrees .shows i low high)) (q′ - q) (omega arith)) ∙
-    ap (wanted-record L (first + record-count s)) there
+  -- the record found is the first still wanted
+  found-wanted : (q′ n : ℕ) → head-of L q ≤ first → q ≤ q′ → q′ ≤ L .size → Agrees v s L q → Found (view-skips v) s (total v - q′) n →
+      first + n ≡ wanted-record L (first + record-count s) q′
+  found-wanted q′ n starts later inside agrees found =
+      let size = agrees .size in
+      let here : q + before (view-skips v) s (record-count s) ≡ L .size = rw (skips-told made, served-before skips s) (sym (total-told made) ∙ size) in
+      let there : q + (q′ - q) ≡ q′ = omega arith in
+      ap (λ (m : ℕ). first + m) (found .at (omega arith) ∙ ap (place (view-skips v) s 0) (omega arith)) ∙
+      sym (wanted-shown (view-skips v) s first L q starts here (λ i low high. rw (first-told made) at (agrees .shows i low high)) (q′ - q) (omega arith)) ∙
+      ap (wanted-record L (first + record-count s)) there
 
 -- THE HEADER
 
@@ -111,11 +109,10 @@ module _ (skips closed : Bool) (s : List ℕ) (n : ℕ) (ws : List ℕ) (room : 
 
 -- THE CALL
 
-pub emitted : {table tops : List ℕ} {base number most : ℕ} {fs : List Formula} (skips closed : Bool) (s ws sheet : List ℕ) (out : Emitted) (ws₁ sheet₁ ws₂ : List ℕ) →
-    Fits table tops base number fs (length ws) → ((i : ℕ) → getD s i 0 < 256) →
-    Gave base most fs (viewed skips closed (deepest fs) s ws) s ws sheet out ws₁ sheet₁ →
-    Notes skips (deepest fs) (viewed skips closed (deepest fs) s ws) s ws₁ ws₂ → Emits base most fs s skips closed ws sheet out ws₂ sheet₁
-emitted {base = base} {most = most} {fs = fs} skips closed s ws sheet out ws₁ sheet₁ ws₂ fits byte gave (n, found, is) =
+pub emitted : {table tops : List ℕ} {base number most : ℕ} {fs : List Formula} (skips closed : Bool) (s ws sheet v : List ℕ) (out : Emitted) (ws₁ sheet₁ ws₂ : List ℕ) →
+    Fits table tops base number fs (length ws) → ((i : ℕ) → getD s i 0 < 256) → Viewed skips closed (deepest fs) s ws v →
+    Gave base most fs v s ws sheet out ws₁ sheet₁ → Notes skips (deepest fs) v s ws₁ ws₂ → Emits base most fs s skips closed ws sheet out ws₂ sheet₁
+emitted {base = base} {most = most} {fs = fs} skips closed s ws sheet v out ws₁ sheet₁ ws₂ fits byte made gave (n, found, is) =
     let header = fits .header in
     let wide : 16 ≤ length ws₁ = omega (arith, gave .words-length, fits .all) in
     let at = noted-word skips closed s n ws₁ wide in
@@ -123,7 +120,7 @@ emitted {base = base} {most = most} {fs = fs} skips closed s ws sheet out ws₁ 
     let first-same : first-wanted ws₁ ≡ first-wanted ws = frame .header 7 (omega arith) (λ e. omega arith) in
     let seen-same : seen ws₁ ≡ seen ws = frame .header 2 (omega arith) (λ e. omega arith) in
     let last-same : last ws₁ ≡ last ws = frame .header 3 (omega arith) (λ e. omega arith) in
-    let ending : ws₂ ≡ noted skips closed s n ws₁ = rw (flag-told closed) at is in
+    let ending : ws₂ ≡ noted skips closed s n ws₁ = rw (closed-told made) at is in
     let time : last ws₂ ≡ last-time s (seen ws - first-wanted ws) (last ws) = rw (ending, at 3, first-same, seen-same, last-same) refl in
     let size : seen ws₂ ≡ first-wanted ws + record-count s = rw (ending, at 2, first-same) refl in
     let next : first-wanted ws₂ ≡ first-wanted ws + n = rw (ending, at 7, first-same) refl in
@@ -147,12 +144,12 @@ emitted {base = base} {most = most} {fs = fs} skips closed s ws sheet out ws₁ 
       onward = λ k h. rw (ending, noted-part skips closed s n ws₁ wide base fs k header) (frame .onward k h);
       meaning = λ L d never brought top.
           let d-is : given ws ≡ d = top .at in
-          let agrees : Agrees (viewed skips closed (deepest fs) s ws) s L (wanted fs d) =
-          rw d-is (viewed-agrees skips closed s (first-wanted ws) (wanted fs d) L (wanted fs d) (brought .agrees)) in
+          let viewed : ViewOf (first-wanted ws) (wanted fs d) skips closed s v = rw d-is at made in
+          let agrees = viewed-agrees skips closed s (first-wanted ws) (wanted fs d) L v viewed (wanted fs d) (brought .agrees) in
           let (giving, count, more) = gave .meaning L d never agrees top in
           let there : given ws₁ ≡ d + out .count = giving .top .at in
-          let wants = found-wanted (served skips s) closed s (first-wanted ws) (wanted fs d) L (wanted fs (d + out .count)) n (brought .starts) (omega arith)
-          (let w = giving .top .within in omega arith) (rw d-is at agrees) (rw (d-is, there) at found) in (
+          let wants = found-wanted skips closed s (first-wanted ws) (wanted fs d) L v viewed (wanted fs (d + out .count)) n (brought .starts) (omega arith)
+          (let w = giving .top .within in omega arith) agrees (rw there at found) in (
             record { top = rw ending (top-noted skips closed s n ws₁ wide base fs L (d + out .count) header (giving .top)); bytes = giving .bytes },
             count,
             more,

@@ -310,15 +310,15 @@ module _ {base : ℕ} {fs : List Formula} {v s : List ℕ} {ws : List ℕ} {n r 
             );
       }
 
--- all of them
-pub all-asked : {base : ℕ} {fs : List Formula} {v s : List ℕ} {ws : List ℕ} {n r : ℕ} {ws′ : List ℕ} → length fs ≤ n →
-    Asked base fs v s ws n r ws′ → Held base fs v s ws r ws′
-all-asked all a =
-    record {
-      words-length = a .words-length;
-      header = a .header;
-      few = a .few;
-      least = λ k h. a .least k (omega arith) h;
-      onward = a .onward;
-      meaning = a .meaning;
-    }
+module _ {base : ℕ} {fs : List Formula} {v s : List ℕ} {ws : List ℕ} {n r : ℕ} {ws′ : List ℕ} (a : Asked base fs v s ws n r ws′) where
+  held-by : ((k : ℕ) → k < length fs → r ≤ held-count (formula fs k) (part-of base fs k ws′)) → Held base fs v s ws r ws′
+  held-by least =
+      record { words-length = a .words-length; header = a .header; few = a .few; least = least; onward = a .onward; meaning = a .meaning }
+
+  -- all of them
+  pub all-asked : length fs ≤ n → Held base fs v s ws r ws′
+  all-asked all = held-by (λ k h. a .least k (omega arith) h)
+
+  -- nothing is settled, whoever was asked
+  pub none-settled : r ≡ 0 → Held base fs v s ws r ws′
+  none-settled none = held-by (λ k h. omega arith)

@@ -5,4 +5,5 @@ pub mod Places
 pub mod Holding
 pub mod Spending
 pub mod Giving
+pub mod Turns
 pub mod Emitting

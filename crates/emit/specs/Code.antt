@@ -17,8 +17,7 @@ use Rattle.rule.specs.Postfix.{formula}
 use Rattle.rule.specs.Accepted.{WellFormed}
 use Rattle.trace.specs.Format.{record-count}
 use Rattle.trace.specs.Order.{last-time}
-use Rattle.trace.specs.Positions.{before}
-use Rattle.trace.specs.View.{total, view-of}
+use Rattle.trace.specs.View.{total, view-of, ViewOf}
 use Rattle.trace.specs.View.{skips as view-skips}
 use Rattle.trace.specs.View.{closed as view-closed}
 use Rattle.trace.specs.Window.{Found}
@@ -153,9 +152,9 @@ pub record Brought (fs : List Formula) (s : List ℕ) (skips closed : Bool) (fir
   pub starts : head-of L (wanted fs d) ≤ first
   pub agrees : Agrees (view-of first (wanted fs d) skips closed s) s L (wanted fs d)
 
--- the view of these records that is handed on: service records are passed over only where one lies among them
-abbrev pub viewed : (skips closed : Bool) (deep : ℕ) (s ws : List ℕ) → List ℕ
-viewed skips closed deep s ws = view-of (first-wanted ws) (given ws - deep) (ltb (before skips s (record-count s)) (record-count s)) closed s
+-- the view of these records that is handed on
+abbrev pub Viewed : (skips closed : Bool) (deep : ℕ) (s ws v : List ℕ) → Type 0
+Viewed skips closed deep s ws v = ViewOf (first-wanted ws) (given ws - deep) skips closed s v
 
 -- what is noted of the log: the last time, the records seen, whether it is closed, its version, and the first record still wanted, the
 -- slice's record n

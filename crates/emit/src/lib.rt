@@ -5,11 +5,11 @@ ghost use mathlib.Core.Bool.{cond};
 ghost use Prim.Native.Nat.{ℕ, suc, _+_, _-_, _≤_, _<_, _^_, min, max};
 ghost use lib.ListN.{length};
 ghost use Rattle.blocks.specs.Block.{word};
-ghost use Rattle.trace.specs.View.{Numbered};
+ghost use Rattle.trace.specs.View.{Views};
 ghost use Rattle.engine.specs.Tops.{place};
 ghost use Rattle.verdicts.specs.Counts.{later-end};
 ghost use Rattle.checkpoint.specs.Checkpoint.{given, first-wanted};
-ghost use Rattle.emit.specs.Code.{Fitting, HoldsOne, Holds, Answered, spent-one, all-spent, Spendable, Gives, Countable, viewed, Notes, Ready, Emission};
+ghost use Rattle.emit.specs.Code.{Fitting, HoldsOne, Holds, Answered, spent-one, all-spent, Spendable, Gives, Countable, Viewed, Notes, Ready, Emission};
 use checkpoint::header;
 use engine::tops;
 use rule::Entry;
@@ -39,17 +39,17 @@ fn not_given(given: u64, size: u64) -> u64
 
 // Asks formula k where it holds nothing, and gives how many answers it holds then.
 fn hold_one(
-    table: &[u64; 1024],
+    table: &[u32; 1024],
     tops: &[usize; 32],
     number: usize,
     k: usize,
     records: &[u8],
-    view: &[u64; 4],
+    view: &[u64; 66],
     copy: &mut [u8; 520],
     waiting: &mut [u8; 520],
     words: &mut [u64],
 ) -> u64
-    requires { ⌜ (k < number) × Fitting (now table) (now tops) number (length (now words)) × (length (now copy) ≡ 520) × (length (now waiting) ≡ 520) × Numbered (now view) (now records) ⌝ }
+    requires { ⌜ (k < number) × Fitting (now table) (now tops) number (length (now words)) × (length (now copy) ≡ 520) × (length (now waiting) ≡ 520) × Views (now view) (now records) ⌝ }
     ensures { λ r. ⌜ HoldsOne (now (table .entry)) (now (tops .entry)) (now (view .entry)) (now (records .entry)) number k (now (words .entry)) r (now (words .exit)) ⌝ }
     ensures { λ _. ⌜ (length (now (copy .exit)) ≡ 520) × (length (now (waiting .exit)) ≡ 520) ⌝ }
 {
@@ -76,22 +76,26 @@ fn hold_one(
     words[held]
 }
 
-// Asks every formula that holds nothing. Gives how many answers each of them holds at least: 0 where nothing more is settled.
+// Asks every formula that holds nothing, unless all positions have verdicts. Gives how many answers each of them holds at least: 0 where
+// nothing more is settled.
 fn hold(
-    table: &[u64; 1024],
+    table: &[u32; 1024],
     tops: &[usize; 32],
     number: usize,
     records: &[u8],
-    view: &[u64; 4],
+    view: &[u64; 66],
     copy: &mut [u8; 520],
     waiting: &mut [u8; 520],
     words: &mut [u64],
 ) -> u64
-    requires { ⌜ Fitting (now table) (now tops) number (length (now words)) × (length (now copy) ≡ 520) × (length (now waiting) ≡ 520) × Numbered (now view) (now records) ⌝ }
+    requires { ⌜ Fitting (now table) (now tops) number (length (now words)) × (length (now copy) ≡ 520) × (length (now waiting) ≡ 520) × Views (now view) (now records) ⌝ }
     ensures { λ r. ⌜ Holds (now (table .entry)) (now (tops .entry)) (now (view .entry)) (now (records .entry)) number (now (words .entry)) r (now (words .exit)) ⌝ }
     ensures { λ _. ⌜ (length (now (copy .exit)) ≡ 520) × (length (now (waiting .exit)) ≡ 520) ⌝ }
 {
     let mut least = not_given(words[header::GIVEN], view[view::TOTAL]);
+    if least == 0 {
+        return 0;
+    }
     let mut k: usize = 0;
     while k < number {
         let count = hold_one(table, tops, number, k, records, view, copy, waiting, words);
@@ -169,20 +173,20 @@ pub fn columns_of(number: usize) -> usize
     if number == 0 { 1 } else { number }
 }
 
-// Writes verdicts until the sheet is full or nothing more is settled.
-fn give(
-    table: &[u64; 1024],
+// The verdicts of any number of formulas, until the sheet is full or nothing more is settled.
+fn give_many(
+    table: &[u32; 1024],
     tops: &[usize; 32],
     number: usize,
     most: usize,
     records: &[u8],
-    view: &[u64; 4],
+    view: &[u64; 66],
     copy: &mut [u8; 520],
     waiting: &mut [u8; 520],
     words: &mut [u64],
     sheet: &mut [u8],
 ) -> Emitted
-    requires { ⌜ Countable (now table) (now tops) number most (now words) × (length (now copy) ≡ 520) × (length (now waiting) ≡ 520) × Numbered (now view) (now records) ⌝ }
+    requires { ⌜ Countable (now table) (now tops) number most (now words) × (length (now copy) ≡ 520) × (length (now waiting) ≡ 520) × Views (now view) (now records) ⌝ }
     ensures { λ r. ⌜ Gives (now (table .entry)) (now (tops .entry)) (now (view .entry)) (now (records .entry)) number most (now (words .entry)) (now (sheet .entry)) r (now (words .exit)) (now (sheet .exit)) ⌝ }
 {
     let columns = columns_of(number);
@@ -204,6 +208,82 @@ fn give(
     }
 }
 
+// The same for one formula. As the number is known, the compiler leaves no loop over formulas inside this one.
+fn give_one(
+    table: &[u32; 1024],
+    tops: &[usize; 32],
+    most: usize,
+    records: &[u8],
+    view: &[u64; 66],
+    copy: &mut [u8; 520],
+    waiting: &mut [u8; 520],
+    words: &mut [u64],
+    sheet: &mut [u8],
+) -> Emitted
+    requires { ⌜ Countable (now table) (now tops) 1 most (now words) × (length (now copy) ≡ 520) × (length (now waiting) ≡ 520) × Views (now view) (now records) ⌝ }
+    ensures { λ r. ⌜ Gives (now (table .entry)) (now (tops .entry)) (now (view .entry)) (now (records .entry)) 1 most (now (words .entry)) (now (sheet .entry)) r (now (words .exit)) (now (sheet .exit)) ⌝ }
+{
+    let mut answers = [0u64; 8];
+    let mut done: usize = 0;
+    loop {
+        let ready = hold(table, tops, 1, records, view, copy, waiting, words);
+        let n = blocks::available(done as u64, ready, sheet.len() as u64);
+        if n == 0 {
+            return Emitted {
+                count: done,
+                more: 0 < ready,
+            };
+        }
+        copy_answers(tops, 1, words, &mut answers);
+        verdicts::write_answers(sheet, done, n as usize, &answers, 1);
+        spend(tops, 1, most, words, n);
+        done += n as usize;
+    }
+}
+
+// Writes verdicts until the sheet is full or nothing more is settled.
+fn give(
+    table: &[u32; 1024],
+    tops: &[usize; 32],
+    number: usize,
+    most: usize,
+    records: &[u8],
+    view: &[u64; 66],
+    copy: &mut [u8; 520],
+    waiting: &mut [u8; 520],
+    words: &mut [u64],
+    sheet: &mut [u8],
+) -> Emitted
+    requires { ⌜ Countable (now table) (now tops) number most (now words) × (length (now copy) ≡ 520) × (length (now waiting) ≡ 520) × Views (now view) (now records) ⌝ }
+    ensures { λ r. ⌜ Gives (now (table .entry)) (now (tops .entry)) (now (view .entry)) (now (records .entry)) number most (now (words .entry)) (now (sheet .entry)) r (now (words .exit)) (now (sheet .exit)) ⌝ }
+{
+    if number == 1 {
+        return give_one(
+            table,
+            tops,
+            most,
+            records,
+            view,
+            copy,
+            waiting,
+            words,
+            sheet,
+        );
+    }
+    give_many(
+        table,
+        tops,
+        number,
+        most,
+        records,
+        view,
+        copy,
+        waiting,
+        words,
+        sheet,
+    )
+}
+
 // What a checkpoint notes of a log of so many records: their number and 1 where it is closed, 0 where it is open.
 fn closed_with(closed: bool, total: u64) -> u64
     requires { ⌜ total < 2 ^ 63 ⌝ }
@@ -220,22 +300,24 @@ fn wanted_position(depth: u64, given: u64) -> u64
 }
 
 // What the call knows of its log: the view of the records from the first wanted on.
-fn view_of(records: &[u8], skips: bool, closed: bool, depth: u64, words: &[u64]) -> [u64; 4]
-    requires { ⌜ (8 ≤ length (now words)) × (given (now words) ≤ 1000000) ⌝ }
-    ensures { λ r. ⌜ r ≡ viewed skips closed depth (now (records .entry)) (now (words .entry)) ⌝ }
+fn write_view(
+    records: &[u8],
+    skips: bool,
+    closed: bool,
+    depth: u64,
+    words: &[u64],
+    view: &mut [u64; 66],
+)
+    requires { ⌜ (8 ≤ length (now words)) × (given (now words) ≤ 1000000) × (length (now view) ≡ 66) ⌝ }
+    ensures { λ _. ⌜ Viewed skips closed depth (now (records .entry)) (now (words .entry)) (now (view .exit)) ⌝ }
 {
-    let before = wanted_position(depth, words[header::GIVEN]);
-    let positions = trace::window::positions(records, skips);
-    [
-        words[header::WANTED],
-        before + positions,
-        bits::flag(positions < trace::count(records) as u64),
-        bits::flag(closed),
-    ]
+    let earlier = wanted_position(depth, words[header::GIVEN]);
+    let first = words[header::WANTED];
+    view::write_view(records, first, earlier, skips, closed, view);
 }
 
 // Notes what was seen of the log.
-fn note(records: &[u8], view: &[u64; 4], skips: bool, depth: u64, words: &mut [u64])
+fn note(records: &[u8], view: &[u64; 66], skips: bool, depth: u64, words: &mut [u64])
     requires { ⌜ (8 ≤ length (now words)) × (first-wanted (now words) ≤ 1000000) ⌝ }
     ensures { λ _. ⌜ Notes skips depth (now (view .entry)) (now (records .entry)) (now (words .entry)) (now (words .exit)) ⌝ }
 {
@@ -270,10 +352,11 @@ pub fn emit(
     requires { ⌜ Ready entries count ends number most base depth (now records) (now words) ⌝ }
     ensures { λ r. ⌜ Emission skips closed entries count ends number most base depth (now (records .entry)) (now (words .entry)) (now (sheet .entry)) r (now (words .exit)) (now (sheet .exit)) ⌝ }
 {
-    let mut table = [0u64; 1024];
+    let mut table = [0u32; 1024];
     engine::layout::lay_out(entries, count, &mut table);
     let tops = engine::layout::lay_tops(entries, count, &ends, number, &table, base);
-    let view = view_of(records, skips, closed, depth, words);
+    let mut view = [0u64; 66];
+    write_view(records, skips, closed, depth, words, &mut view);
     let mut copy = [0u8; 520];
     let mut waiting = [0u8; 520];
     let emitted = give(

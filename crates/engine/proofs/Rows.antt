@@ -149,7 +149,7 @@ module _ (t : List Entry) (n : ℕ) (ok : WellFormed t n) where
           let e : first t (k - 1) - 1 ≡ left t k = omega arith in
           rw (f, below (k - 1) (omega arith), e, below (left t k) (omega arith)) (omega arith)
 
-  left-is : (firsts : List ℕ) (k : ℕ) → k < n → ((j : ℕ) → j < n → getD firsts j 0 ≡ first t j) →
+  left-is : (firsts : List ℕ) (k : ℕ) → k < n → ((j : ℕ) → j < k → getD firsts j 0 ≡ first t j) →
       left-from (takes-left (entry t k .kind)) k firsts ≡ cond (takes-left (entry t k .kind)) (left t k) 0
   left-is firsts k h below = go (arity-at k h)
     where
@@ -213,7 +213,7 @@ laid-next t n ok table k at a c h l size laid is =
 
 -- the three numbers as the code has them
 module _ (t : List Entry) (n : ℕ) (ok : WellFormed t n) (k : ℕ) (h : k < n) (l : k < 128) where
-  pub left-next : (firsts : List ℕ) (takes : Bool) (at : ℕ) → ((j : ℕ) → j < n → getD firsts j 0 ≡ first t j) →
+  pub left-next : (firsts : List ℕ) (takes : Bool) (at : ℕ) → ((j : ℕ) → j < k → getD firsts j 0 ≡ first t j) →
       takes ≡ takes-left (entry t k .kind) → at ≡ left-from takes k firsts →
       at ≡ cond (takes-left (entry t k .kind)) (left t k) 0
   left-next firsts takes at begin e f = f ∙ ap (λ b. left-from b k firsts) e ∙ left-is t n ok firsts k h begin
@@ -222,7 +222,7 @@ module _ (t : List Entry) (n : ℕ) (ok : WellFormed t n) (k : ℕ) (h : k < n) 
   left-fits at e = let b = cond-below (takes-left (entry t k .kind)) (left t k) 127 (omega arith) in omega arith
 
   pub next-row : (firsts table : List ℕ) (takes takes′ : Bool) (at before a c : ℕ) →
-      ((j : ℕ) → j < n → getD firsts j 0 ≡ first t j) → Laid t k table →
+      ((j : ℕ) → j < k → getD firsts j 0 ≡ first t j) → Laid t k table →
       takes ≡ takes-left (entry t k .kind) → takes′ ≡ takes-right (entry t k .kind) →
       at ≡ left-from takes k firsts → before ≡ k - 1 →
       a ≡ cond takes (column 7 table at) 0 → c ≡ cond takes′ (column 7 table before) 0 → Next t k at a c
@@ -234,11 +234,9 @@ module _ (t : List Entry) (n : ℕ) (ok : WellFormed t n) (k : ℕ) (h : k < n) 
         right-is = g′ ∙ ap₂ (λ b x. cond b (column 7 table x) 0) e′ f′ ∙ right-words-is t n ok table k h laid;
       }
 
-  pub next-fits : (at a c : ℕ) → Next t k at a c → (a ≤ 8192) × (c ≤ 8192)
-  next-fits at a c is = (
-    rw (is .left-is) (cond-below (takes-left (entry t k .kind)) (part t (left t k)) 8192 (part-bound t n ok (left t k) (omega arith))),
-    rw (is .right-is) (cond-below (takes-right (entry t k .kind)) (part t (k - 1)) 8192 (part-bound t n ok (k - 1) (omega arith))),
-  )
+  pub next-fits : (at a c : ℕ) → Next t k at a c → a + c + own (entry t k) ≤ 8192
+  next-fits at a c is =
+      rw (is .left-is, is .right-is) (subst (λ w. w ≤ 8192) (sym (row-words t n ok k h)) (part-bound t n ok k h))
 
 -- THEOREMS
 

@@ -5,6 +5,7 @@ ghost use Prim.Native.Nat.{ℕ, _+_, _*_, _-_, _≤_, _<_};
 ghost use lib.ListN.{length, getD};
 ghost use lib.Seq.{sets};
 ghost use Rattle.rule.specs.Accepted.{WellFormed};
+ghost use Rattle.rule.specs.Words.{own};
 ghost use Rattle.blocks.specs.Kinds.{takes-left};
 ghost use Rattle.engine.specs.Table.{column};
 ghost use mathlib.Core.List.{List};
@@ -53,55 +54,39 @@ fn first_entry(kind: u8, k: usize, firsts: &[usize; 128]) -> usize
     if kind != 0 { firsts[one_less(k)] } else { k }
 }
 
-// The first entry of each subformula.
-fn first_entries(entries: [Entry; 128], count: usize) -> [usize; 128]
-    requires { ⌜ (count ≤ 128) × WellFormed entries count ⌝ }
-    ensures { λ r. ⌜ ((k : ℕ) → k < count → getD r k 0 ≡ first entries k) ⌝ }
-{
-    let mut firsts = [0usize; 128];
-    let mut k: usize = 0;
-    while k < count {
-        let e = entries[k];
-        let at = first_entry(e.kind, k, &firsts);
-        firsts[k] = at;
-        k += 1;
-    }
-    firsts
-}
-
 // The words of an operand, from its row.
-fn words_of(takes: bool, operand: usize, table: &[u64; 1024]) -> u64
+fn words_of(takes: bool, operand: usize, table: &[u32; 1024]) -> u64
     requires { ⌜ operand < 128 ⌝ }
     ensures { λ r. ⌜ r ≡ cond takes (column 7 (now (table .entry)) operand) 0 ⌝ }
 {
     if takes {
-        table[operand * 8 + table::WORDS]
+        table::field(table, operand, table::WORDS)
     } else {
         0
     }
 }
 
 // A row, at its place: a words for the left operand and c for the right one.
-fn put(table: &mut [u64; 1024], at: usize, e: Entry, left: usize, a: u64, c: u64)
-    requires { ⌜ (at + 8 ≤ 1024) × (a ≤ 8192) × (c ≤ 8192) ⌝ }
+fn put(table: &mut [u32; 1024], at: usize, e: Entry, left: usize, a: u64, c: u64)
+    requires { ⌜ (at + 8 ≤ 1024) × (left < 128) × (a + c + own e ≤ 8192) ⌝ }
     ensures { λ _. ⌜ now (table .exit) ≡ sets (now (table .entry)) at (row-of e left a c) ⌝ }
 {
-    table[at] = e.kind as u64;
-    table[at + table::LETTER] = e.letter as u64;
-    table[at + table::LOW] = e.low as u64;
-    table[at + table::HIGH] = e.high as u64;
-    table[at + table::LEFT] = left as u64;
-    table[at + table::LEFT_WORDS] = a;
-    table[at + table::RIGHT_WORDS] = c;
-    table[at + table::WORDS] = a + c + rule::own_words(e);
+    table[at] = e.kind as u32;
+    table[at + table::LETTER] = e.letter as u32;
+    table[at + table::LOW] = e.low;
+    table[at + table::HIGH] = e.high;
+    table[at + table::LEFT] = left as u32;
+    table[at + table::LEFT_WORDS] = a as u32;
+    table[at + table::RIGHT_WORDS] = c as u32;
+    table[at + table::WORDS] = (a + c + rule::own_words(e)) as u32;
 }
 
 // Writes the rows of an accepted rule's entries into a table of zeros, each from those of its operands, which stand before it.
-pub fn lay_out(entries: [Entry; 128], count: usize, table: &mut [u64; 1024])
+pub fn lay_out(entries: [Entry; 128], count: usize, table: &mut [u32; 1024])
     requires { ⌜ (count ≤ 128) × WellFormed entries count × (length (now table) ≡ 1024) × ((i : ℕ) → getD (now table) i 0 ≡ 0) ⌝ }
     ensures { λ _. ⌜ Laid entries count (now (table .exit)) ⌝ }
 {
-    let firsts = first_entries(entries, count);
+    let mut firsts = [0usize; 128];
     let mut k: usize = 0;
     while k < count {
         let e = entries[k];
@@ -110,6 +95,8 @@ pub fn lay_out(entries: [Entry; 128], count: usize, table: &mut [u64; 1024])
         let left_words = words_of(takes, left, table);
         let right_words = words_of(e.kind != 0, one_less(k), table);
         put(table, k * 8, e, left, left_words, right_words);
+        let first = first_entry(e.kind, k, &firsts);
+        firsts[k] = first;
         k += 1;
     }
 }
@@ -121,7 +108,7 @@ pub fn lay_tops(
     count: usize,
     ends: &[usize; 9],
     number: usize,
-    table: &[u64; 1024],
+    table: &[u32; 1024],
     base: usize,
 ) -> [usize; 32]
     requires { ⌜ (count ≤ 128) × WellFormed entries count × Laid entries count (now table) × (base ≤ 24) × ((fs : List Formula) × Ended entries count (now ends) number fs) ⌝ }

@@ -3,13 +3,13 @@ ghost use mathlib.Core.Path.{_≡_};
 ghost use mathlib.Core.Bool.{true, false};
 ghost use Prim.Native.Nat.{_+_, _≤_, _<_};
 ghost use lib.ListN.{length};
-ghost use Rattle.trace.specs.View.{Numbered};
+ghost use Rattle.trace.specs.View.{Views};
 ghost use Rattle.engine.specs.Answer.{Answers};
 ghost use Rattle.engine.specs.Ask.{Advances, Asks, stored};
 ghost use Rattle.engine.specs.Table.{RowsOk, column};
 
 pub mod layout;
-mod table;
+pub mod table;
 pub mod tops;
 
 use blocks::Step;
@@ -32,16 +32,16 @@ fn store(words: &mut [u64], slot: usize, bits: u64, count: u64)
 
 // One step of entry k on its own block, which begins at `own`.
 fn advance(
-    table: &[u64; 1024],
+    table: &[u32; 1024],
     records: &[u8],
-    view: &[u64; 4],
+    view: &[u64; 66],
     copy: &mut [u8; 520],
     waiting: &mut [u8; 520],
     k: usize,
     own: usize,
     words: &mut [u64],
 ) -> Step
-    requires { ⌜ (k < 128) × RowsOk (now table) k × (own ≡ column 5 (now table) k + column 6 (now table) k) × (length (now words) ≡ column 7 (now table) k) × (length (now copy) ≡ 520) × (length (now waiting) ≡ 520) × Numbered (now view) (now records) ⌝ }
+    requires { ⌜ (k < 128) × RowsOk (now table) k × (own ≡ column 5 (now table) k + column 6 (now table) k) × (length (now words) ≡ column 7 (now table) k) × (length (now copy) ≡ 520) × (length (now waiting) ≡ 520) × Views (now view) (now records) ⌝ }
     ensures { λ r. ⌜ Advances (now (table .entry)) (now (view .entry)) (now (records .entry)) k own (now (words .entry)) r (now (words .exit)) ⌝ }
     ensures { λ _. ⌜ (length (now (copy .exit)) ≡ 520) × (length (now (waiting .exit)) ≡ 520) ⌝ }
 {
@@ -62,15 +62,15 @@ fn advance(
 // Asks entry k for its next batch of answers, on the log that the view tells of. Its words are its operands' words, left then right, and
 // its own block.
 pub fn answer(
-    table: &[u64; 1024],
+    table: &[u32; 1024],
     records: &[u8],
-    view: &[u64; 4],
+    view: &[u64; 66],
     copy: &mut [u8; 520],
     waiting: &mut [u8; 520],
     k: usize,
     words: &mut [u64],
 ) -> Reply
-    requires { ⌜ (k < 128) × RowsOk (now table) k × (length (now words) ≡ column 7 (now table) k) × (length (now copy) ≡ 520) × (length (now waiting) ≡ 520) × Numbered (now view) (now records) ⌝ }
+    requires { ⌜ (k < 128) × RowsOk (now table) k × (length (now words) ≡ column 7 (now table) k) × (length (now copy) ≡ 520) × (length (now waiting) ≡ 520) × Views (now view) (now records) ⌝ }
     ensures { λ r. ⌜ Answers (now (table .entry)) (now (view .entry)) (now (records .entry)) k (now (words .entry)) r (now (words .exit)) ⌝ }
     ensures { λ _. ⌜ (length (now (copy .exit)) ≡ 520) × (length (now (waiting .exit)) ≡ 520) ⌝ }
 {
@@ -131,9 +131,9 @@ pub fn answer(
 
 // Fills an operand's buffer at `slot` by asking it; false where the operand is open.
 pub fn ask(
-    table: &[u64; 1024],
+    table: &[u32; 1024],
     records: &[u8],
-    view: &[u64; 4],
+    view: &[u64; 66],
     copy: &mut [u8; 520],
     waiting: &mut [u8; 520],
     operand: usize,
@@ -142,7 +142,7 @@ pub fn ask(
     slot: usize,
     words: &mut [u64],
 ) -> bool
-    requires { ⌜ (operand < 128) × RowsOk (now table) operand × (from + column 7 (now table) operand ≡ to) × (to ≤ length (now words)) × (slot + 1 < length (now words)) × (length (now copy) ≡ 520) × (length (now waiting) ≡ 520) × Numbered (now view) (now records) ⌝ }
+    requires { ⌜ (operand < 128) × RowsOk (now table) operand × (from + column 7 (now table) operand ≡ to) × (to ≤ length (now words)) × (slot + 1 < length (now words)) × (length (now copy) ≡ 520) × (length (now waiting) ≡ 520) × Views (now view) (now records) ⌝ }
     ensures { λ r. ⌜ Asks (now (table .entry)) (now (view .entry)) (now (records .entry)) operand from to slot (now (words .entry)) r (now (words .exit)) ⌝ }
     ensures { λ _. ⌜ (length (now (copy .exit)) ≡ 520) × (length (now (waiting .exit)) ≡ 520) ⌝ }
 {

@@ -20,10 +20,17 @@ pub const RIGHT_WORDS: usize = 6;
 
 pub const WORDS: usize = 7;
 
+// Each number has 32 bits, since a call clears the whole table: half the bytes.
+fn wide(x: u32) -> u64
+    ensures { λ r. ⌜ r ≡ x ⌝ }
+{
+    x as u64
+}
+
 // Column j of row k.
-pub fn field(table: &[u64; 1024], k: usize, j: usize) -> u64
+pub fn field(table: &[u32; 1024], k: usize, j: usize) -> u64
     requires { ⌜ (k < 128) × (j < 8) ⌝ }
     ensures { λ r. ⌜ r ≡ column j (now (table .entry)) k ⌝ }
 {
-    table[k * 8 + j]
+    wide(table[k * 8 + j])
 }

@@ -20,10 +20,9 @@ use Rattle.rule.proofs.Order.{start-grows}
 use Rattle.trace.specs.Format.{record-count, records-of, dropped, malformed}
 use Rattle.trace.specs.Order.{falls, disordered}
 use Rattle.trace.specs.Log.{log-of}
-use Rattle.trace.specs.View.{Numbered, total}
+use Rattle.trace.specs.View.{Views, total}
 use Rattle.trace.proofs.Laws.{never-falls, neither, well-formed-records}
 use Rattle.trace.proofs.Positions.{positions-keep, before-few}
-use Rattle.trace.proofs.Slices.{served}
 use Rattle.engine.specs.Table.{RowsOk, column}
 use Rattle.engine.specs.Tops.{Ended}
 use Rattle.engine.proofs.Rows.{row-ok}
@@ -31,19 +30,19 @@ use Rattle.emit.specs.Verdicts.{formulas-of, columns}
 use Rattle.decimal.specs.Text.{Writes}
 use Rattle.reasons.specs.Text.{text}
 use Rattle.reasons.specs.OfRule.{log-in, reason-in}
-use Rattle.search.proofs.Records.{whole-log, whole-agrees}
+use Rattle.search.proofs.Records.{WholeView, whole-log, whole-agrees}
 use Rattle.explain.specs.declared.Explained.{Explained}
 use Rattle.explain.specs.declared.Explained.the-variants.{Written, Refused}
 use Rattle.explain.specs.Explain.{log-refusal, unexplained-in, explain-refusal, answer, Explains}
-use Rattle.explain.specs.Code.{Lows, Ruled, Prepared, Told-of, Wrote, Copies, whole-view}
+use Rattle.explain.specs.Code.{Lows, Ruled, Prepared, Told-of, Wrote, Copies}
 use Rattle.explain.proofs.Formulas.{size-some}
 
 -- WHAT IS LENT
 
 module _ (e : List Entry) (n : ℕ) (ends : List ℕ) (number : ℕ) (fs : List Formula) (ended : Ended e n ends number fs) (few : n ≤ 128) (t : List ℕ) (ruled : Ruled e n t) where
-  pub prepared : (v s words : List ℕ) → 8192 ≤ length words → Numbered v s → record-count s ≤ 1000000 → Prepared t v s words ends number
+  pub prepared : (v s words : List ℕ) → 8192 ≤ length words → Views v s → record-count s ≤ 1000000 → Prepared t v s words ends number
   unfolding start
-  prepared v s words room numbered some =
+  prepared v s words room views some =
       record {
         few = let m = ended .number in let l = ended .few in omega arith;
         some = λ k h. let (one, most) = within k h in (one, omega arith);
@@ -56,7 +55,7 @@ module _ (e : List Entry) (n : ℕ) (ends : List ℕ) (number : ℕ) (fs : List 
                   omega arith,
             );
         words-room = room;
-        numbered = numbered;
+        views = views;
         few-records = some;
       }
     where
@@ -69,15 +68,15 @@ module _ (e : List Entry) (n : ℕ) (ends : List ℕ) (number : ℕ) (fs : List 
           let one = size-some (formula fs k) in
           (omega arith, omega arith)
 
-  pub told-of : (skips : Bool) (s : List ℕ) → falls s ≡ false → Told-of t (whole-view skips s) s ends number fs (log-of skips s)
-  told-of skips s steady =
+  pub told-of : (skips : Bool) (s v : List ℕ) → WholeView skips s v → falls s ≡ false → Told-of t v s ends number fs (log-of skips s)
+  told-of skips s v made steady =
       let keeps = never-falls s steady in
       record {
         entries = e;
         count = n;
         ruled = ruled;
         ended = ended;
-        shown = record { whole = whole-log skips s keeps; falls = positions-keep skips s keeps; agrees = whole-agrees skips s; unclosed = refl };
+        shown = record { whole = whole-log skips s v made keeps; falls = positions-keep skips s keeps; agrees = whole-agrees skips s v made; unclosed = refl };
       }
 
 -- CHECK 27

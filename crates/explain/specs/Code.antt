@@ -16,10 +16,9 @@ use Rattle.rule.specs.declared.Entry.{Entry}
 use Rattle.rule.specs.Operands.{FormulaAt}
 use Rattle.rule.specs.Accepted.{WellFormed}
 use Rattle.trace.specs.Format.{record-count}
-use Rattle.trace.specs.Positions.{before}
 use Rattle.trace.specs.Log.{log-of}
 use Rattle.trace.specs.Order.{falls}
-use Rattle.trace.specs.View.{view-of, Numbered}
+use Rattle.trace.specs.View.{Views}
 use Rattle.blocks.specs.Kinds.{takes-right}
 use Rattle.blocks.specs.Step.{Agrees}
 use Rattle.engine.specs.Table.{RowsOk, column}
@@ -143,7 +142,7 @@ pub record Lent (t v s words copy waiting : List ℕ) (k : ℕ) : Type 0 where
   pub words-room : 8192 ≤ length words
   pub copy-room : length copy ≡ 520
   pub waiting-room : length waiting ≡ 520
-  pub numbered : Numbered v s
+  pub views : Views v s
   pub few : record-count s ≤ 1000000
 
 -- the table is that of an accepted rule's entries
@@ -196,17 +195,13 @@ pub record Tells (t v s : List ℕ) (k i : ℕ) (text₀ : List ℕ) (at : ℕ) 
 
 -- THE FORMULAS OF A RULE
 
--- the view of all records, open
-abbrev pub whole-view : (skips : Bool) → List ℕ → List ℕ
-whole-view skipping s = view-of 0 0 (ltb (before skipping s (record-count s)) (record-count s)) false s
-
 -- the formulas' last entries
 pub record Prepared (t v s words ends : List ℕ) (number : ℕ) : Type 0 where
   pub few : number ≤ 8
   pub some : (k : ℕ) → k < number → (0 < getD ends k 0) × (getD ends k 0 ≤ 128)
   pub rows : (k : ℕ) → k < number → RowsOk t (getD ends k 0 - 1) × Lows t (getD ends k 0 - 1)
   pub words-room : 8192 ≤ length words
-  pub numbered : Numbered v s
+  pub views : Views v s
   pub few-records : record-count s ≤ 1000000
 
 -- the table is that of these formulas, and the view and the records are the log

@@ -11,7 +11,7 @@ ghost use Rattle.trace.specs.Format.{record-count};
 ghost use Rattle.trace.specs.View.{total};
 ghost use Rattle.engine.specs.Tops.{Ended};
 ghost use Rattle.explain.specs.Explain.{log-refusal, answer, Explains};
-ghost use Rattle.explain.specs.Code.{whole-view, Prepared, AllAnswered, Reasons, ReasonsOf, CopiesOf};
+ghost use Rattle.explain.specs.Code.{Prepared, AllAnswered, Reasons, ReasonsOf, CopiesOf};
 
 mod saying;
 mod sentence;
@@ -61,9 +61,9 @@ fn check_log(log: &[u8]) -> u32
 
 // Whether every formula has answered the position.
 fn all_answered(
-    table: &[u64; 1024],
+    table: &[u32; 1024],
     records: &[u8],
-    view: &[u64; 4],
+    view: &[u64; 66],
     copy: &mut [u8; 520],
     waiting: &mut [u8; 520],
     words: &mut [u64],
@@ -99,9 +99,9 @@ fn all_answered(
 
 // Writes the reason of one formula at a position, or of the empty rule, where the formula exists and every formula has answered the position.
 fn write_reason(
-    table: &[u64; 1024],
+    table: &[u32; 1024],
     records: &[u8],
-    view: &[u64; 4],
+    view: &[u64; 66],
     words: &mut [u64],
     ends: &[usize; 9],
     number: usize,
@@ -149,19 +149,6 @@ fn write_reason(
     Reason::Ends(told.end)
 }
 
-// What the call knows of its log: the whole of it, open.
-fn view_of(records: &[u8], skips: bool) -> [u64; 4]
-    ensures { λ r. ⌜ r ≡ whole-view skips (now (records .entry)) ⌝ }
-{
-    let positions = trace::window::positions(records, skips);
-    [
-        0,
-        positions,
-        bits::flag(positions < trace::count(records) as u64),
-        0,
-    ]
-}
-
 // The same of a decoded rule.
 fn reason_of(
     entries: [Entry; 128],
@@ -177,9 +164,10 @@ fn reason_of(
     requires { ⌜ (count ≤ 128) × WellFormed entries count × (record-count (now records) ≤ 1000000) × (length (now text) ≡ 24576) × ((fs : List Formula) × Ended entries count ends number fs) ⌝ }
     ensures { λ r. ⌜ ReasonsOf entries count ends number skips (now (records .entry)) formula position (now (text .entry)) r (now (text .exit)) ⌝ }
 {
-    let mut table = [0u64; 1024];
+    let mut table = [0u32; 1024];
     engine::layout::lay_out(entries, count, &mut table);
-    let view = view_of(records, skips);
+    let mut view = [0u64; 66];
+    trace::view::write_view(records, 0, 0, skips, false, &mut view);
     let mut words = [0u64; 8192];
     write_reason(
         &table,

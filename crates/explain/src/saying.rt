@@ -10,6 +10,7 @@ ghost use Rattle.search.specs.Times.{Whole};
 ghost use Rattle.explain.specs.Code.{saying-of, joining, gap-saying, found-saying, Lent, Answering, Shape, Saids};
 use super::sentence;
 use super::sentence::Sentence;
+use engine::table::field;
 use search::times;
 
 // A sentence, the number of operands whose sentences follow it, their position, and whether the entry holds there; of one operand: whether
@@ -21,14 +22,6 @@ pub struct Saying {
     pub holds: bool,
 }
 
-// Column j of row k.
-pub fn field(table: &[u64; 1024], k: usize, j: usize) -> u64
-    requires { ⌜ (k < 128) × (j < 8) ⌝ }
-    ensures { λ r. ⌜ r ≡ column j (now (table .entry)) k ⌝ }
-{
-    table[k * 8 + j]
-}
-
 // One of two numbers.
 fn choose(first: bool, a: u64, b: u64) -> u64
     ensures { λ r. ⌜ r ≡ cond first a b ⌝ }
@@ -37,7 +30,7 @@ fn choose(first: bool, a: u64, b: u64) -> u64
 }
 
 // A letter: yes or no.
-fn say_letter(records: &[u8], view: &[u64; 4], letter: u64, i: u64) -> Saying
+fn say_letter(records: &[u8], view: &[u64; 66], letter: u64, i: u64) -> Saying
     requires { ⌜ letter < 32 ⌝ }
     ensures { λ r. ⌜ Shape 0 i r × ((L : Log) → Whole (now (view .entry)) (now (records .entry)) L → i < L .size → r ≡ saying-of (Formula.letter letter) L i) ⌝ }
 {
@@ -87,7 +80,7 @@ fn say_gap(kind: u64, low: u64, high: u64, earlier: u64, later: u64, beside: u64
     }
 }
 
-fn say_previous(records: &[u8], view: &[u64; 4], low: u64, high: u64, i: u64) -> Saying
+fn say_previous(records: &[u8], view: &[u64; 66], low: u64, high: u64, i: u64) -> Saying
     ensures { λ r. ⌜ Shape 3 i r × ((φ : Formula) (L : Log) → Whole (now (view .entry)) (now (records .entry)) L → i < L .size → r ≡ saying-of (Formula.previous low high φ) L i) ⌝ }
 {
     if i == 0 {
@@ -108,7 +101,7 @@ fn say_previous(records: &[u8], view: &[u64; 4], low: u64, high: u64, i: u64) ->
     say_gap(3, low, high, earlier, later, before)
 }
 
-fn say_next(records: &[u8], view: &[u64; 4], low: u64, high: u64, i: u64) -> Saying
+fn say_next(records: &[u8], view: &[u64; 66], low: u64, high: u64, i: u64) -> Saying
     requires { ⌜ i ≤ 2000000 ⌝ }
     ensures { λ r. ⌜ Shape 4 i r × ((φ : Formula) (L : Log) → Whole (now (view .entry)) (now (records .entry)) L → i + 1 < L .size → r ≡ saying-of (Formula.next low high φ) L i) ⌝ }
 {
@@ -138,9 +131,9 @@ fn say_search(kind: u64, holds: bool, j: u64, p: u64, by_left: bool) -> Saying
 // "the latest where left fails, or the first at most high before if none does from there on"; the earliest fitting j lies not before it,
 // and at least low before i.
 fn say_since(
-    table: &[u64; 1024],
+    table: &[u32; 1024],
     records: &[u8],
-    view: &[u64; 4],
+    view: &[u64; 66],
     copy: &mut [u8; 520],
     waiting: &mut [u8; 520],
     words: &mut [u64],
@@ -191,9 +184,9 @@ fn say_since(
 // "the first position where left is answered no or which lies more than high later, left's if both"; the earliest fitting j lies not behind
 // it, at least low after i and at most high after i.
 fn say_until(
-    table: &[u64; 1024],
+    table: &[u32; 1024],
     records: &[u8],
-    view: &[u64; 4],
+    view: &[u64; 66],
     copy: &mut [u8; 520],
     waiting: &mut [u8; 520],
     words: &mut [u64],
@@ -240,9 +233,9 @@ fn say_until(
 
 // What entry k says at position i.
 pub fn say(
-    table: &[u64; 1024],
+    table: &[u32; 1024],
     records: &[u8],
-    view: &[u64; 4],
+    view: &[u64; 66],
     copy: &mut [u8; 520],
     waiting: &mut [u8; 520],
     words: &mut [u64],

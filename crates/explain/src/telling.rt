@@ -37,9 +37,9 @@ fn turned(turn: bool, holds: bool) -> bool
 
 // Writes the lines of entry k at position i into the text from `at` on.
 pub fn tell(
-    table: &[u64; 1024],
+    table: &[u32; 1024],
     records: &[u8],
-    view: &[u64; 4],
+    view: &[u64; 66],
     copy: &mut [u8; 520],
     waiting: &mut [u8; 520],
     words: &mut [u64],
@@ -78,7 +78,7 @@ pub fn tell(
             holds: turned(own.holds, one.holds),
         };
     }
-    let left = saying::field(table, k, 4) as usize;
+    let left = engine::table::field(table, k, 4) as usize;
     let first = tell(
         table,
         records,

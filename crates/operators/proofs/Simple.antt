@@ -28,9 +28,10 @@ use Rattle.mtl.proofs.Closing.{
 }
 use Rattle.bits.specs.Packed.{Packed}
 use Rattle.bits.proofs.Laws.{packed-none, packed-push, packed-same, packed-not, packed-or, packed-and}
-use Rattle.trace.specs.Format.{time-at, has-letter}
+use Rattle.trace.specs.Format.{time-at}
 use Rattle.trace.specs.View.{first, total, skips, in-slice}
-use Rattle.trace.specs.Window.{window-of, Opened, Passed}
+use Rattle.trace.specs.Window.{window-of, Lettered, Opened, Passed}
+use Rattle.trace.specs.declared.window.Letters.{Letters}
 use Rattle.trace.specs.declared.window.Window.{Window}
 use Rattle.trace.proofs.Laws.{neither}
 use Rattle.blocks.specs.Block.{taken, left-count, left-bits, right-count, right-bits, answered, head, Onward, Core, Own, Heads, RightBuffer, Buffers, Ready, took-right, took-both}
@@ -39,7 +40,7 @@ use Rattle.blocks.specs.Step.{Agrees, Stepped, Moved, has-left, left-to-do}
 use Rattle.blocks.specs.declared.Step.the-variants.{Batch, Again}
 use Rattle.blocks.proofs.Words.{Store, put, stores, word-stores, stores-onward, less-to-do, fits}
 use Rattle.blocks.proofs.Taking.{right-stores, both-stores, first-of, taken-right, taken-both}
-use Rattle.blocks.proofs.Reading.{read-time, read-letter, head-end, head-passed}
+use Rattle.blocks.proofs.Reading.{read-time, read-letters, letters-end, head-passed}
 use Rattle.operators.specs.Neighbour.{Gaps, TookNear}
 
 -- the stores of a letter that has read n positions, its head behind them being h
@@ -64,33 +65,29 @@ module _ (v b : List ℕ) (room : 16 ≤ length b) (n : ℕ) (some : 0 < n) wher
   right-less inside = less-to-do v b (took-right n b) n some inside right-at
 
   module _ (L : Log) (g : ℕ) where
-    pub letter-batch : {s : List ℕ} → Agrees v s L g → (k bits : ℕ) → taken b + n ≤ total v → {w : Window} {copy : List ℕ} →
-        Opened (skips v) s (in-slice (first v) (head b)) n w copy → Packed (has-letter (window-of w s copy) k) 0 n bits → Ready (letter k) L g b →
-        Stepped (letter k) L g b (Batch bits n) (stores (read-stores n (first v + w .end) b) b)
+    pub letter-batch : {s : List ℕ} → Agrees v s L g → (k : ℕ) → taken b + n ≤ total v → {r : Letters} →
+        Lettered (skips v) s k (in-slice (first v) (head b)) n r → Ready (letter k) L g b →
+        Stepped (letter k) L g b (Batch (r .bits) n) (stores (read-stores n (first v + r .end) b) b)
     unfolding sat
-    letter-batch {s} agrees k bits inside {w} {copy} opened packed ready =
+    letter-batch agrees k inside {r} lettered ready =
         let all = settled-letter L k in
-        let at = word-stores (read-stores n (first v + w .end) b) b (omega arith) in
+        let at = word-stores (read-stores n (first v + r .end) b) b (omega arith) in
         let core = ready .core in
         let range = core .range in
         let size = agrees .size in
         let own = core .own in
         let from : g ≤ taken b = omega arith in
-        let within : taken b + n ≤ L .size = omega arith in
-        let record-letter = has-letter (window-of w s copy) k in
-        let same : (i : ℕ) → i < n → L .letters (g + i) k ≡ record-letter (0 + i) =
-        λ i h. rw (zero-add i, ← own) (sym (read-letter agrees (taken b) (core .heads) from within opened k i h))
-        in (
+        let within : taken b + n ≤ L .size = omega arith in (
           record {
             some = some;
-            buffer = record { within = omega arith; packed = packed-same record-letter (sat (letter k) L) 0 g n bits same packed };
+            buffer = record { within = omega arith; packed = rw own at (read-letters agrees (taken b) (core .heads) from within lettered) };
           },
           record {
             core = record {
               reached = omega arith;
               range = omega (arith, at 0, at 1, at 3, at 5, at 6, at 7, at 8, at 9, at 10);
               own = omega (arith, at 0);
-              heads = at 11 ∙ head-end agrees (taken b) (core .heads) from within opened some ∙ ap (head-of L) (sym (at 0));
+              heads = at 11 ∙ letters-end agrees (taken b) (core .heads) from within lettered some ∙ ap (head-of L) (sym (at 0));
             };
             buffers = tt;
           },

@@ -11,7 +11,7 @@ use blocks::word;
 use trace::view;
 
 // Turns every answer of the operand.
-pub fn step_not(view: &[u64; 4], block: &mut [u64]) -> Step
+pub fn step_not(view: &[u64; 66], block: &mut [u64]) -> Step
     requires { ⌜ 16 ≤ length (now block) ⌝ }
     ensures { λ r. ⌜ Ends false true (now (view .entry)) (now (block .entry)) r (now (block .exit)) ⌝ }
     ensures { λ r. ⌜ ((s : List ℕ) (φ : Formula) → Steps (not-formula φ) (now (view .entry)) s (now (block .entry)) r (now (block .exit))) ⌝ }
@@ -33,7 +33,7 @@ pub fn step_not(view: &[u64; 4], block: &mut [u64]) -> Step
 }
 
 // As many positions as both operands have answered.
-pub fn step_or(view: &[u64; 4], block: &mut [u64]) -> Step
+pub fn step_or(view: &[u64; 66], block: &mut [u64]) -> Step
     requires { ⌜ 16 ≤ length (now block) ⌝ }
     ensures { λ r. ⌜ Ends true true (now (view .entry)) (now (block .entry)) r (now (block .exit)) ⌝ }
     ensures { λ r. ⌜ ((s : List ℕ) (φ ψ : Formula) → Steps (or-formula φ ψ) (now (view .entry)) s (now (block .entry)) r (now (block .exit))) ⌝ }

@@ -4,7 +4,7 @@ ghost use Prim.Native.Nat.{_≤_, _<_, _^_};
 ghost use lib.ListN.{length};
 ghost use Rattle.mtl.specs.Formula.{Formula};
 ghost use Rattle.rule.specs.Words.{own-words};
-ghost use Rattle.trace.specs.View.{Numbered};
+ghost use Rattle.trace.specs.View.{Views};
 ghost use Rattle.blocks.specs.Step.{Steps, Ends};
 ghost use Rattle.blocks.specs.Kinds.{Fields, takes-left, takes-right};
 
@@ -20,18 +20,18 @@ pub fn advance(
     low: u64,
     high: u64,
     records: &[u8],
-    view: &[u64; 4],
+    view: &[u64; 66],
     copy: &mut [u8; 520],
     waiting: &mut [u8; 520],
     block: &mut [u64],
 ) -> Step
-    requires { ⌜ (kind ≤ 6) × (letter < 32) × (high < 2 ^ 32) × (own-words kind high ≤ length (now block)) × (length (now copy) ≡ 520) × (length (now waiting) ≡ 520) × Numbered (now view) (now records) ⌝ }
+    requires { ⌜ (kind ≤ 6) × (letter < 32) × (high < 2 ^ 32) × (own-words kind high ≤ length (now block)) × (length (now copy) ≡ 520) × (length (now waiting) ≡ 520) × Views (now view) (now records) ⌝ }
     ensures { λ r. ⌜ Ends (takes-left kind) (takes-right kind) (now (view .entry)) (now (block .entry)) r (now (block .exit)) ⌝ }
     ensures { λ r. ⌜ ((φ : Formula) → Fields φ kind letter low high → Steps φ (now (view .entry)) (now (records .entry)) (now (block .entry)) r (now (block .exit))) ⌝ }
     ensures { λ _. ⌜ (length (now (copy .exit)) ≡ 520) × (length (now (waiting .exit)) ≡ 520) ⌝ }
 {
     match kind {
-        0 => letter::step_letter(letter, records, view, copy, block),
+        0 => letter::step_letter(letter, records, view, block),
         1 => connective::step_not(view, block),
         2 => connective::step_or(view, block),
         3 => neighbour::step_previous(low, high, records, view, copy, block),

@@ -7,7 +7,7 @@ ghost use Rattle.mtl.specs.Formula.{Formula};
 ghost use Rattle.mtl.specs.Formula.Formula.{previous, next};
 ghost use Rattle.bits.specs.Packed.{Packed};
 ghost use Rattle.trace.specs.Format.{record-count, time-at};
-ghost use Rattle.trace.specs.View.{Numbered};
+ghost use Rattle.trace.specs.View.{Views};
 ghost use Rattle.trace.specs.Window.{window-of};
 ghost use Rattle.blocks.specs.Block.{taken, right-count};
 ghost use Rattle.blocks.specs.Near.{near-after};
@@ -40,12 +40,12 @@ fn take_near(
     low: u64,
     high: u64,
     records: &[u8],
-    view: &[u64; 4],
+    view: &[u64; 66],
     copy: &mut [u8; 520],
     block: &mut [u64],
     count: u64,
 ) -> u64
-    requires { ⌜ (16 ≤ length (now block)) × (length (now copy) ≡ 520) × Numbered (now view) (now records) × (count ≤ 64) × (count ≤ right-count (now block)) × (taken (now block) + count < 2 ^ 64) ⌝ }
+    requires { ⌜ (16 ≤ length (now block)) × (length (now copy) ≡ 520) × Views (now view) (now records) × (count ≤ 64) × (count ≤ right-count (now block)) × (taken (now block) + count < 2 ^ 64) ⌝ }
     ensures { λ r. ⌜ TookNear low high (now (view .entry)) (now (records .entry)) (now (block .entry)) count r (now (block .exit)) ⌝ }
     ensures { λ _. ⌜ length (now (copy .exit)) ≡ 520 ⌝ }
 {
@@ -64,11 +64,11 @@ pub fn step_previous(
     low: u64,
     high: u64,
     records: &[u8],
-    view: &[u64; 4],
+    view: &[u64; 66],
     copy: &mut [u8; 520],
     block: &mut [u64],
 ) -> Step
-    requires { ⌜ (16 ≤ length (now block)) × (length (now copy) ≡ 520) × Numbered (now view) (now records) ⌝ }
+    requires { ⌜ (16 ≤ length (now block)) × (length (now copy) ≡ 520) × Views (now view) (now records) ⌝ }
     ensures { λ r. ⌜ Ends false true (now (view .entry)) (now (block .entry)) r (now (block .exit)) ⌝ }
     ensures { λ r. ⌜ ((φ : Formula) → Steps (previous low high φ) (now (view .entry)) (now (records .entry)) (now (block .entry)) r (now (block .exit))) ⌝ }
     ensures { λ _. ⌜ length (now (copy .exit)) ≡ 520 ⌝ }
@@ -97,11 +97,11 @@ pub fn step_next(
     low: u64,
     high: u64,
     records: &[u8],
-    view: &[u64; 4],
+    view: &[u64; 66],
     copy: &mut [u8; 520],
     block: &mut [u64],
 ) -> Step
-    requires { ⌜ (16 ≤ length (now block)) × (length (now copy) ≡ 520) × Numbered (now view) (now records) ⌝ }
+    requires { ⌜ (16 ≤ length (now block)) × (length (now copy) ≡ 520) × Views (now view) (now records) ⌝ }
     ensures { λ r. ⌜ Ends false true (now (view .entry)) (now (block .entry)) r (now (block .exit)) ⌝ }
     ensures { λ r. ⌜ ((φ : Formula) → Steps (next low high φ) (now (view .entry)) (now (records .entry)) (now (block .entry)) r (now (block .exit))) ⌝ }
     ensures { λ _. ⌜ length (now (copy .exit)) ≡ 520 ⌝ }

@@ -10,12 +10,13 @@ use lib.ListN.{getD}
 use Rattle.mtl.proofs.Bounded.{le-or-lt}
 use Rattle.trace.specs.Format.{record-count}
 use Rattle.trace.specs.Positions.{place, positions, before}
-use Rattle.trace.specs.View.{view-of, total, skips}
+use Rattle.trace.specs.View.{total, skips, served, ViewOf}
 use Rattle.trace.specs.Log.{log-of}
 use Rattle.trace.proofs.Laws.{Keeps}
 use Rattle.trace.proofs.Counting.{count-position, count-grows, spot-holds}
 use Rattle.trace.proofs.Positions.{log-placed, wanted-counts}
-use Rattle.trace.proofs.Slices.{Cut, served, served-before, served-place, served-shows, slice-shows, flag-told}
+use Rattle.trace.proofs.Slices.{Cut, served-before, served-place, served-shows, slice-shows}
+use Rattle.trace.proofs.Marks.{first-told, total-told, skips-told, closed-told}
 use Rattle.blocks.specs.Step.{Agrees}
 use Rattle.search.specs.Times.{Whole}
 
@@ -28,20 +29,24 @@ before-next true s i h = let at = spot-holds s i h in count-position s (place tr
 before-next false s i h = omega arith
 
 -- the view of all records, open
-abbrev pub whole-view : (skips : Bool) → List ℕ → List ℕ
-whole-view skips s = view-of 0 0 (served skips s) false s
+abbrev pub WholeView : (skips : Bool) → (s v : List ℕ) → Type 0
+WholeView skips s v = ViewOf 0 0 skips false s v
 
-module _ (b : Bool) (s : List ℕ) (keeps : Keeps s) where
-  flag : skips (whole-view b s) ≡ served b s
-  flag = flag-told (served b s)
+-- it tells of all positions
+size-told : (b : Bool) (s v : List ℕ) → WholeView b s v → total v ≡ log-of b s .size
+size-told b s v made = total-told made ∙ zero-add (before b s (record-count s))
+
+module _ (b : Bool) (s v : List ℕ) (made : WholeView b s v) (keeps : Keeps s) where
+  flag : skips v ≡ served b s
+  flag = skips-told made
 
   size : before (served b s) s (record-count s) ≡ before b s (record-count s)
   size = served-before b s
 
-  pub whole-log : Whole (whole-view b s) s (log-of b s)
+  pub whole-log : Whole v s (log-of b s)
   whole-log =
       record {
-        size = zero-add (before (served b s) s (record-count s)) ∙ size;
+        size = size-told b s v made;
         all = rw flag size;
         place = λ i h. rw flag (served-place b s i (omega arith));
         inside = log-placed b s .below;
@@ -76,12 +81,12 @@ unfolding positions
 nothing-before true s = refl
 nothing-before false s = refl
 
-pub whole-agrees : (b : Bool) (s : List ℕ) → Agrees (whole-view b s) s (log-of b s) 0
-whole-agrees b s =
+pub whole-agrees : (b : Bool) (s v : List ℕ) → WholeView b s v → Agrees v s (log-of b s) 0
+whole-agrees b s v made =
     record {
-      ends = refl;
-      size = zero-add (before (served b s) s (record-count s)) ∙ served-before b s;
+      ends = sym (closed-told made);
+      size = size-told b s v made;
       shows = λ i low high.
-          rw (flag-told (served b s))
+          rw (skips-told made, first-told made)
           (served-shows b s 0 (log-of b s) i (slice-shows b s s 0 (all-of s) i (let none = nothing-before b s in omega arith) high));
     }

@@ -6,7 +6,7 @@ ghost use Prim.Native.Nat.{ℕ, _+_, _≤_, _<_, _^_};
 ghost use lib.ListN.{length, getD};
 ghost use lib.Dec.{leb};
 ghost use Rattle.bits.specs.Packed.{bit, Packed};
-ghost use Rattle.trace.specs.View.{Numbered};
+ghost use Rattle.trace.specs.View.{Views};
 ghost use Rattle.engine.specs.Table.{RowsOk, column};
 ghost use Rattle.reasons.specs.Search.{first-where, after-last};
 ghost use Rattle.search.specs.Scan.{is, sought, sought-bit, Scans, Bounded};
@@ -14,6 +14,7 @@ ghost use Rattle.search.specs.Scan.{is, sought, sought-bit, Scans, Bound
 pub mod times;
 
 use engine::Reply;
+use engine::table;
 
 // What the answers of an entry at the positions up to an end came to: how many of them there are, where the first that was looked for
 // stands, or their number where none does, and one more than the position of the last no, 0 where there is none.
@@ -84,9 +85,9 @@ fn after_no(after: u64, bits: u64, n: u64, done: u64) -> u64
 
 // Asks entry k, on cleared words, for its answers at the positions up to `to`, and looks for the first at or behind `from` that is `want`.
 fn ask_all(
-    table: &[u64; 1024],
+    table: &[u32; 1024],
     records: &[u8],
-    view: &[u64; 4],
+    view: &[u64; 66],
     copy: &mut [u8; 520],
     waiting: &mut [u8; 520],
     k: usize,
@@ -95,7 +96,7 @@ fn ask_all(
     to: u64,
     words: &mut [u64],
 ) -> Scan
-    requires { ⌜ (k < 128) × RowsOk (now table) k × (length (now words) ≡ column 7 (now table) k) × (length (now copy) ≡ 520) × (length (now waiting) ≡ 520) × Numbered (now view) (now records) ⌝ }
+    requires { ⌜ (k < 128) × RowsOk (now table) k × (length (now words) ≡ column 7 (now table) k) × (length (now copy) ≡ 520) × (length (now waiting) ≡ 520) × Views (now view) (now records) ⌝ }
     ensures { λ r. ⌜ Bounded to r × Scans (now (table .entry)) (now (view .entry)) (now (records .entry)) k want from to r ⌝ }
     ensures { λ _. ⌜ (length (now (copy .exit)) ≡ 520) × (length (now (waiting .exit)) ≡ 520) ⌝ }
 {
@@ -121,9 +122,9 @@ fn ask_all(
 
 // The same on as many of the lent words as the entry needs.
 pub fn search(
-    table: &[u64; 1024],
+    table: &[u32; 1024],
     records: &[u8],
-    view: &[u64; 4],
+    view: &[u64; 66],
     copy: &mut [u8; 520],
     waiting: &mut [u8; 520],
     k: usize,
@@ -132,11 +133,11 @@ pub fn search(
     to: u64,
     words: &mut [u64],
 ) -> Scan
-    requires { ⌜ (k < 128) × RowsOk (now table) k × (8192 ≤ length (now words)) × (length (now copy) ≡ 520) × (length (now waiting) ≡ 520) × Numbered (now view) (now records) ⌝ }
+    requires { ⌜ (k < 128) × RowsOk (now table) k × (8192 ≤ length (now words)) × (length (now copy) ≡ 520) × (length (now waiting) ≡ 520) × Views (now view) (now records) ⌝ }
     ensures { λ r. ⌜ Bounded to r × Scans (now (table .entry)) (now (view .entry)) (now (records .entry)) k want from to r ⌝ }
     ensures { λ _. ⌜ (length (now (copy .exit)) ≡ 520) × (length (now (waiting .exit)) ≡ 520) ⌝ }
 {
-    let end = table[k * 8 + 7] as usize;
+    let end = table::field(table, k, table::WORDS) as usize;
     ask_all(
         table,
         records,

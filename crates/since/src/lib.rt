@@ -8,7 +8,7 @@ ghost use lib.ListN.{length};
 ghost use Rattle.mtl.specs.Formula.{Formula};
 ghost use Rattle.mtl.specs.Formula.Formula.{since};
 ghost use Rattle.trace.specs.Format.{record-count, time-at};
-ghost use Rattle.trace.specs.View.{Numbered};
+ghost use Rattle.trace.specs.View.{Views};
 ghost use Rattle.trace.specs.Window.{window-of};
 ghost use Rattle.blocks.specs.Block.{left-bits, right-bits};
 ghost use Rattle.blocks.specs.Step.{Steps, Ends};
@@ -218,11 +218,11 @@ pub fn step_since(
     low: u64,
     high: u64,
     records: &[u8],
-    view: &[u64; 4],
+    view: &[u64; 66],
     copy: &mut [u8; 520],
     block: &mut [u64],
 ) -> Step
-    requires { ⌜ (high < 2 ^ 32) × (16 + ring-words high ≤ length (now block)) × (length (now copy) ≡ 520) × Numbered (now view) (now records) ⌝ }
+    requires { ⌜ (high < 2 ^ 32) × (16 + ring-words high ≤ length (now block)) × (length (now copy) ≡ 520) × Views (now view) (now records) ⌝ }
     ensures { λ r. ⌜ Ends true true (now (view .entry)) (now (block .entry)) r (now (block .exit)) ⌝ }
     ensures { λ r. ⌜ ((φ ψ : Formula) → Steps (since low high φ ψ) (now (view .entry)) (now (records .entry)) (now (block .entry)) r (now (block .exit))) ⌝ }
     ensures { λ _. ⌜ length (now (copy .exit)) ≡ 520 ⌝ }

@@ -1,5 +1,6 @@
 -- How positions are counted: a head finds the record of its position. Assumes nothing.
 use Prim.Native.Nat.{ℕ, zero, suc, _+_, _-_, _≤_, _<_}
+use native.Mathlib.Nat.{add-zero}
 use native.Mathlib.Omega.{arith}
 use native.Mathlib.Decide.{le-ind}
 use native.Mathlib.Numerals.{add-one}
@@ -49,6 +50,20 @@ module _ (s : List ℕ) where
   pub count-few : (n : ℕ) → positions s n ≤ n
   unfolding positions
   count-few n = omega (arith, count-most 0 n (omega arith))
+
+  -- n records without a service record
+  pub count-plain : (m n : ℕ) → ((i : ℕ) → i < n → is-service s (m + i) ≡ false) → positions s m + n ≡ positions s (m + n)
+  count-plain m zero plain = add-zero (positions s m) ∙ ap (positions s) (sym (add-zero m))
+  count-plain m (suc n) plain =
+      let before = count-plain m n (λ i h. plain i (omega arith)) in
+      let here = count-position (m + n) (plain n (omega arith)) in
+      let next : m + suc n ≡ suc (m + n) = omega arith in
+      rw next (omega arith)
+
+  -- those of the first n records are all before record n
+  pub count-first : (n found : ℕ) → positions s 0 + found ≡ positions s (0 + n) → found ≡ positions s n
+  unfolding positions
+  count-first n found e = let none : positions s 0 ≡ 0 = refl in let all : 0 + n ≡ n = omega arith in omega (arith, rw all at e)
 
   -- what passing n records from r on finds
   record Passing (n r p : ℕ) : Type 0 where

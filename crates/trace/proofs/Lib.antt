@@ -1,10 +1,13 @@
 -- Laws on the records of a log that the layers above cite.
 pub mod Laws
+pub mod Falling
 pub mod Counting
 pub mod Positions
 pub mod Windows
+pub mod Picking
 pub mod Reading
 pub mod Slices
+pub mod Marks
 pub mod Growing
 pub mod Making
 pub mod Trimming

@@ -15,9 +15,9 @@ use Rattle.mtl.proofs.Bounded.{le-or-lt}
 use Rattle.trace.specs.Format.{record-count, time-at, has-letter}
 use Rattle.trace.specs.Positions.{spot, place, moved, before, Inside}
 use Rattle.trace.specs.View.{in-slice, Shows}
-use Rattle.trace.specs.Window.{window-of, Opened}
+use Rattle.trace.specs.Window.{window-of, letter-at, Opened}
 use Rattle.trace.specs.declared.window.Window.{Window}
-use Rattle.trace.proofs.Laws.{time-bound, same-time, same-letter}
+use Rattle.trace.proofs.Laws.{time-bound, same-time}
 use Rattle.trace.proofs.Positions.{place-last}
 
 -- a position that is shown has a record's time
@@ -66,17 +66,16 @@ module _ (skips : Bool) (s : List ℕ) (first : ℕ) (L : Log) (g n : ℕ) (show
   head-behind zero some h = absurd (omega arith)
   head-behind (suc m) some h = let here = read-on m h in let next = next-head m h in omega arith
 
+  -- and so is its letter
+  pub shown-letter : (k i : ℕ) → i < n → letter-at skips s k from i ≡ L .letters (g + i) k
+  shown-letter k i h = ap (has-letter s k) (read-on i h) ∙ shown i h .letters k
+
   -- record i of the window is position g + i
   module _ (w : Window) (copy : List ℕ) (opened : Opened skips s from n w copy) where
     pub window-time : (i : ℕ) → i < n → time-at (window-of w s copy) i ≡ L .time (g + i)
     window-time i h =
         same-time (window-of w s copy) s i (place skips s from i) (opened .shows shown-inside i h) ∙
         ap (time-at s) (read-on i h) ∙ shown i h .time
-
-    pub window-letter : (k i : ℕ) → i < n → has-letter (window-of w s copy) k i ≡ L .letters (g + i) k
-    window-letter k i h =
-        same-letter (window-of w s copy) s k i (place skips s from i) (opened .shows shown-inside i h) ∙
-        ap (has-letter s k) (read-on i h) ∙ shown i h .letters k
 
     -- and the head behind all of them is the log's
     pub window-end : 0 < n → first + w .end ≡ head-of L (g + n)

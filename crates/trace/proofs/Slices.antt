@@ -16,7 +16,7 @@ use Rattle.bits.specs.Packed.{number}
 use Rattle.trace.specs.Format.{record-count, time-at, has-letter}
 use Rattle.trace.specs.Positions.{is-service, passing, seek, spot, place, moved, positions, before}
 use Rattle.trace.specs.Log.{log-of}
-use Rattle.trace.specs.View.{from-record, in-slice, Shows}
+use Rattle.trace.specs.View.{from-record, in-slice, served, Shows}
 use Rattle.trace.specs.Window.{SameRecord}
 use Rattle.trace.proofs.Laws.{Keeps, same-time, same-letter}
 use Rattle.trace.proofs.Counting.{count-few, count-most, count-grows, count-service, seek-high, seek-same, head-counts, head-finds, spot-seek, spot-last}
@@ -205,10 +205,6 @@ closing-shows closed skips s first L i shows =
 
 -- SLICES IN WHICH NO SERVICE RECORD LIES
 
--- service records lie in the slice
-abbrev pub served : (skips : Bool) → List ℕ → Bool
-served skips s = ltb (before skips s (record-count s)) (record-count s)
-
 -- all records are positions
 all-plain : (s : List ℕ) → record-count s ≤ positions s (record-count s) → (i : ℕ) → i < record-count s → is-service s i ≡ false
 all-plain s all i h =
@@ -230,6 +226,9 @@ module _ (skips : Bool) (s : List ℕ) where
       (λ same. ap (λ (b : Bool). before b s (record-count s)) same)
       (λ (kind, none, all). rw (none, kind) (omega (arith, count-few s (record-count s))))
       (served-cases skips s)
+
+  pub served-skips : served skips s ≡ true → skips ≡ true
+  served-skips lie = ⊎-elim (λ same. sym same ∙ lie) (λ (kind, none, all). kind) (served-cases skips s)
 
   pub served-place : (n : ℕ) → n ≤ before skips s (record-count s) → place (served skips s) s 0 n ≡ place skips s 0 n
   served-place n h =

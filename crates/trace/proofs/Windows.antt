@@ -1,7 +1,7 @@
 -- WINDOWS: what the loops that pass and copy records have done, and what a window has then. Assumes nothing.
-use Prim.Native.Nat.{ℕ, zero, suc, _+_, _-_, _*_, _≤_, _<_, max}
+use Prim.Native.Nat.{ℕ, zero, suc, _+_, _-_, _*_, _/_, _≤_, _<_, max}
 use native.Mathlib.Omega.{arith}
-use native.Mathlib.Nat.{add-zero}
+use native.Mathlib.Nat.{add-zero, zero-add}
 use native.Mathlib.Numerals.{add-one}
 use mathlib.Core.Bool.{Bool, true, false, _&&_}
 use mathlib.Core.Bool.{not as negate}
@@ -14,15 +14,17 @@ use lib.Seq.{getD-take, getD-drop, drop-cons, length-take-le}
 use borrow.Author.Tests.{lt-ltb, ltb-true, le-leb, not-true}
 use Rattle.mtl.proofs.Bounded.{le-or-lt, true-or-false, true-and-false, and-iff, leb-iff, any-false-iff}
 use Rattle.mtl.specs.Satisfaction.{any}
-use Rattle.bits.specs.Packed.{number}
-use Rattle.trace.specs.Format.{record-count}
+use Rattle.bits.specs.Packed.{number, Packed}
+use Rattle.bits.proofs.Laws.{number-bit, packed-none, packed-same}
+use Rattle.trace.specs.Format.{record-count, events-at, has-letter}
 use Rattle.trace.specs.Positions.{is-service, seek, spot, place, moved, positions, Inside}
 use Rattle.trace.specs.Making.{put}
 use Rattle.trace.specs.View.{first, skips, in-slice}
-use Rattle.trace.specs.Window.{some-service, dense, record-of, SameRecord, Opened, Behind, Gathered, Windowed, Passed, Found}
+use Rattle.trace.specs.Window.{some-service, dense, record-of, SameRecord, letter-at, Counted, Copied, Lettered, Opened, Behind, Gathered, Windowed, Passed, Found}
+use Rattle.trace.specs.declared.window.Letters.{Letters}
 use Rattle.trace.specs.declared.window.Window.{Window}
 use Rattle.trace.proofs.Making.{byte-behind, length-put}
-use Rattle.trace.proofs.Counting.{spot-holds, spot-last, head-finds, count-one}
+use Rattle.trace.proofs.Counting.{spot-last, head-finds, count-one, count-grows, count-most}
 use Rattle.trace.proofs.Positions.{seek-position, spot-service, spot-position, spot-past, spot-plain}
 
 -- what a loop's test of two parts says, and what it says when the loop ends
@@ -34,6 +36,12 @@ stops i n at end e =
     ⊎-elim inl
     (λ l. ⊎-elim inr (λ h. absurd (true-and-false (and-iff (ltb i n) (ltb at end) .1 (lt-ltb i n l, lt-ltb at end h)) e)) (le-or-lt end at))
     (le-or-lt n i)
+
+-- letter 31 is the highest bit of the first byte of the event set
+pub top-bit : (s : List ℕ) (i : ℕ) → ((k : ℕ) → getD s k 0 < 256) → getD s (i * 8 + 4) 0 / 128 ≡ number (is-service s i)
+top-bit s i byte =
+    let at = i * 8 + 4 in
+    sym (number-bit (events-at s i) 31 ∙ omega (arith, byte at, byte (at + 1), byte (at + 2), byte (at + 3)))
 
 -- where none of the first i is a service record, those behind them decide
 pub some-further : (s : List ℕ) (from i n : ℕ) → some-service s from i ≡ false → some-service s from (i + n) ≡ some-service s (from + i) n
@@ -98,6 +106,23 @@ module _ (s : List ℕ) (from n : ℕ) where
         by true service = let one : x ≡ 1 = e ∙ ap number service in rw one (going-past service)
         by false plain = let none : x ≡ 0 = e ∙ ap number plain in rw none (going-more plain)
 
+  -- m records, of which r are positions
+  module _ (k at : ℕ) (g : Going s from n k at) where
+    pub going-group : (m : ℕ) → k + m ≤ n → at + m ≤ record-count s → (r : ℕ) → positions s at + r ≡ positions s (at + m) → Going s from n (k + r) (at + m)
+    going-group zero h inside r e =
+        let none : r ≡ 0 = omega (arith, ap (positions s) (add-zero at)) in
+        rw (none, add-zero at, add-zero k) g
+    going-group (suc m) h inside r e =
+        let x = number (is-service s (at + m)) in
+        let here : at + suc m ≡ at + m + 1 = omega arith in
+        let all = rw here at e in
+        let one = count-one s (at + m) x refl in
+        let low = count-grows s at (at + m) (omega arith) in
+        let high = count-most s at (at + m) (omega arith) in
+        let before = positions s (at + m) - positions s at in
+        let sum : k + r ≡ k + before + (1 - x) = omega arith in
+        rw (here, sum) (going-on (k + before) (at + m) (going-group m (omega arith) (omega arith) before (omega arith)) (omega arith) (omega arith) x refl)
+
   -- no more to pass, or no more records: the positions that are there are all passed
   module _ (k at : ℕ) (g : Going s from n k at) (ended : (n ≤ k) ⊎ (record-count s ≤ at)) where
     pub going-all : Inside true s from n → k ≡ n
@@ -115,6 +140,50 @@ module _ (s : List ℕ) (from n : ℕ) where
 
     pub going-behind : Behind s from n at
     going-behind = record { onward = g .low; bounded = g .high; end = λ inside. g .head (going-all inside) }
+
+-- COUNTING A FEW RECORDS
+
+module _ (s : List ℕ) (from : ℕ) where
+  pub counted-none : Counted s from 0 0
+  counted-none = record { few = omega arith; sum = add-zero (positions s from) ∙ ap (positions s) (sym (add-zero from)) }
+
+  pub counted-on : (i r x : ℕ) → x ≡ number (is-service s (from + i)) → Counted s from i r → Counted s from (i + 1) (r + (1 - x))
+  counted-on i r x e c =
+      let next : from + (i + 1) ≡ from + i + 1 = omega arith in
+      let few = c .few in
+      let sum = c .sum in
+      record { few = omega arith; sum = rw next (omega (arith, count-one s (from + i) x e)) }
+
+  pub counted-join : (i m a b : ℕ) → Counted s from i a → Counted s (from + i) m b → Counted s from (i + m) (a + b)
+  counted-join i m a b c d =
+      let sum : from + (i + m) ≡ from + i + m = omega arith in
+      record { few = omega (arith, c .few, d .few); sum = rw sum (omega (arith, c .sum, d .sum)) }
+
+  -- those behind them are what stands behind the records
+  pub counted-left : (i r : ℕ) → Counted s from i r → from + i ≤ record-count s → (j : ℕ) → spot s from (r + j) ≡ spot s (from + i) j
+  counted-left i r c inside =
+      rw zero-add at (going-group s from i 0 from (going-none s from i) i (omega arith) inside r (c .sum) .left)
+
+  -- where a position follows, it is the next
+  pub counted-here : (i r : ℕ) → Counted s from i r → from + i < record-count s → is-service s (from + i) ≡ false → spot s from r ≡ from + i
+  unfolding spot
+  counted-here i r c inside plain =
+      ap (spot s from) (sym (add-zero r)) ∙ counted-left i r c (omega arith) 0 ∙ seek-position s (from + i) inside plain
+
+  -- where none is a service record, all are positions
+  pub counted-all : (n : ℕ) → some-service s from n ≡ false → Counted s from n n
+  counted-all n none = at n (omega arith)
+    where
+      at : (i : ℕ) → i ≤ n → Counted s from i i
+      at zero h = counted-none
+      at (suc i) h =
+          let plain = any-false-iff n (λ j. is-service s (from + j)) .0 none i (omega arith) in
+          rw (← add-one) (counted-on i i 0 (sym (ap number plain)) (at i (omega arith)))
+
+-- from the first record on
+pub counted-whole : (s : List ℕ) (n r : ℕ) → Counted s 0 n r → r ≡ positions s n
+unfolding positions
+counted-whole s n r c = sym (zero-add r) ∙ c .sum ∙ ap (positions s) (zero-add n)
 
 -- COPYING
 
@@ -157,6 +226,41 @@ module _ (s : List ℕ) (i k : ℕ) (copy : List ℕ) (inside : i < record-count
       let long = length-take-le (k * 8) copy (omega arith) in
       List·getD-append (take (k * 8) copy) _ 0 (j * 8 + b) (omega arith) ∙ getD-take (k * 8) copy (j * 8 + b) 0 (omega arith)
 
+-- i of a few records from `from` on are copied, from number k on
+module _ (s : List ℕ) (from : ℕ) (copy : List ℕ) (k : ℕ) where
+  pub copied-none : Copied s from 0 copy k copy 0
+  copied-none =
+      record {
+        counted = counted-none s from;
+        long = refl;
+        before = λ j h b byte. refl;
+        here = λ j h. absurd (omega arith);
+      }
+
+  -- one more, as number k + r: it stays if it is a position
+  pub copied-on : (i r x : ℕ) (now next : List ℕ) → from + i < record-count s → (k + r) * 8 + 8 ≤ length now → x ≡ number (is-service s (from + i)) →
+      next ≡ put now ((k + r) * 8) (record-of s (from + i)) → Copied s from i copy k now r → Copied s from (i + 1) copy k next (r + (1 - x))
+  copied-on i r x now next inside room e is so-far =
+      rw is
+      record {
+        counted = counted-on s from i r x e (so-far .counted);
+        long = copied-long s (from + i) (k + r) now inside room ∙ so-far .long;
+        before = λ j h b byte. older j (omega arith) b byte ∙ so-far .before j h b byte;
+        here = λ j h. ⊎-elim (λ l. last j l h) (λ l b byte. older (k + j) (omega arith) b byte ∙ so-far .here j l b byte) (le-or-lt r j);
+      }
+    where
+      older : (j : ℕ) → j < k + r → SameRecord (put now ((k + r) * 8) (record-of s (from + i))) j now j
+      older = copied-before s (from + i) (k + r) now inside room
+
+      last : (j : ℕ) → r ≤ j → j < r + (1 - x) → SameRecord (put now ((k + r) * 8) (record-of s (from + i))) (k + j) s (spot s from j)
+      last j l h =
+          ⊎-elim
+          (λ service. let one : x ≡ 1 = e ∙ ap number service in absurd (omega arith))
+          (λ plain.
+          let same : j ≡ r = omega arith in
+          rw (same, counted-here s from i r (so-far .counted) inside plain) (copied-here s (from + i) (k + r) now inside room))
+          (true-or-false (is-service s (from + i)))
+
 -- the records of those passed stand in the copy
 pub record Gathering (s : List ℕ) (from n k at : ℕ) (copy : List ℕ) : Type 0 where
   pub going : Going s from n k at
@@ -167,28 +271,20 @@ module _ (s : List ℕ) (from n : ℕ) where
   pub gathering-none : (copy : List ℕ) → length copy ≡ 520 → Gathering s from n 0 from copy
   gathering-none copy long = record { going = going-none s from n; long = long; done = λ j h. absurd (omega arith) }
 
-  module _ (few : n ≤ 65) (k at : ℕ) (copy : List ℕ) (g : Gathering s from n k at copy) (below : k < n) (inside : at < record-count s) where
-    room : k * 8 + 8 ≤ length copy
-    room = let long = g .long in omega arith
-
-    pub gathering-on : (x : ℕ) → x ≡ number (is-service s at) → (copy′ : List ℕ) → copy′ ≡ put copy (k * 8) (record-of s at) →
-        Gathering s from n (k + (1 - x)) (at + 1) copy′
-    gathering-on x e copy′ is =
-        rw is
-        record {
-          going = going-on s from n k at (g .going) below inside x e;
-          long = copied-long s at k copy inside room ∙ g .long;
-          done = λ j h. ⊎-elim (λ l. here j l h) (λ l b few. copied-before s at k copy inside room j l b few ∙ g .done j l b few) (le-or-lt k j);
-        }
-      where
-        here : (j : ℕ) → k ≤ j → j < k + (1 - x) → SameRecord (put copy (k * 8) (record-of s at)) j s (spot s from j)
-        here j l h =
-            ⊎-elim
-            (λ service. let one : x ≡ 1 = e ∙ ap number service in absurd (omega arith))
-            (λ plain.
-            let same : j ≡ k = omega arith in
-            rw (same, going-here s from n k at (g .going) below inside plain) (copied-here s at k copy inside room))
-            (true-or-false (is-service s at))
+  pub gathering-group : (k at m r : ℕ) (copy copy′ : List ℕ) → Gathering s from n k at copy → k + m ≤ n → at + m ≤ record-count s → Copied s at m copy k copy′ r →
+      Gathering s from n (k + r) (at + m) copy′
+  gathering-group k at m r copy copy′ g few inside copied =
+      record {
+        going = going-group s from n k at (g .going) m few inside r (copied .counted .sum);
+        long = copied .long ∙ g .long;
+        done = λ j h. ⊎-elim (λ l. new j l h) (λ l b byte. copied .before j l b byte ∙ g .done j l b byte) (le-or-lt k j);
+      }
+    where
+      new : (j : ℕ) → k ≤ j → j < k + r → SameRecord copy′ j s (spot s from j)
+      new j l h =
+          let same : k + (j - k) ≡ j = omega arith in
+          let place = rw same at (g .going .left (j - k)) in
+          rw place (rw same at (copied .here (j - k) (omega arith)))
 
   pub gathered : (k at : ℕ) (copy : List ℕ) → Gathering s from n k at copy → (n ≤ k) ⊎ (record-count s ≤ at) → Gathered s from n copy at
   gathered k at copy g ended =
@@ -257,6 +353,14 @@ module _ (skips : Bool) (s : List ℕ) (at n : ℕ) where
       let here : r ≡ moved true s at n = behind .end (λ i l. absurd (omega arith)) in
       rw none (rw none at here)
 
+  -- the head behind
+  sparse-end : (r : ℕ) → dense skips s at n ≡ false → Behind s at n r → Inside skips s at n → r ≡ moved skips s at n
+  sparse-end r e behind inside =
+      ⊎-elim
+      (λ none. stays r behind none)
+      (λ some. let kind = sparse-skips e inside some in rw kind (behind .end (rw kind at inside)))
+      (le-or-lt n 0)
+
   pub opened-copied : (copy : List ℕ) (r : ℕ) → n ≤ 65 → dense skips s at n ≡ false → Gathered s at n copy r → Opened skips s at n (window r false) copy
   opened-copied copy r few e g =
       record {
@@ -267,11 +371,37 @@ module _ (skips : Bool) (s : List ℕ) (at n : ℕ) where
         shows = λ inside i h. let kind = sparse-skips e inside (omega arith) in rw kind (g .at (rw kind at inside) i h);
         onward = g .behind .onward;
         bounded = g .behind .bounded;
-        end = λ inside.
+        end = sparse-end r e (g .behind);
+      }
+
+-- LETTERS WITHOUT A WINDOW
+
+module _ (skips : Bool) (s : List ℕ) (letter at n : ℕ) where
+  pub lettered-dense : (bits : ℕ) → dense skips s at n ≡ true → Packed (has-letter s letter) at n bits →
+      Lettered skips s letter at n (record { bits = bits; end = at + n })
+  lettered-dense bits e packed =
+      let fits = dense-fits skips s at n e in
+      record {
+        answers = λ inside.
+            packed-same (has-letter s letter) (letter-at skips s letter at) at 0 n bits
+            (λ i h. rw (zero-add i) (ap (has-letter s letter) (place-dense skips s at n skips refl e i h)))
+            packed;
+        onward = omega arith;
+        bounded = omega arith;
+        end = λ inside. sym (moved-dense skips s at n e n (omega arith));
+      }
+
+  pub lettered-sparse : (r : Letters) → dense skips s at n ≡ false → Lettered true s letter at n r → Lettered skips s letter at n r
+  lettered-sparse r e l =
+      record {
+        answers = λ inside.
             ⊎-elim
-            (λ none. stays r (g .behind) none)
-            (λ some. let kind = sparse-skips e inside some in rw kind (g .behind .end (rw kind at inside)))
+            (λ none. let zero : n ≡ 0 = omega arith in rw zero (packed-none (letter-at skips s letter at) 0 (r .bits)))
+            (λ some. let kind = sparse-skips skips s at n e inside some in rw kind (l .answers (rw kind at inside)))
             (le-or-lt n 0);
+        onward = l .onward;
+        bounded = l .bounded;
+        end = sparse-end skips s at n (r .end) e (record { onward = l .onward; bounded = l .bounded; end = l .end });
       }
 
 -- AFTER SOME OF ITS POSITIONS

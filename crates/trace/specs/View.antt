@@ -1,15 +1,15 @@
 -- What a call knows of its log, and the part of the records that the reading heads are handed: those from record `first` on. Records
 -- before it may have been overwritten or dropped.
-use Prim.Native.Nat.{ℕ, _+_, _-_, _*_, _<_, _^_, max}
-use mathlib.Core.Bool.{Bool}
+use Prim.Native.Nat.{ℕ, _+_, _-_, _*_, _/_, _%_, _<_, _^_, max}
+use mathlib.Core.Bool.{Bool, true, _||_}
 use mathlib.Core.Path.{_≡_}
-use mathlib.Core.List.{List, [], _∷_}
-use lib.ListN.{getD, drop}
-use lib.Dec.{eqb}
+use mathlib.Core.List.{List, [], _∷_, _++_}
+use lib.ListN.{length, getD, drop}
+use lib.Dec.{leb, ltb, eqb}
 use Rattle.mtl.specs.Log.{Log, head-of}
-use Rattle.bits.specs.Packed.{number}
+use Rattle.bits.specs.Packed.{bit, number}
 use Rattle.trace.specs.Format.{record-count, time-at, has-letter, records-of, dropped}
-use Rattle.trace.specs.Positions.{place, before}
+use Rattle.trace.specs.Positions.{is-service, place, before}
 
 -- the records from the n-th on
 abbrev pub from-record : (n : ℕ) → List ℕ → List ℕ
@@ -20,8 +20,8 @@ from-record n s = drop (n * 8) s
 abbrev pub records-from : (log : List ℕ) (first : ℕ) → List ℕ
 records-from log first = from-record (first - dropped log) (records-of log)
 
--- a view's four numbers: the record with which the slice begins; how many positions the log has, those before the slice included; whether
--- service records are passed over in the slice, which is needed only where one lies there; whether the log is closed
+-- the four numbers with which a view begins: the record with which the slice begins; how many positions the log has, those before the slice
+-- included; whether service records are passed over in the slice, which is needed only where one lies there; whether the log is closed
 abbrev pub first : List ℕ → ℕ
 first v = getD v 0 0
 
@@ -34,7 +34,7 @@ skips v = eqb (getD v 2 0) 1
 abbrev pub closed : List ℕ → Bool
 closed v = eqb (getD v 3 0) 1
 
--- the view of a slice that begins with record `first`, before which stand q positions
+-- these numbers of a slice that begins with record `first`, before which stand q positions
 abbrev pub view-of : (first q : ℕ) (skips closed : Bool) → List ℕ → List ℕ
 view-of from q skipping ended s = from ∷ (q + before skipping s (record-count s)) ∷ number skipping ∷ number ended ∷ []
 
@@ -49,6 +49,34 @@ pub record Shows (skips : Bool) (s : List ℕ) (first : ℕ) (L : Log) (i : ℕ)
   pub letters : (k : ℕ) → has-letter s k (place skips s (in-slice first (head-of L i)) 0) ≡ L .letters i k
   pub place : L .place i ≡ first + place skips s (in-slice first (head-of L i)) 0
 
--- no record's number wraps
-abbrev pub Numbered : (v s : List ℕ) → Type 0
-Numbered v s = first v + record-count s < 2 ^ 64
+-- MARKS
+
+-- behind the four numbers stand 62 words of marks, a bit for each block of 256 records of the slice: whether the block may have a service
+-- record. Blocks behind those, which lie beyond 1,000,000 records, count as marked.
+abbrev pub marked : (v : List ℕ) (block : ℕ) → Bool
+marked v block = leb 3968 block || bit (getD v (4 + block / 64) 0) (block % 64)
+
+-- every service record lies in a marked block. A mark too many costs time and no answer.
+abbrev pub Marks : (v s : List ℕ) → Type 0
+Marks v s = (i : ℕ) → i < record-count s → is-service s i ≡ true → marked v (i / 256) ≡ true
+
+-- a block marked, if it has to be, beside those that were
+pub record MarkedToo (v : List ℕ) (block : ℕ) (needed : Bool) (v′ : List ℕ) : Type 0 where
+  pub long : length v′ ≡ 66
+  pub this : needed ≡ true → marked v′ block ≡ true
+  pub kept : (b : ℕ) → marked v b ≡ true → marked v′ b ≡ true
+
+-- a view that windows can be opened by: no record's number wraps, and where service records are passed over, they are marked
+pub record Views (v s : List ℕ) : Type 0 where
+  pub numbered : first v + record-count s < 2 ^ 64
+  pub marks : skips v ≡ true → Marks v s
+
+-- service records lie in the slice
+abbrev pub served : (skips : Bool) → List ℕ → Bool
+served skipping s = ltb (before skipping s (record-count s)) (record-count s)
+
+-- the view that a call makes of its slice: the four numbers, where service records are passed over only where one lies in the slice, and the
+-- marks
+pub record ViewOf (from q : ℕ) (skipping ended : Bool) (s v : List ℕ) : Type 0 where
+  pub numbers : v ≡ view-of from q (served skipping s) ended s ++ drop 4 v
+  pub marks : skips v ≡ true → Marks v s

@@ -1,5 +1,5 @@
 -- A window: the records of the next positions from a reading head on, and no others.
-use Prim.Native.Nat.{ℕ, _+_, _-_, _*_, _≤_, _<_, max}
+use Prim.Native.Nat.{ℕ, _+_, _-_, _*_, _≤_, _<_, _^_, max}
 use mathlib.Core.Bool.{Bool, true, cond, _&&_}
 use mathlib.Core.Bool.{not as negate}
 use mathlib.Core.Path.{_≡_}
@@ -7,9 +7,12 @@ use mathlib.Core.List.{List}
 use lib.ListN.{length, getD, take, drop}
 use lib.Dec.{leb}
 use Rattle.mtl.specs.Satisfaction.{any}
-use Rattle.trace.specs.Format.{record-count}
-use Rattle.trace.specs.Positions.{is-service, place, moved, before, Inside}
+use Rattle.bits.specs.Packed.{Packed}
+use Rattle.trace.specs.Format.{record-count, has-letter}
+use Rattle.trace.specs.Positions.{is-service, spot, place, moved, positions, before, Inside}
 use Rattle.trace.specs.View.{first, skips, in-slice}
+use Rattle.trace.specs.declared.window.Letters.{Letters}
+use Rattle.trace.specs.declared.window.Picked.{Picked}
 use Rattle.trace.specs.declared.window.Window.{Window}
 
 -- one of the n records from `from` on is a service record
@@ -31,6 +34,35 @@ record-of s i = take 8 (drop (i * 8) s)
 -- record i of one list is record j of another
 abbrev pub SameRecord : List ℕ → ℕ → List ℕ → ℕ → Type 0
 SameRecord s i t j = (b : ℕ) → b < 8 → getD s (i * 8 + b) 0 ≡ getD t (j * 8 + b) 0
+
+-- of n records from `from` on, r are positions
+pub record Counted (s : List ℕ) (from n r : ℕ) : Type 0 where
+  pub few : r ≤ n
+  pub sum : positions s from + r ≡ positions s (from + n)
+
+-- the r positions of n records from `from` on, copied as the records from number k on
+pub record Copied (s : List ℕ) (from n : ℕ) (copy : List ℕ) (k : ℕ) (copy′ : List ℕ) (r : ℕ) : Type 0 where
+  pub counted : Counted s from n r
+  pub long : length copy′ ≡ length copy
+  pub before : (j : ℕ) → j < k → SameRecord copy′ j copy j
+  pub here : (j : ℕ) → j < r → SameRecord copy′ (k + j) s (spot s from j)
+
+-- a letter at the i-th position that stands at record r or behind it
+abbrev pub letter-at : (skips : Bool) → List ℕ → (letter r i : ℕ) → Bool
+letter-at skips s letter r i = has-letter s letter (place skips s r i)
+
+-- a letter at the positions among n records from `from` on
+pub record Picks (s : List ℕ) (letter from n : ℕ) (r : Picked) : Type 0 where
+  pub counted : Counted s from n (r .count)
+  pub small : r .bits < 2 ^ r .count
+  pub packed : Packed (letter-at true s letter from) 0 (r .count) (r .bits)
+
+-- a letter at n positions from record `at` of the slice on, and the head behind them
+pub record Lettered (skips : Bool) (s : List ℕ) (letter at n : ℕ) (r : Letters) : Type 0 where
+  pub answers : Inside skips s at n → Packed (letter-at skips s letter at) 0 n (r .bits)
+  pub onward : at ≤ r .end
+  pub bounded : r .end ≤ max at (record-count s)
+  pub end : Inside skips s at n → r .end ≡ moved skips s at n
 
 -- a window of n positions from record `at` of the slice on
 pub record Opened (skips : Bool) (s : List ℕ) (at n : ℕ) (w : Window) (copy : List ℕ) : Type 0 where

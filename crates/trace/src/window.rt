@@ -1,15 +1,16 @@
 // Positions and windows. A service record, one with letter 31, is no position. A window has the records of the next positions from a
 // reading head on and no others: it is the log's own part where no service record lies among them, else a copy of them.
 ghost use mathlib.Core.Path.{_≡_};
-ghost use mathlib.Core.Bool.{true};
+ghost use mathlib.Core.Bool.{true, false};
+ghost use mathlib.Core.Logic.{_⊎_};
 ghost use Prim.Native.Nat.{_+_, _*_, _≤_, _<_, _^_, max};
 ghost use lib.ListN.{length};
 ghost use Rattle.bits.specs.Packed.{number};
 ghost use Rattle.trace.specs.Format.{record-count};
-ghost use Rattle.trace.specs.Positions.{is-service, positions, before};
+ghost use Rattle.trace.specs.Positions.{is-service, before};
 ghost use Rattle.trace.specs.Making.{put};
-ghost use Rattle.trace.specs.View.{first, skips, in-slice, Numbered};
-ghost use Rattle.trace.specs.Window.{some-service, dense, window-of, record-of, Gathered, Opened, Behind, Windowed, Passed, Found};
+ghost use Rattle.trace.specs.View.{first, skips, in-slice, Marks, Views};
+ghost use Rattle.trace.specs.Window.{some-service, dense, window-of, record-of, Counted, Copied, Picks, Lettered, Gathered, Opened, Behind, Windowed, Passed, Found};
 use super::view;
 
 // Where a window begins in the slice of records, the record behind its last, and whether its records stand there one after the other.
@@ -17,6 +18,18 @@ pub struct Window {
     pub at: usize,
     pub end: usize,
     pub dense: bool,
+}
+
+// A letter at some positions, as a word of answers, and the record behind the last of them.
+pub struct Letters {
+    pub bits: u64,
+    pub end: usize,
+}
+
+// A letter at those of a few records that are positions, as a word of answers, and how many they are.
+struct Picked {
+    bits: u64,
+    count: usize,
 }
 
 // 1 where record i is a service record, else 0.
@@ -27,36 +40,61 @@ fn service(records: &[u8], i: usize) -> usize
     records[i * 8 + 4] as usize / 128
 }
 
-// How many of the records are positions, where service records are none.
-fn count_positions(records: &[u8]) -> usize
-    ensures { λ r. ⌜ r ≡ positions (now (records .entry)) (record-count (now (records .entry))) ⌝ }
+// How many of n records from `from` on are positions, one by one.
+fn count_mixed(records: &[u8], from: usize, n: usize) -> usize
+    requires { ⌜ from + n ≤ record-count (now records) ⌝ }
+    ensures { λ r. ⌜ Counted (now (records .entry)) from n r ⌝ }
 {
-    let end = super::count(records);
     let mut found: usize = 0;
     let mut i: usize = 0;
-    while i < end {
-        found += 1 - service(records, i);
+    while i < n {
+        found += 1 - service(records, from + i);
         i += 1;
     }
     found
 }
 
-// Whether one of a few records from `from` on is a service record, without a branch.
+// Whether one of a few records from `from` on is a service record, without a branch: letter 31 is the highest bit of its byte.
 fn group_has_service(records: &[u8], from: usize, n: usize) -> bool
     requires { ⌜ from + n ≤ record-count (now records) ⌝ }
     ensures { λ r. ⌜ r ≡ some-service (now (records .entry)) from n ⌝ }
 {
-    let mut found = false;
+    let mut joined: u8 = 0;
     let mut i: usize = 0;
     while i < n {
-        found = found | (service(records, from + i) == 1);
+        joined = joined | records[(from + i) * 8 + 4];
         i += 1;
     }
-    found
+    128 <= joined
 }
 
-// Whether one of the n records from `from` on is a service record. Eight at a time, since a group of known size is compiled without a
-// loop.
+// The same of a group: where it has no service record, all are.
+fn count_group(records: &[u8], from: usize, n: usize) -> usize
+    requires { ⌜ from + n ≤ record-count (now records) ⌝ }
+    ensures { λ r. ⌜ Counted (now (records .entry)) from n r ⌝ }
+{
+    if group_has_service(records, from, n) {
+        count_mixed(records, from, n)
+    } else {
+        n
+    }
+}
+
+// The same of any number of records. Eight at a time, since a group of known size is compiled without a loop.
+pub fn count_many(records: &[u8], from: usize, n: usize) -> usize
+    requires { ⌜ from + n ≤ record-count (now records) ⌝ }
+    ensures { λ r. ⌜ Counted (now (records .entry)) from n r ⌝ }
+{
+    let mut found: usize = 0;
+    let mut i: usize = 0;
+    while i + 8 <= n {
+        found += count_group(records, from + i, 8);
+        i += 8;
+    }
+    found + count_mixed(records, from + i, n - i)
+}
+
+// Whether one of the n records from `from` on is a service record, eight at a time.
 fn has_service(records: &[u8], from: usize, n: usize) -> bool
     requires { ⌜ from + n ≤ record-count (now records) ⌝ }
     ensures { λ r. ⌜ r ≡ some-service (now (records .entry)) from n ⌝ }
@@ -82,10 +120,21 @@ fn in_slice(first: u64, head: u64) -> usize
     }
 }
 
-// The n records from `from` on are all there, and none of them is a service record.
-fn is_dense(records: &[u8], skips: bool, from: usize, n: usize) -> bool
-    requires { ⌜ n ≤ 65 ⌝ }
-    ensures { λ r. ⌜ r ≡ dense skips (now (records .entry)) from n ⌝ }
+// The same of so few records that they lie in two blocks at most: where neither is marked, no record is looked at.
+fn finds_service(records: &[u8], view: &[u64; 66], from: usize, n: usize) -> bool
+    requires { ⌜ (from + n ≤ record-count (now records)) × (n ≤ 65) × Marks (now view) (now records) ⌝ }
+    ensures { λ r. ⌜ r ≡ some-service (now (records .entry)) from n ⌝ }
+{
+    if view::is_marked(view, from / 256) | view::is_marked(view, (from + n) / 256) {
+        return has_service(records, from, n);
+    }
+    false
+}
+
+// The n records from `from` on are all there, and none of them is a service record that is passed over.
+fn is_dense(records: &[u8], view: &[u64; 66], from: usize, n: usize) -> bool
+    requires { ⌜ (n ≤ 65) × Views (now view) (now records) ⌝ }
+    ensures { λ r. ⌜ r ≡ dense (skips (now (view .entry))) (now (records .entry)) from n ⌝ }
 {
     let end = super::count(records);
     if end < n {
@@ -94,8 +143,8 @@ fn is_dense(records: &[u8], skips: bool, from: usize, n: usize) -> bool
     if end - n < from {
         return false;
     }
-    if skips {
-        !has_service(records, from, n)
+    if view[view::SKIPS] == 1 {
+        !finds_service(records, view, from, n)
     } else {
         true
     }
@@ -126,8 +175,58 @@ fn copy_record(records: &[u8], i: usize, copy: &mut [u8; 520], k: usize)
     copy[to + 7] = h;
 }
 
-// Copies the records of n positions from `from` on, as many as there are. A service record is written over by the next record. Gives the
-// record behind them.
+// Copies n records from `from` on, none of which is a service record, as those from number k on.
+fn copy_plain(records: &[u8], from: usize, n: usize, copy: &mut [u8; 520], k: usize)
+    requires { ⌜ (from + n ≤ record-count (now records)) × (k + n ≤ 65) × (length (now copy) ≡ 520) × (some-service (now records) from n ≡ false) ⌝ }
+    ensures { λ _. ⌜ Copied (now (records .entry)) from n (now (copy .entry)) k (now (copy .exit)) n ⌝ }
+{
+    let mut i: usize = 0;
+    while i < n {
+        copy_record(records, from + i, copy, k + i);
+        i += 1;
+    }
+}
+
+// The same of records among which service records may be: each of those is written over by the next. Gives how many are left.
+fn copy_mixed(records: &[u8], from: usize, n: usize, copy: &mut [u8; 520], k: usize) -> usize
+    requires { ⌜ (from + n ≤ record-count (now records)) × (k + n ≤ 65) × (length (now copy) ≡ 520) ⌝ }
+    ensures { λ r. ⌜ Copied (now (records .entry)) from n (now (copy .entry)) k (now (copy .exit)) r ⌝ }
+{
+    let mut copied: usize = 0;
+    let mut i: usize = 0;
+    while i < n {
+        copy_record(records, from + i, copy, k + copied);
+        copied += 1 - service(records, from + i);
+        i += 1;
+    }
+    copied
+}
+
+// The same of a group, by what is in it.
+fn copy_group(records: &[u8], from: usize, n: usize, copy: &mut [u8; 520], k: usize) -> usize
+    requires { ⌜ (from + n ≤ record-count (now records)) × (k + n ≤ 65) × (length (now copy) ≡ 520) ⌝ }
+    ensures { λ r. ⌜ Copied (now (records .entry)) from n (now (copy .entry)) k (now (copy .exit)) r ⌝ }
+{
+    if group_has_service(records, from, n) {
+        copy_mixed(records, from, n, copy, k)
+    } else {
+        copy_plain(records, from, n, copy, k);
+        n
+    }
+}
+
+// Whether m more records are wanted, of `left`, and are there.
+fn can_take(m: usize, left: usize, at: usize, end: usize) -> bool
+    ensures { λ r. ⌜ (r ≡ true → (m ≤ left) × (at + m ≤ end)) × (r ≡ false → (left < m) ⊎ (end < at + m)) ⌝ }
+{
+    if end < m {
+        false
+    } else {
+        (m <= left) & (at <= end - m)
+    }
+}
+
+// Copies the records of n positions from `from` on, as many as there are, eight at a time. Gives the record behind them.
 fn gather(records: &[u8], from: usize, n: usize, copy: &mut [u8; 520]) -> usize
     requires { ⌜ (n ≤ 65) × (length (now copy) ≡ 520) ⌝ }
     ensures { λ r. ⌜ Gathered (now (records .entry)) from n (now (copy .exit)) r ⌝ }
@@ -135,21 +234,101 @@ fn gather(records: &[u8], from: usize, n: usize, copy: &mut [u8; 520]) -> usize
     let end = super::count(records);
     let mut at = from;
     let mut k: usize = 0;
-    while (k < n) & (at < end) {
-        copy_record(records, at, copy, k);
-        k += 1 - service(records, at);
+    while can_take(8, n - k, at, end) {
+        k += copy_group(records, at, 8, copy, k);
+        at += 8;
+    }
+    while can_take(1, n - k, at, end) {
+        k += copy_group(records, at, 1, copy, k);
         at += 1;
     }
     at
 }
 
+// The letter at record i, as a word of one answer, or of none where it is a service record.
+fn pick_one(records: &[u8], i: usize, letter: u64) -> Picked
+    requires { ⌜ (i < record-count (now records)) × (letter < 32) ⌝ }
+    ensures { λ r. ⌜ Picks (now (records .entry)) letter i 1 r ⌝ }
+{
+    let count = 1 - service(records, i);
+    let bits = super::letter_group(records, i, 1, letter) * count as u64;
+    Picked { bits, count }
+}
+
+// The same at each of up to eight records, one by one.
+fn pick_mixed(records: &[u8], from: usize, n: usize, letter: u64) -> Picked
+    requires { ⌜ (from + n ≤ record-count (now records)) × (n ≤ 8) × (letter < 32) ⌝ }
+    ensures { λ r. ⌜ Picks (now (records .entry)) letter from n r ⌝ }
+{
+    let mut bits: u64 = 0;
+    let mut count: usize = 0;
+    let mut i: usize = 0;
+    while i < n {
+        let one = pick_one(records, from + i, letter);
+        bits = bits + (one.bits << count as u64);
+        count += one.count;
+        i += 1;
+    }
+    Picked { bits, count }
+}
+
+// The same of a group, by what is in it.
+fn pick_group(records: &[u8], from: usize, n: usize, letter: u64) -> Picked
+    requires { ⌜ (from + n ≤ record-count (now records)) × (n ≤ 8) × (letter < 32) ⌝ }
+    ensures { λ r. ⌜ Picks (now (records .entry)) letter from n r ⌝ }
+{
+    if group_has_service(records, from, n) {
+        return pick_mixed(records, from, n, letter);
+    }
+    let bits = super::letter_group(records, from, n, letter);
+    Picked { bits, count: n }
+}
+
+// The letter at each of n positions from `from` on, as many as there are, eight records at a time.
+fn pick_letters(records: &[u8], from: usize, n: usize, letter: u64) -> Letters
+    requires { ⌜ (n ≤ 64) × (letter < 32) ⌝ }
+    ensures { λ r. ⌜ Lettered true (now (records .entry)) letter from n r ⌝ }
+{
+    let end = super::count(records);
+    let mut at = from;
+    let mut k: usize = 0;
+    let mut bits: u64 = 0;
+    while can_take(8, n - k, at, end) {
+        let group = pick_group(records, at, 8, letter);
+        bits = bits + (group.bits << k as u64);
+        k += group.count;
+        at += 8;
+    }
+    while can_take(1, n - k, at, end) {
+        let one = pick_one(records, at, letter);
+        bits = bits + (one.bits << k as u64);
+        k += one.count;
+        at += 1;
+    }
+    Letters { bits, end: at }
+}
+
+// The letter at each of n positions from a head on, without a copy of their records.
+pub fn read_letters(records: &[u8], view: &[u64; 66], head: u64, n: u64, letter: u64) -> Letters
+    requires { ⌜ (n ≤ 64) × (letter < 32) × Views (now view) (now records) ⌝ }
+    ensures { λ r. ⌜ Lettered (skips (now (view .entry))) (now (records .entry)) letter (in-slice (first (now (view .entry))) head) n r ⌝ }
+{
+    let at = in_slice(view[view::FIRST], head);
+    if is_dense(records, view, at, n as usize) {
+        let bits = super::letter_bits(records, at, n as usize, letter);
+        let end = at + n as usize;
+        return Letters { bits, end };
+    }
+    pick_letters(records, at, n as usize, letter)
+}
+
 // The window of n positions from a head on; the copy is written where it is needed.
-pub fn open(records: &[u8], view: &[u64; 4], head: u64, n: u64, copy: &mut [u8; 520]) -> Window
-    requires { ⌜ (n ≤ 65) × (length (now copy) ≡ 520) ⌝ }
+pub fn open(records: &[u8], view: &[u64; 66], head: u64, n: u64, copy: &mut [u8; 520]) -> Window
+    requires { ⌜ (n ≤ 65) × (length (now copy) ≡ 520) × Views (now view) (now records) ⌝ }
     ensures { λ r. ⌜ Opened (skips (now (view .entry))) (now (records .entry)) (in-slice (first (now (view .entry))) head) n r (now (copy .exit)) ⌝ }
 {
     let at = in_slice(view[view::FIRST], head);
-    if is_dense(records, view[view::SKIPS] == 1, at, n as usize) {
+    if is_dense(records, view, at, n as usize) {
         let end = at + n as usize;
         return Window {
             at,
@@ -184,15 +363,19 @@ fn behind(records: &[u8], from: usize, n: usize) -> usize
     let end = super::count(records);
     let mut at = from;
     let mut left = n;
-    while (0 < left) & (at < end) {
-        left -= 1 - service(records, at);
+    while can_take(8, left, at, end) {
+        left -= count_group(records, at, 8);
+        at += 8;
+    }
+    while can_take(1, left, at, end) {
+        left -= count_mixed(records, at, 1);
         at += 1;
     }
     at
 }
 
 // Where a head stands after all positions of its window, of which there is one at least.
-pub fn pass_all(window: Window, view: &[u64; 4]) -> u64
+pub fn pass_all(window: Window, view: &[u64; 66]) -> u64
     requires { ⌜ first (now view) + window .end < 2 ^ 64 ⌝ }
     ensures { λ r. ⌜ r ≡ first (now (view .entry)) + window .end ⌝ }
 {
@@ -200,8 +383,8 @@ pub fn pass_all(window: Window, view: &[u64; 4]) -> u64
 }
 
 // Where a head stands after n positions of its window; where it stood if there are none.
-pub fn pass(head: u64, window: Window, records: &[u8], view: &[u64; 4], n: u64) -> u64
-    requires { ⌜ Numbered (now view) (now records) × Windowed (now view) (now records) head n window ⌝ }
+pub fn pass(head: u64, window: Window, records: &[u8], view: &[u64; 66], n: u64) -> u64
+    requires { ⌜ Views (now view) (now records) × Windowed (now view) (now records) head n window ⌝ }
     ensures { λ r. ⌜ Passed (now (view .entry)) (now (records .entry)) head n window r ⌝ }
 {
     if n == 0 {
@@ -218,7 +401,7 @@ pub fn positions(records: &[u8], skips: bool) -> u64
     ensures { λ r. ⌜ r ≡ before skips (now (records .entry)) (record-count (now (records .entry))) ⌝ }
 {
     if skips {
-        count_positions(records) as u64
+        count_many(records, 0, super::count(records)) as u64
     } else {
         super::count(records) as u64
     }

@@ -4,6 +4,7 @@ use mathlib.Core.Bool.{Bool, true, false, _||_, true≢false}
 use mathlib.Core.List.{List, [], _∷_}
 use mathlib.Core.Logic.{_⊎_, inl, inr, ⊎-elim}
 use mathlib.Core.Path.{_≡_, refl, sym, _∙_, ap}
+use native.Mathlib.Nat.{add-zero}
 use native.Mathlib.Omega.{arith}
 use lib.Dec.{eqb, leb, ltb}
 use lib.ListN.{length, getD}
@@ -17,13 +18,15 @@ use Rattle.mtl.proofs.Bounded.{or-iff, le-or-lt}
 use Rattle.mtl.proofs.Closing.{settled-closed, by-closed, both-settled, both-fit, until-open}
 use Rattle.bits.specs.Packed.{number}
 use Rattle.bits.proofs.Laws.{number-lt, packed-none}
+use Rattle.trace.specs.Format.{time-at}
 use Rattle.trace.specs.View.{first, total, skips, closed, in-slice}
-use Rattle.trace.specs.Window.{Opened, Windowed, Passed}
+use Rattle.trace.specs.Window.{window-of, Opened, Windowed, Passed}
 use Rattle.trace.specs.declared.window.Window.{Window}
 use Rattle.trace.proofs.Reading.{shown-time-bound}
-use Rattle.blocks.specs.Block.{word, taken, left-count, left-bits, right-count, right-bits, answered, last-left, last-right, last-time, head, waiting-head, Onward, Heads, Buffer, Ready}
+use Rattle.blocks.specs.Block.{word, taken, left-count, left-bits, right-count, right-bits, answered, last-left, last-right, last-time, head, waiting-head, Onward, Heads, Until, Buffer, Ready}
 use Rattle.blocks.specs.Step.{Agrees, Moved, Stepped, Ends}
-use Rattle.until.specs.Settle.{Reads, Reached, Waiting, Walk, Holds, starts-of, ahead-of, last-taken, walked, Fits, Wants}
+use Rattle.until.specs.Settle.{pick, settle-spec, time-of-none, next-of, Reads, Reached, Waiting, Walk, Holds, starts-of, ahead-of, last-taken, walked, Fits, Stuck, Wants}
+use Rattle.until.specs.declared.Last.{Last}
 use Rattle.until.specs.declared.Room.{Room}
 use Rattle.until.specs.declared.Walked.{Walked}
 use Rattle.until.specs.declared.Settled.the-variants.{Unknown}
@@ -153,6 +156,114 @@ stands-inside total at g e = let t = or-false (ltb total at) (ltb at g) e in (lt
     or-false : (x y : Bool) → x || y ≡ false → (x ≡ false) × (y ≡ false)
     or-false true y e = absurd (true≢false e)
     or-false false y e = (refl, e)
+
+-- where g is not settled and nothing is to be taken, there is no answer
+module _ {low high most : ℕ} (clamp : most ≡ min high unbounded) (φ ψ : Formula) (L : Log) (falls : NeverFalls L) {g p start next : ℕ} {fresh : Bool}
+    (sees : Sees L g p start next fresh) (behind : p ≤ both-settled φ ψ L) (last : Last)
+    (u : Until low high (L .time) (sat φ L) (sat ψ L) g p (number (last .left)) (number (last .right)) (last .time))
+    (unknown : pick fresh Unknown (settle-spec low most start last next) ≡ Unknown) (reached : g ≤ settled-to (until low high φ ψ) L) where
+  -- on a closed log it is the end
+  at-last : both-settled φ ψ L ≡ p → L .closed ≡ true → settled-to (until low high φ ψ) L ≡ g
+  at-last e c =
+      let ahead = u .ahead in
+      let f = settled-closed φ L c in
+      let k = settled-closed ψ L c in
+      let past = none-waits low high most clamp φ ψ L falls sees behind last u unknown (c, omega arith) in
+      omega (arith, settled-closed (until low high φ ψ) L c)
+
+  -- on an open one it waits
+  not-yet : both-settled φ ψ L ≡ p → L .closed ≡ false → settled-to (until low high φ ψ) L ≡ g
+  not-yet e o =
+      let finding = finds low high most clamp φ ψ L falls sees behind last u Unknown unknown in
+      let never : g < settled-to (until low high φ ψ) L → ⊥ =
+      λ l. logic.stuck (both-fit φ ψ L) falls behind finding (omega arith) (until-open low high φ ψ L falls g o l) in
+      omega arith
+
+  none-left : both-settled φ ψ L ≡ p → settled-to (until low high φ ψ) L ≡ g
+  none-left e = by-closed L (at-last e) (not-yet e)
+
+module _ {low high : ℕ} {φ ψ : Formula} {L : Log} {g : ℕ} {b : List ℕ} (ready : Ready (until low high φ ψ) L g b) where
+  -- the smaller of the operands' numbers, where one of them has no more answers
+  both-taken : (settled-to φ L ≡ taken b) ⊎ (settled-to ψ L ≡ taken b) → both-settled φ ψ L ≡ taken b
+  both-taken d =
+      let x = ready .buffers .0 .within in
+      let y = ready .buffers .1 .within in
+      ⊎-elim (λ e. omega arith) (λ e. omega arith) d
+
+  taken-behind : taken b ≤ both-settled φ ψ L
+  taken-behind = let x = ready .buffers .0 .within in let y = ready .buffers .1 .within in omega arith
+
+  stands-at : let last = last-taken b in Until low high (L .time) (sat φ L) (sat ψ L) g (taken b) (number (last .left)) (number (last .right)) (last .time)
+  stands-at = let range = ready .core .range in rw (number-is (last-left b) (range .last-left), number-is (last-right b) (range .last-right)) (ready .core .own .1)
+
+  -- an operand is wanted where none can be taken
+  pub wants-more : {v s : List ℕ} {r : Room} → Agrees v s L g → Fits b (total v) r → r .take ≡ 0 →
+      ((settled-to φ L ≡ taken b) ⊎ (settled-to ψ L ≡ taken b) → settled-to (until low high φ ψ) L ≡ g) → (t : Step) → Wants b t →
+      Stepped (until low high φ ψ) L g b t b
+  wants-more agrees room none open′ (Batch bits count) t = absurd t
+  wants-more agrees room none open′ Again t = absurd t
+  wants-more agrees room none open′ Left t = (refl, λ e. open′ (inl e))
+  wants-more agrees room none open′ Right t = (refl, λ e. open′ (inr e))
+  wants-more agrees room none open′ Open t =
+      let l = ready .buffers .0 in
+      let f = l .packed .few in
+      let all = room .all (omega arith) (omega (arith, fits l, agrees .size)) in
+      absurd (omega arith)
+
+-- none waits
+pub stuck-fresh : (low most : ℕ) (v s b : List ℕ) → ((i : ℕ) → getD s i 0 < 256) → taken b ≡ answered b → Stuck low most v s b
+stuck-fresh low most v s b byte e high φ ψ L g clamp falls agrees ready d =
+    let at = ready .core .own .0 in
+    ⊎-elim
+    (λ h. by (time-of-none (L .closed)) (λ l. absurd (omega arith)) (λ l. refl))
+    (λ h. by (L .time (taken b)) (λ l. refl) (λ l. absurd (omega arith)))
+    (le-or-lt (L .size) (taken b))
+  where
+    by : (next : ℕ) → (taken b < L .size → next ≡ L .time (taken b)) → (taken b ≡ L .size → next ≡ time-of-none (L .closed)) → settled-to (until low high φ ψ) L ≡ g
+    by next ahead none =
+        let at = ready .core .own .0 in
+        let sees : Sees L g (taken b) 0 next true =
+        record {
+          none-taken = λ t. omega arith;
+          some-taken = λ t. absurd (true≢false t);
+          bound = λ i a l. shown-time-bound byte (agrees .shows i a l);
+          here = λ l. absurd (omega arith);
+          ahead = ahead;
+          none = none;
+        } in
+        none-left clamp φ ψ L falls sees (taken-behind ready) (last-taken b) (stands-at ready) refl (ready .core .reached) (both-taken ready d)
+
+-- the first that waits is not settled by the windows' first records
+pub record First (low most : ℕ) (v s b : List ℕ) (end : ℕ) (ahead : Window) (copy : List ℕ) (starts : Window) (waiting : List ℕ) : Type 0 where
+  pub byte : (i : ℕ) → getD s i 0 < 256
+  pub some : answered b < taken b
+  pub inside : taken b ≤ total v
+  pub ends : end ≡ min 1 (total v - taken b)
+  pub next : Opened (skips v) s (in-slice (first v) (head b)) end ahead copy
+  pub start : Opened (skips v) s (in-slice (first v) (waiting-head b)) 1 starts waiting
+  pub unknown :
+      settle-spec low most (starts-of starts s waiting 0) (last-taken b) (next-of (time-at (window-of ahead s copy)) end (time-of-none (closed v)) 0) ≡ Unknown
+
+pub stuck-first : {low most : ℕ} {v s b : List ℕ} {end : ℕ} {ahead : Window} {copy : List ℕ} {starts : Window} {waiting : List ℕ} →
+    First low most v s b end ahead copy starts waiting → Stuck low most v s b
+stuck-first {low} {most} {v} {s} {b} {end} {ahead} {copy} {starts} {waiting} f high φ ψ L g clamp falls agrees ready d =
+    let at = ready .core .own .0 in
+    let size = agrees .size in
+    let some = f .some in
+    let inside = f .inside in
+    let ends = f .ends in
+    let sees : Sees L g (taken b) (starts-of starts s waiting 0) (next-of (time-at (window-of ahead s copy)) end (time-of-none (closed v)) 0) false =
+    record {
+      none-taken = λ t. absurd (true≢false (sym t));
+      some-taken = λ t. omega arith;
+      bound = λ i a l. shown-time-bound (f .byte) (agrees .shows i a l);
+      here = λ l. read-time agrees g (ready .core .heads .1) (omega arith) (omega arith) (f .start) 0 (omega arith) ∙ ap (L .time) (add-zero g);
+      ahead = λ l.
+          rw (lt-ltb 0 end (omega arith))
+          (read-time agrees (taken b) (ready .core .heads .0) (omega arith) (omega arith) (f .next) 0 (omega arith) ∙ ap (L .time) (add-zero (taken b)));
+      none = λ l. rw (le-ltb 0 end (omega arith), agrees .ends) refl;
+    } in
+    none-left clamp φ ψ L falls sees (taken-behind ready) (last-taken b) (stands-at ready) (f .unknown) (ready .core .reached) (both-taken ready d)
 
 -- a step on block b that has walked over two windows
 pub record Went (low high most : ℕ) (v s b : List ℕ) (r : Room) (ahead : Window) (copy : List ℕ) (starts : Window) (waiting : List ℕ) (w : Walked) : Type 0 where
@@ -315,36 +426,12 @@ module _ {low high most : ℕ} {v s b : List ℕ} {r : Room} {ahead : Window} {c
           (fits lefts)
           seen
 
-      -- on a closed log it is the end
-      at-last : both-settled φ ψ L ≡ taken b → L .closed ≡ true → settled-to (until low high φ ψ) L ≡ g
-      at-last e c =
-          let ahead = ready .core .own .1 .ahead in
-          let f = settled-closed φ L c in
-          let k = settled-closed ψ L c in
-          let past = none-waits low high most (went .clamp) φ ψ L falls sees behind (w .last) (reached .heads) (unknown .unknown) (c, omega arith) in
-          omega (arith, settled-closed (until low high φ ψ) L c)
-
-      -- on an open one it waits
-      not-yet : both-settled φ ψ L ≡ taken b → L .closed ≡ false → settled-to (until low high φ ψ) L ≡ g
-      not-yet e o =
+      pub wants : (t : Step) → Wants b t → Stepped (until low high φ ψ) L g b t b
+      wants =
           let i = ready .core .reached in
-          let finding = finds low high most (went .clamp) φ ψ L falls sees behind (w .last) (reached .heads) Unknown (unknown .unknown) in
-          let never : g + w .count < settled-to (until low high φ ψ) L → ⊥ =
-          λ l. logic.stuck (both-fit φ ψ L) falls behind finding (omega arith) (until-open low high φ ψ L falls (g + w .count) o l) in
-          omega arith
-
-      none-left : both-settled φ ψ L ≡ taken b → settled-to (until low high φ ψ) L ≡ g
-      none-left e = by-closed L (at-last e) (not-yet e)
-
-      pub wants : (r : Step) → Wants b r → Stepped (until low high φ ψ) L g b r b
-      wants (Batch bits count) t = absurd t
-      wants Again t = absurd t
-      wants Left t = (refl, λ e. none-left (let x = ready .buffers .1 .within in omega arith))
-      wants Right t = (refl, λ e. none-left (let x = ready .buffers .0 .within in omega arith))
-      wants Open t =
-          let l = ready .buffers .0 in
-          let k = ready .buffers .1 in
           let z = unknown .all in
-          let f = l .packed .few in
-          let all = opens .fits .all (omega arith) (omega (arith, fits l, agrees .size)) in
-          absurd (omega arith)
+          wants-more ready agrees (opens .fits) (omega arith)
+          (λ d.
+          let e = both-taken ready d in
+          let n = none-left (went .clamp) φ ψ L falls sees behind (w .last) (reached .heads) (unknown .unknown) (omega arith) (omega arith) in
+          omega arith)

@@ -1,9 +1,10 @@
 -- until's parts: what settles the next position to answer, and a walk that answers and takes many of them. Positions are counted here from
 -- the first that waits and from the first to take, which lies `lead` behind that; start and next are their times.
-use Prim.Native.Nat.{ℕ, _+_, _-_, _*_, _≤_, _<_, _^_, min}
+use Prim.Native.Nat.{ℕ, zero, suc, _+_, _-_, _*_, _≤_, _<_, _^_, min, max}
 use mathlib.Core.Bool.{Bool, true, false, cond, _&&_, _||_}
 use mathlib.Core.Bool.{not as negate}
 use mathlib.Core.List.{List}
+use mathlib.Core.Logic.{_⊎_}
 use mathlib.Core.Path.{_≡_}
 use lib.ListN.{length, set}
 use lib.Dec.{leb, ltb, eqb}
@@ -11,11 +12,13 @@ use Rattle.mtl.specs.Formula.{Formula, unbounded}
 use Rattle.mtl.specs.Formula.Formula.{until as until-formula}
 use Rattle.mtl.specs.Log.{Log, NeverFalls}
 use Rattle.mtl.specs.Satisfaction.{sat}
+use Rattle.mtl.specs.Progress.{settled-to}
 use Rattle.bits.specs.Packed.{bit, number}
 use Rattle.trace.specs.Format.{record-count, time-at}
 use Rattle.trace.specs.Window.{window-of}
 use Rattle.trace.specs.declared.window.Window.{Window}
-use Rattle.blocks.specs.Block.{taken, left-count, right-count, answered, last-left, last-right, last-time, took-both, Until, Buffer}
+use Rattle.blocks.specs.Block.{taken, left-count, right-count, answered, last-left, last-right, last-time, took-both, Until, Buffer, Ready}
+use Rattle.blocks.specs.Step.{Agrees}
 use Rattle.until.specs.declared.Last.{Last}
 use Rattle.until.specs.declared.Room.{Room}
 use Rattle.until.specs.declared.Walked.{Walked}
@@ -96,15 +99,32 @@ pub record Walk (low most : ℕ) (start next : ℕ → ℕ) (lead n left right :
   pub waiting : w .count ≡ 0 → w .took ≡ 0 → Waiting low most start next lead n (w .count) (w .took) (w .last)
   pub walks : Walks low most start next lead n left right from (w .bits) (w .count) (w .took) (w .last)
 
--- what was taken settles none of those that wait, where low is 0
-abbrev pub Quiet : (lead : ℕ) → Last → Type 0
-Quiet lead last = 0 < lead → (last .left ≡ true) × (last .right ≡ false)
+-- the time of the latest right that left leads to, among n positions from i on; 0 where there is none
+unfoldable pub latest-right : (time : ℕ → ℕ) (left right n i : ℕ) → ℕ
+latest-right time left right zero i = 0
+latest-right time left right (suc n) i =
+    max (cond (bit left i) (latest-right time left right n (suc i)) 0) (cond (bit right i) (time i) 0)
 
--- a walk with low 0 can go by whole words: the last of n positions to take lies no more than high after the first that waits
-pub record ByWords (high : ℕ) (start time : ℕ → ℕ) (lead n : ℕ) (from : Last) : Type 0 where
+-- it lies at least low after position i of n
+abbrev pub is-late : (low : ℕ) (time : ℕ → ℕ) (left right n i : ℕ) → Bool
+is-late low time left right n i = leb (time i + low) (latest-right time left right (n - i) i)
+
+-- the first `met` of n positions lie at least low before a right, and no more of them from the first on
+pub record Met (low : ℕ) (start : ℕ → ℕ) (right n met : ℕ) : Type 0 where
+  pub most : met ≤ n
+  pub far : (i : ℕ) → i < met → start i + low ≤ right
+  pub next : met < n → right < start met + low
+
+-- what was taken settles none of those that wait
+abbrev pub Quiet : (low start lead : ℕ) → Last → Type 0
+Quiet low start lead last = 0 < lead → (last .left ≡ true) × (is-met low start last ≡ false)
+
+-- a walk can go by whole words: the last of n positions to take lies no more than high after the first that waits
+pub record ByWords (low high : ℕ) (start time : ℕ → ℕ) (lead n : ℕ) (from : Last) : Type 0 where
   pub some : 0 < n
   pub few : lead < 64
-  pub quiet : Quiet lead from
+  pub small : low < 2 ^ 32
+  pub quiet : Quiet low (start 0) lead from
   pub inside : time (n - 1) - start 0 ≤ high
 
 -- a window that has n records
@@ -152,6 +172,12 @@ pub record Fits (b : List ℕ) (total : ℕ) (r : Room) : Type 0 where
       r .take ≡ min (left-count b) (right-count b)
   pub ahead : r .look ≡ min (r .take + 1) (total - taken b)
   pub waiting : r .answer ≡ min (taken b - answered b + r .take) 64
+
+-- the next position to answer waits for one to be taken: where an operand has no more answers, neither has the until; `most` as in `Walks`
+abbrev pub Stuck : (low most : ℕ) (v s b : List ℕ) → Type 0
+Stuck low most v s b =
+    (high : ℕ) (φ ψ : Formula) (L : Log) (g : ℕ) → most ≡ min high unbounded → NeverFalls L → Agrees v s L g →
+    Ready (until-formula low high φ ψ) L g b → (settled-to φ L ≡ taken b) ⊎ (settled-to ψ L ≡ taken b) → settled-to (until-formula low high φ ψ) L ≡ g
 
 -- the operand whose buffer is empty; Open where neither is, which only forged words bring about
 abbrev pub Wants : List ℕ → Step → Type 0

@@ -1,15 +1,18 @@
 // until: two reading heads and no history.
 ghost use mathlib.Core.Path.{_≡_};
-ghost use mathlib.Core.Bool.{true};
-ghost use Prim.Native.Nat.{ℕ, _+_, _-_, _≤_, _<_, _^_, min};
+ghost use mathlib.Core.Bool.{true, cond};
+ghost use Prim.Native.Nat.{ℕ, _+_, _-_, _≤_, _<_, _^_, min, max};
 ghost use lib.ListN.{length};
 ghost use Rattle.mtl.specs.Formula.{Formula};
 ghost use Rattle.mtl.specs.Formula.Formula.{until};
 ghost use Rattle.trace.specs.Format.{record-count, time-at};
-ghost use Rattle.trace.specs.View.{Numbered};
+ghost use Rattle.trace.specs.View.{Views, total};
+ghost use Rattle.trace.specs.Window.{window-of};
+ghost use Rattle.bits.specs.Packed.{Packed};
 ghost use Rattle.blocks.specs.Block.{taken, left-count, left-bits, right-count, right-bits, answered};
 ghost use Rattle.blocks.specs.Step.{Steps, Ends};
-ghost use Rattle.until.specs.Settle.{settle-spec, time-of-none, next-of, look-spec, take-spec, Walk, ByWords, Holds, starts-of, ahead-of, last-taken, walked, Wants, Fits};
+ghost use Rattle.until.specs.Settle.{settle-spec, time-of-none, next-of, look-spec, take-spec, latest-right, is-late, Met, Walk, ByWords, Holds, starts-of, ahead-of, last-taken, walked, Wants, Stuck, Fits};
+ghost use Rattle.until.specs.declared.Settled.the-variants.{Unknown};
 use blocks::Step;
 use blocks::time;
 use blocks::word;
@@ -36,6 +39,13 @@ pub struct Walked {
     count: u64,
     took: u64,
     last: Last,
+}
+
+// What the words of those to take tell where low is above 0: bit i where right holds at some j at least low after i, and left from i up to
+// j - 1; and the time of the latest right that left leads to from the first on, 0 where there is none.
+pub struct Late {
+    bits: u64,
+    right: u64,
 }
 
 // How far a step may go: how many positions it may take, how many it looks at ahead, which is one more where the log has it, and how many
@@ -173,7 +183,7 @@ fn taken_for(lead: u64, known: u64, n: u64) -> u64
 // one that waits. So each is settled by the first behind it at which right holds or left fails.
 fn walk_inside(ahead: &[u8], lead: u64, n: u64, left: u64, right: u64) -> Walked
     requires { ⌜ (0 < n) × (n ≤ 64) × (n ≤ record-count (now ahead)) × (lead < 64) ⌝ }
-    ensures { λ r. ⌜ ((high after : ℕ) (start : ℕ → ℕ) (from : Last) → ByWords high start (time-at (now (ahead .entry))) lead n from → Walk 0 high start (next-of (time-at (now (ahead .entry))) n after) lead n left right from r) ⌝ }
+    ensures { λ r. ⌜ ((high after : ℕ) (start : ℕ → ℕ) (from : Last) → ByWords 0 high start (time-at (now (ahead .entry))) lead n from → Walk 0 high start (next-of (time-at (now (ahead .entry))) n after) lead n left right from r) ⌝ }
 {
     let known = bits::find_last_zero(left & !right, n);
     if known == 0 {
@@ -185,29 +195,117 @@ fn walk_inside(ahead: &[u8], lead: u64, n: u64, left: u64, right: u64) -> Walked
         };
     }
     let took = taken_for(lead, known, n);
+    let own = bits::fill_down(left, right);
+    let front = bits::repeat(bits::test(own, 0), lead);
     Walked {
-        bits: bits::prolong(bits::fill_down(left, right), lead),
+        bits: bits::prolong(own, front, lead),
         count: blocks::smaller(lead + known, 64),
         took,
         last: take(ahead, took - 1, left, right),
     }
 }
 
-// Whether a walk with low 0 can go by whole words.
-fn by_words(high: u64, starts: &[u8], ahead: &[u8], lead: u64, n: u64, from: Last) -> bool
-    requires { ⌜ (n ≤ record-count (now ahead)) × (lead + n < 2 ^ 64) × (min (lead + n) 64 ≤ record-count (now starts)) ⌝ }
-    ensures { λ r. ⌜ (r ≡ true → ByWords high (time-at (now (starts .entry))) (time-at (now (ahead .entry))) lead n from) ⌝ }
+// x where it is told so, else 0.
+fn keep_if(yes: bool, x: u64) -> u64
+    ensures { λ r. ⌜ r ≡ cond yes x 0 ⌝ }
 {
-    if (n == 0) | (64 <= lead) {
+    if yes { x } else { 0 }
+}
+
+// The larger of two.
+fn larger(a: u64, b: u64) -> u64
+    ensures { λ r. ⌜ r ≡ max a b ⌝ }
+{
+    if a < b { b } else { a }
+}
+
+// Which of n positions lie at least low before the latest right that left leads to from there on. From the last one down, without a
+// branch: whether an operand holds is hard to predict.
+fn find_late(low: u64, ahead: &[u8], n: u64, left: u64, right: u64) -> Late
+    requires { ⌜ (low < 2 ^ 32) × (n ≤ 64) × (n ≤ record-count (now ahead)) ⌝ }
+    ensures { λ r. ⌜ Packed (is-late low (time-at (now (ahead .entry))) left right n) 0 n (r .bits) × (r .right ≡ latest-right (time-at (now (ahead .entry))) left right n 0) ⌝ }
+{
+    let mut latest: u64 = 0;
+    let mut bits: u64 = 0;
+    let mut i = n;
+    while 0 < i {
+        i -= 1;
+        let now = trace::time(ahead, i as usize);
+        let here = keep_if(bits::test(right, i), now);
+        latest = larger(keep_if(bits::test(left, i), latest), here);
+        bits = bits * 2 + bits::flag(now + low <= latest);
+    }
+    Late {
+        bits,
+        right: latest,
+    }
+}
+
+// How many of n positions, from the first on, lie at least low before a right at this time.
+fn count_met(low: u64, starts: &[u8], n: u64, right: u64) -> u64
+    requires { ⌜ (low < 2 ^ 32) × (n ≤ record-count (now starts)) ⌝ }
+    ensures { λ r. ⌜ Met low (time-at (now (starts .entry))) right n r ⌝ }
+{
+    let mut i: u64 = 0;
+    while i < n {
+        if right < trace::time(starts, i as usize) + low {
+            break;
+        }
+        i += 1;
+    }
+    i
+}
+
+// As `walk_inside`, where low is above 0: a position is yes where the latest right that left leads to lies at least low after it.
+fn walk_late(
+    low: u64,
+    starts: &[u8],
+    ahead: &[u8],
+    lead: u64,
+    n: u64,
+    left: u64,
+    right: u64,
+) -> Walked
+    requires { ⌜ (0 < low) × (low < 2 ^ 32) × (0 < n) × (n ≤ 64) × (n ≤ record-count (now ahead)) × (lead < 64) × (lead ≤ record-count (now starts)) ⌝ }
+    ensures { λ r. ⌜ ((high after : ℕ) (from : Last) → ByWords low high (time-at (now (starts .entry))) (time-at (now (ahead .entry))) lead n from → Walk low high (time-at (now (starts .entry))) (next-of (time-at (now (ahead .entry))) n after) lead n left right from r) ⌝ }
+{
+    let late = find_late(low, ahead, n, left, right);
+    let met = count_met(low, starts, lead, late.right);
+    let front = bits::repeat(true, met);
+    let known = bits::find_last_zero(left & !late.bits, n);
+    if known == 0 {
+        return Walked {
+            bits: front,
+            count: met,
+            took: n,
+            last: take(ahead, n - 1, left, right),
+        };
+    }
+    let took = taken_for(lead, known, n);
+    Walked {
+        bits: bits::prolong(late.bits, front, lead),
+        count: blocks::smaller(lead + known, 64),
+        took,
+        last: take(ahead, took - 1, left, right),
+    }
+}
+
+// Whether a walk can go by whole words. No rule has a low above the longest gap: a time and low can be added.
+fn by_words(low: u64, high: u64, starts: &[u8], ahead: &[u8], lead: u64, n: u64, from: Last) -> bool
+    requires { ⌜ (n ≤ record-count (now ahead)) × (lead + n < 2 ^ 64) × (min (lead + n) 64 ≤ record-count (now starts)) ⌝ }
+    ensures { λ r. ⌜ (r ≡ true → ByWords low high (time-at (now (starts .entry))) (time-at (now (ahead .entry))) lead n from) ⌝ }
+{
+    if (n == 0) | (64 <= lead) | (LONGEST_GAP < low) {
         return false;
     }
-    let quiet = (lead == 0) | (from.left & !from.right);
     let start = trace::time(starts, 0);
+    let met = from.right & (low <= time::gap(start, from.time));
+    let quiet = (lead == 0) | (from.left & !met);
     let last = trace::time(ahead, n as usize - 1);
     quiet & (time::gap(start, last) <= high)
 }
 
-// As `walk`, by whole words where low is 0 and that can be.
+// As `walk`, by whole words where that can be.
 fn walk_words(
     low: u64,
     high: u64,
@@ -225,9 +323,12 @@ fn walk_words(
 {
     // Two calls of `walk` keep it a function of its own: what goes by words does not take registers from its loop.
     if low != 0 {
+        if by_words(low, high, starts, ahead, lead, n, from) {
+            return walk_late(low, starts, ahead, lead, n, left, right);
+        }
         return walk(low, high, starts, ahead, lead, n, after, left, right, from);
     }
-    if by_words(high, starts, ahead, lead, n, from) {
+    if by_words(low, high, starts, ahead, lead, n, from) {
         return walk_inside(ahead, lead, n, left, right);
     }
     walk(low, high, starts, ahead, lead, n, after, left, right, from)
@@ -323,17 +424,81 @@ fn room_of(block: &[u64], total: u64) -> Room
     }
 }
 
+// Whether the first that waits is not settled by what was taken, nor by the first of `end` positions ahead; there is one at most.
+fn first_waits<'a>(
+    low: u64,
+    high: u64,
+    records: &'a [u8],
+    starts: Window,
+    waiting: &'a [u8],
+    ahead: Window,
+    copy: &'a [u8],
+    end: u64,
+    closed: bool,
+    block: &[u64],
+) -> bool
+    requires { ⌜ (16 ≤ length (now block)) × Holds ahead (now records) (now copy) end × Holds starts (now records) (now waiting) 1 ⌝ }
+    ensures { λ r. ⌜ (r ≡ true → settle-spec low high (starts-of starts (now (records .entry)) (now (waiting .entry)) 0) (last-taken (now (block .entry))) (next-of (time-at (window-of ahead (now (records .entry)) (now (copy .entry)))) end (time-of-none closed) 0) ≡ Unknown) ⌝ }
+{
+    let next = window::read(ahead, records, copy);
+    let next_at = next_time(next, 0, end, time_of_none(closed));
+    let start = trace::time(window::read(starts, records, waiting), 0);
+    match settle(low, high, start, last_of(block), next_at) {
+        Settled::Known(holds) => false,
+        Settled::Unknown => true,
+    }
+}
+
+// Whether nothing can be answered before an operand has answered more: nothing can be taken, and none waits or the first that does is not
+// settled. So a step that only asks for an operand opens no more than two windows of one record.
+fn must_wait(
+    low: u64,
+    high: u64,
+    records: &[u8],
+    view: &[u64; 66],
+    copy: &mut [u8; 520],
+    waiting: &mut [u8; 520],
+    block: &[u64],
+    room: Room,
+) -> bool
+    requires { ⌜ (17 ≤ length (now block)) × (length (now copy) ≡ 520) × (length (now waiting) ≡ 520) × (answered (now block) ≤ taken (now block)) × Fits (now block) (total (now view)) room × Views (now view) (now records) ⌝ }
+    ensures { λ r. ⌜ (r ≡ true → (room .take ≡ 0) × Stuck low high (now (view .entry)) (now (records .entry)) (now (block .entry))) ⌝ }
+    ensures { λ _. ⌜ (length (now (copy .exit)) ≡ 520) × (length (now (waiting .exit)) ≡ 520) ⌝ }
+{
+    if room.take != 0 {
+        return false;
+    }
+    if block[word::TAKEN] == block[word::ANSWERED] {
+        return true;
+    }
+    let ahead = window::open(records, view, block[word::HEAD], room.look, copy);
+    let starts = window::open(records, view, block[word::WAITING_HEAD], 1, waiting);
+    let closed = view[view::CLOSED] == 1;
+    first_waits(
+        low,
+        high,
+        records,
+        starts,
+        waiting,
+        ahead,
+        copy,
+        room.look,
+        closed,
+        block,
+    )
+}
+
 // Walks over what both operands have answered, from the next position to answer and the next to take.
 pub fn step_until(
     low: u64,
     high: u64,
     records: &[u8],
-    view: &[u64; 4],
+    view: &[u64; 66],
     copy: &mut [u8; 520],
     waiting: &mut [u8; 520],
     block: &mut [u64],
 ) -> Step
-    requires { ⌜ (17 ≤ length (now block)) × (length (now copy) ≡ 520) × (length (now waiting) ≡ 520) × Numbered (now view) (now records) ⌝ }
+    requires { ⌜ (17 ≤ length (now block)) × (length (now copy) ≡ 520) × (length (now waiting) ≡ 520) × Views (now view) (now records) ⌝ }
     ensures { λ r. ⌜ Ends true true (now (view .entry)) (now (block .entry)) r (now (block .exit)) ⌝ }
     ensures { λ r. ⌜ ((φ ψ : Formula) → Steps (until low high φ ψ) (now (view .entry)) (now (records .entry)) (now (block .entry)) r (now (block .exit))) ⌝ }
     ensures { λ _. ⌜ (length (now (copy .exit)) ≡ 520) × (length (now (waiting .exit)) ≡ 520) ⌝ }
@@ -344,6 +509,10 @@ pub fn step_until(
         return Step::Open;
     }
     let room = room_of(block, total);
+    let most = blocks::smaller(high, LONGEST_GAP);
+    if must_wait(low, most, records, view, copy, waiting, block, room) {
+        return wanted(block);
+    }
     let head = block[word::HEAD];
     let waiting_head = block[word::WAITING_HEAD];
     let ahead = window::open(records, view, head, room.look, copy);
@@ -351,7 +520,7 @@ pub fn step_until(
     let closed = view[view::CLOSED] == 1;
     let w = walk_windows(
         low,
-        blocks::smaller(high, LONGEST_GAP),
+        most,
         records,
         starts,
         waiting,
@@ -362,6 +531,7 @@ pub fn step_until(
         closed,
         block,
     );
+    // Only forged words bring this about, now that the step need not wait.
     if w.count == 0 {
         if w.took == 0 {
             return wanted(block);

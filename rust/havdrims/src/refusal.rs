@@ -71,8 +71,8 @@ refusals! {
          less 8 is no multiple of 8, or it has too many records, dropped ones included."
     13 FewerRecords "The log has fewer records than the point has seen."
     14 TimeFalls
-        "Some record after the first still wanted has a time below that of the record before it, or the first new \
-         record's time is below the last time seen."
+        "Some record after the first still wanted, or where a reason is asked for after the first of all, has a time below \
+         that of the record before it, or the first new record's time is below the last time seen."
     15 SheetByte
         "A sheet given to tally has a byte with a bit beyond the number of formulas, or that number is outside 1 to \
          8."
@@ -86,10 +86,10 @@ refusals! {
         "The log's version differs from that of the last carry on or closing with this point that was not refused, and \
          the two are not 2 and 3."
     23 TrimVersion "A version 1 log is to be trimmed."
-    24 RecordDropped "The log has dropped the first record wanted or one after it."
+    24 RecordDropped "The log has dropped the first record wanted or one after it, or any record where a reason is asked for."
     25 ShortLog "The lent buffer for the trimmed log is short."
     26 Settings "A setting, the seconds or the seed is outside its range or the lent log buffer is short."
-    27 NoReason "The formula does not exist, the position is not below A or the lent text buffer is short."
+    27 NoReason "The formula does not exist, the position has no verdict yet or the lent text buffer is short."
 }
 
 impl fmt::Display for Refusal {

@@ -3,6 +3,7 @@ use borrow.Author.Needs.{needs}
 use mathlib.Core.Path.{refl}
 use native.Mathlib.Omega.{arith}
 use lib.ListN.{length}
+use Rattle.trace.proofs.Marks.{made-views}
 use Rattle.engine.proofs.Rows.{zeros}
 use Rattle.emit.specs.Code.{Fits}
 use Rattle.emit.proofs.Emitting.{fits-of, emitted}
@@ -22,15 +23,15 @@ laid d =
 lay-out-requires : tie.Need-lay-out-requires
 lay-out-requires c κs = let p = c .before .before .before .before .pre in (p .few, p .well-formed, refl, zeros 1024)
 
-view-of-requires : tie.Need-view-of-requires
-view-of-requires c κs = let p = c .before .before .before .before .before .before .before .before .before .pre in (omega (arith, p .size, p .header .0), p .given)
+write-view-requires : tie.Need-write-view-requires
+write-view-requires c κs = let p = c .before .before .before .before .before .before .before .before .before .before .pre in (omega (arith, p .size, p .header .0), p .given, refl)
 
 give-requires : tie.Need-give-requires
 give-requires c κs =
-    let s = c .before .before .before .before .before .before .before .before .before .before .before .before .before .before .before .before .before in
+    let s = c .before .before .before .before .before .before .before .before .before .before .before .before .before .before .before .before .before .before in
     let p = s .pre in (
       record {
-        fits = (s .args .base, p .the-formulas, laid (c .before .before .before .before .before .before .before .before .before), p .header .2);
+        fits = (s .args .base, p .the-formulas, laid (c .before .before .before .before .before .before .before .before .before .before), p .header .2);
         formulas = p .formulas;
         small = p .small;
         given = p .given;
@@ -38,27 +39,28 @@ give-requires c κs =
       },
       refl,
       refl,
-      rw (c .before .before .before .before .before .before .before .view-of .ensures) (omega (arith, p .wanted, p .records)),
+      made-views (c .before .before .before .before .before .before .before .write-view .ensures) (omega (arith, p .wanted, p .records)),
     )
 
 note-requires : tie.Need-note-requires
 note-requires c κs =
-    let s = c .before .before .before .before .before .before .before .before .before .before .before .before .before .before .before .before .before .before .before .before .before .before .before .before in
+    let s = c .before .before .before .before .before .before .before .before .before .before .before .before .before .before .before .before .before .before .before .before .before .before .before .before .before in
     let p = s .pre in
-    let g = c .before .before .before .before .before .before .give .ensures (s .args .base) (p .the-formulas) (laid (c .before .before .before .before .before .before .before .before .before .before .before .before .before .before .before .before)) (p .header .2) in
+    let g = c .before .before .before .before .before .before .give .ensures (s .args .base) (p .the-formulas) (laid (c .before .before .before .before .before .before .before .before .before .before .before .before .before .before .before .before .before)) (p .header .2) in
     (omega (arith, g .words-length, p .size, p .header .0), omega (arith, g .frame .header 7 (omega arith) (λ e. omega arith), p .wanted))
 
 returns : tie.Need-returns
 returns c fs ended deep =
-    let s = c .before .before .before .before .before .before .before .before .before .before .before .before .before .before .before .before .before .before .before .before .before .before .before .before .before .before .before in
+    let s = c .before .before .before .before .before .before .before .before .before .before .before .before .before .before .before .before .before .before .before .before .before .before .before .before .before .before .before .before in
     let a = s .args in
     let g = c .before .before .before .before .before .before .before .before .before .give in
+    let view = c .before .before .before .before .before .before .before .before .before .before .before .before .before .before .before .before .before .write-view in
     let y = c .before .before .note in
-    let fits = fits-of (a .entries) (a .count) (a .t3) (a .number) (a .most) (a .base) (a .depth) (a .records .now) (a .words .now) (c .before .before .before .before .before .before .before .before .before .before .before .before .before .before .before .before .before .before .before .before .before .before .lay-out .last .1 .1 .0)
-    (c .before .before .before .before .before .before .before .before .before .before .before .before .before .before .before .before .before .before .before .lay-tops .result) (s .pre) fs ended (c .before .before .before .before .before .before .before .before .before .before .before .before .before .before .before .before .before .before .before .lay-tops .ensures fs ended) in
-    emitted (a .skips) (a .closed) (a .records .now) (a .words .now) (a .sheet .now) (g .result) (g .last .1 .1 .1 .1 .1 .1 .1 .1 .0)
-    (g .last .1 .1 .1 .1 .1 .1 .1 .1 .1 .0) (y .last .1 .1 .1 .1 .0) fits (λ i. c .before .before .before .before .before .before .before .before .before .before .before .before .before .before .before .before .before .before .before .before .before .before .before .before .before .before .shared-slice-known .given i .fits)
-    (rw (c .before .before .before .before .before .before .before .before .before .before .before .before .before .before .before .before .before .view-of .ensures, deep) at (g .ensures (a .base) fs fits (s .pre .header .2))) (rw (c .before .before .before .before .before .before .before .before .before .before .before .before .before .before .before .before .before .view-of .ensures, deep) at (y .ensures))
+    let fits = fits-of (a .entries) (a .count) (a .t3) (a .number) (a .most) (a .base) (a .depth) (a .records .now) (a .words .now) (c .before .before .before .before .before .before .before .before .before .before .before .before .before .before .before .before .before .before .before .before .before .before .before .lay-out .last .1 .1 .0)
+    (c .before .before .before .before .before .before .before .before .before .before .before .before .before .before .before .before .before .before .before .before .lay-tops .result) (s .pre) fs ended (c .before .before .before .before .before .before .before .before .before .before .before .before .before .before .before .before .before .before .before .before .lay-tops .ensures fs ended) in
+    emitted (a .skips) (a .closed) (a .records .now) (a .words .now) (a .sheet .now) (view .last .1 .1 .1 .1 .1 .0) (g .result) (g .last .1 .1 .1 .1 .1 .1 .1 .1 .0)
+    (g .last .1 .1 .1 .1 .1 .1 .1 .1 .1 .0) (y .last .1 .1 .1 .1 .0) fits (λ i. c .before .before .before .before .before .before .before .before .before .before .before .before .before .before .before .before .before .before .before .before .before .before .before .before .before .before .before .shared-slice-known .given i .fits)
+    (rw deep at (view .ensures)) (g .ensures (a .base) fs fits (s .pre .header .2)) (rw deep at (y .ensures))
 
 pub emit-spec : {M : Type 1} → statement M
 emit-spec =
@@ -66,7 +68,7 @@ emit-spec =
     (tie.spec
     lay-out-requires
     (λ c κs. search needs)
-    view-of-requires
+    write-view-requires
     give-requires
     note-requires
     (λ c. search needs)

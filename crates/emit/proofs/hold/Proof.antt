@@ -7,7 +7,7 @@ use native.Mathlib.Omega.{arith}
 use lib.ListN.{length}
 use Rattle.mtl.specs.Formula.{Formula}
 use Rattle.emit.specs.Code.{Fits}
-use Rattle.emit.proofs.Holding.{Asked, asked-none, one-more, all-asked}
+use Rattle.emit.proofs.Holding.{Asked, asked-none, one-more, all-asked, none-settled}
 use Rattle.emit.proofs.hold.Statement.{statement}
 use Rattle.emit.proofs.hold.Tie as tie
 
@@ -22,15 +22,23 @@ abbrev μ-loop : tie.MeasureT-loop
 slice-read-not-given : tie.Need-slice-read-not-given Inv-loop μ-loop
 slice-read-not-given c = let f = c .before .before .before .pre .0 .2 in omega (arith, f .header, f .all)
 
+returns : tie.Need-returns Inv-loop μ-loop
+returns c =
+    let s = c .before .before .before .before .before .before in
+    let a = s .args in (
+      λ base fs fits. none-settled (asked-none base fs (a .view .now) (a .records .now) (a .words .now) 0 (omega (arith, c .before .not-given .ensures))) (omega arith),
+      (s .pre .1, s .pre .2),
+    )
+
 loop-holds : tie.Need-loop-holds Inv-loop μ-loop
 loop-holds c =
-    let s = c .before .before .before .before .before in
+    let s = c .before .before .before .before .before .before in
     let a = s .args in
-    (zero-le, refl, s .pre .1, s .pre .2, λ base fs fits. asked-none base fs (a .view .now) (a .records .now) (a .words .now) _ (c .not-given .ensures))
+    (zero-le, refl, s .pre .1, s .pre .2, λ base fs fits. asked-none base fs (a .view .now) (a .records .now) (a .words .now) _ (c .before .not-given .ensures))
 
 hold-one-requires : tie.Need-hold-one-requires Inv-loop μ-loop
 hold-one-requires c κs =
-    let p = c .before .before .before .before .before .before .before .before .before .before .pre in
+    let p = c .before .before .before .before .before .before .before .before .before .before .before .pre in
     let l = c .before .before .before .before .loop in
     let f = p .0 in
     (omega arith, (f .0, f .1, rw (l .inv .1) (f .2)), l .inv .2, l .inv .3, p .3)
@@ -52,10 +60,10 @@ loop-again c =
 same-length : tie.Need-same-length Inv-loop μ-loop
 same-length c = c .before .loop .inv .1
 
-returns : tie.Need-returns Inv-loop μ-loop
-returns c =
+returns-2 : tie.Need-returns-2 Inv-loop μ-loop
+returns-2 c =
     let l = c .before .loop in
-    (λ base fs fits. all-asked (omega (arith, fits .laid .number)) (l .inv .4 base fs fits), (l .inv .2, l .inv .3))
+    (λ base fs fits. all-asked (l .inv .4 base fs fits) (omega (arith, fits .laid .number)), (l .inv .2, l .inv .3))
 
 pub hold-spec : {M : Type 1} → statement M
 hold-spec =
@@ -66,6 +74,7 @@ hold-spec =
     slice-read-not-given
     (λ c. search needs)
     (λ c κs. search needs)
+    returns
     loop-holds
     hold-one-requires
     (λ c κs. search needs)
@@ -73,4 +82,4 @@ hold-spec =
     (λ c. omega arith)
     loop-again
     same-length
-    returns)
+    returns-2)

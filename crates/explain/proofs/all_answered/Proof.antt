@@ -48,7 +48,7 @@ search-requires c κs =
     let (some, few) = p .some (l .k) (c .before .before .before .before .loop-test .taken) in
     let room = p .words-room in
     let kept = l .inv .0 in
-    (omega arith, p .rows (l .k) (c .before .before .before .before .loop-test .taken) .0, omega arith, l .inv .1, l .inv .2, p .numbered)
+    (omega arith, p .rows (l .k) (c .before .before .before .before .loop-test .taken) .0, omega arith, l .inv .1, l .inv .2, p .views)
 
 -- src/lib.rt:91:13
 same-length : tie.Need-same-length Inv-loop μ-loop

@@ -142,7 +142,7 @@ tell-requires c κs =
     let kept = c .before .before .before .before .before .before .before .before .before .all-answered .kept .1 .1 .1 .1 .1 .0 in
     let room = p .words-room in
     let text-room = c .before .before .before .before .before .before .before .before .before .before .before .before .before .before .before .before .before .before .before .pre .1 in (
-      record { entry = omega arith; rows = rows .0; lows = rows .1; words-room = omega arith; copy-room = c .before .before .before .before .before .before .before .before .before .all-answered .ensures .1 .0; waiting-room = c .before .before .before .before .before .before .before .before .before .all-answered .ensures .1 .1; numbered = p .numbered; few = p .few-records },
+      record { entry = omega arith; rows = rows .0; lows = rows .1; words-room = omega arith; copy-room = c .before .before .before .before .before .before .before .before .before .all-answered .ensures .1 .0; waiting-room = c .before .before .before .before .before .before .before .before .before .all-answered .ensures .1 .1; views = p .views; few = p .few-records },
       omega arith,
       omega arith,
     )

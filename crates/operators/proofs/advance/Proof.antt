@@ -14,7 +14,7 @@ room : (c : tie.Start) → 16 ≤ length (c .args .block .now)
 room c = room-of (c .args .kind) (c .args .high) _ (c .pre .3)
 
 step-letter-requires : tie.Need-step-letter-requires
-step-letter-requires c κs = let start = c .before .before .before .before .before in (start .pre .1, room start, start .pre .4, start .pre .6)
+step-letter-requires c κs = let start = c .before .before .before .before in (start .pre .1, room start, start .pre .6)
 
 step-not-requires : tie.Need-step-not-requires
 step-not-requires c κs = room (c .before .before .before .before)
@@ -44,14 +44,14 @@ same-length c = search needs
 
 returns : tie.Need-returns
 returns c =
-    let start = c .before .before .before .before .before .before .before .before in
+    let start = c .before .before .before .before .before .before .before in
     let a = start .args in
     let step = c .before .before .step-letter in
-    let kind = c .before .before .before .before .before .match .keys1 in (
+    let kind = c .before .before .before .before .match .keys1 in (
       rw kind (step .ensures .0),
       (
-        λ φ f. steps-of φ 0 (a .view .now) (a .records .now) (a .block .now) (step .result) (step .last .1 .1 .1 .1 .0) kind f (step .ensures .1 .0),
-        (step .ensures .1 .1, start .pre .5),
+        λ φ f. steps-of φ 0 (a .view .now) (a .records .now) (a .block .now) (step .result) (step .last .1 .1 .1 .0) kind f (step .ensures .1),
+        (start .pre .4, start .pre .5),
       ),
     )
 

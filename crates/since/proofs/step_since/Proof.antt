@@ -66,7 +66,10 @@ slice-read-open : tie.Need-slice-read-open
 slice-read-open c = search needs
 
 open-requires : tie.Need-open-requires
-open-requires c κs = let few = taking (c .before .before .before) .few in (omega arith, c .before .before .before .before .before .before .before .before .before .before .before .before .before .before .before .pre .2)
+open-requires c κs =
+    let few = taking (c .before .before .before) .few in
+    let pre = c .before .before .before .before .before .before .before .before .before .before .before .before .before .before .before .pre in
+    (omega arith, pre .2, pre .3)
 
 take-window-requires : tie.Need-take-window-requires
 take-window-requires c κs =

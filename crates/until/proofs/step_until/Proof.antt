@@ -1,4 +1,5 @@
--- `until::step_until` meets its contract, by the laws of UntilSteps: an operand wanted; positions taken; positions answered.
+-- `until::step_until` meets its contract, by the laws of UntilSteps: an operand wanted at once, or after a walk; positions taken; positions
+-- answered.
 -- Assumes nothing.
 use Prim.Native.Nat.{_≤_, _<_}
 use native.Mathlib.Omega.{arith}
@@ -21,6 +22,7 @@ use Rattle.until.proofs.UntilSteps.{
   starts-windowed,
   walked-onward,
   wanted-ends,
+  wants-more,
   took-ends,
   wants,
   takes-some,
@@ -31,11 +33,12 @@ use Rattle.until.proofs.step_until.Tie as tie
 
 -- what is known after the windows were opened
 opened : (c : tie.After-open2) →
-    let a = c .before .before .before .before .before .before .before .before .before .before .before .before .before .before .args in
-    Opens (a .view .now) (a .records .now) (a .block .now) (c .before .before .before .before .before .before .room-of .result) (c .before .before .«open» .result) (c .before .before .«open» .last .1 .1 .1 .1 .0) (c .open2 .result)
+    let k = c .before .before .before .before .before .before .before .before .before .before .before .before in
+    let a = k .before .before .before .before .before .before .before .before .args in
+    Opens (a .view .now) (a .records .now) (a .block .now) (k .room-of .result) (c .before .before .«open» .result) (c .before .before .«open» .last .1 .1 .1 .1 .0) (c .open2 .result)
     (c .open2 .last .1 .1 .1 .1 .0)
 opened c =
-    let k = c .before .before .before .before .before .before in
+    let k = c .before .before .before .before .before .before .before .before .before .before .before .before in
     let a = k .before .before .before .before .before .before .before .before in
     record {
       room = a .pre .0;
@@ -48,17 +51,19 @@ opened c =
 
 -- what is known after the walk
 went : (c : tie.After-walk-windows) →
-    let o = c .before .before .before .before .before .before .before .before in
-    let a = o .before .before .before .before .before .before .before .before .before .before .before .before .before .before .args in
-    Went (a .low) (a .high) (c .before .before .before .before .before .before .smaller .result) (a .view .now) (a .records .now) (a .block .now) (o .before .before .before .before .before .before .room-of .result) (o .before .before .«open» .result)
+    let o = c .before .before .before .before .before .before .before in
+    let k = o .before .before .before .before .before .before .before .before .before .before .before .before in
+    let a = k .before .before .before .before .before .before .before .before .args in
+    Went (a .low) (a .high) (o .before .before .before .before .before .before .before .before .before .before .before .smaller .result) (a .view .now) (a .records .now) (a .block .now) (k .room-of .result) (o .before .before .«open» .result)
     (o .before .before .«open» .last .1 .1 .1 .1 .0)
     (o .open2 .result)
     (o .open2 .last .1 .1 .1 .1 .0)
     (c .walk-windows .result)
 went c =
+    let o = c .before .before .before .before .before .before .before in
     record {
-      opens = opened (c .before .before .before .before .before .before .before .before);
-      clamp = c .before .before .before .before .before .before .smaller .ensures;
+      opens = opened o;
+      clamp = o .before .before .before .before .before .before .before .before .before .before .before .smaller .ensures;
       walk = c .walk-windows .ensures;
     }
 
@@ -90,48 +95,70 @@ room-of-requires c κs =
     let inside = stands-inside _ _ _ (c .before .if1 .left) in
     (longer, inside .0, inside .1)
 
-walk-requires : tie.Need-walk-windows-requires
-walk-requires c κs = let o = opened (c .before .before .before .before .before .before .before) in (walk-fits o, (ahead-holds o, starts-holds o))
+must-wait-requires : tie.Need-must-wait-requires
+must-wait-requires c κs =
+    let k = c .before .before .before .before in
+    let pre = k .before .before .before .before .before .before .before .before .pre in
+    (pre .0, pre .1, pre .2, stands-inside _ _ _ (k .before .before .if1 .left) .0, k .room-of .ensures, pre .3)
 
-returns-wanted : tie.Need-returns-2
-returns-wanted c =
-    let k = c .before .before .before .before .before .before in
-    let a = k .before .before .before .before .before .before .before .before .before .before .before .before .before .before .before .before .before .before .before .before .before .before .args in
-    let t = c .wanted in (
+returns-waits : tie.Need-returns-2
+returns-waits c =
+    let m = c .before .before in
+    let w = m .before in
+    let k = w .before .before .before .before .before in
+    let a = k .before .before .before .before .before .before .before .before .args in
+    let t = c .wanted in
+    let stuck = w .must-wait .ensures .0 (m .if2 .taken) in (
       wanted-ends (a .view .now) (a .block .now) (t .result) (t .ensures),
       (
         λ φ ψ L g falls agrees ready.
-            wants (went k) φ ψ L g falls agrees ready (c .before .before .before .before .if2 .taken) (c .before .before .if3 .taken) (t .result) (t .ensures),
-        copies (k .before .before .before .before .before .before .before .before),
+            wants-more ready agrees (k .room-of .ensures) (stuck .0) (stuck .1 (a .high) φ ψ L g (w .before .before .before .before .smaller .ensures) falls agrees ready) (t .result) (t .ensures),
+        w .must-wait .ensures .1,
+      ),
+    )
+
+walk-requires : tie.Need-walk-windows-requires
+walk-requires c κs = let o = opened (c .before .before .before .before .before .before) in (walk-fits o, (ahead-holds o, starts-holds o))
+
+returns-wanted : tie.Need-returns-3
+returns-wanted c =
+    let k = c .before .before .before .before .before .before in
+    let a = k .before .before .before .before .before .before .before .before .before .before .before .before .before .before .before .before .before .before .before .before .before .before .before .before .before .before .before .args in
+    let t = c .wanted2 in (
+      wanted-ends (a .view .now) (a .block .now) (t .result) (t .ensures),
+      (
+        λ φ ψ L g falls agrees ready.
+            wants (went k) φ ψ L g falls agrees ready (c .before .before .before .before .if3 .taken) (c .before .before .if4 .taken) (t .result) (t .ensures),
+        copies (k .before .before .before .before .before .before .before),
       ),
     )
 
 pass-ahead : tie.Need-pass-requires
-pass-ahead c κs = (c .before .before .before .before .before .before .before .before .before .before .before .before .before .before .before .before .before .before .before .before .before .before .before .before .before .pre .3, ahead-windowed (went (c .before .before .before)))
+pass-ahead c κs = (c .before .before .before .before .before .before .before .before .before .before .before .before .before .before .before .before .before .before .before .before .before .before .before .before .before .before .before .before .before .before .pre .3, ahead-windowed (went (c .before .before .before)))
 
 pass-starts : tie.Need-pass-requires-2
-pass-starts c κs = (c .before .before .before .before .before .before .before .before .before .before .before .before .before .before .before .before .before .before .before .before .before .before .before .before .before .before .pre .3, starts-windowed (went (c .before .before .before .before)))
+pass-starts c κs = (c .before .before .before .before .before .before .before .before .before .before .before .before .before .before .before .before .before .before .before .before .before .before .before .before .before .before .before .before .before .before .before .pre .3, starts-windowed (went (c .before .before .before .before)))
 
 put-back-requires : tie.Need-put-back-requires
 put-back-requires c κs = put-back-fits (went (c .before .before .before .before .before))
 
-returns-took : tie.Need-returns-3
+returns-took : tie.Need-returns-4
 returns-took c =
     let p = c .before .before .before .before in
     let k = p .before .before .before .before .before .before in
-    let none = c .if4 .taken in
+    let none = c .if5 .taken in
     let some : 0 < k .walk-windows .result .took =
-    ⊎-elim (λ t. let l = t .2 .left in omega arith) (λ t. let l = t .left in absurd (omega arith)) (p .before .before .before .before .if2 .came) in
+    ⊎-elim (λ t. let l = t .2 .left in omega arith) (λ t. let l = t .left in absurd (omega arith)) (p .before .before .before .before .if3 .came) in
     rw (p .put-back .ensures) (
       took-ends (went k) (p .before .before .pass .ensures) (p .before .pass2 .ensures) some,
       (
         λ φ ψ L g falls agrees ready.
             takes-some (went k) φ ψ L g falls agrees ready (p .before .before .pass .ensures) (p .before .pass2 .ensures) none,
-        copies (k .before .before .before .before .before .before .before .before),
+        copies (k .before .before .before .before .before .before .before),
       ),
     )
 
-returns-answers : tie.Need-returns-4
+returns-answers : tie.Need-returns-5
 returns-answers c =
     let p = c .before .before .before .before in
     let k = p .before .before .before .before .before .before in
@@ -140,7 +167,7 @@ returns-answers c =
       (
         λ φ ψ L g falls agrees ready.
             answers-some (went k) φ ψ L g falls agrees ready (p .before .before .pass .ensures) (p .before .pass2 .ensures) (omega arith),
-        copies (k .before .before .before .before .before .before .before .before),
+        copies (k .before .before .before .before .before .before .before),
       ),
     )
 
@@ -153,12 +180,16 @@ step-until-spec =
     (λ c. search needs)
     returns-outside
     room-of-requires
+    (λ c κs. search needs)
+    must-wait-requires
+    (λ c κs. let room = c .before .before .before .before .before .before .before .before .before .before .before .before .before .before .before .pre .0 in omega arith)
+    (λ c. search needs)
+    returns-waits
     (λ c. search needs)
     (λ c. search needs)
     (λ c κs. search needs)
-    (λ c κs. search needs)
+    (λ c κs. let pre = c .before .before .before .before .before .before .before .before .before .before .before .before .before .before .before .before .before .before .before .pre in (search needs, c .before .before .before .before .before .before .must-wait .ensures .1 .1, pre .3))
     (λ c. search needs)
-    (λ c κs. search needs)
     walk-requires
     (λ c κs. walk-fits (went (c .before .before .before .before .before) .opens) .0)
     (λ c. search needs)

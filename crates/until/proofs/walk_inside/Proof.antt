@@ -1,10 +1,12 @@
 -- `until::walk_inside` meets its contract, by the laws of UntilWords. Assumes nothing.
 use Prim.Native.Nat.{_-_, _≤_, _<_}
 use native.Mathlib.Omega.{arith}
-use mathlib.Core.Path.{_∙_}
+use mathlib.Core.Path.{refl, _∙_}
 use borrow.Author.Needs.{needs}
 use Rattle.trace.specs.Format.{time-at}
-use Rattle.until.proofs.UntilWords.{Known, known-is, walk-none, walk-some, takes-few, taken-at, by-next}
+use Rattle.until.specs.Settle.{next-of}
+use Rattle.until.proofs.UntilWords.{Known, known-is, settled-walk, takes-few, taken-at, by-next}
+use Rattle.until.proofs.UntilSoon.{soon-none, soon-some}
 use Rattle.until.proofs.walk_inside.Statement.{statement}
 use Rattle.until.proofs.walk_inside.Tie as tie
 
@@ -23,22 +25,28 @@ returns-none : tie.Need-returns
 returns-none c high after start from by =
     let z = c .before .before in
     let a = z .before .before .args in
-    walk-none (by-next after by) (known z) (c .before .if1 .taken) (c .take .result)
+    let next = next-of (time-at (a .ahead .now)) (a .n) after in
+    settled-walk (by-next after by) (omega arith) (λ rises. soon-none next (known z) start (a .lead) (c .before .if1 .taken)) 0 (a .n) refl (λ h. refl, λ h. absurd (omega arith)) (c .take .result)
     (c .take .ensures .0 ∙ taken-at (time-at (a .ahead .now)) (a .n) after (a .n - 1) (a .left) (a .right) (omega arith))
     (c .take .ensures .1)
 
 take-requires : tie.Need-take-requires-2
-take-requires c κs = omega (arith, took (c .before .before .before))
+take-requires c κs = omega (arith, took (c .before .before .before .before .before))
 
 returns-some : tie.Need-returns-2
 returns-some c high after start from by =
     let p = c .before .before in
-    let f = p .before in
+    let q = p .before in
+    let f = q .before .before in
     let t = f .before in
     let z = t .before .before in
     let a = z .before .before .args in
-    walk-some (by-next after by) (known z) (omega arith) (f .fill-down .ensures) (p .prolong .ensures) (c .before .smaller .result) (t .taken-for .result) (c .before .smaller .ensures)
-    (t .taken-for .ensures) (c .take2 .result)
+    let next = next-of (time-at (a .ahead .now)) (a .n) after in
+    let most = z .find-last-zero .ensures .1 in
+    settled-walk (by-next after by) (omega arith)
+    (λ rises.
+    soon-some next (known z) start (a .lead) (omega arith) (f .fill-down .ensures) (λ i h. q .repeat .ensures .1 i h ∙ q .before .test .ensures) (p .prolong .ensures))
+    (c .before .smaller .result) (t .taken-for .result) (c .before .smaller .ensures) (t .taken-for .ensures) (c .take2 .result)
     (c .take2 .ensures .0 ∙ taken-at (time-at (a .ahead .now)) (a .n) after (t .taken-for .result - 1) (a .left) (a .right) (omega (arith, took t)))
     (c .take2 .ensures .1)
 
@@ -53,8 +61,10 @@ walk-inside-spec =
     (λ c κs. search needs)
     (λ c κs. search needs)
     (λ c κs. search needs)
+    (λ c κs. search needs)
+    (λ c κs. search needs)
     (λ c. search needs)
     (λ c κs. search needs)
-    (λ c. took (c .before .before .before) .0)
+    (λ c. took (c .before .before .before .before .before) .0)
     take-requires
     returns-some)

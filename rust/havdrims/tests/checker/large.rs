@@ -51,11 +51,14 @@ fn rules() -> Vec<(&'static str, Vec<u8>)> {
     all
 }
 
-/// A log, and its version. In version 2 it has service records: visits of 300 records, and one in fifty besides.
+/// A log, and its version. In version 2 it has service records: visits of 300 records, one in fifty besides in every other
+/// hundred thousand records, and one at the first and one at the last record of some blocks of 256, where views mark them.
 fn long_log(version: u16, seed: u64, hold: usize, step: u32) -> Vec<Record> {
     let shape = LogShape { records: MILLION, letters: 4, hold, step, start: 7 };
     let mut records = random::log(&mut Random::new(seed), shape);
-    let is_service = |at: usize| version == 2 && (at % 30_000 < 300 || at % 50 == 49);
+    let is_spread = |at: usize| at / 100_000 % 2 == 0 && at % 50 == 49;
+    let is_at_edge = |at: usize| matches!(at % 12_800, 0 | 6_399);
+    let is_service = |at: usize| version == 2 && (at % 30_000 < 300 || is_spread(at) || is_at_edge(at));
     let service = records.iter_mut().enumerate().filter(|(at, _)| is_service(*at));
     service.for_each(|(_, record)| *record = record.as_service());
     records

@@ -20,7 +20,7 @@ fn formula(r: &mut Random, depth: usize) -> Vec<Entry> {
     let mut entries = [operand(), operand()].concat();
     let kind = r.pick(&[SINCE, UNTIL]);
     let (a, b) = (r.pick(&BOUNDS), r.pick(&BOUNDS));
-    let (low, high) = if r.one_in(4) { (a.min(b), a.max(b)) } else { (0, b) };
+    let (low, high) = if r.one_in(2) { (a.min(b), a.max(b)) } else { (0, b) };
     let high = if kind == SINCE && r.one_in(8) { NO_END } else { high };
     entries.push(Entry::timed(kind, low, high));
     entries
@@ -87,8 +87,11 @@ fn at_the_edges_of_a_word() {
         assert_eq!(sheet, expected, "rule {}, log {}", hex(&rule), hex(&file));
         counts.add("verdicts", sheet.len());
         counts.add("closed", usize::from(closing));
+        if entries.last().is_some_and(|last| last.kind == UNTIL && last.low > 0) {
+            counts.add("late yes", sheet.iter().filter(|&&byte| byte == 1).count());
+        }
     };
     cases("at_the_edges_of_a_word", 12_000, body, |counts| {
-        counts.get("verdicts") > 1_000_000 && counts.get("closed") > 0
+        counts.get("verdicts") > 1_000_000 && counts.get("closed") > 0 && counts.get("late yes") > 10_000
     });
 }

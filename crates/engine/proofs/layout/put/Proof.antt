@@ -8,7 +8,7 @@ use Rattle.engine.proofs.layout.put.Tie as tie
 
 returns : tie.Need-returns
 returns c =
-    let p = c .before .before .before .before .before .args in
+    let p = c .before .before .before .args in
     rw (c .own-words .ensures .0)
     (eight-stores (p .table .now) (p .at) (p .e .kind) (p .e .letter) (p .e .low) (p .e .high) (p .left) (p .a) (p .c) (p .a + p .c + own (p .e)))
 
@@ -41,7 +41,9 @@ put-spec =
     (λ c. search needs)
     (λ c. search needs)
     (λ c. search needs)
+    (λ c. search needs)
     (λ c κs. search needs)
+    (λ c. search needs)
     (λ c. search needs)
     (λ c. search needs)
     (λ c. search needs)

@@ -7,7 +7,7 @@ use Rattle.explain.proofs.saying.say.Statement.{statement}
 use Rattle.explain.proofs.saying.say.Tie as tie
 use Rattle.explain.proofs.saying.say.Reads as reads
 use Rattle.explain.proofs.saying.say.Lts as lts
-use Rattle.explain.proofs.saying.field.Reads as field-reads
+use Rattle.engine.proofs.table.field.Reads as field-reads
 use Rattle.explain.proofs.saying.say_connective.Reads as say-connective-reads
 use Rattle.explain.proofs.saying.say_letter.Reads as say-letter-reads
 use Rattle.explain.proofs.saying.say_next.Reads as say-next-reads

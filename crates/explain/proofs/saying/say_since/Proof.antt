@@ -22,7 +22,7 @@ use Rattle.explain.proofs.saying.say_since.Lts as lts
 use Rattle.blocks.proofs.smaller.Reads as smaller-reads
 use Rattle.blocks.proofs.time.gap.Reads as gap-reads
 use Rattle.explain.proofs.saying.choose.Reads as choose-reads
-use Rattle.explain.proofs.saying.field.Reads as field-reads
+use Rattle.engine.proofs.table.field.Reads as field-reads
 use Rattle.explain.proofs.saying.say_search.Reads as say-search-reads
 use Rattle.search.proofs.search.Reads as search-reads
 use Rattle.search.proofs.times.first_at.Reads as first-at-reads
@@ -76,7 +76,7 @@ search-requires c κs =
     let (below, same) = row .left (ap takes-left (c .before .before .before .before .before .before .before .before .before .before .before .before .before .pre .2)) in
     let at = c .before .before .before .field3 .ensures in
     let few = lent .entry in
-    (omega arith, λ j h. lent .rows j (omega arith), lent .words-room, lent .copy-room, lent .waiting-room, lent .numbered)
+    (omega arith, λ j h. lent .rows j (omega arith), lent .words-room, lent .copy-room, lent .waiting-room, lent .views)
 
 -- src/saying.rt:171:32
 gap-requires-3 : tie.Need-gap-requires-3
@@ -108,7 +108,7 @@ search-requires-2 c κs =
     let few = lent .entry in
     let room = lent .words-room in
     let kept = c .before .before .before .before .before .before .before .before .before .search .kept .1 .1 .1 .1 .1 .1 .1 .1 .1 .0 in
-    (omega arith, λ j h. lent .rows j (omega arith), omega arith, c .before .before .before .before .before .before .before .before .before .search .ensures .1 .0, c .before .before .before .before .before .before .before .before .before .search .ensures .1 .1, lent .numbered)
+    (omega arith, λ j h. lent .rows j (omega arith), omega arith, c .before .before .before .before .before .before .before .before .before .search .ensures .1 .0, c .before .before .before .before .before .before .before .before .before .search .ensures .1 .1, lent .views)
 
 -- src/saying.rt:184:5
 say-search-requires : tie.Need-say-search-requires

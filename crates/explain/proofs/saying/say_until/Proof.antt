@@ -21,7 +21,7 @@ use Rattle.explain.proofs.saying.say_until.Reads as reads
 use Rattle.explain.proofs.saying.say_until.Lts as lts
 use Rattle.blocks.proofs.smaller.Reads as smaller-reads
 use Rattle.explain.proofs.saying.choose.Reads as choose-reads
-use Rattle.explain.proofs.saying.field.Reads as field-reads
+use Rattle.engine.proofs.table.field.Reads as field-reads
 use Rattle.explain.proofs.saying.say_search.Reads as say-search-reads
 use Rattle.search.proofs.search.Reads as search-reads
 use Rattle.search.proofs.times.first_at.Reads as first-at-reads
@@ -90,7 +90,7 @@ search-requires c κs =
     let (below, same) = row .left (ap takes-left (c .before .before .before .before .before .before .before .before .before .before .before .pre .2)) in
     let at = c .before .before .before .field3 .ensures in
     let few = lent .entry in
-    (omega arith, λ j h. lent .rows j (omega arith), lent .words-room, lent .copy-room, lent .waiting-room, lent .numbered)
+    (omega arith, λ j h. lent .rows j (omega arith), lent .words-room, lent .copy-room, lent .waiting-room, lent .views)
 
 -- src/saying.rt:220:9
 choose-requires : tie.Need-choose-requires
@@ -127,7 +127,7 @@ search-requires-2 c κs =
     let few = lent .entry in
     let room = lent .words-room in
     let kept = c .before .before .before .before .before .before .before .before .before .search .kept .1 .1 .1 .1 .1 .1 .1 .1 .1 .0 in
-    (omega arith, λ j h. lent .rows j (omega arith), omega arith, c .before .before .before .before .before .before .before .before .before .search .ensures .1 .0, c .before .before .before .before .before .before .before .before .before .search .ensures .1 .1, lent .numbered)
+    (omega arith, λ j h. lent .rows j (omega arith), omega arith, c .before .before .before .before .before .before .before .before .before .search .ensures .1 .0, c .before .before .before .before .before .before .before .before .before .search .ensures .1 .1, lent .views)
 
 -- src/saying.rt:234:5
 say-search-requires : tie.Need-say-search-requires

@@ -11,7 +11,7 @@ use borrow.Fn.PlainCycle.{Measures, is, falls, and}
 use Rattle.explain.proofs.telling.tell.Reads as tell
 use Rattle.explain.proofs.telling.tell.Kinds as tell-kinds
 use Rattle.explain.proofs.telling.+tell.Lts-tell as tell-lts
-use Rattle.explain.proofs.saying.field.Reads as field-reads
+use Rattle.engine.proofs.table.field.Reads as field-reads
 use Rattle.explain.proofs.saying.say.Reads as say-reads
 use Rattle.explain.proofs.sentence.put_line.Reads as put-line-reads
 use Rattle.explain.proofs.telling.shift.Reads as shift-reads
@@ -236,7 +236,7 @@ tell-tell-requires t c κs =
     let right = row .right (shape .some some) in
     let below = right .0 in
     let same = right .1 in
-    (omega (arith, c .before .before .before .before .before .before .before .before .before .before .before .before .before .before .before .before .before .before .before .before .before .pre .0), (record { entry = omega arith; rows = λ j h. lent .rows j (omega arith); lows = λ j h. lent .lows j (omega arith); words-room = omega arith; copy-room = y .ensures .1 .0; waiting-room = y .ensures .1 .1; numbered = lent .numbered; few = lent .few }, omega arith, omega arith))
+    (omega (arith, c .before .before .before .before .before .before .before .before .before .before .before .before .before .before .before .before .before .before .before .before .before .pre .0), (record { entry = omega arith; rows = λ j h. lent .rows j (omega arith); lows = λ j h. lent .lows j (omega arith); words-room = omega arith; copy-room = y .ensures .1 .0; waiting-room = y .ensures .1 .1; views = lent .views; few = lent .few }, omega arith, omega arith))
 
 -- src/telling.rt:78:20
 tell-turned-requires : (t : ℕ) → tell-lts.Need-turned-requires (
@@ -420,7 +420,7 @@ tell-tell-requires-2 t c κs =
     let same = right .1 in
     let at-is = c .before .before .before .before .field .ensures in
     let left-words = ap (column 7 (a .table .now)) at-is in
-    (omega (arith, c .before .before .before .before .before .before .before .before .before .before .before .before .before .before .before .before .before .before .before .before .before .before .pre .0), (record { entry = omega arith; rows = λ j h. lent .rows j (omega arith); lows = λ j h. lent .lows j (omega arith); words-room = omega arith; copy-room = y .ensures .1 .0; waiting-room = y .ensures .1 .1; numbered = lent .numbered; few = lent .few }, omega arith, omega arith))
+    (omega (arith, c .before .before .before .before .before .before .before .before .before .before .before .before .before .before .before .before .before .before .before .before .before .before .pre .0), (record { entry = omega arith; rows = λ j h. lent .rows j (omega arith); lows = λ j h. lent .lows j (omega arith); words-room = omega arith; copy-room = y .ensures .1 .0; waiting-room = y .ensures .1 .1; views = lent .views; few = lent .few }, omega arith, omega arith))
 
 -- src/telling.rt:86:9
 tell-same-length-5 : (t : ℕ) → tell-lts.Need-same-length-5 (
@@ -606,7 +606,7 @@ tell-tell-requires-3 t c κs =
     let l-words = l .kept .1 .1 .1 .1 .1 .0 in
     let l-starts = l .ensures .0 .starts in
     let l-room = l .ensures .0 .room in
-    (omega (arith, c .before .before .before .before .before .before .before .before .before .before .before .before .before .before .before .before .before .before .before .before .before .before .before .before .before .before .before .before .before .before .before .before .pre .0), (record { entry = omega arith; rows = λ j h. lent .rows j (omega arith); lows = λ j h. lent .lows j (omega arith); words-room = omega arith; copy-room = l .ensures .1 .0; waiting-room = l .ensures .1 .1; numbered = lent .numbered; few = lent .few }, omega arith, omega arith))
+    (omega (arith, c .before .before .before .before .before .before .before .before .before .before .before .before .before .before .before .before .before .before .before .before .before .before .before .before .before .before .before .before .before .before .before .before .pre .0), (record { entry = omega arith; rows = λ j h. lent .rows j (omega arith); lows = λ j h. lent .lows j (omega arith); words-room = omega arith; copy-room = l .ensures .1 .0; waiting-room = l .ensures .1 .1; views = lent .views; few = lent .few }, omega arith, omega arith))
 
 -- src/telling.rt:103:18
 tell-shift-requires : (t : ℕ) → tell-lts.Need-shift-requires (

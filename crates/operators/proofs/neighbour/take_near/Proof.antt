@@ -15,7 +15,7 @@ add-open : tie.Need-add-open
 add-open c = search needs
 
 open-requires : tie.Need-open-requires
-open-requires c κs = (omega arith, c .before .before .before .before .pre .1)
+open-requires c κs = let pre = c .before .before .before .before .pre in (omega arith, pre .1, pre .2)
 
 read-near-requires : tie.Need-read-near-requires
 read-near-requires c κs =

@@ -1,10 +1,10 @@
 -- `trace::window::gather` meets its contract, by the laws of proofs/Windows on passing and copying.
 -- Assumes nothing.
-use Prim.Native.Nat.{_-_, _<_}
+use Prim.Native.Nat.{_+_, _-_, _≤_}
 use native.Mathlib.Omega.{arith}
 use mathlib.Core.Logic.{inl, inr, ⊎-elim}
 use borrow.Author.Needs.{needs}
-use Rattle.trace.proofs.Windows.{Gathering, goes-on, stops, gathering-none, gathering-on, gathered}
+use Rattle.trace.proofs.Windows.{Gathering, gathering-none, gathering-group, gathered}
 use Rattle.trace.proofs.window.gather.Statement.{statement}
 use Rattle.trace.proofs.window.gather.Tie as tie
 
@@ -14,27 +14,47 @@ Inv-loop records from n copy₀ end at₀ k₀ copy at k = Gathering records fro
 abbrev μ-loop : tie.MeasureT-loop
 μ-loop records from n copy₀ end at₀ k₀ copy at k = end - at
 
-loop-holds : tie.Need-loop-holds Inv-loop μ-loop
+abbrev Inv-loop2 : tie.InvT-loop2
+Inv-loop2 = Inv-loop
+
+abbrev μ-loop2 : tie.MeasureT-loop2
+μ-loop2 = μ-loop
+
+loop-holds : tie.Need-loop-holds Inv-loop μ-loop Inv-loop2 μ-loop2
 loop-holds c = let a = c .before .before .args in gathering-none (a .records .now) (a .from) (a .n) (a .copy .now) (c .before .before .pre .1)
 
--- what the loop's test says
-goes : (c : tie.In-loop Inv-loop μ-loop) → (c .before .loop .k < c .before .before .before .before .args .n) × (c .before .loop .at < c .before .before .count .result)
-goes c = goes-on (c .before .loop .k) (c .before .before .before .before .args .n) (c .before .loop .at) (c .before .before .count .result) (c .loop-test .taken)
+-- what the loops' tests say
+fits : (c : tie.Then1 Inv-loop μ-loop Inv-loop2 μ-loop2) →
+    (c .before .before .loop .k + 8 ≤ c .before .before .before .before .before .args .n) × (c .before .before .loop .at + 8 ≤ c .before .before .before .count .result)
+fits c = omega (arith, c .before .can-take .ensures .0 (c .if1 .taken), c .before .before .loop .inv .going .few)
 
-loop-again : tie.Need-loop-again Inv-loop μ-loop
+fits-2 : (c : tie.Then2 Inv-loop μ-loop Inv-loop2 μ-loop2) →
+    (c .before .before .loop2 .k + 1 ≤ c .before .before .before .before .before .before .before .before .args .n) ×
+    (c .before .before .loop2 .at + 1 ≤ c .before .before .before .before .before .before .count .result)
+fits-2 c = omega (arith, c .before .can-take2 .ensures .0 (c .if2 .taken), c .before .before .loop2 .inv .going .few)
+
+loop-again : tie.Need-loop-again Inv-loop μ-loop Inv-loop2 μ-loop2
 loop-again c =
     let a = c .before .before .before .before .before .before .before .args in
     let l = c .before .before .before .before .loop in
-    let (below, inside) = goes (c .before .before .before) in
-    let copied = c .before .copy-record in
-    gathering-on (a .records .now) (a .from) (a .n) (omega arith) (l .k) (l .at) (l .copy) (l .inv) below (omega arith) (c .service .result) (c .service .ensures .0) (copied .last .1 .1 .0) (copied .ensures)
+    let (few, inside) = fits (c .before .before) in
+    let g = c .copy-group in
+    gathering-group (a .records .now) (a .from) (a .n) (l .k) (l .at) 8 (g .result) (l .copy) (g .last .1 .1 .1 .0) (l .inv) few (omega arith) (g .ensures)
 
-returns : tie.Need-returns Inv-loop μ-loop
+loop2-again : tie.Need-loop2-again Inv-loop μ-loop Inv-loop2 μ-loop2
+loop2-again c =
+    let a = c .before .before .before .before .before .before .before .before .before .before .args in
+    let l = c .before .before .before .before .loop2 in
+    let (few, inside) = fits-2 (c .before .before) in
+    let g = c .copy-group2 in
+    gathering-group (a .records .now) (a .from) (a .n) (l .k) (l .at) 1 (g .result) (l .copy) (g .last .1 .1 .1 .0) (l .inv) few (omega arith) (g .ensures)
+
+returns : tie.Need-returns Inv-loop μ-loop Inv-loop2 μ-loop2
 returns c =
-    let a = c .before .before .before .before .args in
-    let l = c .before .loop in
+    let a = c .before .before .before .before .before .before .before .before .args in
+    let l = c .before .before .loop2 in
     gathered (a .records .now) (a .from) (a .n) (l .k) (l .at) (l .copy) (l .inv)
-    (⊎-elim inl (λ h. inr (omega arith)) (stops (l .k) (a .n) (l .at) (c .before .before .count .result) (c .loop-test .left)))
+    (⊎-elim (λ h. inl (omega arith)) (λ h. inr (omega arith)) (c .before .can-take2 .ensures .1 (c .if2 .left)))
 
 pub gather-spec : {M : Type 1} → statement M
 gather-spec =
@@ -42,13 +62,23 @@ gather-spec =
     (tie.spec
     Inv-loop
     μ-loop
+    Inv-loop2
+    μ-loop2
     (λ c κs. search needs)
     loop-holds
-    (λ c κs. omega (arith, goes (c .before), c .before .before .loop .inv .long))
-    (λ c κs. omega (arith, goes (c .before .before)))
-    (λ c. search needs)
-    (λ c. omega (arith, goes (c .before .before .before)))
-    (λ c. omega (arith, goes (c .before .before .before)))
-    (λ c. omega (arith, goes (c .before .before .before)))
+    (λ c. c .loop .inv .going .few)
+    (λ c κs. search needs)
+    (λ c κs. omega (arith, fits (c .before), c .before .before .before .loop .inv .long))
+    (λ c. omega (arith, fits (c .before .before), c .copy-group .ensures .counted .few))
+    (λ c. omega (arith, fits (c .before .before)))
+    (λ c. omega (arith, fits (c .before .before)))
     loop-again
+    (λ c. c .before .before .loop .inv)
+    (λ c. c .loop2 .inv .going .few)
+    (λ c κs. search needs)
+    (λ c κs. omega (arith, fits-2 (c .before), c .before .before .before .loop2 .inv .long))
+    (λ c. omega (arith, fits-2 (c .before .before), c .copy-group2 .ensures .counted .few))
+    (λ c. omega (arith, fits-2 (c .before .before)))
+    (λ c. omega (arith, fits-2 (c .before .before)))
+    loop2-again
     returns)

@@ -9,20 +9,20 @@ use Rattle.trace.proofs.window.open.Tie as tie
 
 add-end : tie.Need-add-end
 add-end c =
-    let a = c .before .before .before .before .before .before .args in
-    let at = c .before .before .before .in-slice .result in
+    let a = c .before .before .before .before .before .args in
+    let at = c .before .before .in-slice .result in
     omega (arith, dense-fits (skips (a .view .now)) (a .records .now) at (a .n) (sym (c .before .is-dense .ensures) ∙ c .if1 .taken))
 
 returns : tie.Need-returns
 returns c =
-    let a = c .before .before .before .before .before .before .args in
-    let at = c .before .before .before .in-slice in
-    rw (← at .ensures) (opened-dense (skips (a .view .now)) (a .records .now) (at .result) (a .n) (a .copy .now) (c .before .before .before .before .before .before .pre .1) (sym (c .before .is-dense .ensures) ∙ c .if1 .taken))
+    let a = c .before .before .before .before .before .args in
+    let at = c .before .before .in-slice in
+    rw (← at .ensures) (opened-dense (skips (a .view .now)) (a .records .now) (at .result) (a .n) (a .copy .now) (c .before .before .before .before .before .pre .1) (sym (c .before .is-dense .ensures) ∙ c .if1 .taken))
 
 returns-2 : tie.Need-returns-2
 returns-2 c =
-    let a = c .before .before .before .before .before .before .before .before .args in
-    let at = c .before .before .before .before .before .in-slice in
+    let a = c .before .before .before .before .before .before .before .args in
+    let at = c .before .before .before .before .in-slice in
     rw (← at .ensures)
     (opened-copied (skips (a .view .now)) (a .records .now) (at .result) (a .n) (c .gather .last .1 .1 .1 .0) (c .gather .result) (omega arith)
     (sym (c .before .before .before .is-dense .ensures) ∙ c .before .before .if1 .left) (c .gather .ensures))
@@ -33,7 +33,6 @@ open-spec =
     (tie.spec
     (λ c. search needs)
     (λ c κs. search needs)
-    (λ c. search needs)
     (λ c κs. search needs)
     add-end
     returns

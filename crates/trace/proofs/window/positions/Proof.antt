@@ -1,7 +1,16 @@
 -- `trace::window::positions` meets its contract: the count of the log's kind. Assumes nothing.
+use mathlib.Core.Path.{ap, _∙_}
 use borrow.Author.Needs.{needs}
+use Rattle.trace.specs.Positions.{positions}
+use Rattle.trace.proofs.Windows.{counted-whole}
 use Rattle.trace.proofs.window.positions.Statement.{statement}
 use Rattle.trace.proofs.window.positions.Tie as tie
+
+returns : tie.Need-returns
+returns c =
+    let s = c .before .before .before .before .args .records .now in
+    let n = c .before .count in
+    rw (c .before .before .if1 .taken) (counted-whole s (n .result) (c .count-many .result) (c .count-many .ensures) ∙ ap (positions s) (n .ensures))
 
 pub positions-spec : {M : Type 1} → statement M
 positions-spec =
@@ -9,5 +18,6 @@ positions-spec =
     (tie.spec
     (λ c κs. search needs)
     (λ c κs. search needs)
-    (λ c. rw (c .before .if1 .taken) (c .count-positions .ensures))
-    (λ c. rw (c .before .if1 .left) (c .count .ensures)))
+    (λ c κs. search needs)
+    returns
+    (λ c. rw (c .before .if1 .left) (c .count2 .ensures)))
