@@ -8,6 +8,7 @@
 
 use crate::disk::{Disk, Lock};
 use crate::evenings::{bound_to, rows, Known, Row, ROW};
+use crate::letters::Letters;
 use havdrims::save::{checksum, checksum_from, Saved, Unreadable};
 use havdrims::{close, measure, open, resume, status, summary, tally, trim, Log, Refusal, Status, Summary, Tally};
 use std::borrow::Cow;
@@ -26,8 +27,12 @@ pub const EVENINGS: &str = "evenings";
 pub const POINT: &str = "point";
 /// The checkpoint to be, until it is renamed.
 pub const NEW_POINT: &str = "point.new";
+/// The names of letters, if there are any.
+pub const LETTERS: &str = "letters";
+/// The names to be, until they are renamed.
+pub const NEW_LETTERS: &str = "letters.new";
 
-const OWN: [&str; 6] = [CARD, RULE, SHEET, EVENINGS, POINT, NEW_POINT];
+const OWN: [&str; 8] = [CARD, RULE, SHEET, EVENINGS, POINT, NEW_POINT, LETTERS, NEW_LETTERS];
 
 /// Whether a folder with these names is a card, a damaged one or one that is being made included.
 pub fn is_card(names: &[String]) -> bool {
@@ -76,6 +81,7 @@ pub enum Fault {
     EveningsMissing,
     /// No row that is whole is that of the checkpoint.
     EveningsDamaged,
+    LettersDamaged,
     /// The records from the first wanted one to the last seen are others than the card has seen.
     OtherRecords {
         from: u64,
@@ -136,10 +142,10 @@ impl fmt::Display for Fault {
             },
             Fault::PointOfAnotherCard => write!(f, "the file `point` belongs to another card"),
             Fault::PointRefused(refusal @ Refusal::ForeignPoint) => {
-                write!(f, "the file `point` is of another library's format: {refusal}")
+                write!(f, "the file `point` is of another library's format (refused {})", refusal.number())
             }
             Fault::PointRefused(refusal) => {
-                write!(f, "the file `point` holds what this library never writes: {refusal}")
+                write!(f, "the file `point` holds what this library never writes (refused {})", refusal.number())
             }
             Fault::PointCounts { given, words } => {
                 write!(f, "the file `point` is damaged: it says {given} verdicts, its words {words}")
@@ -155,6 +161,9 @@ impl fmt::Display for Fault {
             Fault::EveningsMissing => write!(f, "the file `evenings` is missing"),
             Fault::EveningsDamaged => {
                 write!(f, "the file `evenings` is damaged, or not of this card: it lacks the evening of the point")
+            }
+            Fault::LettersDamaged => {
+                write!(f, "the file `letters` is damaged, or not of this card: `havdrims letters` writes it anew")
             }
             Fault::OtherRecords { from, to } if from + 1 == *to => {
                 write!(f, "record {from} is not the one that this card has seen")
@@ -247,7 +256,7 @@ impl Label {
 }
 
 /// Makes a card for a rule, which begins at this place of its log. If it was cut, it may be made again.
-pub fn new(disk: &mut impl Disk, number: u64, begins: Begins, rule: &[u8]) -> Result<(), Fault> {
+pub fn new(disk: &mut impl Disk, number: u64, begins: Begins, rule: &[u8], letters: &Letters) -> Result<(), Fault> {
     let mut words = vec![0; measure(rule).map_err(Fault::Refused)?.words];
     open(rule, &mut words).map_err(Fault::Refused)?;
     if !may_be_made(disk)? {
@@ -262,8 +271,16 @@ pub fn new(disk: &mut impl Disk, number: u64, begins: Begins, rule: &[u8]) -> Re
     no_verdicts(disk)?;
     same_beginning(disk, begins.first)?;
     let label = Label { number, first: Some(begins.first) }.encode();
-    let row = Row::first(begins.open, begins.before).encode(bound_to(label.as_bytes(), rule));
-    for (name, bytes) in [(CARD, label.as_bytes()), (RULE, rule), (SHEET, b""), (EVENINGS, &row)] {
+    let bound = bound_to(label.as_bytes(), rule);
+    let row = Row::first(begins.open, begins.before).encode(bound);
+    let names = letters.encode(bound);
+    let mut files = vec![(CARD, label.as_bytes()), (RULE, rule), (SHEET, b""), (EVENINGS, &row)];
+    match letters.is_empty() {
+        false => files.push((LETTERS, &names)),
+        // A `new` that was cut may have had others.
+        true => remove_if_there(disk, LETTERS)?,
+    }
+    for (name, bytes) in files {
         disk.write(name, 0, bytes).map_err(failed("write the card's files"))?;
         disk.sync(name).map_err(failed("sync the card's files"))?;
     }
@@ -286,6 +303,14 @@ fn may_be_made(disk: &mut impl Disk) -> Result<bool, Fault> {
         return Err(Fault::NotEmpty);
     }
     Ok(true)
+}
+
+fn remove_if_there(disk: &mut impl Disk, name: &str) -> Result<(), Fault> {
+    let names = disk.names().map_err(failed("read the folder"))?.unwrap_or_default();
+    if names.iter().any(|there| there == name) {
+        disk.remove(name).map_err(failed("take away the names of letters"))?;
+    }
+    Ok(())
 }
 
 /// A folder without a checkpoint: if there are verdicts, it is no `new` that was cut. The folder is taken already.
@@ -497,6 +522,30 @@ impl<'a, D: Disk> Card<'a, D> {
         &self.rule
     }
 
+    /// The names of its letters: none where it has no such file.
+    pub fn letters(&mut self) -> Result<Letters, Fault> {
+        match self.disk.read(LETTERS) {
+            Err(fault) if fault.kind() == ErrorKind::NotFound => Ok(Letters::default()),
+            read => {
+                let bytes = read.map_err(failed("read the file `letters`"))?;
+                Letters::decode(&bytes, self.bound).ok_or(Fault::LettersDamaged)
+            }
+        }
+    }
+
+    /// Gives its letters these names, in place of others. When this returns, they survive a cut.
+    pub fn name_letters(&mut self, letters: &Letters) -> Result<(), Fault> {
+        let doing = "write the file `letters`";
+        let bytes = letters.encode(self.bound);
+        let written = self.disk.write(NEW_LETTERS, 0, &bytes).and_then(|()| self.disk.sync(NEW_LETTERS));
+        if written.is_err() {
+            let _ = self.disk.remove(NEW_LETTERS);
+            return written.map_err(failed(doing));
+        }
+        self.disk.rename(NEW_LETTERS, LETTERS).map_err(unsure(doing))?;
+        self.disk.sync_folder().map_err(unsure("sync the folder"))
+    }
+
     /// Where a card goes on that takes the place of this one: at its first record still wanted.
     pub fn after(&self) -> Result<Begins, Fault> {
         let SoFar { status, services, first, .. } = self.so_far;
@@ -522,6 +571,26 @@ impl<'a, D: Disk> Card<'a, D> {
         let dropped = (whole.dropped().saturating_sub(from) as u64).to_be_bytes();
         let dropped = if whole.version() == 3 { &dropped[..] } else { &[] };
         Ok(Cow::Owned([&log[..8], dropped, kept].concat()))
+    }
+
+    /// The part of a log that this card has seen, if the log is its own. What was released in it may be overwritten or dropped.
+    pub fn seen_part(&self, log: &[u8]) -> Result<Vec<u8>, Fault> {
+        let own = self.own_part(log)?;
+        let parsed = Log::new(&own).map_err(Fault::Refused)?;
+        let new = parsed.len().saturating_sub(self.so_far.status.seen as usize);
+        if parsed.dropped() + new > parsed.len() {
+            return Err(Fault::Refused(Refusal::RecordDropped));
+        }
+        let seen = &own[..own.len() - 8 * new];
+        self.of_this_log(log, &own, self.calls(self.so_far.status.closed, seen))?;
+        Ok(seen.to_vec())
+    }
+
+    /// The rows of its evenings up to that of the checkpoint, with nothing in the place of one that is damaged.
+    pub fn evenings(&mut self) -> Result<Vec<Option<Row>>, Fault> {
+        let count = self.row.map_or(0, |(at, _)| at + 1);
+        let bytes = read_evenings(self.disk)?.unwrap_or_default();
+        Ok(rows(&bytes, self.bound).into_iter().take(count).collect())
     }
 
     /// How far an evening with this log would come. Nothing is changed.

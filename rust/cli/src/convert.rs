@@ -1,28 +1,45 @@
 //! Rules and logs as text and back, and logs to try a kiosk with.
 
-use crate::command::Failure;
-use crate::disk::read_file;
-use crate::file;
+use crate::command::{Answer, Failure, Given};
+use crate::disk::{read_all, read_file};
+use crate::wrong::{self, numbered, Wrong};
+use crate::{card, file};
 use havdrims::{formulas, measure, parse, simulate, text, worst_log};
-use havdrims::{Log, Refusal, Settings, MOST_FORMULAS, MOST_RECORDS, MOST_RULE};
+use havdrims::{Log, Needs, Refusal, Settings, MOST_FORMULAS, MOST_RECORDS, MOST_RULE, MOST_WORDS};
+use std::path::Path;
 use std::str::FromStr;
 use std::{fs, io};
 
-/// The most bytes of a log: of version 3, with all its records.
-const MOST_LOG: usize = 16 + 8 * MOST_RECORDS;
-
-type Answer = Result<String, Failure>;
+/// The most bytes of a log, of version 3 with all its records, and one byte less than a record more: what is longer than this has
+/// too many of them.
+const MOST_LOG: usize = 16 + 8 * MOST_RECORDS + 7;
 
 /// The bytes of a log file. What is longer than every log is cut behind that length: it is refused all the same.
 pub fn log(path: &str) -> io::Result<Vec<u8>> {
     read_file(path, MOST_LOG)
 }
 
+/// What is wrong where a file could not be read.
+pub fn unread(path: &str, fault: io::Error) -> Failure {
+    match fs::read_dir(path) {
+        Err(_) => Failure::fault(path, fault),
+        Ok(_) if Path::new(path).join(card::CARD).is_file() => {
+            Failure::fault(path, "this is a card, and a file is wanted here")
+        }
+        Ok(_) => Failure::fault(path, "this is a folder, and a file is wanted here"),
+    }
+}
+
+/// The bytes of a log, looked at once.
+pub fn opened<'a>(path: &str, bytes: &'a [u8]) -> Result<Log<'a>, Failure> {
+    Log::new(bytes).map_err(|refusal| Failure::fault(path, wrong::named(refusal, wrong::log(bytes))))
+}
+
 /// The bytes of the rule that some words of the command line say: each is the name of a .krl file, or else a formula.
 /// One alone is taken as it is; of several, all formulas make a rule of version 2.
 pub fn rule_said(words: &[&str]) -> Result<Vec<u8>, Failure> {
     let said = |word: &&str| match word.ends_with(".krl") {
-        true => read_file(word, MOST_RULE).map_err(|fault| Failure::fault(word, fault)),
+        true => read_file(word, MOST_RULE).map_err(|fault| unread(word, fault)),
         false => parsed(word),
     };
     joined(words, words.iter().map(said).collect::<Result<_, _>>()?)
@@ -34,49 +51,72 @@ fn joined(words: &[&str], mut rules: Vec<Vec<u8>>) -> Result<Vec<u8>, Failure> {
         return Ok(rules.remove(0));
     }
     for (word, rule) in words.iter().zip(&rules) {
-        measure(rule).map_err(|refusal| Failure::fault(word, refusal))?;
+        measured(word, rule)?;
         if rule.len() == 8 {
             return Err(Failure::fault(word, "a rule without entries cannot stand beside others"));
         }
     }
     let slices: Vec<&[u8]> = rules.iter().map(Vec::as_slice).collect();
-    text::joined(&slices)
-        .map_err(|refusal| Failure::fault("all together", format!("{refusal}{}", hint(refusal, &slices))))
+    text::joined(&slices).map_err(|refusal| Failure::fault("all together", too_much(refusal, &slices)))
 }
 
-/// What else there is to say where rules that are right alone are refused together.
-fn hint(refusal: Refusal, rules: &[&[u8]]) -> String {
-    if refusal != Refusal::Shape {
-        return String::new();
-    }
-    let number: usize = rules.iter().filter_map(|rule| formulas(rule).ok()).sum();
-    format!("\nThese are {number} formulas; at most {MOST_FORMULAS} can be judged together.")
+/// What is too much of rules that are right alone.
+fn too_much(refusal: Refusal, rules: &[&[u8]]) -> String {
+    let sum = |number: fn(&[u8]) -> usize| rules.iter().map(|rule| number(rule)).sum::<usize>();
+    let says = match refusal {
+        Refusal::RuleLength => {
+            let entries = sum(|rule| (rule.len() - 8) / 10);
+            format!("these are {entries} letters and operators, and 128 are the most")
+        }
+        Refusal::Shape => {
+            let number = sum(|rule| formulas(rule).unwrap_or(0));
+            format!("these are {number} formulas, and {MOST_FORMULAS} are the most")
+        }
+        Refusal::TooManyWords => format!("their checkpoint needs more than {MOST_WORDS} words"),
+        _ => return refusal.to_string(),
+    };
+    numbered(&says, refusal)
+}
+
+/// What a rule needs, or what is wrong with its bytes.
+fn measured(name: &str, rule: &[u8]) -> Result<Needs, Failure> {
+    measure(rule).map_err(|refusal| Failure::fault(name, wrong::named(refusal, wrong::rule(rule))))
 }
 
 /// The bytes of the rule that a formula says.
 fn parsed(formula: &str) -> Result<Vec<u8>, Failure> {
     let mut bytes = vec![0; MOST_RULE];
-    let refused = |refusal| Failure::fault(&format!("`{formula}`"), refusal);
-    let size = parse(formula.as_bytes(), &mut bytes).map_err(refused)?;
+    let size = parse(formula.as_bytes(), &mut bytes).map_err(|refusal| {
+        let says = wrong::named(refusal, wrong::formula(formula));
+        Failure::Fault(format!("{says}{}", or_a_file(formula)))
+    })?;
     bytes.truncate(size);
     Ok(bytes)
 }
 
+/// What to say where a file of this name is there, and may have been meant.
+fn or_a_file(formula: &str) -> &'static str {
+    match Path::new(formula).is_file() {
+        true if formula.ends_with(".krl") => "\nThere is a rule file of this name, but a formula is wanted here",
+        true => "\nThere is a file of this name, but that of a rule file ends in .krl",
+        false => "",
+    }
+}
+
 /// A rule's formulas, and a line with its words and its reach.
 pub fn described(name: &str, rule: &[u8]) -> Result<(Vec<String>, String), Failure> {
-    let refused = |refusal| Failure::fault(name, refusal);
-    let needs = measure(rule).map_err(refused)?;
-    let formulas = text::formula(rule).map_err(refused)?;
+    let needs = measured(name, rule)?;
+    let formulas = text::formula(rule).map_err(|refusal| Failure::fault(name, refusal))?;
     let reach = needs.reach.map_or("none".to_string(), |seconds| format!("{seconds} seconds"));
     Ok((formulas.lines().map(str::to_string).collect(), format!("words {}, reach {reach}\n", needs.words)))
 }
 
 pub fn to_log(path: &str, log: &str, force: bool) -> Answer {
     let (mut folder, name) = file::named_apart(log, path)?;
-    let bytes = fs::read(path).map_err(|fault| Failure::fault(path, fault))?;
+    let bytes = read_all(path).map_err(|fault| unread(path, fault))?;
     let typed = String::from_utf8(bytes).map_err(|_| Failure::fault(path, "not a text"))?;
     let bytes = text::log_from_text(&typed).map_err(|fault| Failure::Fault(format!("{path}, {fault}")))?;
-    let made = Log::new(&bytes).map_err(|refusal| Failure::fault(path, refusal))?;
+    let made = opened(path, &bytes)?;
     file::put(&mut folder, &name, &bytes, force).map_err(|fault| Failure::fault(log, fault))?;
     let services = match made.services(0) {
         0 => String::new(),
@@ -90,8 +130,9 @@ pub fn to_log(path: &str, log: &str, force: bool) -> Answer {
 }
 
 pub fn to_text(path: &str) -> Answer {
-    let log = log(path).map_err(|fault| Failure::fault(path, fault))?;
-    text::log_to_text(&log).map_err(|refusal| Failure::fault(path, refusal))
+    let bytes = log(path).map_err(|fault| unread(path, fault))?;
+    opened(path, &bytes)?;
+    text::log_to_text(&bytes).map_err(|refusal| Failure::fault(path, refusal))
 }
 
 pub fn rule(formulas: &[&str], path: &str, force: bool) -> Answer {
@@ -107,7 +148,7 @@ pub fn rule(formulas: &[&str], path: &str, force: bool) -> Answer {
 }
 
 pub fn formula(path: &str) -> Answer {
-    let bytes = read_file(path, MOST_RULE).map_err(|fault| Failure::fault(path, fault))?;
+    let bytes = read_file(path, MOST_RULE).map_err(|fault| unread(path, fault))?;
     let (formulas, needs) = described(path, &bytes)?;
     Ok(format!("{}\n{needs}", formulas.join("\n")))
 }
@@ -121,40 +162,48 @@ pub fn worst(low: &str, high: &str, records: &str, log: &str, force: bool) -> An
     let (low, high, records): (u32, u32, u64) = (number(low)?, number(high)?, number(records)?);
     // With more records than a log may have the call is refused, whatever the room.
     let mut bytes = vec![0; 8 + 8 * records.min(MOST_RECORDS as u64) as usize];
-    let length = worst_log(low, high, records, &mut bytes).map_err(|refusal| Failure::Fault(refusal.to_string()))?;
+    let length = worst_log(low, high, records, &mut bytes).map_err(|refusal| {
+        let many =
+            || Wrong { number: 19, says: format!("N is {records}, and a log has at most {MOST_RECORDS} records") };
+        let found = wrong::ends(low, high).or_else(|| (records > MOST_RECORDS as u64).then(many));
+        Failure::Fault(wrong::named(refusal, found))
+    })?;
     file::write(log, &bytes[..length], force)?;
     Ok(format!("{log}: {records} records, {} seconds waiting\n", records.min(u64::from(high) + 1)))
 }
 
-const OPTIONS: [&str; 6] = ["--seconds", "--warm-up", "--print-time", "--switch-off", "--mean-gap", "--seed"];
+/// The numbers that `simulate` takes, and their least and most.
+pub const SETTINGS: [(&str, u32, u32); 6] = [
+    ("--seconds", 0, 3_600),
+    ("--warm-up", 1, 600),
+    ("--print-time", 1, 600),
+    ("--switch-off", 1, 3_600),
+    ("--mean-gap", 1, 3_600),
+    ("--seed", 1, u32::MAX),
+];
 
-/// The numbers of the options, each given once, in the order of `OPTIONS`.
-fn numbers(words: &[&str]) -> Result<[u32; 6], String> {
-    let mut given = [None; 6];
-    for pair in words.chunks(2) {
-        let at = OPTIONS.iter().position(|&option| option == pair[0]);
-        let at = at.ok_or_else(|| format!("`{}` is no option of simulate", pair[0]))?;
-        let typed = pair.get(1).ok_or_else(|| format!("{} needs a number", pair[0]))?;
-        let number = typed.parse::<u32>().map_err(|_| format!("{}: `{typed}` is no number", pair[0]))?;
-        if given[at].replace(number).is_some() {
-            return Err(format!("{} is there twice", pair[0]));
-        }
+/// The words of `simulate`.
+pub fn simulated(given: &Given) -> Answer {
+    let log = given.only();
+    let mut numbers = [0; 6];
+    for (number, (option, ..)) in numbers.iter_mut().zip(SETTINGS) {
+        *number = given.number(option)?.expect("the table wants it");
     }
-    let mut all = [0; 6];
-    for (at, number) in given.into_iter().enumerate() {
-        all[at] = number.ok_or_else(|| format!("{} is missing", OPTIONS[at]))?;
-    }
-    Ok(all)
-}
-
-pub fn simulated(log: &str, words: &[&str], force: bool) -> Answer {
-    let [seconds, warm_up, print_time, switch_off, mean_gap, seed] = numbers(words).map_err(Failure::Use)?;
+    let [seconds, warm_up, print_time, switch_off, mean_gap, seed] = numbers;
     let settings = Settings { warm_up, print_time, switch_off, mean_gap };
     let mut bytes = vec![0; 8 + 8 * seconds.min(3600) as usize];
-    let given =
-        simulate(&settings, seconds, seed, &mut bytes).map_err(|refusal| Failure::Fault(refusal.to_string()))?;
-    file::write(log, &bytes[..given.written], force)?;
-    let numbers = [("finished", given.finished), ("printing", given.printing), ("waiting", given.waiting)];
+    let refused = |refusal| Failure::Fault(wrong::named(refusal, out_of_range(numbers)));
+    let simulated = simulate(&settings, seconds, seed, &mut bytes).map_err(refused)?;
+    file::write(log, &bytes[..simulated.written], given.has("--force"))?;
+    let numbers = [("finished", simulated.finished), ("printing", simulated.printing), ("waiting", simulated.waiting)];
     let numbers = numbers.map(|(name, number)| format!("{name} {number}")).join(", ");
     Ok(format!("{log}: {seconds} records, {numbers}\n"))
+}
+
+/// The first setting that is outside of its range.
+fn out_of_range(numbers: [u32; 6]) -> Option<Wrong> {
+    let mut settings = SETTINGS.into_iter().zip(numbers);
+    let ((option, least, most), number) =
+        settings.find(|((_, least, most), number)| number < least || number > most)?;
+    Some(Wrong { number: 26, says: format!("{option} is {number}, and may be {least} to {most}") })
 }

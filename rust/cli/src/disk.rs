@@ -3,6 +3,11 @@
 use std::fs::{self, File, OpenOptions, TryLockError};
 use std::io::{self, ErrorKind, Read, Seek, SeekFrom, Write};
 use std::path::{Path, PathBuf};
+use std::thread;
+use std::time::{Duration, Instant};
+
+/// How long a command waits for another that is at work on the card: most are done by then.
+pub const MOMENT: Duration = Duration::from_secs(2);
 
 /// How a folder is taken.
 #[derive(Clone, Copy, Debug, PartialEq, Eq)]
@@ -25,7 +30,8 @@ pub trait Disk {
     /// Makes the folder.
     fn make_folder(&mut self) -> io::Result<()>;
 
-    /// Takes the folder for one command, by locking this file, until this disk is dropped. False if another has it.
+    /// Takes the folder for one command, by locking this file, until this disk is dropped. False if another has it, and, where it is
+    /// not to be made, still has it after a moment.
     fn lock(&mut self, name: &str, lock: Lock) -> io::Result<bool>;
 
     /// From this byte on the file holds these bytes and no others. The file is made if it is not there.
@@ -92,12 +98,18 @@ impl Disk for Folder {
         let alone = lock != Lock::Shared;
         let making = lock == Lock::Making;
         let file = OpenOptions::new().read(true).write(alone).create(making).open(self.path.join(name))?;
-        let taken = if alone { file.try_lock() } else { file.try_lock_shared() };
-        match taken {
-            Ok(()) => self.lock = Some(file),
-            Err(TryLockError::WouldBlock) => return Ok(false),
-            Err(TryLockError::Error(fault)) => return Err(fault),
+        let begun = Instant::now();
+        loop {
+            let taken = if alone { file.try_lock() } else { file.try_lock_shared() };
+            match taken {
+                Ok(()) => break,
+                // A `new` that finds another at work has nothing to wait for: the card will be there.
+                Err(TryLockError::WouldBlock) if !making && begun.elapsed() < MOMENT => thread::sleep(MOMENT / 100),
+                Err(TryLockError::WouldBlock) => return Ok(false),
+                Err(TryLockError::Error(fault)) => return Err(fault),
+            }
         }
+        self.lock = Some(file);
         Ok(true)
     }
 
@@ -129,9 +141,24 @@ impl Disk for Folder {
     }
 }
 
-/// The bytes of a file outside of any card, but not more than so many and one.
+/// A file outside of any card, or standard input for `-`.
+fn source(path: &str) -> io::Result<Box<dyn Read>> {
+    Ok(match path {
+        "-" => Box::new(io::stdin()),
+        _ => Box::new(File::open(path)?),
+    })
+}
+
+/// The bytes of a file outside of any card, or of standard input for `-`.
+pub fn read_all(path: &str) -> io::Result<Vec<u8>> {
+    let mut bytes = Vec::new();
+    source(path)?.read_to_end(&mut bytes)?;
+    Ok(bytes)
+}
+
+/// The same, but not more than so many bytes and one.
 pub fn read_file(path: &str, most: usize) -> io::Result<Vec<u8>> {
     let mut bytes = Vec::new();
-    File::open(path)?.take(most as u64 + 1).read_to_end(&mut bytes)?;
+    source(path)?.take(most as u64 + 1).read_to_end(&mut bytes)?;
     Ok(bytes)
 }

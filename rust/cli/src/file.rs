@@ -54,6 +54,9 @@ pub fn write(path: &str, bytes: &[u8], replace: bool) -> Result<(), Failure> {
 
 /// The folder of a file, and its name there. A link stands for the file that it leads to.
 pub fn named(path: &str) -> Result<(Folder, String), Failure> {
+    if path == "-" {
+        return Err(Failure::Use("nothing is written to `-`; a file of this name is ./-".to_string()));
+    }
     let no_name = || Failure::Use(format!("`{path}` is no name of a file"));
     Path::new(path)
         .file_name()

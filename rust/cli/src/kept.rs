@@ -3,9 +3,11 @@
 //! The sheet has its checksums in two places, in the point and in the rows of `evenings`; the latter are bound to `card.txt` and
 //! `rule.krl` and need no point.
 
-use crate::card::{Begins, First, Label, SoFar, CARD, EVENINGS, NEW_POINT, POINT, RULE, SHEET};
+use crate::card::{Begins, First, Label, SoFar, CARD, EVENINGS, LETTERS, NEW_LETTERS, NEW_POINT, POINT, RULE, SHEET};
 use crate::disk::Disk;
 use crate::evenings::{bound_to, rows, Known, Row};
+use crate::letters::Letters;
+use crate::parts::counted;
 use havdrims::save::{checksum, Saved};
 use havdrims::{formulas, measure, status, Summary};
 
@@ -24,12 +26,20 @@ struct Files {
     sheet: Option<Vec<u8>>,
     evenings: Option<Vec<u8>>,
     point: Option<Vec<u8>>,
+    letters: Option<Vec<u8>>,
 }
 
 impl Files {
     fn read(disk: &mut impl Disk) -> Files {
         let mut read = |name| disk.read(name).ok();
-        Files { card: read(CARD), rule: read(RULE), sheet: read(SHEET), evenings: read(EVENINGS), point: read(POINT) }
+        Files {
+            card: read(CARD),
+            rule: read(RULE),
+            sheet: read(SHEET),
+            evenings: read(EVENINGS),
+            point: read(POINT),
+            letters: read(LETTERS),
+        }
     }
 
     /// The rows, with nothing in the place of one that is damaged or not bound to this card and rule.
@@ -38,6 +48,15 @@ impl Files {
             (Some(card), Some(rule), Some(evenings)) => rows(evenings, bound_to(card, rule)),
             (_, _, evenings) => vec![None; evenings.as_ref().map_or(0, |bytes| rows(bytes, 0).len())],
         }
+    }
+
+    /// What there is to say of the names of letters, if there are any.
+    fn letters(&self) -> Option<String> {
+        let read = |bytes: &[u8]| Letters::decode(bytes, bound_to(self.card.as_ref()?, self.rule.as_ref()?));
+        Some(match read(self.letters.as_ref()?) {
+            Some(letters) => counted(letters.count(), "name", "names"),
+            None => "damaged, or not of this card".to_string(),
+        })
     }
 
     /// What the point says, as a row would, but of records and positions.
@@ -98,7 +117,7 @@ pub fn looked_at(disk: &mut impl Disk) -> Vec<(String, String)> {
     let card = files.card.as_ref().map(|card| good(Label::decode(card).is_some(), "damaged"));
     let rule = files.rule.as_ref().map(|rule| match measure(rule) {
         Ok(_) => "good".to_string(),
-        Err(refusal) => refusal.to_string(),
+        Err(refusal) => crate::wrong::named(refusal, crate::wrong::rule(rule)),
     });
     let sheet = files.sheet.as_ref().map(|sheet| format!("{} verdicts", sheet.len()));
     let rows = files.rows();
@@ -114,11 +133,12 @@ pub fn looked_at(disk: &mut impl Disk) -> Vec<(String, String)> {
     let own = [(CARD, card), (RULE, rule), (SHEET, sheet), (EVENINGS, evenings), (POINT, point)];
     let mut said: Vec<(String, String)> =
         own.into_iter().map(|(name, said)| (name.to_string(), said.unwrap_or_else(missing))).collect();
+    said.extend(files.letters().map(|letters| (LETTERS.to_string(), letters)));
     for name in disk.names().ok().flatten().unwrap_or_default() {
-        if name == NEW_POINT {
-            said.push((name, "left by a run that was cut; it does not count".to_string()));
-        } else if ![CARD, RULE, SHEET, EVENINGS, POINT].contains(&name.as_str()) {
-            said.push((name, "not of this card".to_string()));
+        match name.as_str() {
+            CARD | RULE | SHEET | EVENINGS | POINT | LETTERS => {}
+            NEW_POINT | NEW_LETTERS => said.push((name, "left by a run that was cut; it does not count".to_string())),
+            _ => said.push((name, "not of this card".to_string())),
         }
     }
     said

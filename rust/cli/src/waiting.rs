@@ -3,6 +3,7 @@
 //! A position of such a rule is open exactly when one record can settle it yes and another no; docs/PROOFS.md has the theorem and
 //! its conditions. Where one of them is not met it may be that no record can say yes any more, which is said then.
 
+use crate::letters::Letters;
 use havdrims::{Log, MOST_RECORDS};
 
 const LETTER: u8 = 0;
@@ -80,19 +81,21 @@ impl Timed {
 
     /// What settles a position of this second that is open at the log's end. Of an until a record settles no where its left letter
     /// is missing, and where it comes too late; of a next every record settles.
-    pub fn settled_by(self, seconds: u32, end: &End) -> String {
-        let letter = self.letter;
+    pub fn settled_by(self, seconds: u32, end: &End, letters: &Letters) -> String {
+        let letter = letters.name(self.letter);
         if end.full {
             return "no record can follow".to_string();
         }
         match (self.left, self.when(seconds, end)) {
             (None, Some(when)) => {
                 let comes = if when.is_empty() { String::new() } else { format!(" and comes{when}") };
-                format!("yes if the next record has e{letter}{comes}, no if not")
+                format!("yes if the next record has {letter}{comes}, no if not")
             }
-            (Some(left), Some(when)) => format!("yes if e{letter} comes{when}, no if e{left} is missing before"),
+            (Some(left), Some(when)) => {
+                format!("yes if {letter} comes{when}, no if {} is missing before", letters.name(left))
+            }
             (Some(left), None) if u64::from(end.seconds) <= self.latest(seconds) => {
-                format!("no longer yes, no if e{left} is missing")
+                format!("no longer yes, no if {} is missing", letters.name(left))
             }
             (_, None) => "no with the next record, whatever it says".to_string(),
         }

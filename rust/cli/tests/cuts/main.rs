@@ -9,13 +9,15 @@ mod disk;
 use cli::card::{self, Begins, Card, Evening, Fault, First};
 use cli::disk::Disk;
 use cli::evenings::Known;
+use cli::letters::Letters;
+use cli::page::known::{self, Span};
 use cli::{file, kept};
 use disk::{Simulated, Trouble, Way, Work};
 use evaluator::log::{self, Record};
 use evaluator::random::{self, Random};
 use evaluator::{reading, rule};
 use havdrims::save::checksum;
-use havdrims::Refusal;
+use havdrims::{Log, Refusal};
 
 const NUMBER: u64 = 0x0123_4567_89ab_cdef;
 const LOG: &str = "log.klg";
@@ -34,6 +36,8 @@ enum Step {
     Evening(Day),
     /// The log takes the place of the one that it was.
     Trim(Day),
+    /// The letters get other names.
+    Name,
 }
 
 /// A rule, an untouched log, and how much of it is there on each evening. The last ones may be closings.
@@ -50,6 +54,13 @@ struct Week {
     old: bool,
     /// The card's first record: the log's records before it mean nothing.
     first: usize,
+    /// The names of its letters when it is made.
+    letters: Letters,
+}
+
+/// The names that the letters get later.
+fn other_names() -> Letters {
+    Letters::read("0 head warm\n31 test print\n").unwrap()
 }
 
 impl Week {
@@ -68,8 +79,21 @@ impl Week {
         for &day in &days {
             steps.push(Step::Evening(day));
             steps.extend((version == 2 && r.one_in(2)).then_some(Step::Trim(day)));
+            steps.extend(r.one_in(4).then_some(Step::Name));
         }
-        Week { rule, untouched, version, days, steps, old, first }
+        // Earlier programs knew no names.
+        let names = if old || r.one_in(2) { "" } else { "3 lamp\n" };
+        Week { rule, untouched, version, days, steps, old, first, letters: Letters::read(names).unwrap() }
+    }
+
+    /// The names in the end.
+    fn names(&self) -> Letters {
+        let named = self.steps.iter().any(|step| matches!(step, Step::Name));
+        if named {
+            other_names()
+        } else {
+            self.letters.clone()
+        }
     }
 
     /// The positions of this day's log.
@@ -133,7 +157,7 @@ impl<'a> Run<'a> {
         let sum = checksum(&log::encode_records(known));
         let open = Known { records: known.len() as u64, sum };
         let before = self.before.filter(|_| known.is_empty());
-        card::new(&mut self.disk, NUMBER, Begins { first, open, before }, &self.week.rule)
+        card::new(&mut self.disk, NUMBER, Begins { first, open, before }, &self.week.rule, &self.week.letters)
     }
 
     /// The log of this day: the kiosk has added its records.
@@ -158,6 +182,10 @@ impl<'a> Run<'a> {
         file::put(&mut self.shop, LOG, &left, true).map_err(Failed::File)
     }
 
+    fn name(&mut self) -> Result<(), Fault> {
+        Card::open(&mut self.disk, true)?.name_letters(&other_names())
+    }
+
     /// One command, not repeated. What an evening that ends well has released is overwritten.
     fn step(&mut self, step: Step) -> Result<(), Failed> {
         match step {
@@ -167,6 +195,7 @@ impl<'a> Run<'a> {
                 self.overwrite(&evening);
             }
             Step::Trim(day) => self.trim(day)?,
+            Step::Name => self.name()?,
         }
         Ok(())
     }
@@ -205,6 +234,30 @@ impl<'a> Run<'a> {
         self.overwrite(&evening);
     }
 
+    /// What the card knows of this day's log: each of these records is as it was.
+    fn known(&mut self, day: Day) -> Vec<Span> {
+        let log = self.log(day);
+        let mut card = Card::open(&mut self.disk, false).unwrap();
+        let rows = card.evenings().unwrap();
+        let seen = card.seen_part(&log).unwrap();
+        let seen = Log::new(&seen).unwrap();
+        let spans = known::spans(&seen, &rows);
+        let own = &self.week.untouched[self.week.first..];
+        let places = log::places(self.week.version, own);
+        for span in &spans {
+            let records = span.records.start as usize..span.records.end as usize;
+            let bytes = log::encode_records(&own[records.clone()]);
+            assert_eq!(seen.record_bytes(records), Some(&bytes[..]), "{:?}", self.week);
+            for (position, held) in span.positions().zip(&span.held) {
+                let record = places[position as usize];
+                assert_eq!((held.record, held.seconds), (record as u64, own[record].time), "{:?}", self.week);
+            }
+            let services = bytes.len() as u64 / 8 - span.held.len() as u64;
+            assert_eq!(span.services.len() as u64, services, "{:?}", self.week);
+        }
+        spans
+    }
+
     fn trim_again(&mut self, day: Day) {
         self.trim(day).unwrap_or_else(|fault| panic!("{fault:?}: {:?}", self.week));
         let left = log::parse(&self.shop.read(LOG).unwrap()).unwrap();
@@ -217,6 +270,7 @@ impl<'a> Run<'a> {
             Step::New => self.make_again(),
             Step::Evening(day) => self.evening_again(day),
             Step::Trim(day) => self.trim_again(day),
+            Step::Name => self.name().unwrap_or_else(|fault| panic!("{fault}: {:?}", self.week)),
         }
     }
 
@@ -249,6 +303,11 @@ impl<'a> Run<'a> {
         self.cut(Way::Synced);
         Card::open(&mut self.disk, false).unwrap().verdicts().to_vec()
     }
+
+    /// The names of letters, which are never damaged.
+    fn letters(&mut self) -> Letters {
+        Card::open(&mut self.disk, false).and_then(|mut card| card.letters()).unwrap()
+    }
 }
 
 /// The week with one run cut at one of its operations: `new` is the first run. False if the run has fewer operations.
@@ -266,14 +325,16 @@ fn with_cut(week: &Week, which: usize, operation: usize, work: Work, way: Way, s
             if cut && matches!(step, Step::Trim(_)) && operation.is_multiple_of(2) {
                 continue;
             }
+            // The names are those that were there, or the others.
+            if matches!(step, Step::Name) {
+                assert!([&week.letters, &other_names()].contains(&&run.letters()), "{week:?}");
+            }
         }
         run.again(step);
     }
-    assert_eq!(
-        run.sheet(),
-        week.sheet(),
-        "run {which}, operation {operation}, {work:?}, {way:?}, seed {seed}: {week:?}"
-    );
+    let where_ = || format!("run {which}, operation {operation}, {work:?}, {way:?}, seed {seed}: {week:?}");
+    assert_eq!(run.sheet(), week.sheet(), "{}", where_());
+    assert_eq!(run.letters(), week.names(), "{}", where_());
     cut
 }
 
@@ -288,7 +349,8 @@ fn a_cut_at_every_operation() {
                     for again in 0..times {
                         let cut = |&operation: &usize| with_cut(&week, which, operation, work, way, again);
                         let some = (0..).take_while(cut).count();
-                        assert!(some >= 6, "a run of {some} operations");
+                        let least = if matches!(step, Step::Name) { 4 } else { 6 };
+                        assert!(some >= least, "a run of {some} operations");
                         cuts += some;
                         trims += if matches!(step, Step::Trim(_)) { some } else { 0 };
                     }
@@ -401,6 +463,7 @@ fn many_cuts_in_one_week() {
             }
         }
         assert_eq!(run.sheet(), week.sheet(), "seed {seed}: {week:?}");
+        assert_eq!(run.letters(), week.names(), "seed {seed}: {week:?}");
     }
     println!("{cuts} cuts, {between} trimmings after one");
     assert!(between > 1_000);
@@ -524,6 +587,99 @@ fn a_failure_at_every_operation_of_new() {
     }
     println!("{failures} failures, {made} of them when the card was made");
     assert!(failures > 0 && made > 0);
+}
+
+/// A disk that fails at every operation of naming letters: the names are the old ones, or may be the new ones, and nothing else changes.
+#[test]
+fn a_failure_at_every_operation_of_naming() {
+    let (mut failures, mut not_sure) = (0, 0);
+    for seed in 0..40 {
+        let week = Week::new(&mut Random::new(seed));
+        for trouble in [Trouble::Full, Trouble::Late, Trouble::Broken] {
+            for operation in 0.. {
+                let mut run = Run::new(&week, seed);
+                run.make_again();
+                let before = run.disk.contents();
+                run.disk.trouble = Some((run.disk.operations + operation, trouble));
+                match run.name() {
+                    Ok(()) => break,
+                    // What was written beside stays if it cannot be taken away.
+                    Err(Fault::Disk { .. }) if trouble == Trouble::Broken => {
+                        assert_eq!(run.disk.contents().get(card::LETTERS), before.get(card::LETTERS));
+                    }
+                    Err(Fault::Disk { .. }) => assert_eq!(run.disk.contents(), before),
+                    Err(Fault::Unsure { .. }) => not_sure += 1,
+                    Err(fault) => panic!("{fault}"),
+                }
+                failures += 1;
+                run.disk.trouble = None;
+                assert!([&week.letters, &other_names()].contains(&&run.letters()), "{week:?}");
+                run.name().unwrap();
+                run.evening_again(week.days[0]);
+                assert_eq!(run.sheet(), week.sheet_of(week.days[0]), "{week:?}");
+                assert_eq!(run.letters(), other_names());
+            }
+        }
+    }
+    assert!(failures > 0 && not_sure > 0);
+}
+
+/// A `new` that was cut may have had names; made again without, the card has none.
+#[test]
+fn names_of_a_card_that_was_cut() {
+    let week = (0..).map(|seed| Week::new(&mut Random::new(seed))).find(|week| !week.letters.is_empty()).unwrap();
+    let bare =
+        (0..).map(|seed| Week::new(&mut Random::new(seed))).find(|week| week.letters.is_empty() && !week.old).unwrap();
+    let bare = Week { first: week.first, ..bare };
+    let mut left = 0;
+    for operation in 0.. {
+        let mut run = Run::new(&week, 0);
+        run.prepare(Step::New, operation, Trouble::Cut(Work::All));
+        if run.make().is_ok() {
+            break;
+        }
+        run.cut(Way::Killed);
+        if run.disk.contents().contains_key(card::POINT) {
+            continue;
+        }
+        left += usize::from(run.disk.contents().contains_key(card::LETTERS));
+        let mut again = Run { disk: run.disk, ..Run::new(&bare, 0) };
+        again.make().unwrap();
+        again.cut(Way::Synced);
+        assert_eq!(again.letters(), Letters::default());
+        assert!(!again.disk.contents().contains_key(card::LETTERS));
+    }
+    assert!(left > 0);
+}
+
+/// Which records of its log a card knows: before any is overwritten all that it has seen; and then none that was, and each position
+/// has its record.
+#[test]
+fn what_a_card_knows_of_its_log() {
+    let (mut known, mut lost) = (0, 0);
+    for seed in 0..1_000 {
+        let week = Week { old: false, ..Week::new(&mut Random::new(seed)) };
+        let mut run = Run::new(&week, seed);
+        let mut untouched = true;
+        for &step in &week.steps {
+            if let Step::Evening(day) = step {
+                let evening = run.evening(day).unwrap();
+                let spans = run.known(day);
+                let seen = evening.so_far.status.seen;
+                let all: u64 = spans.iter().map(|span| span.records.end - span.records.start).sum();
+                assert!(!untouched || all == seen, "{all} of {seen}: {week:?}");
+                run.overwrite(&evening);
+                untouched = untouched && evening.so_far.released() <= week.first as u64;
+                let left: u64 = run.known(day).iter().map(|span| span.records.end - span.records.start).sum();
+                known += left;
+                lost += seen - left;
+                continue;
+            }
+            untouched = untouched && !matches!(step, Step::Trim(_));
+            run.again(step);
+        }
+    }
+    assert!(known > 1_000 && lost > 1_000, "{known} known, {lost} lost");
 }
 
 /// A file that is written in place of another, and one that is new, cut at every operation, and with each of them failing: it is the

@@ -2,7 +2,6 @@
 
 use crate::{contents, example, Place, CARRY_ON, RULE};
 use evaluator::log::{self, Record};
-use havdrims::Refusal;
 use std::fs;
 
 const STRICT: &str = "not e2 or e0 until[0,60] e1";
@@ -165,7 +164,8 @@ fn after_service_visits() {
     // a trimmed log that lacks the first record
     place.ok(&["new", "early", "e0", "--from", "14"]);
     let said = place.fails(1, &["evening", "early", "left.klg"]);
-    assert!(said.starts_with(&format!("left.klg: {}\n", Refusal::RecordDropped)), "{said}");
+    let text = "left.klg: records 0 to 14 were dropped from the log, and the card still wants record 14 (refused 24)\n";
+    assert!(said.starts_with(text), "{said}");
 }
 
 /// What stands before is not there for the rule: previous finds nothing.
@@ -218,19 +218,18 @@ fn made_again_with_the_same_words() {
 #[test]
 fn where_no_card_can_begin() {
     let place = Place::with_card(1);
-    let expected = "expected: havdrims new CARD RULE.. [--after OLD | --from N]\n";
-    for words in [
-        &["new", "more", "e0", "--after"][..],
-        &["new", "more", "e0", "--from"],
-        &["new", "more", "--from", "1"],
-        &["new", "more", "e0", "--from", "1", "--after", "card"],
-        &["new", "more", "e0", "--from", "1", "--from", "1"],
-        &["new", "more", "e0", "--form", "1"],
+    let expected = "expected: havdrims new CARD RULE.. [--after OLD | --from N] [--letters FILE]\n";
+    for (words, text) in [
+        (&["new", "more", "e0", "--after"][..], "--after wants OLD behind it"),
+        (&["new", "more", "e0", "--from"], "--from wants N behind it"),
+        (&["new", "more", "--from", "1"], "RULE is missing"),
+        (&["new", "more", "e0", "--from", "1", "--after", "card"], "--after and --from exclude each other"),
+        (&["new", "more", "e0", "--from", "1", "--from", "1"], "--from is there twice"),
+        (&["new", "more", "e0", "--form", "1"], "`--form` is no option of `havdrims new`; did you mean --from?"),
+        (&["new", "more", "e0", "--from", "x"], "--from: `x` is no number, or too large a one"),
     ] {
-        assert_eq!(place.fails(2, words), expected, "{words:?}");
+        assert_eq!(place.fails(2, words), format!("{text}\n{expected}"), "{words:?}");
     }
-    let said = place.fails(2, &["new", "more", "e0", "--from", "x"]);
-    assert_eq!(said, format!("`x` is no number, or too large a one\n{expected}"));
     let said = place.fails(2, &["new", "more", "e0", "--from", "1000001"]);
     assert_eq!(said, format!("a log has at most 1000000 records\n{expected}"));
     let said = place.fails(1, &["new", "more", "e0", "--after", "none"]);

@@ -41,6 +41,18 @@ fn a_good_card() {
     }
 }
 
+/// What is wrong with the rule is said of its file.
+#[test]
+fn a_rule_that_is_damaged() {
+    let place = Place::with_card(1);
+    place.damage("rule.krl", |bytes| bytes.truncate(60));
+    let (printed, _) = place.partly(&["check", "card"]);
+    assert!(
+        printed.contains("rule.krl: the rule has 60 bytes, but 68 with 6 entries as it says (refused 4)\n"),
+        "{printed}"
+    );
+}
+
 /// The verdicts are printed, and a new card goes on where the old one had come to.
 #[test]
 fn a_point_that_is_damaged() {
@@ -57,6 +69,12 @@ fn a_point_that_is_damaged() {
     assert_eq!(said, fault);
     assert_eq!(place.partly(&["summary", "card"]).0, summary);
     assert_eq!(place.partly(&["sheet", "card", "--csv"]).0, sheet);
+    // a folder's name as a shell takes it
+    fs::rename(place.path("card"), place.path("Anna's card")).unwrap();
+    let (printed, _) = place.partly(&["check", "Anna's card"]);
+    let quoted = r"havdrims new NEW 'Anna'\''s card/rule.krl' --after 'Anna'\''s card'";
+    assert!(printed.ends_with(&format!("record 18: {quoted}\n")), "{printed}");
+    fs::rename(place.path("Anna's card"), place.path("card")).unwrap();
     let said = place.ok(&["new", "next", "card/rule.krl", "--after", "card"]);
     assert!(said.ends_with("begins at record 18\n"), "{said}");
     assert!(place.ok(&["close", "next", "tuesday.klg", "--final"]).starts_with("record 18: 0 yes, 1 no\n"));

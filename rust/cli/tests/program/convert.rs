@@ -1,8 +1,9 @@
 //! Rules and logs as text and back, and logs to try a kiosk with.
 
 use crate::Place;
+use cli::command::table::COMMANDS;
+use cli::convert::SETTINGS;
 use evaluator::{cases, log, rule};
-use havdrims::Refusal;
 use std::fs;
 use std::os::unix::fs::symlink;
 
@@ -23,7 +24,8 @@ fn logs_as_text() {
     fs::write(place.path("bad.txt"), [0xff, 0xfe]).unwrap();
     assert_eq!(place.fails(1, &["to-log", "bad.txt", "bad.klg"]), "bad.txt: not a text\n");
     assert!(place.fails(1, &["to-text", "none.klg"]).starts_with("none.klg: "));
-    assert_eq!(place.fails(1, &["to-text", "day.txt"]), format!("day.txt: {}\n", Refusal::LogFormat));
+    let no_log = "this is no log: it does not begin with KLG; of a text `havdrims to-log` makes one (refused 12)";
+    assert_eq!(place.fails(1, &["to-text", "day.txt"]), format!("day.txt: {no_log}\n"));
 }
 
 #[test]
@@ -46,7 +48,8 @@ fn logs_of_version_2_as_text() {
     assert_eq!(said, "bad.txt, line 2: `service` needs the line `version 2` or `version 3` before the first record\n");
     assert!(!place.path("bad.klg").exists());
     fs::write(place.path("fourth.klg"), b"KLG\x00\x04\x00\x00\x00").unwrap();
-    assert_eq!(place.fails(1, &["to-text", "fourth.klg"]), format!("fourth.klg: {}\n", Refusal::LogFormat));
+    let fourth = "the log is of version 4, and this program knows 1, 2 and 3 (refused 12)";
+    assert_eq!(place.fails(1, &["to-text", "fourth.klg"]), format!("fourth.klg: {fourth}\n"));
 }
 
 #[test]
@@ -63,7 +66,8 @@ fn trimmed_logs_as_text() {
     let place_of = "`dropped` stands once, behind the line `version 3` and before the first record";
     assert_eq!(said, format!("bad.txt, line 2: {place_of}\n"));
     fs::write(place.path("short.klg"), b"KLG\x00\x03\x00\x00\x00\x00\x00\x00\x00\x00\x00\x00").unwrap();
-    assert_eq!(place.fails(1, &["to-text", "short.klg"]), format!("short.klg: {}\n", Refusal::LogFormat));
+    let short = "the log ends after 15 bytes, inside its first 16, before record 0 (refused 12)";
+    assert_eq!(place.fails(1, &["to-text", "short.klg"]), format!("short.klg: {short}\n"));
     // the longest of all, and one record more
     let mut most = log::encode_as(3, &[]);
     most.resize(16 + 8 * 1_000_000, 0);
@@ -71,7 +75,10 @@ fn trimmed_logs_as_text() {
     assert_eq!(place.ok(&["to-text", "most.klg"]).lines().count(), 1_000_002);
     most.resize(16 + 8 * 1_000_001, 0);
     fs::write(place.path("most.klg"), &most).unwrap();
-    assert_eq!(place.fails(1, &["to-text", "most.klg"]), format!("most.klg: {}\n", Refusal::LogFormat));
+    assert_eq!(
+        place.fails(1, &["to-text", "most.klg"]),
+        "most.klg: the log has more than 1000000 records (refused 12)\n"
+    );
 }
 
 #[test]
@@ -86,13 +93,24 @@ fn rules_as_formulas() {
     assert_eq!(place.ok(&["formula", "next.krl"]), "next[0,inf] e0\nwords 48, reach none\n");
 
     let said = place.fails(1, &["rule", "e0 until e1", "none.krl"]);
-    assert_eq!(said, "`e0 until e1`: refused 17: The grammar does not derive the text.\n");
+    let could = "here could stand `[` and seconds, as in until[0,90] (refused 17)";
+    assert_eq!(said, format!("`e1` cannot stand here\n  e0 until e1\n           ^^\n{could}\n"));
     // a formula alone, not the name of a rule file
     let said = place.fails(1, &["rule", "typed.krl", "none.krl"]);
-    assert_eq!(said, format!("`typed.krl`: {}\n", Refusal::UnknownWord));
+    let file = "There is a file of this name, but that of a rule file ends in .krl\n";
+    assert!(said.starts_with("the word `typed` is not known\n  typed.krl\n  ^^^^^\n"), "{said}");
+    let wanted = " (refused 16)\nThere is a rule file of this name, but a formula is wanted here\n";
+    assert!(said.ends_with(wanted), "{said}");
+    let said = place.fails(1, &["new", "card", "day"]);
+    assert!(said.ends_with(" (refused 16)\n"), "{said}");
+    fs::write(place.path("day"), "e0").unwrap();
+    assert_eq!(place.fails(1, &["new", "card", "day"]), said + file);
     assert!(!place.path("none.krl").exists());
     fs::write(place.path("long.krl"), [0; 100_000]).unwrap();
-    assert_eq!(place.fails(1, &["formula", "long.krl"]), format!("long.krl: {}\n", Refusal::RuleMark));
+    assert_eq!(
+        place.fails(1, &["formula", "long.krl"]),
+        "long.krl: this is no rule file: it does not begin with KRL (refused 1)\n"
+    );
 }
 
 #[test]
@@ -113,11 +131,11 @@ fn several_formulas_in_one_rule() {
     assert_eq!(place.ok(&eight), "eight.krl: 8 formulas, 8 entries\n");
     assert_eq!(place.ok(&["formula", "eight.krl"]), "e0\ne1\ne2\ne3\ne4\ne5\ne6\ne7\nwords 152, reach 0 seconds\n");
     let nine = [&eight[..1], &["e8"], &eight[1..9], &["none.krl"]].concat();
-    let too_many = "These are 9 formulas; at most 8 can be judged together.";
-    assert_eq!(place.fails(1, &nine), format!("all together: {}\n{too_many}\n", Refusal::Shape));
+    let too_many = "all together: these are 9 formulas, and 8 are the most (refused 7)\n";
+    assert_eq!(place.fails(1, &nine), too_many);
     // a rule file with several of them, and others beside it
     let said = place.fails(1, &["new", "none", "eight.krl", "e0", "one.krl"]);
-    assert_eq!(said, format!("all together: {}\n{}\n", Refusal::Shape, too_many.replace('9', "10")));
+    assert_eq!(said, too_many.replace('9', "10"));
     assert!(!place.path("none").exists());
     // the file's name is forgotten
     let said = place.fails(2, &["rule", "e0", "e1"]);
@@ -125,13 +143,13 @@ fn several_formulas_in_one_rule() {
     assert_eq!(said, format!("`e1` is no name of a rule file: that ends in .krl\n{expected}"));
     assert!(!place.path("e1").exists());
     let said = place.fails(1, &["rule", "e0", "e1 or", "none.krl"]);
-    assert_eq!(said, format!("`e1 or`: {}\n", Refusal::NotDerived));
+    assert!(said.starts_with("the formula breaks off here\n  e1 or\n       ^\n"), "{said}");
     let many = "not ".repeat(64) + "e0";
     let said = place.fails(1, &["rule", &many, &many, "none.krl"]);
-    assert_eq!(said, format!("all together: {}\n", Refusal::RuleLength));
+    assert_eq!(said, "all together: these are 130 letters and operators, and 128 are the most (refused 4)\n");
     let long = "e0 until[0,3600] e1";
     let said = place.fails(1, &["rule", long, long, "none.krl"]);
-    assert_eq!(said, format!("all together: {}\n", Refusal::TooManyWords));
+    assert_eq!(said, "all together: their checkpoint needs more than 8192 words (refused 8)\n");
     assert!(!place.path("none.krl").exists());
 }
 
@@ -140,8 +158,14 @@ fn logs_to_try_a_kiosk_with() {
     let place = Place::new();
     assert_eq!(place.ok(&["worst", "0", "2", "5", "worst.klg"]), "worst.klg: 5 records, 3 seconds waiting\n");
     assert_eq!(place.ok(&["to-text", "worst.klg"]), "0 e0\n1 e0\n2 e0\n2 e0\n2 e0\n");
-    assert_eq!(place.fails(1, &["worst", "3", "2", "5", "bad.klg"]), format!("{}\n", Refusal::Interval));
-    assert_eq!(place.fails(1, &["worst", "0", "2", "1000001", "bad.klg"]), format!("{}\n", Refusal::LogRoom));
+    assert_eq!(
+        place.fails(1, &["worst", "3", "2", "5", "bad.klg"]),
+        "the lower end, 3, is above the upper one, 2 (refused 6)\n"
+    );
+    let said = place.fails(1, &["worst", "0", "3601", "5", "bad.klg"]);
+    assert_eq!(said, "3601 seconds are more than 3600 (refused 6)\n");
+    let said = place.fails(1, &["worst", "0", "2", "1000001", "bad.klg"]);
+    assert_eq!(said, "N is 1000001, and a log has at most 1000000 records (refused 19)\n");
     let said = place.fails(2, &["worst", "0", "2", "-1", "bad.klg"]);
     assert_eq!(said, "`-1` is no number, or too large a one\nexpected: havdrims worst LOW HIGH N LOG [--force]\n");
     assert!(!place.path("bad.klg").exists());
@@ -151,20 +175,39 @@ fn logs_to_try_a_kiosk_with() {
     assert_eq!(place.ok(&options), "run.klg: 9 records, finished 2, printing 1, waiting 2\n");
     let shown = place.ok(&["to-text", "run.klg"]);
     assert_eq!(shown, "0 e2\n1 e0 e1\n2 e0\n3 e0 e1 e2 e3\n4 e0\n5 e0 e3\n6 e2\n7 e0 e1 e2\n8 e0 e2\n");
-    let with = |status: i32, at: usize, word: &'static str| {
+    let with = |status: i32, at: usize, word: &str| {
         let mut words = options.clone();
         words[at] = word;
         place.fails(status, &words)
     };
-    let refused = format!("{}\n", Refusal::Settings);
-    assert_eq!(with(1, 3, "0"), refused);
-    assert_eq!(with(1, 5, "3601"), refused);
-    let expected = "expected: havdrims simulate LOG OPTIONS [--force]\n";
-    assert_eq!(with(2, 3, "x"), format!("--seed: `x` is no number\n{expected}"));
-    assert_eq!(with(2, 4, "--seed"), format!("--seed is there twice\n{expected}"));
-    assert_eq!(with(2, 4, "--second"), format!("`--second` is no option of simulate\n{expected}"));
-    assert_eq!(place.fails(2, &options[..12]), format!("--mean-gap is missing\n{expected}"));
-    assert_eq!(place.fails(2, &options[..13]), format!("--mean-gap needs a number\n{expected}"));
+    // each setting at both ends of its range, and beyond them
+    for (option, least, most) in SETTINGS {
+        let at = 1 + options.iter().position(|&word| word == option).unwrap();
+        for number in [least.to_string(), most.to_string()] {
+            let mut words = options.clone();
+            words[at] = &number;
+            place.ok(&[&words[..], &["--force"]].concat());
+        }
+        let beyond = [least.checked_sub(1), most.checked_add(1)];
+        for number in beyond.into_iter().flatten() {
+            let text = format!("{option} is {number}, and may be {least} to {most} (refused 26)\n");
+            assert_eq!(with(1, at, &number.to_string()), text);
+        }
+    }
+    // the help says the same ranges
+    let table = COMMANDS.iter().find(|command| command.name == "simulate").unwrap();
+    for ((option, least, most), said) in SETTINGS.iter().zip(table.options) {
+        assert_eq!(said.name, *option);
+        assert!(said.does.contains(&format!("{least} to {most}")), "{}", said.does);
+    }
+    let wrong = |said: String, text: &str| {
+        assert!(said.starts_with(&format!("{text}\nexpected: havdrims simulate LOG --seconds N ")), "{said}");
+    };
+    wrong(with(2, 3, "x"), "--seed: `x` is no number, or too large a one");
+    wrong(with(2, 4, "--seed"), "--seed is there twice");
+    wrong(with(2, 4, "--second"), "`--second` is no option of `havdrims simulate`; did you mean --seconds?");
+    wrong(place.fails(2, &options[..12]), "--mean-gap is missing");
+    wrong(place.fails(2, &options[..13]), "--mean-gap wants N behind it");
 }
 
 /// A file that is there is replaced only if so told, none is put into a card, and what is no file stays.
@@ -195,7 +238,8 @@ fn where_files_go() {
         assert_eq!(place.ok(&[&words[..], &["--force"]].concat()), said, "{line}");
         assert_eq!(fs::read(place.path("out.krl")).unwrap(), made, "{line}");
         fs::remove_file(place.path("out.krl")).unwrap();
-        assert!(place.fails(2, &[&words[..], &["--force", "--force"]].concat()).starts_with("expected: "));
+        let twice = place.fails(2, &[&words[..], &["--force", "--force"]].concat());
+        assert!(twice.starts_with("--force is there twice\nexpected: "), "{twice}");
     }
     for file in ["card/out.krl", "card/rule.krl", "./card/../card/rule.krl"] {
         for line in commands(file) {
@@ -230,7 +274,7 @@ fn where_files_go() {
     fails("to-log .made.klg.havdrims-new made.klg --force", text);
     assert_eq!(fs::read(place.path(".made.klg.havdrims-new")).unwrap(), typed);
     for command in ["rule", "to-log", "worst", "simulate", "trim"] {
-        let help = place.ok(&[command, "--help"]);
+        let help = place.help(command);
         assert!(help.contains("replaced only with --force") && help.contains("card"), "{help}");
     }
     assert_eq!(place.card(), before);

@@ -1,8 +1,8 @@
 //! What can go wrong, each with its words, exit status 1, and the card unchanged.
 
 use crate::{contents, ended, Place, CARRY_ON, RULE};
+use evaluator::log;
 use havdrims::save::{checksum, Saved};
-use havdrims::Refusal;
 use std::fs::{self, File, Permissions};
 use std::io::{self, ErrorKind};
 use std::os::unix::fs::PermissionsExt;
@@ -25,31 +25,51 @@ fn refuses(place: &Place, words: &[&str], text: &str) {
 fn logs_that_are_refused() {
     let place = Place::with_card(1);
     let whole = fs::read(place.path("day.klg")).unwrap();
-    let evening = |bytes: &[u8], refusal: Refusal, hint: &str| {
+    let evening = |bytes: &[u8], says: &str, hint: &str| {
         fs::write(place.path("other.klg"), bytes).unwrap();
-        let text = format!("other.klg: {refusal}\n{hint}Nothing was changed.\n");
+        let text = format!("other.klg: {says}\n{hint}Nothing was changed.\n");
         refuses(&place, &["evening", "card", "other.klg"], &text);
         refuses(&place, &["close", "card", "other.klg", "--final"], &text);
     };
     // a log that shrank
-    evening(&whole[..whole.len() - 8], Refusal::FewerRecords, "Is this the whole log? ");
+    let fewer = "the log has 13 records, and the card has seen 14 (refused 13)";
+    evening(&whole[..whole.len() - 8], fewer, "Is this the whole log? ");
     // a new record whose time falls
     let falls = [whole.as_slice(), &[0, 0, 2, 0xd9, 0, 0, 0, 0]].concat();
-    evening(&falls, Refusal::TimeFalls, "Is this the log of another kiosk? ");
+    let times = "record 14, second 729, comes after record 13, second 730 (refused 14)";
+    evening(&falls, times, "Is this the log of another kiosk? ");
     // a log of the other version
     let mut second = whole.clone();
     second[4] = 2;
-    let hint = "A card keeps to the version of its first log, 2 and 3 counting as one; another needs a card of its own. ";
-    evening(&second, Refusal::OtherVersion, hint);
+    let hint =
+        "A card keeps to the version of its first log, 2 and 3 counting as one; another needs a card of its own. ";
+    evening(&second, "the log is of version 2, and the card's first one was of version 1 (refused 22)", hint);
     // no log
-    evening(&whole[..whole.len() - 1], Refusal::LogFormat, "");
-    evening(b"", Refusal::LogFormat, "");
+    let inside = "the log ends inside record 13: 7 of its 8 bytes are there (refused 12)";
+    evening(&whole[..whole.len() - 1], inside, "");
+    evening(b"", "the file is empty, and a log has at least 8 bytes (refused 12)", "");
     // one record too many
     let mut long = whole.clone();
     long.resize(8 + 8 * 1_000_001, 0xFF);
-    evening(&long, Refusal::LogFormat, "");
+    let hint =
+        "Its first 8000008 bytes end with the last record that a log may have: close the card with these, and begin\n\
+                a new log and a new card with what follows. ";
+    evening(&long, "the log has more than 1000000 records (refused 12)", hint);
     let none = "none.klg: No such file or directory (os error 2)\nNothing was changed.\n";
     refuses(&place, &["evening", "card", "none.klg"], none);
+}
+
+/// The last record that the card has seen is not in the log: the library has its time.
+#[test]
+fn a_first_new_record_that_comes_too_early() {
+    let place = Place::new();
+    place.ok(&["new", "card", "e0"]);
+    place.log("log.klg", "10 e0\n11 e1\n12 e0\n");
+    place.ok(&["evening", "card", "log.klg"]);
+    fs::write(place.path("left.klg"), log::encode_trimmed(3, &[log::Record { time: 11, letters: 1 }])).unwrap();
+    let early = "record 3, the first new one, comes before the last one that the card has seen (refused 14)";
+    let text = format!("left.klg: {early}\nIs this the log of another kiosk? Nothing was changed.\n");
+    refuses(&place, &["evening", "card", "left.klg"], &text);
 }
 
 const OTHER: &str =
@@ -173,26 +193,24 @@ fn a_closing_is_meant() {
     let text = "closing says that no record will follow: every open record gets its verdict on the log as it ends, and the card\n\
                 takes no further records. It cannot be undone. With --final it is done; `havdrims evening` carries on.\n\
                 Nothing was changed.\n\
-                expected: havdrims close CARD LOG --final\n";
+                expected: havdrims close CARD LOG --final [--json]\n";
     assert_eq!(place.fails(2, &["close", "card", "tuesday.klg"]), text);
     assert_eq!(place.fails(2, &["close", "none", "none.klg"]), text);
     assert_eq!(place.card(), before);
     place.ok(&["evening", "card", "tuesday.klg"]);
     place.ok(&["close", "--final", "card", "tuesday.klg"]);
-    assert!(place.ok(&["close", "--help"]).contains("It cannot be undone"));
+    assert!(place.help("close").contains("It cannot be undone"));
 }
 
 #[test]
 fn a_closed_card() {
     let place = Place::with_card(1);
     place.ok(&["close", "card", "day.klg", "--final"]);
-    let closed = format!(
-        "card: {}\nThe month is closed: the card takes no further records. Nothing was changed.\n",
-        Refusal::PointClosed
-    );
-    refuses(&place, &["evening", "card", "day.klg"], &closed);
-    refuses(&place, &["evening", "card", "tuesday.klg"], &closed);
-    let more = format!("tuesday.klg: {}\nNothing was changed.\n", Refusal::MoreRecords);
+    let closed = "card: the card is closed: it takes no further records (refused 20)\nNothing was changed.\n";
+    refuses(&place, &["evening", "card", "day.klg"], closed);
+    refuses(&place, &["evening", "card", "tuesday.klg"], closed);
+    let more = "the log has 19 records, and the card was closed with 14 (refused 21)";
+    let more = format!("tuesday.klg: {more}\nNothing was changed.\n");
     refuses(&place, &["close", "card", "tuesday.klg", "--final"], &more);
     assert!(place.ok(&["close", "card", "day.klg", "--final"]).starts_with("no new verdict\n"));
     assert!(place.ok(&["summary", "card"]).ends_with("open: 0 of 14 records, and the card is closed\n"));
@@ -202,9 +220,13 @@ fn a_closed_card() {
 fn rules_that_are_refused() {
     let place = Place::new();
     let said = place.fails(1, &["new", "card", "e0 until e1"]);
-    assert_eq!(said, format!("`e0 until e1`: {}\n", Refusal::NotDerived));
+    let could = "here could stand `[` and seconds, as in until[0,90]";
+    assert_eq!(said, format!("`e1` cannot stand here\n  e0 until e1\n           ^^\n{could} (refused 17)\n"));
     fs::write(place.path("bad.krl"), b"KRL").unwrap();
-    assert_eq!(place.fails(1, &["new", "card", "bad.krl"]), format!("bad.krl: {}\n", Refusal::RuleMark));
+    assert_eq!(
+        place.fails(1, &["new", "card", "bad.krl"]),
+        "bad.krl: the rule ends after 3 bytes, inside its first 8 (refused 1)\n"
+    );
     assert!(!place.path("card").exists());
 }
 
@@ -219,7 +241,25 @@ fn folders_that_are_no_card_and_cards_that_are_there() {
         assert_eq!(said, format!("{folder}: {}\nNothing was changed.\n", none.trim_end()));
     }
     assert_eq!(place.fails(1, &["new", ".", RULE]), ".: this folder holds other files\n");
-    assert!(place.fails(1, &["new", "day.klg", RULE]).starts_with("day.klg: cannot read the folder: "));
+    // a file for a card, and a card for a file
+    let file = "day.klg: this is a file, and a card is a folder\n";
+    for words in [&["summary", "day.klg"][..], &["sheet", "day.klg"], &["check", "day.klg"], &["new", "day.klg", RULE]]
+    {
+        assert_eq!(place.fails(1, words), file, "{words:?}");
+    }
+    assert_eq!(place.fails(1, &["open", "day.klg", "day.klg"]), file);
+    assert_eq!(place.fails(1, &["new", "other", RULE, "--after", "day.klg"]), file);
+    assert_eq!(place.fails(1, &["evening", "day.klg", "day.klg"]), format!("{file}Nothing was changed.\n"));
+    let card = "card: this is a card, and a file is wanted here\n";
+    assert_eq!(place.fails(1, &["evening", "day.klg", "card"]), format!("{card}Nothing was changed.\n"));
+    assert_eq!(place.fails(1, &["why", RULE, "card", "5"]), card);
+    assert_eq!(place.fails(1, &["to-text", "card"]), card);
+    assert_eq!(place.fails(1, &["to-log", "card", "out.klg"]), card);
+    fs::create_dir(place.path("folder.krl")).unwrap();
+    let folder = "folder.krl: this is a folder, and a file is wanted here\n";
+    for words in [&["formula", "folder.krl"][..], &["new", "other", "folder.krl"]] {
+        assert_eq!(place.fails(1, words), folder, "{words:?}");
+    }
     assert!(place.fails(1, &["new", "none/card", RULE]).starts_with("none/card: cannot make the folder: "));
     // what a `new` that was cut leaves, and an empty folder, are made again
     place.ok(&["new", "cut", RULE]);
@@ -337,10 +377,10 @@ fn damaged_cards() {
             *bytes = saved.encode();
         }
     };
-    let format = format!("the file `point` is of another library's format: {}", Refusal::ForeignPoint);
-    damage("point", &saved(|saved| saved.words[0] -= 1), &format);
-    let range = format!("the file `point` holds what this library never writes: {}", Refusal::PointRange);
-    damage("point", &saved(|saved| saved.words[2] = 0), &range);
+    let format = "the file `point` is of another library's format (refused 10)";
+    damage("point", &saved(|saved| saved.words[0] -= 1), format);
+    let range = "the file `point` holds what this library never writes (refused 11)";
+    damage("point", &saved(|saved| saved.words[2] = 0), range);
     let fewer = |saved: &mut Saved| (saved.given, saved.sheet) = (4, checksum(&[1; 4]));
     damage("point", &saved(fewer), "the file `point` is damaged: it says 4 verdicts, its words 12");
     let services = "the file `point` is damaged: it says 3 service records where 2 records have no verdict";
@@ -406,8 +446,11 @@ fn a_card_that_is_being_made() {
     for file in ["card.txt", "rule.krl", "sheet", "evenings", "point"] {
         let bytes = fs::read(place.path("made").join(file)).unwrap();
         fs::write(place.path("card").join(file), bytes).unwrap();
-        refuses(&place, &["summary", "card"], IN_USE);
-        refuses(&place, &["evening", "card", "day.klg"], &format!("{IN_USE}Nothing was changed.\n"));
+        // Each of these waits a moment.
+        if ["card.txt", "point"].contains(&file) {
+            refuses(&place, &["summary", "card"], IN_USE);
+            refuses(&place, &["evening", "card", "day.klg"], &format!("{IN_USE}Nothing was changed.\n"));
+        }
         let again = if file == "point" { "card: a card is here already\n" } else { IN_USE };
         refuses(&place, &["new", "card", RULE], again);
     }
@@ -535,7 +578,8 @@ fn a_folder_that_is_only_read() {
     let before = place.card();
     let refused = |doing: &str| {
         let (status, _, err) = run(&["evening", "card", "tuesday.klg"]);
-        let text = "Permission denied (os error 13)\nNo verdict was counted; repeat the command.\n";
+        let text = "Permission denied (os error 13)\nNo verdict was counted. \
+                    Who runs this command must be able to write the card's folder and its files.\n";
         assert_eq!((status, err), (1, format!("card: cannot {doing}: {text}")));
         assert_eq!(place.card(), before);
     };
@@ -558,7 +602,7 @@ fn a_folder_that_is_only_read() {
 #[test]
 fn folders_in_place_of_files() {
     let place = Place::with_card(1);
-    let text = "Is a directory (os error 21)\nNo verdict was counted; repeat the command.\n";
+    let text = "Is a directory (os error 21)\nNo verdict was counted. `havdrims check` looks at the card's files.\n";
     let refused = |doing: &str| {
         let said = place.fails(1, &["evening", "card", "tuesday.klg"]);
         assert_eq!(said, format!("card: cannot {doing}: {text}"));
@@ -575,6 +619,20 @@ fn folders_in_place_of_files() {
     fs::rename(place.path("kept"), place.path("card/card.txt")).unwrap();
     assert_eq!(place.card(), before);
     place.ok(&["evening", "card", "tuesday.klg"]);
+}
+
+/// An operation that may not fail again: the process may have no further file open.
+#[test]
+fn too_many_open_files() {
+    let place = Place::with_card(1);
+    let before = place.card();
+    let mut command = Command::new("sh");
+    let shell = "ulimit -n 4; exec \"$0\" \"$@\"";
+    command.args(["-c", shell, env!("CARGO_BIN_EXE_havdrims"), "evening", "card", "tuesday.klg"]).current_dir(&place.0);
+    let (status, _, err) = ended(command.output().unwrap());
+    let text = "card: cannot read the folder: Too many open files (os error 24)\nNo verdict was counted; repeat the command.\n";
+    assert_eq!((status, err.as_str()), (1, text));
+    assert_eq!(place.card(), before);
 }
 
 /// A write that fails half way: no file may grow beyond a limit, which stands for a disk that is full.
@@ -594,7 +652,7 @@ fn a_full_disk() {
         err
     };
     // the checkpoint of the ninety-second rule has 2,400 bytes, the sheet of the long log 6,000
-    let too_large = "File too large (os error 27)\nNo verdict was counted; repeat the command.\n";
+    let too_large = "File too large (os error 27)\nNo verdict was counted; when there is room, repeat the command.\n";
     assert_eq!(limited("card", "day.klg"), format!("card: cannot write the point: {too_large}"));
     assert_eq!(limited("small", "long.klg"), format!("small: cannot write the sheet: {too_large}"));
     place.ok(&["evening", "card", "day.klg"]);

@@ -3,9 +3,14 @@
 mod change;
 mod check;
 mod convert;
+mod documents;
 mod faults;
+mod help;
 mod killed;
+mod letters;
 mod open;
+mod output;
+mod page;
 mod service;
 mod trim;
 mod week;
@@ -84,6 +89,11 @@ impl Place {
         let (status, out, err) = self.run(words);
         assert_eq!((status, err.as_str()), (0, ""), "{words:?}");
         out
+    }
+
+    /// The help of a command, all of it in one line.
+    fn help(&self, command: &str) -> String {
+        self.ok(&[command, "--help"]).split_whitespace().collect::<Vec<_>>().join(" ")
     }
 
     /// What a command says that ends with this exit status.

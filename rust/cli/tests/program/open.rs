@@ -66,8 +66,11 @@ fn open_records_that_were_altered() {
     bytes[8..].fill(255);
     fs::write(place.path("log.klg"), bytes).unwrap();
     let said = place.fails(1, &["open", "card", "log.klg"]);
-    assert_eq!(said, "log.klg: records 0 to 1 are not those that this card has seen\n\
-         Is this the log of another kiosk, or was the card put back from an older copy? Nothing was changed.\n");
+    assert_eq!(
+        said,
+        "log.klg: records 0 to 1 are not those that this card has seen\n\
+         Is this the log of another kiosk, or was the card put back from an older copy? Nothing was changed.\n"
+    );
 }
 
 #[test]

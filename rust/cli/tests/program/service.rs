@@ -2,7 +2,6 @@
 
 use crate::{example, Place, CARRY_ON, RULE};
 use havdrims::text::log_from_text;
-use havdrims::Refusal;
 use std::fs;
 
 const OTHER_VERSION: &str =
@@ -125,9 +124,10 @@ fn positions_kept_for_previous() {
 fn a_log_that_changes_its_version() {
     let place = Place::with_card(0);
     fs::copy(example("visit.klg"), place.path("visit.klg")).unwrap();
-    let refuses = |log: &str| {
+    let refuses = |log: &str, versions: &str| {
         let before = place.card();
-        let text = format!("{log}: {}\n{OTHER_VERSION}Nothing was changed.\n", Refusal::OtherVersion);
+        let text =
+            format!("{log}: the log is of version {versions} (refused 22)\n{OTHER_VERSION}Nothing was changed.\n");
         for command in CARRY_ON {
             assert_eq!(place.fails(1, &[command, &["card", log]].concat()), text);
         }
@@ -135,21 +135,24 @@ fn a_log_that_changes_its_version() {
     };
     place.log("empty.klg", "");
     place.ok(&["evening", "card", "empty.klg"]);
-    refuses("day.klg");
+    let first = "1, and the card's first one was of version 2 or 3";
+    refuses("day.klg", first);
     place.ok(&["evening", "card", "visit.klg"]);
-    refuses("day.klg");
+    refuses("day.klg", first);
     // 12 comes before it
     fs::write(place.path("fourth.klg"), b"KLG\x00\x04\x00\x00\x00").unwrap();
-    let text = format!("fourth.klg: {}\nNothing was changed.\n", Refusal::LogFormat);
+    let fourth = "the log is of version 4, and this program knows 1, 2 and 3 (refused 12)";
+    let text = format!("fourth.klg: {fourth}\nNothing was changed.\n");
     assert_eq!(place.fails(1, &["evening", "card", "fourth.klg"]), text);
     // a card of version 1 logs
     fs::remove_dir_all(place.path("card")).unwrap();
     place.ok(&["new", "card", RULE]);
     place.ok(&["evening", "card", "day.klg"]);
-    refuses("visit.klg");
-    refuses("empty.klg");
+    let later = "2, and the card's first one was of version 1";
+    refuses("visit.klg", later);
+    refuses("empty.klg", later);
     fs::write(place.path("trimmed.klg"), b"KLG\x00\x03\x00\x00\x00\x00\x00\x00\x00\x00\x00\x00\x00").unwrap();
-    refuses("trimmed.klg");
+    refuses("trimmed.klg", "3, and the card's first one was of version 1");
 }
 
 /// Service records count where records do: an added one is 21, and its time must not fall.
@@ -161,14 +164,17 @@ fn service_records_are_records() {
     let mut falls = place.log("other.klg", "10 e0\n12 service\n12 service\n");
     falls[8 + 8 * 2 + 3] = 11;
     fs::write(place.path("other.klg"), &falls).unwrap();
-    let text = format!("other.klg: {}\nIs this the log of another kiosk? Nothing was changed.\n", Refusal::TimeFalls);
+    let falls = "record 2, second 11, comes after record 1, second 12 (refused 14)";
+    let text = format!("other.klg: {falls}\nIs this the log of another kiosk? Nothing was changed.\n");
     assert_eq!(place.fails(1, &["evening", "card", "other.klg"]), text);
     let shorter = place.log("other.klg", "10 e0\n");
-    let text = format!("other.klg: {}\nIs this the whole log? Nothing was changed.\n", Refusal::FewerRecords);
+    let fewer = "the log has 1 records, and the card has seen 2 (refused 13)";
+    let text = format!("other.klg: {fewer}\nIs this the whole log? Nothing was changed.\n");
     assert_eq!((shorter.len(), place.fails(1, &["evening", "card", "other.klg"])), (16, text));
     place.ok(&["close", "card", "day.klg", "--final"]);
     place.log("other.klg", "10 e0\n12 service\n12 service\n");
-    let text = format!("other.klg: {}\nNothing was changed.\n", Refusal::MoreRecords);
+    let more = "the log has 3 records, and the card was closed with 2 (refused 21)";
+    let text = format!("other.klg: {more}\nNothing was changed.\n");
     assert_eq!(place.fails(1, &["close", "card", "other.klg", "--final"]), text);
 }
 
@@ -203,14 +209,13 @@ fn service_records_that_were_altered() {
 #[test]
 fn help_says_what_is_a_position() {
     let place = Place::new();
-    let help = place.ok(&["sheet", "--help"]);
-    for said in [
-        "numbered over\nthe records that are no service records, from 0, or from N for a card",
-        "begins with position N",
-    ] {
+    let help = place.help("sheet");
+    for said in
+        ["numbered over the records that are no service records, from 0, or from N for a card", "begin with position N"]
+    {
         assert!(help.contains(said), "{help}");
     }
     for name in ["evening", "summary", "to-log"] {
-        assert!(place.ok(&[name, "--help"]).contains("service record"), "{name}");
+        assert!(place.help(name).contains("service record"), "{name}");
     }
 }

@@ -1,57 +1,11 @@
-//! The week as the README shows it, what the commands print, and wrong use.
+//! What the commands print in a week.
 
 use crate::{ended, example, Place, RULE};
 use evaluator::random::{self, LogShape, Random};
 use evaluator::{log, rule};
-use havdrims::Refusal;
 use std::ffi::OsStr;
 use std::fs;
 use std::os::unix::ffi::OsStrExt;
-use std::path::Path;
-
-/// The commands and outputs that the README shows, as many together as stand together.
-fn shown() -> Vec<Vec<(String, String)>> {
-    let readme = fs::read_to_string(Path::new(env!("CARGO_MANIFEST_DIR")).join("../../README.md")).unwrap();
-    let together = readme.match_indices("\n\n    $ havdrims ").map(|(from, _)| {
-        let mut all: Vec<(String, String)> = Vec::new();
-        for line in readme[from + 2..].lines().map_while(|line| line.strip_prefix("    ")) {
-            match line.strip_prefix("$ havdrims ") {
-                Some(words) => all.push((words.to_string(), String::new())),
-                None => all.last_mut().unwrap().1 += &format!("{line}\n"),
-            }
-        }
-        all
-    });
-    together.collect()
-}
-
-/// The words of a command line, some of them in single quotes.
-fn split(line: &str) -> Vec<String> {
-    let mut words = Vec::new();
-    for (at, part) in line.split('\'').enumerate() {
-        match at % 2 {
-            0 => words.extend(part.split_whitespace().map(str::to_string)),
-            _ => words.push(part.to_string()),
-        }
-    }
-    words
-}
-
-#[test]
-fn the_weeks_of_the_readme() {
-    let place = Place::new();
-    fs::create_dir_all(place.path("examples/day")).unwrap();
-    for name in ["day.klg", "tuesday.klg", "visit.klg"] {
-        fs::copy(example(name), place.path(&format!("examples/day/{name}"))).unwrap();
-    }
-    let shown = shown();
-    assert_eq!(shown.iter().map(Vec::len).collect::<Vec<_>>(), [6, 3, 3, 4, 4, 3, 3]);
-    for (line, output) in shown.into_iter().flatten() {
-        let words = split(&line);
-        let words: Vec<&str> = words.iter().map(String::as_str).collect();
-        assert_eq!(place.ok(&words), output, "{line}");
-    }
-}
 
 #[test]
 fn the_texts_of_the_examples_are_their_logs() {
@@ -185,47 +139,8 @@ fn one_formula_of_version_2_and_rule_files_together() {
     assert_eq!(said, "empty.krl: a rule without entries cannot stand beside others\n");
     fs::write(place.path("bad.krl"), b"KRL").unwrap();
     let said = place.fails(1, &["new", "none", "e0", "bad.krl"]);
-    assert_eq!(said, format!("bad.krl: {}\n", Refusal::RuleMark));
+    assert_eq!(said, "bad.krl: the rule ends after 3 bytes, inside its first 8 (refused 1)\n");
     assert!(!place.path("none").exists());
-}
-
-#[test]
-fn help_and_wrong_use() {
-    let place = Place::new();
-    let overview = place.ok(&["--help"]);
-    assert_eq!(place.ok(&["help"]), overview);
-    assert_eq!(place.fails(2, &[]), overview);
-    assert_eq!(place.fails(2, &["evenings"]), format!("`evenings` is no command\n\n{overview}"));
-    let usages: Vec<&str> = overview.lines().filter(|line| line.starts_with("havdrims ")).collect();
-    assert_eq!(usages.len(), 15);
-    for usage in usages {
-        let usage = usage.split("  ").next().unwrap();
-        let name = usage.split(' ').nth(1).unwrap();
-        let help = place.ok(&[name, "--help"]);
-        assert!(help.starts_with(&format!("{usage}\n\n")), "{help}");
-        assert!(help.lines().all(|line| line.len() <= 120), "{help}");
-        assert_eq!(place.fails(2, &[name]), format!("expected: {usage}\n"));
-    }
-    for words in [
-        &["evening", "card"][..],
-        &["evening", "card", "log", "more"],
-        &["sheet"],
-        &["sheet", "card", "--from"],
-        &["sheet", "card", "more"],
-        &["sheet", "card", "--xml"],
-        &["trim", "card", "log"],
-        &["trim", "card", "log", "out", "more"],
-        &["trim", "card", "log", "out", "--force", "--force"],
-        &["trim", "card", "log", "--forced", "out"],
-        &["why", "rule", "log"],
-        &["why", "rule", "log", "0", "more"],
-        &["why", "rule", "log", "0", "--formula"],
-        &["why", "rule", "log", "0", "--words", "--words"],
-    ] {
-        assert!(place.fails(2, words).starts_with("expected: havdrims "), "{words:?}");
-    }
-    let said = place.fails(2, &["sheet", "card", "--from", "x"]);
-    assert!(said.starts_with("`x` is no number"), "{said}");
 }
 
 /// A path that is not UTF-8 is wrong use, and no other path is taken in its place.

@@ -3,14 +3,13 @@
 use crate::{example, Place, RULE};
 use evaluator::random::{self, Random};
 use evaluator::{cases, log, reason, rule};
-use havdrims::Refusal;
 use std::fs;
 
 impl Place {
     /// With the logs of examples/day.
-    fn with_logs() -> Place {
+    pub fn with_logs() -> Place {
         let place = Place::new();
-        for name in ["day.klg", "visit.klg", "rule.krl"] {
+        for name in ["day.klg", "tuesday.klg", "visit.klg", "rule.krl"] {
             fs::copy(example(name), place.path(name)).unwrap();
         }
         place
@@ -72,22 +71,24 @@ fn records_without_a_reason() {
     assert_eq!(why(1, &[RULE, "visit.klg", "17"]), format!("{visit}there is no record 17: the log has 17, 0 to 16\n"));
     assert!(why(2, &[RULE, "day.klg", "first"]).starts_with("`first` is no number"));
     assert!(why(2, &[RULE, "day.klg", "5", "--formula", "1"]).starts_with("--formula 1: the rule has one formula, 0\n"));
-    assert!(why(1, &["e0 until e1", "day.klg", "5"]).starts_with("`e0 until e1`: refused 17"));
+    assert!(why(1, &["e0 until e1", "day.klg", "5"]).starts_with("`e1` cannot stand here\n"));
     assert!(why(1, &["none.krl", "day.klg", "5"]).starts_with("none.krl: "));
     assert!(why(1, &[RULE, "none.klg", "5"]).starts_with("none.klg: "));
-    assert_eq!(why(1, &[RULE, "rule.krl", "5"]), format!("rule.krl: {}\n", Refusal::LogFormat));
+    assert_eq!(why(1, &[RULE, "rule.krl", "5"]), "rule.krl: this is a rule, not a log (refused 12)\n");
 
     // a log that was trimmed, and one whose first records were overwritten
     place.ok(&["new", "card", RULE]);
     place.ok(&["evening", "card", "visit.klg"]);
     place.ok(&["trim", "card", "visit.klg", "left.klg"]);
-    let whole = "A reason needs the whole log, as it was before it was trimmed.\n";
-    assert_eq!(why(1, &[RULE, "left.klg", "15"]), format!("left.klg: {}\n{whole}", Refusal::RecordDropped));
+    let text = "left.klg: records 0 to 14 were dropped from the log (refused 24)\n\
+                A reason needs the whole log, as it was before it was trimmed.\n";
+    assert_eq!(why(1, &[RULE, "left.klg", "15"]), text);
     let mut bytes = fs::read(place.path("day.klg")).unwrap();
     bytes[8..8 + 8 * 5].fill(0xFF);
     fs::write(place.path("overwritten.klg"), bytes).unwrap();
-    let whole = "A reason needs the whole log: were records of it overwritten?\n";
-    assert_eq!(why(1, &[RULE, "overwritten.klg", "8"]), format!("overwritten.klg: {}\n{whole}", Refusal::TimeFalls));
+    let text = "overwritten.klg: record 5, second 300, comes after record 4, second 4294967295 (refused 14)\n\
+                A reason needs the whole log, with no record overwritten.\n";
+    assert_eq!(why(1, &[RULE, "overwritten.klg", "8"]), text);
 
     fs::write(place.path("none.klg"), log::HEADER).unwrap();
     assert_eq!(why(1, &[RULE, "none.klg", "0"]), "none.klg: there is no record 0: the log has none\n");

@@ -1,0 +1,125 @@
+//! A log that is brought to a card: reading it, and what to say where nothing came of it.
+
+use super::{of_card, Failure};
+use crate::card::{Fault, SoFar};
+use crate::convert;
+use crate::wrong::{self, numbered};
+use havdrims::{Log, Refusal};
+use std::io::{self, ErrorKind};
+use std::path::Path;
+
+pub const UNCHANGED: &str = "Nothing was changed.";
+
+/// A log and the card that it is for.
+pub struct Brought<'a> {
+    pub folder: &'a str,
+    pub path: &'a str,
+    pub bytes: Vec<u8>,
+    /// What did not come of it where an operation fails: `No verdict was counted`.
+    pub nothing: &'static str,
+}
+
+impl<'a> Brought<'a> {
+    pub fn read(folder: &'a str, path: &'a str, nothing: &'static str) -> Result<Brought<'a>, Failure> {
+        let failed = |fault| convert::unread(path, fault).and(UNCHANGED);
+        Ok(Brought { folder, path, bytes: convert::log(path).map_err(failed)?, nothing })
+    }
+
+    /// What is wrong with the log, or with the card, and that nothing came of the command. How far the card has come is not known
+    /// where it cannot be opened.
+    pub fn failed(&self, fault: &Fault, so_far: Option<&SoFar>) -> Failure {
+        let of_log = |hint: &str| Failure::fault(self.path, format!("{fault}\n{hint}{UNCHANGED}"));
+        match fault {
+            Fault::Refused(refusal) => self.refused(*refusal, so_far),
+            Fault::LogBefore { .. } | Fault::LogShort { .. } => of_log("Is this the whole log? "),
+            Fault::OtherRecords { .. } => {
+                of_log("Is this the log of another kiosk, or was the card put back from an older copy? ")
+            }
+            Fault::LogAltered => of_log(""),
+            Fault::Unsure { .. } => Failure::fault(self.folder, fault),
+            Fault::Disk { fault: cause, .. } if !Path::new(self.folder).is_file() => self.disk(fault, cause),
+            _ => of_card(self.folder, fault).and(UNCHANGED),
+        }
+    }
+
+    fn disk(&self, fault: &Fault, cause: &io::Error) -> Failure {
+        let nothing = self.nothing;
+        let remedy = match cause.kind() {
+            ErrorKind::StorageFull | ErrorKind::QuotaExceeded | ErrorKind::FileTooLarge => {
+                format!("{nothing}; when there is room, repeat the command.")
+            }
+            // It would fail again.
+            ErrorKind::PermissionDenied | ErrorKind::ReadOnlyFilesystem => {
+                format!("{nothing}. Who runs this command must be able to write the card's folder and its files.")
+            }
+            ErrorKind::IsADirectory | ErrorKind::NotADirectory | ErrorKind::NotFound => {
+                format!("{nothing}. `havdrims check` looks at the card's files.")
+            }
+            _ => format!("{nothing}; repeat the command."),
+        };
+        Failure::fault(self.folder, format!("{fault}\n{remedy}"))
+    }
+
+    /// A refusal with the numbers that it is about, and what may be the cause.
+    fn refused(&self, refusal: Refusal, so_far: Option<&SoFar>) -> Failure {
+        let (Ok(log), Some(so_far)) = (Log::new(&self.bytes), so_far) else {
+            let says = wrong::named(refusal, wrong::log(&self.bytes));
+            return Failure::fault(self.path, format!("{says}\n{}{UNCHANGED}", self.too_long()));
+        };
+        let (has, seen) = (log.len(), so_far.first.record + so_far.status.seen);
+        let (says, hint) = match refusal {
+            Refusal::PointClosed => {
+                let says = numbered("the card is closed: it takes no further records", refusal);
+                return Failure::fault(self.folder, format!("{says}\n{UNCHANGED}"));
+            }
+            Refusal::FewerRecords => {
+                (format!("the log has {has} records, and the card has seen {seen}"), "Is this the whole log? ")
+            }
+            Refusal::MoreRecords => (format!("the log has {has} records, and the card was closed with {seen}"), ""),
+            Refusal::TimeFalls => (falls(&log, so_far), "Is this the log of another kiosk? "),
+            Refusal::OtherVersion => (other_version(&log), ANOTHER_CARD),
+            Refusal::TrimVersion => {
+                ("a log of version 1 cannot be trimmed".to_string(), "Logs of version 2 and 3 can be. ")
+            }
+            Refusal::RecordDropped => {
+                let (dropped, wanted) = (wrong::dropped(&log), so_far.wanted());
+                (format!("{dropped}, and the card still wants record {wanted}"), TRIMMED)
+            }
+            _ => return Failure::fault(self.path, format!("{refusal}\n{UNCHANGED}")),
+        };
+        Failure::fault(self.path, format!("{}\n{hint}{UNCHANGED}", numbered(&says, refusal)))
+    }
+
+    /// What can be done with a log that has more records than a log may have.
+    fn too_long(&self) -> String {
+        wrong::longest(&self.bytes).map_or(String::new(), |bytes| {
+            format!(
+                "Its first {bytes} bytes end with the last record that a log may have: close the card with these, and begin\n\
+                 a new log and a new card with what follows. "
+            )
+        })
+    }
+}
+
+const ANOTHER_CARD: &str =
+    "A card keeps to the version of its first log, 2 and 3 counting as one; another needs a card of its own. ";
+const TRIMMED: &str = "Was it trimmed for another card? The log before it was trimmed can still be brought. ";
+
+/// The first record that comes too early. Where all times in the log rise it is the first new one.
+fn falls(log: &Log<'_>, so_far: &SoFar) -> String {
+    let from = so_far.released().max(so_far.first.record) as usize;
+    match wrong::fall(log, from) {
+        Some(fall) => fall.says(),
+        None => {
+            let new = so_far.first.record + so_far.status.seen;
+            format!("record {new}, the first new one, comes before the last one that the card has seen")
+        }
+    }
+}
+
+fn other_version(log: &Log<'_>) -> String {
+    match log.version() {
+        1 => "the log is of version 1, and the card's first one was of version 2 or 3".to_string(),
+        version => format!("the log is of version {version}, and the card's first one was of version 1"),
+    }
+}

@@ -1,0 +1,75 @@
+//! Making a card, and where it begins.
+
+use super::reading::vouched;
+use super::told::by_formula;
+use super::{of_card, Answer, Failure, Given};
+use crate::card::{self, Begins, Card, First};
+use crate::disk::Folder;
+use crate::letters::Letters;
+use crate::{convert, named};
+use havdrims::MOST_RECORDS;
+use std::hash::{BuildHasher, RandomState};
+use std::path::Path;
+
+/// A number that no other card has: the standard library draws it at random for its hash tables.
+fn card_number() -> u64 {
+    RandomState::new().hash_one(std::process::id())
+}
+
+/// The words of `new`.
+pub fn new(given: &Given) -> Answer {
+    let (folder, rules) = given.all().split_first().expect("the table has a word at the beginning");
+    let begins = match (given.value("--after"), given.number("--from")?) {
+        (Some(old), _) => after_card(old)?,
+        (None, Some(from)) => from_record(from)?.into(),
+        (None, None) => First::default().into(),
+    };
+    let letters = match (given.value("--letters"), given.value("--after")) {
+        (Some(file), _) => named::read(file)?,
+        (None, Some(old)) => names_of(old),
+        (None, None) => Letters::default(),
+    };
+    make(folder, rules, begins, &letters)
+}
+
+/// The names that a card's letters have: none where they cannot be read.
+fn names_of(folder: &str) -> Letters {
+    let mut disk = Folder::new(Path::new(folder));
+    let letters = Card::open(&mut disk, false).and_then(|mut card| card.letters());
+    letters.unwrap_or_default()
+}
+
+/// Where a card goes on that takes the place of this one, which may be damaged or of another version of the library.
+fn after_card(folder: &str) -> Result<Begins, Failure> {
+    let mut disk = Folder::new(Path::new(folder));
+    let fault = match Card::open(&mut disk, false).and_then(|card| card.after()) {
+        Ok(begins) => return Ok(begins),
+        Err(fault) => fault,
+    };
+    vouched(&mut disk, &fault).and_then(|kept| kept.after).ok_or_else(|| of_card(folder, &fault))
+}
+
+fn from_record(record: u64) -> Result<First, Failure> {
+    if record > MOST_RECORDS as u64 {
+        return Err(Failure::Use(format!("a log has at most {MOST_RECORDS} records")));
+    }
+    Ok(First { record, position: record })
+}
+
+fn make(folder: &str, rules: &[&str], begins: Begins, letters: &Letters) -> Answer {
+    let bytes = convert::rule_said(rules)?;
+    let (formulas, needs) = convert::described(rules[0], &bytes)?;
+    card::new(&mut Folder::new(Path::new(folder)), card_number(), begins, &bytes, letters)
+        .map_err(|fault| of_card(folder, &fault))?;
+    let formulas = named::with_words(formulas, &bytes, letters);
+    let made = match formulas.len() {
+        1 => folder.to_string(),
+        number => format!("{folder}: {number} formulas"),
+    };
+    let begins = match begins.first {
+        First { record: 0, .. } => String::new(),
+        First { record, position } if record == position => format!("begins at record {record}\n"),
+        First { record, position } => format!("begins at record {record}, position {position}\n"),
+    };
+    Ok(format!("{}{needs}{begins}", by_formula(&made, ": ", formulas)))
+}

@@ -1,0 +1,125 @@
+//! Carrying on with a log, closing it, and trimming it.
+
+use super::brought::Brought;
+use super::json::Json;
+use super::told::{all, as_json, by_formula, position};
+use super::{Answer, Failure, Given, Paint};
+use crate::card::{Card, Evening, SoFar};
+use crate::disk::Folder;
+use crate::file;
+use havdrims::{Log, MOST_RECORDS};
+use std::path::Path;
+
+/// The words of `evening` and `close`.
+pub fn carry_on(given: &Given, closing: bool) -> Answer {
+    if closing && !given.has("--final") {
+        return Err(Failure::Use(NOT_MEANT.to_string()));
+    }
+    let [folder, path] = given.words();
+    let log = Brought::read(folder, path, "No verdict was counted")?;
+    let mut disk = Folder::new(Path::new(folder));
+    let mut card = Card::open(&mut disk, true).map_err(|fault| log.failed(&fault, None))?;
+    let evening = card.carry_on(closing, &log.bytes).map_err(|fault| log.failed(&fault, Some(&card.so_far)))?;
+    Ok(match given.has("--json") {
+        true => json(&evening),
+        false => told(&evening, given.paint),
+    })
+}
+
+/// The words of `trim`.
+pub fn trim(given: &Given) -> Answer {
+    let [folder, path, out] = given.words();
+    let (mut into, name) = file::named_apart(out, path)?;
+    let log = Brought::read(folder, path, "Nothing was written")?;
+    let mut disk = Folder::new(Path::new(folder));
+    let mut card = Card::open(&mut disk, true).map_err(|fault| log.failed(&fault, None))?;
+    let left = card.trim(&log.bytes).map_err(|fault| log.failed(&fault, Some(&card.so_far)))?;
+    file::put(&mut into, &name, &left, given.has("--force")).map_err(|fault| Failure::fault(out, fault))?;
+    let left = Log::new(&left).map_err(|refusal| Failure::fault(out, refusal))?;
+    let dropped = match left.dropped() {
+        0 => "no record dropped".to_string(),
+        1 => "record 0 dropped".to_string(),
+        dropped => format!("records 0 to {} dropped", dropped - 1),
+    };
+    Ok(format!("{out}: {dropped}, {} left\n", left.records().count()))
+}
+
+/// What closing means, to one who may have typed it for `evening`.
+const NOT_MEANT: &str = "\
+closing says that no record will follow: every open record gets its verdict on the log as it ends, and the card
+takes no further records. It cannot be undone. With --final it is done; `havdrims evening` carries on.
+Nothing was changed.";
+
+/// An evening in plain words.
+fn told(evening: &Evening, paint: Paint) -> String {
+    let Evening { first, new, counts, passed_over, unknown, so_far } = evening;
+    let unknown = match unknown {
+        true => "this card was made by an earlier program: from now on it knows its log again\n",
+        false => "",
+    };
+    let first = first + so_far.first.position;
+    let which = match new {
+        0 => "no new verdict".to_string(),
+        1 => format!("{} {first}", position(so_far)),
+        _ => format!("{}s {first} to {}", position(so_far), first + new - 1),
+    };
+    let counts =
+        counts.yes().iter().zip(counts.no()).map(|(yes, no)| format!("{yes} yes, {}", paint.number_of_no(*no)));
+    let given = if *new == 0 { format!("{which}\n") } else { by_formula(&which, ": ", counts.collect()) };
+    let passed_over = match passed_over {
+        0 => String::new(),
+        1 => "1 service record passed over\n".to_string(),
+        _ => format!("{passed_over} service records passed over\n"),
+    };
+    let released = match so_far.released() {
+        0 => "no record may be overwritten yet".to_string(),
+        1 => "record 0 may be overwritten".to_string(),
+        wanted => format!("records 0 to {} may be overwritten", wanted - 1),
+    };
+    // What may be overwritten is the last line: a job reads it there.
+    format!("{unknown}{given}{passed_over}{}{}{released}\n", all(so_far, paint), nearly_full(so_far, paint))
+}
+
+/// From so many records on it is said that a log will be full.
+const NEARLY_FULL: u64 = 900_000;
+
+/// How many more records the log may have.
+fn left(so_far: &SoFar) -> u64 {
+    (MOST_RECORDS as u64).saturating_sub(so_far.first.record + so_far.status.seen)
+}
+
+/// What to do about a log that is nearly full, as long as the card is not closed.
+fn nearly_full(so_far: &SoFar, paint: Paint) -> String {
+    let left = left(so_far);
+    if so_far.status.closed || MOST_RECORDS as u64 - left < NEARLY_FULL {
+        return String::new();
+    }
+    let how_far = match left {
+        0 => format!("the log is full: {MOST_RECORDS} records are the most"),
+        1 => format!("the log is nearly full: 1 more record is left of {MOST_RECORDS}"),
+        _ => format!("the log is nearly full: {left} more records are left of {MOST_RECORDS}"),
+    };
+    let to_do =
+        "close this card (`havdrims close`), let the kiosk begin a new log, and make a new card (`havdrims new`)";
+    format!("{}\n{to_do}\n", paint.soon(&how_far))
+}
+
+/// An evening for other programs.
+fn json(evening: &Evening) -> String {
+    let Evening { first, new, counts, passed_over, so_far, .. } = evening;
+    let first = (*new > 0).then_some(first + so_far.first.position);
+    let formula = |(yes, no): (&u64, &u64)| Json::Object(vec![("yes", (*yes).into()), ("no", (*no).into())]);
+    let new = Json::Object(vec![
+        ("verdicts", (*new).into()),
+        ("first_position", first.into()),
+        ("formulas", counts.yes().iter().zip(counts.no()).map(formula).collect()),
+        ("service_records", (*passed_over).into()),
+    ]);
+    Json::Object(vec![
+        ("new", new),
+        ("so_far", as_json(so_far)),
+        ("released_records", so_far.released().into()),
+        ("records_left", left(so_far).into()),
+    ])
+    .to_string()
+}

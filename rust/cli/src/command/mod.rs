@@ -1,0 +1,83 @@
+//! The commands: what each was given, and what it prints. [`table`] has all of them.
+
+mod brought;
+mod change;
+mod completions;
+mod evening;
+mod given;
+mod help;
+mod json;
+mod man;
+mod names;
+pub(crate) mod near;
+mod page;
+mod paint;
+mod reading;
+mod sheet;
+mod still_open;
+pub mod table;
+mod told;
+
+use crate::card;
+pub use given::Given;
+pub use paint::Paint;
+use std::fmt::Display;
+use std::path::Path;
+
+/// Why a command did not do all of what it was asked for.
+#[derive(Debug, PartialEq, Eq)]
+pub enum Failure {
+    /// Wrong use: exit status 2.
+    Use(String),
+    /// A refusal or a fault: exit status 1.
+    Fault(String),
+    /// What could be printed all the same, and the fault: exit status 1.
+    Partly { printed: String, fault: String },
+}
+
+impl Failure {
+    /// What is wrong with the thing of this name.
+    pub fn fault(name: &str, fault: impl Display) -> Failure {
+        let name = if name == "-" { "standard input" } else { name };
+        Failure::Fault(format!("{name}: {fault}"))
+    }
+
+    /// The same, with a further line.
+    pub fn and(self, line: &str) -> Failure {
+        match self {
+            Failure::Fault(text) => Failure::Fault(format!("{text}\n{line}")),
+            other => other,
+        }
+    }
+}
+
+/// What is wrong with a card.
+fn of_card(folder: &str, fault: &card::Fault) -> Failure {
+    match Path::new(folder).is_file() {
+        true => Failure::fault(folder, "this is a file, and a card is a folder"),
+        false => Failure::fault(folder, fault),
+    }
+}
+
+/// What a command prints.
+pub type Answer = Result<String, Failure>;
+
+/// What the words of a command line come to.
+pub fn run(words: &[&str], paint: Paint) -> Answer {
+    let Some((&name, rest)) = words.split_first() else { return Err(Failure::Use(help::overview())) };
+    match name {
+        "--help" | "-h" => return Ok(help::overview()),
+        "--version" => return Ok(help::version()),
+        _ => {}
+    }
+    let command = help::named(name)?;
+    if rest.iter().take_while(|&&word| word != "--").any(|word| ["--help", "-h"].contains(word)) {
+        return Ok(command.help());
+    }
+    let expected = |what: String| Failure::Use(format!("{what}\nexpected: {}\n", command.usage()));
+    let given = Given::read(command, rest, paint).map_err(expected)?;
+    (command.run)(&given).map_err(|failure| match failure {
+        Failure::Use(what) => expected(what),
+        other => other,
+    })
+}

@@ -1,0 +1,35 @@
+//! The page for Friday.
+
+use super::brought::Brought;
+use super::told::by_formula;
+use super::{Answer, Failure, Given};
+use crate::card::Card;
+use crate::disk::Folder;
+use crate::page::clock::Clock;
+use crate::{file, page, parts};
+use std::path::Path;
+
+/// The words of `page`.
+pub fn page(given: &Given) -> Answer {
+    let [folder, path, out] = given.words();
+    let clock = given.value("--start").map_or(Ok(Clock::counted()), start)?;
+    let (mut into, name) = file::named_apart(out, path)?;
+    let log = Brought::read(folder, path, "Nothing was written")?;
+    let mut disk = Folder::new(Path::new(folder));
+    let mut card = Card::open(&mut disk, false).map_err(|fault| log.failed(&fault, None))?;
+    let so_far = card.so_far;
+    let page = page::page(&mut card, folder, &log.bytes, clock);
+    let page = page.map_err(|fault| log.failed(&fault, Some(&so_far)))?;
+    file::put(&mut into, &name, page.html.as_bytes(), given.has("--force"))
+        .map_err(|fault| Failure::fault(out, fault))?;
+    let no = |&(no, stretches): &(u64, u64)| match stretches {
+        0 => "0 no".to_string(),
+        _ => format!("{no} no in {}", parts::counted(stretches as usize, "stretch", "stretches")),
+    };
+    Ok(by_formula(out, ": ", page.no.iter().map(no).collect()))
+}
+
+fn start(typed: &str) -> Result<Clock, Failure> {
+    let no_time = || Failure::Use(format!("--start: `{typed}` is no time, as 2026-11-09 or 2026-11-09T09:30 are"));
+    Clock::read(typed).ok_or_else(no_time)
+}

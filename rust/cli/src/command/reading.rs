@@ -1,0 +1,148 @@
+//! What a card can be asked without a log: how far it has come, and whether its files fit together.
+
+use super::json::Json;
+use super::told::{all, as_json};
+use super::{of_card, Answer, Failure, Given};
+use crate::card::{self, Begins, Card, Fault, First, SoFar};
+use crate::disk::Folder;
+use crate::kept::{self, Kept};
+use havdrims::save::Unreadable;
+use havdrims::Refusal;
+use std::fmt::Write;
+use std::path::Path;
+
+/// What a card can be asked without a log. Where its files do not fit together: what is vouched for, and the fault.
+pub struct Told {
+    pub so_far: SoFar,
+    pub verdicts: Vec<u8>,
+    fault: Option<Fault>,
+}
+
+impl Told {
+    pub fn of(folder: &str) -> Result<Told, Failure> {
+        let mut disk = Folder::new(Path::new(folder));
+        let fault = match Card::open(&mut disk, false) {
+            Ok(card) => return Ok(Told { so_far: card.so_far, verdicts: card.verdicts().to_vec(), fault: None }),
+            Err(fault) => fault,
+        };
+        match vouched(&mut disk, &fault).filter(|kept| !kept.verdicts.is_empty()) {
+            Some(Kept { so_far, verdicts, .. }) => Ok(Told { so_far, verdicts, fault: Some(fault) }),
+            None => Err(of_card(folder, &fault)),
+        }
+    }
+
+    pub fn formulas(&self) -> usize {
+        self.so_far.summary.no().len()
+    }
+
+    /// What is wrong with the card, if anything is.
+    pub fn fault(&self) -> Option<String> {
+        self.fault.as_ref().map(Fault::to_string)
+    }
+
+    /// Ends with what was to be printed, and with the fault if there is one.
+    pub fn end(&self, folder: &str, printed: String) -> Answer {
+        let Some(fault) = &self.fault else { return Ok(printed) };
+        let vouched = format!("This is of the first {} verdicts, which a checksum vouches for.", self.verdicts.len());
+        let fault = format!("{folder}: {fault}\n{vouched} `havdrims check` says what can be done.");
+        Err(Failure::Partly { printed, fault })
+    }
+}
+
+/// What is vouched for of a card with this fault. While another command is at work nothing is read.
+pub fn vouched(disk: &mut Folder, fault: &Fault) -> Option<Kept> {
+    (!matches!(fault, Fault::InUse)).then(|| kept::kept(disk)).flatten()
+}
+
+/// The words of `summary`.
+pub fn summary(given: &Given) -> Answer {
+    let told = Told::of(given.only())?;
+    let printed = match given.has("--json") {
+        true => Json::Object(vec![("so_far", as_json(&told.so_far)), ("fault", told.fault().into())]).to_string(),
+        false => all(&told.so_far, given.paint),
+    };
+    told.end(given.only(), printed)
+}
+
+/// The words of `check`.
+pub fn check(given: &Given) -> Answer {
+    let folder = given.only();
+    let mut disk = Folder::new(Path::new(folder));
+    let opened = Card::open(&mut disk, false).and_then(|mut card| card.letters().map(|_| card.so_far));
+    match &opened {
+        Err(fault @ (Fault::NoCard | Fault::InUse)) => return Err(of_card(folder, fault)),
+        Err(fault) if Path::new(folder).is_file() => return Err(of_card(folder, fault)),
+        _ => {}
+    }
+    let files = kept::looked_at(&mut disk);
+    let kept = opened.as_ref().err().and_then(|fault| vouched(&mut disk, fault));
+    let printed = match given.has("--json") {
+        true => check_json(&files, &opened, kept.as_ref()),
+        false => {
+            let files: String = files.iter().map(|(name, said)| format!("{name}: {said}\n")).collect();
+            let all_of_it = match &opened {
+                Ok(so_far) => format!("all files fit together\n{}", all(so_far, given.paint)),
+                Err(fault) => advice(folder, fault, kept.as_ref()),
+            };
+            files + &all_of_it
+        }
+    };
+    match opened {
+        Ok(_) => Ok(printed),
+        Err(fault) => Err(Failure::Partly { printed, fault: format!("{folder}: {fault}") }),
+    }
+}
+
+fn check_json(files: &[(String, String)], opened: &Result<SoFar, Fault>, kept: Option<&Kept>) -> String {
+    let file = |(name, said): &(String, String)| {
+        Json::Object(vec![("name", name.as_str().into()), ("says", said.as_str().into())])
+    };
+    let (so_far, vouched, after) = match opened {
+        Ok(so_far) => (Some(so_far), so_far.status.given, None),
+        Err(_) => {
+            let after = kept.and_then(|kept| kept.after).map(|begins| begins.first.record);
+            (kept.map(|kept| &kept.so_far), kept.map_or(0, |kept| kept.verdicts.len() as u64), after)
+        }
+    };
+    Json::Object(vec![
+        ("good", opened.is_ok().into()),
+        ("fault", opened.as_ref().err().map(Fault::to_string).into()),
+        ("files", files.iter().map(file).collect()),
+        ("vouched_verdicts", vouched.into()),
+        ("new_card_from_record", after.into()),
+        ("so_far", so_far.map(as_json).into()),
+    ])
+    .to_string()
+}
+
+/// What can be done with a card that has this fault.
+fn advice(folder: &str, fault: &Fault, kept: Option<&Kept>) -> String {
+    if let Fault::Unfinished | Fault::LettersDamaged = fault {
+        return String::new();
+    }
+    let given = kept.map_or(0, |kept| kept.verdicts.len());
+    let mut text = match given {
+        0 => "no verdict is vouched for\n".to_string(),
+        _ => format!("the first {given} verdicts are vouched for: `havdrims sheet` prints them\n"),
+    };
+    text.push_str("what can be done:\n");
+    if let Fault::PointUnreadable(Unreadable::Version) | Fault::PointRefused(Refusal::ForeignPoint) = fault {
+        text.push_str("  the program that wrote the point can carry on with this card\n");
+    }
+    text.push_str("  a copy of the card can be put back, all its files together\n");
+    if let Some(Begins { first: First { record, .. }, .. }) = kept.and_then(|kept| kept.after) {
+        let (rule, old) = (quoted(&format!("{folder}/{}", card::RULE)), quoted(folder));
+        let new = format!("havdrims new NEW {rule} --after {old}");
+        let _ = writeln!(text, "  a new card can go on at record {record}: {new}");
+    }
+    text
+}
+
+/// A word as a shell takes it.
+fn quoted(word: &str) -> String {
+    let plain = |letter: char| letter.is_alphanumeric() || "/._-+,:@%".contains(letter);
+    match word.chars().all(plain) {
+        true => word.to_string(),
+        false => format!("'{}'", word.replace('\'', "'\\''")),
+    }
+}

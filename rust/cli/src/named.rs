@@ -1,0 +1,70 @@
+//! What a rule and its letters are called: of a card, a rule file or a formula.
+
+use crate::card::{self, Card};
+use crate::command::Failure;
+use crate::convert;
+use crate::disk::{read_all, Disk, Folder};
+use crate::letters::Letters;
+use crate::parts;
+use crate::words::in_words;
+use havdrims::Rule;
+use std::path::Path;
+
+/// A rule with the names of its letters.
+pub struct Named {
+    pub rule: Rule,
+    pub letters: Letters,
+}
+
+impl Named {
+    /// What a word of the command line says: a card, a .krl file, or a formula.
+    pub fn of(word: &str) -> Result<Named, Failure> {
+        if is_card(word) {
+            return Named::of_card(word);
+        }
+        let bytes = convert::rule_said(&[word])?;
+        let rule = Rule::new(&bytes).map_err(|refusal| Failure::fault(word, refusal))?;
+        Ok(Named { rule, letters: Letters::default() })
+    }
+
+    fn of_card(folder: &str) -> Result<Named, Failure> {
+        let mut disk = Folder::new(Path::new(folder));
+        let failed = |fault| Failure::fault(folder, fault);
+        let mut card = Card::open(&mut disk, false).map_err(failed)?;
+        let letters = card.letters().map_err(failed)?;
+        let rule = Rule::new(card.rule()).map_err(|refusal| Failure::fault(folder, refusal))?;
+        Ok(Named { rule, letters })
+    }
+}
+
+/// Whether this names the folder of a card.
+pub fn is_card(word: &str) -> bool {
+    let names = Folder::new(Path::new(word)).names();
+    names.ok().flatten().is_some_and(|names| card::is_card(&names))
+}
+
+/// The names in a file.
+pub fn read(path: &str) -> Result<Letters, Failure> {
+    let bytes = read_all(path).map_err(|fault| Failure::fault(path, fault))?;
+    let text = String::from_utf8(bytes).map_err(|_| Failure::fault(path, "not a text"))?;
+    Letters::read(&text).map_err(|wrong| Failure::Fault(format!("{path}, {wrong}")))
+}
+
+/// The formulas of a rule that the library accepts, with their words where letters have names.
+pub fn with_words(formulas: Vec<String>, rule: &[u8], letters: &Letters) -> Vec<String> {
+    match Rule::new(rule) {
+        Ok(rule) if !letters.is_empty() => {
+            let words = formulas_in_words(&rule, letters);
+            formulas.into_iter().zip(words).map(|(formula, words)| format!("{formula}\n    {words}")).collect()
+        }
+        _ => formulas,
+    }
+}
+
+/// Each formula of a rule in words, a line each.
+pub fn formulas_in_words(rule: &Rule, letters: &Letters) -> Vec<String> {
+    match parts::formulas(rule) {
+        none if none.is_empty() => vec![in_words(rule, letters)],
+        formulas => formulas.iter().map(|formula| in_words(formula, letters)).collect(),
+    }
+}
