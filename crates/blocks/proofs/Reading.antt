@@ -14,7 +14,7 @@ use Rattle.mtl.proofs.Bounded.{and-iff}
 use Rattle.bits.specs.Packed.{Packed}
 use Rattle.bits.proofs.Laws.{packed-same}
 use Rattle.trace.specs.Format.{record-count, time-at}
-use Rattle.trace.specs.View.{first, skips, in-slice, Shows, Views}
+use Rattle.trace.specs.View.{slice-first, skips, in-slice, Shows, Views}
 use Rattle.trace.specs.Window.{window-of, some-service, letter-at, Lettered, Opened, Passed}
 use Rattle.trace.specs.declared.window.Letters.{Letters}
 use Rattle.trace.specs.declared.window.Window.{Window}
@@ -22,60 +22,60 @@ use Rattle.trace.proofs.Reading.{shown-inside, shown-letter, head-behind, windo
 use Rattle.blocks.specs.Step.{Agrees}
 
 -- whatever the words hold: the window can be read, and the head behind it is a number and lies no earlier
-module _ (v : List ℕ) (h : ℕ) {s : List ℕ} {n : ℕ} {w : Window} {copy : List ℕ} (opened : Opened (skips v) s (in-slice (first v) h) n w copy) where
+module _ (v : List ℕ) (h : ℕ) {s : List ℕ} {n : ℕ} {w : Window} {copy : List ℕ} (opened : Opened (skips v) s (in-slice (slice-first v) h) n w copy) where
   pub readable : w .dense ≡ true → w .at * 8 ≤ length s
   readable e =
-      let at = in-slice (first v) h in
+      let at = in-slice (slice-first v) h in
       let start = opened .start in
       let all = leb (at + n) (record-count s) in
       let inside = leb-true (at + n) (record-count s) (and-iff all (negate (skips v && some-service s at n)) .0 (sym (opened .kind) ∙ e) .0) in
       omega arith
 
-  pub end-fits : Views v s → h < 2 ^ 64 → first v + w .end < 2 ^ 64
+  pub end-fits : Views v s → h < 2 ^ 64 → slice-first v + w .end < 2 ^ 64
   end-fits views small = let bounded = opened .bounded in let few = views .numbered in omega arith
 
-  pub end-onward : h ≤ first v + w .end
+  pub end-onward : h ≤ slice-first v + w .end
   end-onward = let onward = opened .onward in omega arith
 
 -- where view and slice tell the log, they show n positions from p on, which the log has
 shows : {v s : List ℕ} {L : Log} {g : ℕ} → Agrees v s L g → (p n : ℕ) → g ≤ p → p + n ≤ L .size → (i : ℕ) → p ≤ i → i < p + n →
-    Shows (skips v) s (first v) L i
+    Shows (skips v) s (slice-first v) L i
 shows agrees p n from inside i l m = agrees .shows i (omega arith) (omega arith)
 
 -- the head is that of position p: a letter at these positions, and the head behind them
 module _ {v s : List ℕ} {L : Log} {g : ℕ} (agrees : Agrees v s L g) {h : ℕ} (p : ℕ) (head : h ≡ head-of L p) (from : g ≤ p) {n : ℕ} (inside : p + n ≤ L .size)
-    {k : ℕ} {r : Letters} (lettered : Lettered (skips v) s k (in-slice (first v) h) n r) where
-  letters : Lettered (skips v) s k (in-slice (first v) (head-of L p)) n r
+    {k : ℕ} {r : Letters} (lettered : Lettered (skips v) s k (in-slice (slice-first v) h) n r) where
+  letters : Lettered (skips v) s k (in-slice (slice-first v) (head-of L p)) n r
   letters = rw head at lettered
 
   pub read-letters : Packed (λ i. L .letters i k) p n (r .bits)
   read-letters =
-      packed-same (letter-at (skips v) s k (in-slice (first v) (head-of L p))) (λ i. L .letters i k) 0 p n (r .bits)
-      (λ i l. rw (zero-add i) (sym (shown-letter (skips v) s (first v) L p n (shows agrees p n from inside) k i l)))
-      (letters .answers (shown-inside (skips v) s (first v) L p n (shows agrees p n from inside)))
+      packed-same (letter-at (skips v) s k (in-slice (slice-first v) (head-of L p))) (λ i. L .letters i k) 0 p n (r .bits)
+      (λ i l. rw (zero-add i) (sym (shown-letter (skips v) s (slice-first v) L p n (shows agrees p n from inside) k i l)))
+      (letters .answers (shown-inside (skips v) s (slice-first v) L p n (shows agrees p n from inside)))
 
-  pub letters-end : 0 < n → first v + r .end ≡ head-of L (p + n)
+  pub letters-end : 0 < n → slice-first v + r .end ≡ head-of L (p + n)
   letters-end some =
-      ap (λ (e : ℕ). first v + e) (letters .end (shown-inside (skips v) s (first v) L p n (shows agrees p n from inside))) ∙
-      head-behind (skips v) s (first v) L p n (shows agrees p n from inside) n some (omega arith)
+      ap (λ (e : ℕ). slice-first v + e) (letters .end (shown-inside (skips v) s (slice-first v) L p n (shows agrees p n from inside))) ∙
+      head-behind (skips v) s (slice-first v) L p n (shows agrees p n from inside) n some (omega arith)
 
 -- a window of them
 module _ {v s : List ℕ} {L : Log} {g : ℕ} (agrees : Agrees v s L g) {h : ℕ} (p : ℕ) (head : h ≡ head-of L p) (from : g ≤ p) {n : ℕ} (inside : p + n ≤ L .size)
-    {w : Window} {copy : List ℕ} (opened : Opened (skips v) s (in-slice (first v) h) n w copy) where
-  here : Opened (skips v) s (in-slice (first v) (head-of L p)) n w copy
+    {w : Window} {copy : List ℕ} (opened : Opened (skips v) s (in-slice (slice-first v) h) n w copy) where
+  here : Opened (skips v) s (in-slice (slice-first v) (head-of L p)) n w copy
   here = rw head at opened
 
   -- record i of the window is position p + i
   pub read-time : (i : ℕ) → i < n → time-at (window-of w s copy) i ≡ L .time (p + i)
-  read-time = window-time (skips v) s (first v) L p n (shows agrees p n from inside) w copy here
+  read-time = window-time (skips v) s (slice-first v) L p n (shows agrees p n from inside) w copy here
 
   -- and the heads behind all of them, and behind some, are the log's
-  pub head-end : 0 < n → first v + w .end ≡ head-of L (p + n)
-  head-end = window-end (skips v) s (first v) L p n (shows agrees p n from inside) w copy here
+  pub head-end : 0 < n → slice-first v + w .end ≡ head-of L (p + n)
+  head-end = window-end (skips v) s (slice-first v) L p n (shows agrees p n from inside) w copy here
 
   pub head-passed : (m r : ℕ) → m ≤ n → Passed v s h m w r → r ≡ head-of L (p + m)
   head-passed zero r l passed = passed .still (omega arith) ∙ head ∙ ap (head-of L) (sym (add-zero p))
   head-passed (suc m) r l passed =
-      let window = shown-inside (skips v) s (first v) L p n (shows agrees p n from inside) in
+      let window = shown-inside (skips v) s (slice-first v) L p n (shows agrees p n from inside) in
       rw head at (passed .behind n copy l opened (rw head window) (omega arith)) ∙
-      head-behind (skips v) s (first v) L p n (shows agrees p n from inside) (suc m) (omega arith) l
+      head-behind (skips v) s (slice-first v) L p n (shows agrees p n from inside) (suc m) (omega arith) l

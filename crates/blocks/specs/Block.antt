@@ -47,8 +47,8 @@ last-left b = word b 6
 abbrev pub last-right : List ℕ → ℕ
 last-right b = word b 7
 
-abbrev pub last-time : List ℕ → ℕ
-last-time b = word b 8
+abbrev pub last-taken-time : List ℕ → ℕ
+last-taken-time b = word b 8
 
 -- the reading head, as a record: it stands behind the record of the last position that it has passed. Of letter, previous, since and until
 -- it is that of `taken`; of next, whose operand is one ahead, that of the position before; not and or read no record.
@@ -133,7 +133,7 @@ pub record InRange (size cells : ℕ) (b : List ℕ) : Type 0 where
   pub answered : answered b ≤ size
   pub last-left : last-left b ≤ 1
   pub last-right : last-right b ≤ 1
-  pub last-time : last-time b < 2 ^ 32
+  pub last-time : last-taken-time b < 2 ^ 32
   pub start : word b 9 ≤ cells
   pub count : word b 10 ≤ cells
 
@@ -179,7 +179,7 @@ Own (next low high φ) L g b = (answered b ≡ g) × Trails L g (taken b)
 Own (since low high φ ψ) L g b = Since low high (L .time) (sat φ L) (sat ψ L) g b
 Own (until low high φ ψ) L g b =
     (answered b ≡ g) ×
-    Until low high (L .time) (sat φ L) (sat ψ L) g (taken b) (last-left b) (last-right b) (last-time b)
+    Until low high (L .time) (sat φ L) (sat ψ L) g (taken b) (last-left b) (last-right b) (last-taken-time b)
 
 -- an operator's own block stands at g
 pub record Core (φ : Formula) (L : Log) (g : ℕ) (b : List ℕ) : Type 0 where

@@ -7,7 +7,7 @@ use Rattle.mtl.specs.Formula.{Formula}
 use Rattle.mtl.specs.Formula.Formula.{letter, not, or, previous, next, since, until}
 use Rattle.mtl.specs.Log.{Log, NeverFalls}
 use Rattle.mtl.specs.Progress.{settled-to}
-use Rattle.trace.specs.View.{first, total, skips, closed, Shows}
+use Rattle.trace.specs.View.{slice-first, total, skips, closed, Shows}
 use Rattle.blocks.specs.Block.{taken, left-count, right-count, Onward, Buffer, Ready}
 use Rattle.blocks.specs.declared.Step.{Step}
 use Rattle.blocks.specs.declared.Step.the-variants.{Batch, Left, Right, Again, Open}
@@ -16,7 +16,7 @@ use Rattle.blocks.specs.declared.Step.the-variants.{Batch, Left, Right, 
 pub record Agrees (v s : List ℕ) (L : Log) (g : ℕ) : Type 0 where
   pub ends : L .closed ≡ closed v
   pub size : total v ≡ L .size
-  pub shows : (i : ℕ) → g ≤ i → i < L .size → Shows (skips v) s (first v) L i
+  pub shows : (i : ℕ) → g ≤ i → i < L .size → Shows (skips v) s (slice-first v) L i
 
 -- an operator's operands; a letter has none, and what stands here for a missing one is used by nothing
 abbrev pub has-left : Formula → Bool

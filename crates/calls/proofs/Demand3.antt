@@ -16,8 +16,8 @@ use Rattle.mtl.specs.Wanted.{wanted, wanted-record}
 use Rattle.mtl.proofs.Bounded.{same-test, le-or-lt}
 use Rattle.verdicts.specs.Counts.{noes-in}
 use Rattle.rule.specs.Entries.{version, count, decoded}
-use Rattle.rule.specs.Postfix.{most}
-use Rattle.rule.specs.Refusal.{first, before as numbered-before, refusal}
+use Rattle.rule.specs.Postfix.{most-formulas}
+use Rattle.rule.specs.Refusal.{first, or-else as numbered-before, refusal}
 use Rattle.rule.specs.Measure.{measured}
 use Rattle.rule.proofs.Headers.{before-none}
 use Rattle.trace.specs.Format.{record-count, time-at, skips-of, dropped, records-of, total-records}
@@ -32,17 +32,17 @@ use Rattle.trace.proofs.Slices.{Part, Cut, prefix-part, time-part, keeps-part, 
 use Rattle.trace.proofs.Growing.{before-stays, grown-continues}
 use Rattle.trace.proofs.Trimming.{trimmed-again, cut-behind}
 use Rattle.blocks.specs.Step.{Agrees}
-use Rattle.checkpoint.specs.Checkpoint.{seen, last, closed-with, log-kind, kind-of-log, first-wanted, stored-noes, need, foreign, outside}
+use Rattle.checkpoint.specs.Checkpoint.{seen, last, closed-with, log-kind, kind-of-log, first-wanted, stored-noes, need, foreign, words-outside}
 use Rattle.checkpoint.specs.Refusal.{open-refusal, resumes-closed, closes-more, other-version, version-refusal, records-refusal, words-refusal, resume-refusal, trim-refusal, summary-refusal}
 use Rattle.checkpoint.proofs.Sizes.{enough-words}
-use Rattle.emit.specs.Verdicts.{formulas-of, columns, verdicts, first-records, wanted-after, answered, all-verdicts}
+use Rattle.emit.specs.Verdicts.{formulas-of, columns, verdicts, first-records, wanted-after, answered-number, all-verdicts}
 use Rattle.monitor.specs.Stands.{Stands}
 use Rattle.monitor.specs.Open.{done, Opening, Opens}
 use Rattle.monitor.specs.Open.{Answer as OpenAnswer}
 use Rattle.monitor.specs.Resume.{Answer, gave, refused-with, result-or-refusal, wanted-records, Gives, Resuming, Resumes}
 use Rattle.monitor.specs.Trim.{trimmed-log, Trims}
 use Rattle.monitor.specs.Trim.{Answer as TrimAnswer}
-use Rattle.monitor.specs.Summary.{counted, Told, Summarizes}
+use Rattle.monitor.specs.Summary.{counted, TellsNoes, Summarizes}
 use Rattle.monitor.specs.Summary.{Answer as SummaryAnswer}
 use Rattle.monitor.specs.Status.{known}
 use Rattle.monitor.specs.Status.{told as known-told}
@@ -183,12 +183,12 @@ module _ (rule log : List ℕ) (untouched : Untouched log) where
   -- what a call answers after d verdicts on the first m records, where it brings n, and the sheet as it leaves it
   abbrev answer-after : (closed was : Bool) (d m n : ℕ) (sheet : List ℕ) → Answer
   answer-after closed was d m n sheet =
-      let c = min (answered closed rule log n - d) (length sheet) in
-      result-or-refusal (expected-refusal closed was m n) c (ltb (d + c) (answered closed rule log n))
+      let c = min (answered-number closed rule log n - d) (length sheet) in
+      result-or-refusal (expected-refusal closed was m n) c (ltb (d + c) (answered-number closed rule log n))
 
   abbrev sheet-after : (closed was : Bool) (d m n : ℕ) (sheet : List ℕ) → List ℕ
   sheet-after closed was d m n sheet =
-      let c = min (answered closed rule log n - d) (length sheet) in
+      let c = min (answered-number closed rule log n - d) (length sheet) in
       cond (eqb (expected-refusal closed was m n) 0) (drop d (verdicts (formulas-of rule) (first-records closed log n) (d + c)) ++ drop c sheet) sheet
 
   -- WHAT A CHECKPOINT HAS REACHED
@@ -408,7 +408,7 @@ module _ (rule log : List ℕ) (untouched : Untouched log) where
           number = expected-refusal closed was m n
 
           all : ℕ
-          all = answered closed rule log n
+          all = answered-number closed rule log n
 
           c : ℕ
           c = min (all - d) (length sheet)
@@ -456,10 +456,10 @@ module _ (rule log : List ℕ) (untouched : Untouched log) where
 
         -- which may be brought, also when it has grown
         trim-brings : a .number ≡ 0 → (k : ℕ) → n ≤ k → k ≤ record-count records → Brings log from k (take (a .written) out′ ++ grown-by log n k)
-        trim-brings none k most within =
+        trim-brings none k most-formulas within =
             let kind = has-service skips (length out) _ (sym trim-numbered ∙ none) in
             let inside : from ≤ n = omega (arith, begins .0, first-is) in
-            rw (trim-wrote none) (trimmed-brings log log′ from n brings inside few-records kind k most within)
+            rw (trim-wrote none) (trimmed-brings log log′ from n brings inside few-records kind k most-formulas within)
 
         -- trimmed again it is what it was
         trim-same : a .number ≡ 0 → (out₂ : List ℕ) (a₂ : TrimAnswer) (out₂′ : List ℕ) →
@@ -542,7 +542,7 @@ module _ (rule log : List ℕ) (untouched : Untouched log) where
         let old = brought-by h in
         let d = given-by h in
         let fs = formulas-of rule in
-        let all = answered closed rule log n in
+        let all = answered-number closed rule log n in
         let new = first-records closed log n in
         let step = gives closed d old n log′ (brought .no-fewer) (brought .brings) (closed-by h) p (before .fine) accepted-reached sheet c more p′ sheet′ resumes in
         let reached = reaches closed d old n log′ (brought .no-fewer) (brought .brings) (closed-by h) p (before .fine) accepted-reached sheet c more p′ sheet′ resumes in
@@ -598,13 +598,13 @@ module _ (rule log : List ℕ) (untouched : Untouched log) where
 
   -- "One run is a carry on from a fresh point with a sheet of A bytes, and it writes just these."
   one-run-writes : (closed : Bool) (n : ℕ) (a : Answer) (sheet′ : List ℕ) → OneRun closed rule log n a sheet′ →
-      (a ≡ gave (answered closed rule log n) false) × (sheet′ ≡ all-verdicts closed rule log n)
+      (a ≡ gave (answered-number closed rule log n) false) × (sheet′ ≡ all-verdicts closed rule log n)
   unfolding verdicts
   one-run-writes closed n a sheet′ run =
       let fine = opened-fine (run .lent) (run .fresh) (run .opens) in
       let reached = opened-reached (run .lent) (run .fresh) (run .opens) in
       let fs = formulas-of rule in
-      let all = answered closed rule log n in
+      let all = answered-number closed rule log n in
       let c = a .count in
       let more = a .more in
       let some : 0 ≤ n = omega arith in
@@ -629,12 +629,12 @@ module _ (rule log : List ℕ) (untouched : Untouched log) where
 own-summary : (rule : List ℕ) (K : Log) (n d : ℕ) (p : List ℕ) → refusal rule ≡ 0 → Stands rule K n d p →
     (nos latest : List ℕ) (a : SummaryAnswer) (nos′ latest′ : List ℕ) → Summarizes rule p nos latest a nos′ latest′ →
     (a ≡ counted (columns (formulas-of rule))) ×
-    Told 0 (columns (formulas-of rule)) (λ k. noes-in k (verdicts (formulas-of rule) K d) d) nos latest nos′ latest′
+    TellsNoes 0 (columns (formulas-of rule)) (λ k. noes-in k (verdicts (formulas-of rule) K d) d) nos latest nos′ latest′
 own-summary rule K n d p fine stands nos latest a nos′ latest′ told =
     let is : a ≡ counted (columns (formulas-of rule)) = rw (words-passed rule K n d p fine stands 0) at (told .outcome) in (
       is,
-      told-same (columns (formulas-of rule)) (stored-noes (most (version rule)) p) _ nos latest nos′ latest′ (stands .noes)
-          (subst (λ (x : SummaryAnswer). Told (x .number) (x .formulas) (stored-noes (most (version rule)) p) nos latest nos′ latest′) is (told .words)),
+      told-same (columns (formulas-of rule)) (stored-noes (most-formulas (version rule)) p) _ nos latest nos′ latest′ (stands .noes)
+          (subst (λ (x : SummaryAnswer). TellsNoes (x .number) (x .formulas) (stored-noes (most-formulas (version rule)) p) nos latest nos′ latest′) is (told .words)),
     )
 
 -- a closing was accepted exactly where its records were noted
@@ -683,7 +683,7 @@ demand-3 rule log untouched h point calls =
     let lent : (p : List ℕ) → Lends point p → length point ≤ length p → Reached rule log untouched (closed-by h) n d p =
     λ p lends whole. reached-lent rule log untouched (i .fine) (closed-by h) n d point p size lends whole (i .reached) in
     record {
-      first = rw (i .bytes, length-verdicts fs L (given-by h)) (sym (take-verdicts fs L (given-by h) (answered (closed-by h) rule log (brought-by h)) (omega arith)));
+      first = rw (i .bytes, length-verdicts fs L (given-by h)) (sym (take-verdicts fs L (given-by h) (answered-number (closed-by h) rule log (brought-by h)) (omega arith)));
       all = i .all;
       each = i .each;
       still = i .still;
@@ -710,10 +710,10 @@ demand-3 rule log untouched h point calls =
           record {
             number = trim-numbered rule log untouched false d n m log′ (brought .no-fewer) (brought .brings) (closed-by h) p (i .fine) reached out a out′ trims;
             written = λ none. wrote none .0 ∙ trimmed-size rule log untouched false d n m log′ (brought .no-fewer) (brought .brings) (closed-by h) p (i .fine) reached;
-            brings = λ none k most within.
+            brings = λ none k most-formulas within.
                 record {
                   no-fewer = omega (arith, brought .no-fewer);
-                  brings = trim-brings rule log untouched false d n m log′ (brought .no-fewer) (brought .brings) (closed-by h) p (i .fine) reached out a out′ trims none k most within;
+                  brings = trim-brings rule log untouched false d n m log′ (brought .no-fewer) (brought .brings) (closed-by h) p (i .fine) reached out a out′ trims none k most-formulas within;
                 };
             again = trim-same rule log untouched false d n m log′ (brought .no-fewer) (brought .brings) (closed-by h) p (i .fine) reached out a out′ trims;
           };
@@ -734,7 +734,7 @@ bytes-of-one-run rule log untouched h point calls a sheet′ run =
 -- "a point that this library left never meets" refusal 11, nor 10 with its rule: in no words that hold it whole
 pub own-checkpoint : (rule log : List ℕ) → Untouched log → (h : List Call) (point : List ℕ) → Calls rule log h point →
     (p : List ℕ) → Lends point p → length point ≤ length p →
-    (foreign (version rule) (decoded rule) (count rule) p ≡ false) × (outside (version rule) (decoded rule) (count rule) p ≡ false)
+    (foreign (version rule) (decoded rule) (count rule) p ≡ false) × (words-outside (version rule) (decoded rule) (count rule) p ≡ false)
 own-checkpoint rule log untouched h point calls p lends whole =
     let i = invariant rule log untouched calls in
     let L = first-records (closed-by h) log (brought-by h) in

@@ -9,7 +9,7 @@ use lib.Seq.{getD-take, length-take-le, take-all}
 use Rattle.mtl.specs.Log.{Log}
 use Rattle.mtl.specs.Progress.{joint-progress}
 use Rattle.rule.specs.Entries.{version, count, decoded}
-use Rattle.rule.specs.Postfix.{most}
+use Rattle.rule.specs.Postfix.{most-formulas}
 use Rattle.rule.specs.Words.{header-words}
 use Rattle.rule.specs.Refusal.{refusal}
 use Rattle.rule.proofs.Spans.{header-least}
@@ -87,11 +87,11 @@ module _ (rule : List ℕ) (fine : refusal rule ≡ 0) (K : Log) (n d : ℕ) whe
       header : (i : ℕ) → i < 16 → word q i ≡ word p i
       header = same-header rule p q e
 
-      counted : (k : ℕ) → k < most (version rule) → no-count q k ≡ no-count p k
+      counted : (k : ℕ) → k < most-formulas (version rule) → no-count q k ≡ no-count p k
       counted k l = same (8 + k) (omega (arith, noes-within (version rule)))
 
-      latest : (k : ℕ) → k < most (version rule) → after-latest (most (version rule)) q k ≡ after-latest (most (version rule)) p k
-      latest k l = same (8 + most (version rule) + k) (omega (arith, noes-within (version rule)))
+      latest : (k : ℕ) → k < most-formulas (version rule) → after-latest (most-formulas (version rule)) q k ≡ after-latest (most-formulas (version rule)) p k
+      latest k l = same (8 + most-formulas (version rule) + k) (omega (arith, noes-within (version rule)))
 
       in-block : (j : ℕ) → j < count rule → word q (block-at (header-words (version rule)) (decoded rule) j + 12) ≡ word p (block-at (header-words (version rule)) (decoded rule) j + 12)
       in-block j l =

@@ -19,7 +19,7 @@ use Rattle.mtl.specs.Wanted.{wanted, wanted-record}
 use Rattle.mtl.proofs.Bounded.{true-and-false, false-iff, or-iff, le-or-lt}
 use Rattle.mtl.proofs.Closing.{settled-open}
 use Rattle.mtl.proofs.Joint.{joint-one, joint-grows, joint-le-size}
-use Rattle.sooner.specs.Sooner.{OneTimed, low-of, high-of, letter-of, letter-in, Interval, last-of, settling-time, Adds, Told, BothWays}
+use Rattle.sooner.specs.Sooner.{OneTimed, timed-low, timed-high, timed-letter, letter-in, Interval, last-of, settling-time, Adds, Told, BothWays}
 use Rattle.sooner.specs.Sooner.OneTimed.{one-next, one-until}
 use Rattle.sooner.proofs.Theorem.{both-ways}
 use Rattle.bits.specs.Packed.{number}
@@ -30,7 +30,7 @@ use Rattle.rule.specs.Words.{offset}
 use Rattle.rule.specs.Postfix.{push-kind, read, formulas-or, postfix, size, start}
 use Rattle.rule.specs.Encoding.{body, encoded, rule-of}
 use Rattle.rule.specs.Operands.{FormulaAt}
-use Rattle.rule.specs.Accepted.{InRange, Whole}
+use Rattle.rule.specs.Accepted.{FieldsInRange, Whole}
 use Rattle.rule.specs.Refusal.{header-refusal, entries-refusal, refusal}
 use Rattle.rule.proofs.Acceptance.{accepted}
 use Rattle.rule.proofs.Order.{some-size, within-whole}
@@ -45,7 +45,7 @@ use Rattle.trace.proofs.Positions.{log-placed, positions-keep}
 use Rattle.trace.proofs.Slices.{prefix-part}
 use Rattle.trace.proofs.Growing.{before-stays, place-stays, grown-continues, prefix-continues}
 use Rattle.emit.specs.Verdicts.{formulas-of, verdict, verdicts}
-use Rattle.emit.specs.Verdicts.{first-records, answered, all-verdicts}
+use Rattle.emit.specs.Verdicts.{first-records, answered-number, all-verdicts}
 use Rattle.emit.proofs.Meaning.{verdict-stays}
 use Rattle.monitor.proofs.VerdictBytes.{verdict-at}
 use Rattle.monitor.specs.Examples.{event-set}
@@ -56,7 +56,7 @@ use Rattle.calls.specs.Calls.{Untouched, BringsAfter, Calls}
 use Rattle.calls.specs.Calls.OneCall.{accepted as accepted-call}
 use Rattle.calls.specs.Calls.Calls.{and-then}
 use Rattle.calls.specs.Examples.{until-1, log-7, next-5, log-5}
-use Rattle.calls.specs.Sooner.{records, positions-of, Asked, Accepts, Settles, SettledBothWays, settling-record, ToldSooner}
+use Rattle.calls.specs.Sooner.{records, positions-of, Conditions, Accepts, Settles, SettledBothWays, settling-record, ToldSooner}
 use Rattle.calls.proofs.Lending.{given-settled}
 use Rattle.calls.proofs.Demand3.{invariant, demand-3}
 use Rattle.calls.proofs.Appended.{append-count, first-of, more-count, more-keeps, more-adds}
@@ -65,8 +65,8 @@ use Rattle.calls.proofs.Lengthened.{same-skips, same-dropped, more-reco
 -- THE RULE
 
 -- the interval and the letter of a formula whose entries are in their ranges
-in-ranges : {φ : Formula} (one : OneTimed φ) (t : List Entry) (n : ℕ) → ((k : ℕ) → k < n → InRange (entry t k)) →
-    (at : ℕ) → at < n → FormulaAt t at φ → Interval (low-of one) (high-of one) × (letter-of one ≤ 31)
+in-ranges : {φ : Formula} (one : OneTimed φ) (t : List Entry) (n : ℕ) → ((k : ℕ) → k < n → FieldsInRange (entry t k)) →
+    (at : ℕ) → at < n → FormulaAt t at φ → Interval (timed-low one) (timed-high one) × (timed-letter one ≤ 31)
 unfolding FormulaAt
 in-ranges (one-next {low} {high} {k}) t n ranges at h (root, some, leaf) =
     let low-is : entry t at .low ≡ low = ap (λ (e : Entry). e .low) root in
@@ -85,7 +85,7 @@ in-ranges (one-until {low} {high} {k} {l}) t n ranges at h (root, some, left, le
 
 -- of an accepted rule
 rule-fits : {φ : Formula} (one : OneTimed φ) (rule : List ℕ) → refusal rule ≡ 0 → formulas-of rule ≡ φ ∷ [] →
-    Interval (low-of one) (high-of one) × (letter-of one ≤ 31)
+    Interval (timed-low one) (timed-high one) × (timed-letter one ≤ 31)
 unfolding start
 rule-fits {φ} one rule fine is =
     let a = accepted rule fine in
@@ -95,18 +95,18 @@ rule-fits {φ} one rule fine is =
     in-ranges one (decoded rule) (count rule) (a .well-formed .in-range) (0 + size φ - 1) (omega (arith, some-size φ)) (whole .each 0 (omega arith) .at-last)
 
 -- the formula has the letter
-has-letter-of : {φ : Formula} (one : OneTimed φ) → letter-in φ (letter-of one) ≡ true
+has-letter-of : {φ : Formula} (one : OneTimed φ) → letter-in φ (timed-letter one) ≡ true
 unfolding letter-in
 has-letter-of (one-next {low} {high} {k}) = eq-eqb k k refl
 has-letter-of (one-until {low} {high} {k} {l}) = or-iff (eqb l k) (eqb l l) .1 (inr (eq-eqb l l refl))
 
 -- so that its letter is not 31 where the formula does not have that
-below-31 : {φ : Formula} (one : OneTimed φ) → letter-of one ≤ 31 → letter-in φ 31 ≡ false → letter-of one < 31
+below-31 : {φ : Formula} (one : OneTimed φ) → timed-letter one ≤ 31 → letter-in φ 31 ≡ false → timed-letter one < 31
 below-31 {φ} one h none =
     ⊎-elim
-    (λ (e : letter-of one ≡ 31). absurd (true-and-false (ap (letter-in φ) (sym e) ∙ has-letter-of one) none))
+    (λ (e : timed-letter one ≡ 31). absurd (true-and-false (ap (letter-in φ) (sym e) ∙ has-letter-of one) none))
     (λ l. l)
-    (eq-or-lt-of-le {n = letter-of one} {m = 31} h)
+    (eq-or-lt-of-le {n = timed-letter one} {m = 31} h)
 
 -- THE VERDICT of a rule that is one formula, on an open log
 
@@ -206,8 +206,8 @@ module _ (log more : List ℕ) (untouched : Untouched log) (longer : Untouched (
       (subst (λ (L : Log). Continues (closing false (log-of (skips-of log) (records-of log))) L) (sym longer-are)
       (grown-continues (records-of log ++ more) (records-of log) (first-of (records-of log) more (whole log untouched)) (skips-of log)))
 
-  alike : (rule : List ℕ) (i : ℕ) → i < answered false rule log (records log) →
-      (i < answered false rule (log ++ more) (records (log ++ more))) ×
+  alike : (rule : List ℕ) (i : ℕ) → i < answered-number false rule log (records log) →
+      (i < answered-number false rule (log ++ more) (records (log ++ more))) ×
       (getD (all-verdicts false rule (log ++ more) (records (log ++ more))) i 0 ≡ getD (all-verdicts false rule log (records log)) i 0)
   alike rule i h = byte-stays rule (positions-of log) (positions-of (log ++ more)) longer-continues (positions-fall (log ++ more) longer) i h
 
@@ -245,21 +245,21 @@ all-laid rule log untouched h point calls p lends n log′ brought sheet c p′ 
 
 -- what was given without a closing was answered
 given-answered : (rule log : List ℕ) → Untouched log → (h : List Call) (point : List ℕ) → Calls rule log h point → closed-by h ≡ false →
-    given-by h ≤ answered false rule log (brought-by h)
+    given-by h ≤ answered-number false rule log (brought-by h)
 given-answered rule log untouched h point calls open′ =
     let inv = invariant rule log untouched calls in
     rw open′ at (given-settled rule (inv .fine) (first-records (closed-by h) log (brought-by h)) (brought-by h) (given-by h) point (inv .reached .stands))
 
 -- PAPER 14
 
-module _ {φ : Formula} (one : OneTimed φ) (rule log : List ℕ) (asked : Asked one rule log) where
+module _ {φ : Formula} (one : OneTimed φ) (rule log : List ℕ) (asked : Conditions one rule log) where
   abbrev s : List ℕ
   s = records-of log
 
-  interval : Interval (low-of one) (high-of one)
+  interval : Interval (timed-low one) (timed-high one)
   interval = rule-fits one rule (asked .accepted) (asked .rule-is) .0
 
-  letter-fits : letter-of one ≤ 31
+  letter-fits : timed-letter one ≤ 31
   letter-fits = rule-fits one rule (asked .accepted) (asked .rule-is) .1
 
   -- the last record is the last position
@@ -269,7 +269,7 @@ module _ {φ : Formula} (one : OneTimed φ) (rule log : List ℕ) (asked : Asked
       let size = ap (λ (L : Log). L .size) are in
       ap last-of are ∙ ap (time-at s) (last-placed (skips-of log) s (omega arith) (asked .last-position))
 
-  module _ (i : ℕ) (there : i < positions-of log .size) (open′ : answered false rule log (records log) ≤ i) where
+  module _ (i : ℕ) (there : i < positions-of log .size) (open′ : answered-number false rule log (records log) ≤ i) where
     both : BothWays one (positions-of log) i
     both =
         both-ways one interval (positions-of log) (positions-fall log (asked .untouched)) (omega (arith, asked .last-time, last-is (omega arith))) i there
@@ -285,13 +285,13 @@ module _ {φ : Formula} (one : OneTimed φ) (rule log : List ℕ) (asked : Asked
       time-fits : t < 4294967296
       time-fits = omega (arith, both .fits)
 
-      not-31 : skips-of log ≡ true → letter-of one < 31
+      not-31 : skips-of log ≡ true → timed-letter one < 31
       not-31 e = below-31 one letter-fits (rw e at (asked .no-letter-31))
 
       longer-keeps : Keeps (records-of (log ++ r))
       longer-keeps =
           subst Keeps (sym (more-records log r (fine log (asked .untouched))))
-          (more-keeps s (whole log (asked .untouched)) t (letter-of one) b time-fits letter-fits (keeps log (asked .untouched))
+          (more-keeps s (whole log (asked .untouched)) t (timed-letter one) b time-fits letter-fits (keeps log (asked .untouched))
           (λ some. omega (arith, both .order, last-is (omega arith))))
 
       longer-untouched : Untouched (log ++ r)
@@ -305,17 +305,17 @@ module _ {φ : Formula} (one : OneTimed φ) (rule log : List ℕ) (asked : Asked
       abbrev L : Log
       L = first-records false (log ++ r) (suc (records log))
 
-      adds : Adds (positions-of log) t (letter-of one) b L
+      adds : Adds (positions-of log) t (timed-letter one) b L
       adds =
-          subst (λ (K : Log). Adds K t (letter-of one) b L) (sym (positions-are log (asked .untouched)))
-          (subst (λ (M : Log). Adds (closing false (log-of (skips-of log) s)) t (letter-of one) b M)
+          subst (λ (K : Log). Adds K t (timed-letter one) b L) (sym (positions-are log (asked .untouched)))
+          (subst (λ (M : Log). Adds (closing false (log-of (skips-of log) s)) t (timed-letter one) b M)
           (sym (more-first log r (fine log (asked .untouched)) false (suc (records log)) (longer-length log r (fine log (asked .untouched)) refl (asked .few))))
-          (more-adds s (whole log (asked .untouched)) t (letter-of one) b time-fits letter-fits (skips-of log) not-31 false))
+          (more-adds s (whole log (asked .untouched)) t (timed-letter one) b time-fits letter-fits (skips-of log) not-31 false))
 
       told : Told φ L i b
       told = both .settles b L adds
 
-      settled : i < answered false rule (log ++ r) (suc (records log))
+      settled : i < answered-number false rule (log ++ r) (suc (records log))
       settled = omega (arith, told .answered, one-answered rule (asked .rule-is) L refl)
 
       says : getD (all-verdicts false rule (log ++ r) (suc (records log))) i 0 ≡ number b
@@ -327,7 +327,7 @@ module _ {φ : Formula} (one : OneTimed φ) (rule log : List ℕ) (asked : Asked
           let fine′ = fine log (asked .untouched) in
           let brings = brings-after-longer log r fine′ refl (asked .few) rule in
           record {
-            one-record = (refl, record-is-bytes t (number b * 2 ^ letter-of one));
+            one-record = (refl, record-is-bytes t (number b * 2 ^ timed-letter one));
             not-12 = longer-untouched .well-formed;
             not-14 = falls-never (records-of (log ++ r)) longer-keeps;
             untouched = longer-untouched;
@@ -350,7 +350,7 @@ module _ {φ : Formula} (one : OneTimed φ) (rule log : List ℕ) (asked : Asked
           }
 
   -- a lengthening by one record gives an answered position the byte that it has
-  settles-alike : (r : List ℕ) (i byte : ℕ) → i < answered false rule log (records log) → Settles rule log r i byte →
+  settles-alike : (r : List ℕ) (i byte : ℕ) → i < answered-number false rule log (records log) → Settles rule log r i byte →
       getD (all-verdicts false rule log (records log)) i 0 ≡ byte
   settles-alike r i byte h settles =
       let accepts = settles .accepts in
@@ -360,12 +360,12 @@ module _ {φ : Formula} (one : OneTimed φ) (rule log : List ℕ) (asked : Asked
       ap (λ (n : ℕ). getD (all-verdicts false rule (log ++ r) n) i 0) size ∙ settles .says
 
   -- no two give it different ones
-  not-both : (i : ℕ) → i < answered false rule log (records log) → SettledBothWays rule log i → ⊥
+  not-both : (i : ℕ) → i < answered-number false rule log (records log) → SettledBothWays rule log i → ⊥
   not-both i h (r, r′, first, second) = omega (arith, settles-alike r i 1 h first, settles-alike r′ i 0 h second)
 
   none-dropped : (h : List Call) (point : List ℕ) → Calls rule log h point → closed-by h ≡ false →
       (log′ : List ℕ) → BringsAfter rule log h (records log) log′ →
-      (i : ℕ) → i < positions-of log .size → answered false rule log (records log) ≤ i → dropped log′ ≤ positions-of log .place i
+      (i : ℕ) → i < positions-of log .size → answered-number false rule log (records log) ≤ i → dropped log′ ≤ positions-of log .place i
   none-dropped h point calls open′ log′ brought i there open″ =
       let m = brought-by h in
       let few = brought .no-fewer in
@@ -393,7 +393,7 @@ module _ {φ : Formula} (one : OneTimed φ) (rule log : List ℕ) (asked : Asked
         open-settled = λ i there open′. (settles i there open′ true, settles i there open′ false);
         exactly-when = λ i there. (
           λ open′. (settling-record one log i true, settling-record one log i false, settles i there open′ true, settles i there open′ false),
-          λ both. ⊎-elim (λ open′. open′) (λ h. absurd (not-both i h both)) (le-or-lt (answered false rule log (records log)) i),
+          λ both. ⊎-elim (λ open′. open′) (λ h. absurd (not-both i h both)) (le-or-lt (answered-number false rule log (records log)) i),
         );
         answered-alike = λ i h more longer. alike log more (asked .untouched) longer rule i h;
         trimmed-counts = λ h log′ brought. brought .brings .size ∙ omega (arith, asked .untouched .undropped);
@@ -405,7 +405,7 @@ module _ {φ : Formula} (one : OneTimed φ) (rule log : List ℕ) (asked : Asked
 in-order : (log : List ℕ) → malformed log ≡ false → dropped log ≡ 0 → falls (records-of log) ≡ false → Untouched log
 in-order log well none order = record { well-formed = well; undropped = none; never-falls = positions-keep false (records-of log) (never-falls (records-of log) order) }
 
-asked-7 : Asked until-1 (rule-of (until 0 2 (letter 0) (letter 1))) log-7
+asked-7 : Conditions until-1 (rule-of (until 0 2 (letter 0) (letter 1))) log-7
 unfolding event-set letter-in postfix body encoded first-entries offset push-kind read header-refusal entries-refusal any
 asked-7 =
     record {
@@ -418,7 +418,7 @@ asked-7 =
       no-letter-31 = refl;
     }
 
-asked-5 : Asked next-5 (rule-of (next 1 1 (letter 0))) log-5
+asked-5 : Conditions next-5 (rule-of (next 1 1 (letter 0))) log-5
 unfolding event-set letter-in postfix body encoded first-entries offset push-kind read header-refusal entries-refusal any
 asked-5 =
     record {

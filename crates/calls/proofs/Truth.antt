@@ -25,12 +25,12 @@ use Rattle.verdicts.specs.Counts.{counts, noes-in}
 use Rattle.verdicts.specs.Tally.{beyond, tally-refusal}
 use Rattle.verdicts.proofs.Bytes.{byte-of-one, byte-of-lt}
 use Rattle.rule.specs.Entries.{version}
-use Rattle.emit.specs.Verdicts.{formulas-of, answers-of, columns, verdict, first-records, answered}
+use Rattle.emit.specs.Verdicts.{formulas-of, answers-of, columns, verdict, first-records, answered-number}
 use Rattle.emit.proofs.Meaning.{length-answers}
 use Rattle.monitor.specs.Summary.{counts-of}
 use Rattle.monitor.proofs.Meaning.{most-few, rule-reads, few-columns}
 use Rattle.monitor.proofs.VerdictBytes.{length-verdicts, verdict-at}
-use Rattle.calls.specs.Calls.{Untouched, Call, given-by, brought-by, closed-by, before-closing, laid, Calls, Says, Demand2}
+use Rattle.calls.specs.Calls.{Untouched, Call, given-by, brought-by, closed-by, before-closing, laid, Calls, ByteSays, Demand2}
 use Rattle.calls.specs.Calls.OneCall.{refused, accepted as accepted-call, trimming}
 use Rattle.calls.specs.Calls.Calls.{opened, and-then}
 use Rattle.calls.proofs.Lending.{given-settled}
@@ -45,7 +45,7 @@ abbrev Settles : (Holds : Formula → Type 0) → ℕ → Log → Type 0
 Settles Holds i K = (φ : Formula) → i < settled-to φ K → (sat φ K i ≡ true) ↔ Holds φ
 
 -- at a settled position the byte says of each formula what the formula itself says there
-says : (Holds : Formula → Type 0) (fs : List Formula) (K : Log) (i : ℕ) → i < joint-progress fs K → Settles Holds i K → Says Holds fs (verdict fs K i)
+says : (Holds : Formula → Type 0) (fs : List Formula) (K : Log) (i : ℕ) → i < joint-progress fs K → Settles Holds i K → ByteSays Holds fs (verdict fs K i)
 unfolding joint-progress byte-of
 says Holds [] K i h each = refl
 says Holds (φ ∷ []) K i h each = rw (byte-of-one (sat φ K i)) (Iff·trans (number-iff (sat φ K i)) (each φ (omega arith)))
@@ -55,7 +55,7 @@ says Holds (φ ∷ (ψ ∷ fs)) K i h each =
     let first : (number (sat φ K i) + 2 * rest) % 2 ≡ number (sat φ K i) = omega arith in
     let others : rest ≡ (number (sat φ K i) + 2 * rest) / 2 = omega arith in (
       rw first (Iff·trans (number-iff (sat φ K i)) (each φ (omega arith))),
-      subst (Says Holds (ψ ∷ fs)) others (says Holds (ψ ∷ fs) K i (omega arith) each),
+      subst (ByteSays Holds (ψ ∷ fs)) others (says Holds (ψ ∷ fs) K i (omega arith) each),
     )
 
 no-bit-beyond : (fs : List Formula) (K : Log) (i : ℕ) → verdict fs K i < 2 ^ columns fs
@@ -66,7 +66,7 @@ no-bit-beyond fs K i =
 module _ (rule log : List ℕ) (untouched : Untouched log) (h : List Call) (point : List ℕ) (calls : Calls rule log h point) where
   -- byte i is the verdict at position i, which is settled
   pub byte-at : (i : ℕ) → i < length (laid h) →
-      (i < answered (closed-by h) rule log (brought-by h)) ×
+      (i < answered-number (closed-by h) rule log (brought-by h)) ×
       (getD (laid h) i 0 ≡ verdict (formulas-of rule) (first-records (closed-by h) log (brought-by h)) i)
   byte-at i l =
       let inv = invariant rule log untouched calls in
@@ -77,10 +77,10 @@ module _ (rule log : List ℕ) (untouched : Untouched log) (h : List Call) (poin
       (omega arith, ap (λ s. getD s i 0) (inv .bytes) ∙ verdict-at fs L (given-by h) i (omega arith))
 
   byte-says : (Holds : Formula → Type 0) (i : ℕ) (l : i < length (laid h)) → Settles Holds i (first-records (closed-by h) log (brought-by h)) →
-      Says Holds (formulas-of rule) (getD (laid h) i 0)
+      ByteSays Holds (formulas-of rule) (getD (laid h) i 0)
   byte-says Holds i l each =
       let (answered-there, is) = byte-at i l in
-      subst (Says Holds (formulas-of rule)) (sym is)
+      subst (ByteSays Holds (formulas-of rule)) (sym is)
       (says Holds (formulas-of rule) (first-records (closed-by h) log (brought-by h)) i answered-there each)
 
 nothing-left : (byte n : ℕ) → byte < 2 ^ n → ltb 0 (byte / 2 ^ n) ≡ false
@@ -126,10 +126,10 @@ laid-before (c ∷ older) i l = by (c .closing) l (laid-before older i)
 
 module _ (rule log : List ℕ) (untouched : Untouched log) (h : List Call) (point : List ℕ) (calls : Calls rule log h point) where
   early-says : (Holds : Formula → Type 0) (i : ℕ) (l : i < length (laid (before-closing h))) →
-      Settles Holds i (first-records false log (brought-by (before-closing h))) → Says Holds (formulas-of rule) (getD (laid h) i 0)
+      Settles Holds i (first-records false log (brought-by (before-closing h))) → ByteSays Holds (formulas-of rule) (getD (laid h) i 0)
   early-says Holds i l each =
       let (earlier, before) = calls-before calls in
-      subst (Says Holds (formulas-of rule)) (sym (laid-before h i l .1))
+      subst (ByteSays Holds (formulas-of rule)) (sym (laid-before h i l .1))
       (byte-says rule log untouched (before-closing h) earlier before Holds i l
       (subst (λ b. Settles Holds i (first-records b log (brought-by (before-closing h)))) (sym (open-before h)) each))
 

@@ -13,7 +13,7 @@ use Rattle.rule.specs.Entries.{version, entries}
 use Rattle.rule.specs.Postfix.{size, formula, start}
 use Rattle.rule.specs.Encoding.{rule-of}
 use Rattle.rule.specs.Refusal.{refusal}
-use Rattle.emit.specs.Verdicts.{formulas-of, verdict, answered}
+use Rattle.emit.specs.Verdicts.{formulas-of, verdict, answered-number}
 use Rattle.calls.specs.Calls.{Untouched, Call, brought-by, closed-by, laid, Calls}
 
 -- OVER THE DEFINITIONS, for any list of formulas and any log: bit k of the verdict at each position is the verdict of formula k as the only
@@ -51,7 +51,7 @@ Comparable true true n n′ = n ≡ n′
 abbrev pub SameWhereComparable : (rule log : List ℕ) (k : ℕ) (h h′ : List Call) → Type 0
 SameWhereComparable rule log k h h′ =
     (closed closed′ : Bool) → Comparable closed closed′ (brought-by h) (brought-by h′) →
-    (i : ℕ) → i < answered closed (rule-alone rule k) log (brought-by h) → i < answered closed′ (rule-alone rule k) log (brought-by h′) →
+    (i : ℕ) → i < answered-number closed (rule-alone rule k) log (brought-by h) → i < answered-number closed′ (rule-alone rule k) log (brought-by h′) →
     i < length (laid h) → i < length (laid h′) → SameVerdict k h h′ i
 
 -- formula k of an accepted rule, in a run of its own
@@ -62,7 +62,7 @@ pub record Alone (rule : List ℕ) (k : ℕ) : Type 0 where
   pub accepted : refusal (rule-alone rule k) ≡ 0
   pub reads : formulas-of (rule-alone rule k) ≡ formula (formulas-of rule) k ∷ []
   -- it has answered each position that has a verdict in the run of all, on every log, closed or open
-  pub no-fewer : (closed : Bool) (log : List ℕ) (n : ℕ) → answered closed rule log n ≤ answered closed (rule-alone rule k) log n
+  pub no-fewer : (closed : Bool) (log : List ℕ) (n : ℕ) → answered-number closed rule log n ≤ answered-number closed (rule-alone rule k) log n
   -- with the same verdict
   pub same : (log : List ℕ) → Untouched log → (h : List Call) (point : List ℕ) → Calls rule log h point →
       (h′ : List Call) (point′ : List ℕ) → Calls (rule-alone rule k) log h′ point′ → SameVerdicts k h h′

@@ -18,13 +18,13 @@ use Rattle.verdicts.specs.Counts.{noes-in}
 use Rattle.rule.specs.Entries.{version, count, decoded}
 use Rattle.rule.specs.Postfix.{formulas}
 use Rattle.rule.specs.Measure.{measured}
-use Rattle.emit.specs.Verdicts.{formulas-of, columns, first-records, wanted-after, answered, all-verdicts}
+use Rattle.emit.specs.Verdicts.{formulas-of, columns, first-records, wanted-after, answered-number, all-verdicts}
 use Rattle.monitor.specs.Open.{done, Opens}
 use Rattle.monitor.specs.Open.{Answer as OpenAnswer}
 use Rattle.monitor.specs.Resume.{Answer, gave, refused-with, Resumes}
 use Rattle.monitor.specs.Trim.{Trims}
 use Rattle.monitor.specs.Trim.{Answer as TrimAnswer}
-use Rattle.monitor.specs.Summary.{counted, Told, Summarizes}
+use Rattle.monitor.specs.Summary.{counted, TellsNoes, Summarizes}
 use Rattle.monitor.specs.Summary.{Answer as SummaryAnswer}
 use Rattle.monitor.specs.Status.{Facts, known}
 use Rattle.monitor.specs.Status.{told as known-told, answer as standing-of}
@@ -131,8 +131,8 @@ pub data Calls (rule log : List ℕ) : List Call → List ℕ → Type 0 where
 
 -- "Each accepted call's c and its 'more' or 'caught up' are as above, with this d and the A of the untouched records up to its last."
 pub record AsPromised (rule log : List ℕ) (d : ℕ) (c : Call) : Type 0 where
-  pub count : c .count ≡ min (answered (c .closing) rule log (c .records) - d) (c .room)
-  pub more : c .more ≡ ltb (d + c .count) (answered (c .closing) rule log (c .records))
+  pub count : c .count ≡ min (answered-number (c .closing) rule log (c .records) - d) (c .room)
+  pub more : c .more ≡ ltb (d + c .count) (answered-number (c .closing) rule log (c .records))
   pub bytes : length (c .bytes) ≡ c .count
 
 unfoldable pub Each : (rule log : List ℕ) → List Call → Type 0
@@ -154,17 +154,17 @@ pub record OneRun (closing : Bool) (rule log : List ℕ) (n : ℕ) (a : Answer) 
   pub brought : List ℕ
   pub brings : Brings log 0 n brought
   pub sheet : List ℕ
-  pub room : length sheet ≡ answered closing rule log n
+  pub room : length sheet ≡ answered-number closing rule log n
   pub left : List ℕ
   pub resumes : Resumes closing rule brought fresh sheet a left sheet′
 
 -- What a verdict byte says, where Holds says which formulas hold. Of an empty rule, "every position is yes"; of several formulas, "bit k
 -- of the verdict byte is formula k's answer, in rule order from 0" (document 02, paper 8): the lowest bit is the first formula's, and the
 -- bits above it say the same of the others.
-abbrev pub Says : (Formula → Type 0) → List Formula → ℕ → Type 0
-Says Holds [] byte = byte ≡ 1
-Says Holds (φ ∷ []) byte = (byte ≡ 1) ↔ Holds φ
-Says Holds (φ ∷ (ψ ∷ fs)) byte = ((byte % 2 ≡ 1) ↔ Holds φ) × Says Holds (ψ ∷ fs) (byte / 2)
+abbrev pub ByteSays : (Formula → Type 0) → List Formula → ℕ → Type 0
+ByteSays Holds [] byte = byte ≡ 1
+ByteSays Holds (φ ∷ []) byte = (byte ≡ 1) ↔ Holds φ
+ByteSays Holds (φ ∷ (ψ ∷ fs)) byte = ((byte % 2 ≡ 1) ↔ Holds φ) × ByteSays Holds (ψ ∷ fs) (byte / 2)
 
 -- DEMAND 2, for every list. "Verdicts are those of metric temporal logic as documents 000 and 002 define it, on the log and on
 -- every accepted lengthening of it"
@@ -176,13 +176,13 @@ pub record Demand2 (rule log : List ℕ) (h : List Call) : Type 0 where
   -- byte i of those before the first closing says of each formula whether it holds at position i of the records brought, however they
   -- are lengthened: by any number of records, none among them,
   pub on-log : (L : Log) → Continues (first-records false log (brought-by (before-closing h))) L → NeverFalls L →
-      (i : ℕ) → i < length (laid (before-closing h)) → Says (λ φ. HoldsIn L φ i) (formulas-of rule) (getD (laid h) i 0)
+      (i : ℕ) → i < length (laid (before-closing h)) → ByteSays (λ φ. HoldsIn L φ i) (formulas-of rule) (getD (laid h) i 0)
   -- or to an infinite stream
   pub on-stream : (σ : Stream) → Begins σ (first-records false log (brought-by (before-closing h))) → StreamNeverFalls σ →
-      (i : ℕ) → i < length (laid (before-closing h)) → Says (λ φ. HoldsOn σ φ i) (formulas-of rule) (getD (laid h) i 0)
+      (i : ℕ) → i < length (laid (before-closing h)) → ByteSays (λ φ. HoldsOn σ φ i) (formulas-of rule) (getD (laid h) i 0)
   -- "A closing's verdicts are compared with that log alone": every byte, with the records that the last accepted call brought
   pub as-it-ends : (i : ℕ) → i < length (laid h) →
-      Says (λ φ. HoldsIn (first-records (closed-by h) log (brought-by h)) φ i) (formulas-of rule) (getD (laid h) i 0)
+      ByteSays (λ φ. HoldsIn (first-records (closed-by h) log (brought-by h)) φ i) (formulas-of rule) (getD (laid h) i 0)
 
 -- what `status` tells after the accepted calls h
 abbrev pub facts-after : (rule log : List ℕ) → List Call → Facts
@@ -255,13 +255,13 @@ pub record Demand3 (rule log : List ℕ) (h : List Call) (point : List ℕ) : Ty
   pub call-keeps : (p p′ : List ℕ) (h′ : List Call) → OneCall rule log h p h′ p′ → Keeps rule p p′
   -- 6. one run "writes just these", and so the bytes of 1 are its first bytes
   pub one-run : (closing : Bool) (n : ℕ) (a : Answer) (sheet′ : List ℕ) → OneRun closing rule log n a sheet′ →
-      (a ≡ gave (answered closing rule log n) false) × (sheet′ ≡ all-verdicts closing rule log n)
+      (a ≡ gave (answered-number closing rule log n) false) × (sheet′ ≡ all-verdicts closing rule log n)
   -- 7. of document 02, papers 7 and 8: `summary` of the point, whole in the words lent, is not refused, and gives of each formula "what
   -- tally and a scan give over all verdict bytes written from that point, laid end to end"
   pub summary : (p : List ℕ) → Lends point p → length point ≤ length p →
       (nos latest : List ℕ) (a : SummaryAnswer) (nos′ latest′ : List ℕ) → Summarizes rule p nos latest a nos′ latest′ →
       (a ≡ counted (columns (formulas-of rule))) ×
-      Told 0 (columns (formulas-of rule)) (λ k. noes-in k (laid h) (length (laid h))) nos latest nos′ latest′
+      TellsNoes 0 (columns (formulas-of rule)) (λ k. noes-in k (laid h) (length (laid h))) nos latest nos′ latest′
   -- 8. `status` of the point, whole in the words lent, is not refused: given is the sum of c, seen and closed are those of the last
   -- accepted call, and wanted is the record from which `BringsAfter` asks the log to stand
   pub status : (p : List ℕ) → Lends point p → length point ≤ length p →

@@ -21,10 +21,10 @@ use Rattle.rule.specs.Refusal.{header-refusal, entries-refusal, refusal}
 use Rattle.trace.specs.Format.{time-at, skips-of, records-of, total-records, malformed}
 use Rattle.trace.specs.Positions.{is-service, passing, spot, positions}
 use Rattle.trace.specs.Order.{falls}
-use Rattle.trace.specs.Making.{header, record-bytes}
+use Rattle.trace.specs.Making.{log-header, record-bytes}
 use Rattle.verdicts.specs.Bytes.{byte-of}
 use Rattle.emit.specs.Verdicts.{formulas-of, verdicts}
-use Rattle.emit.specs.Verdicts.{first-records, answered, all-verdicts}
+use Rattle.emit.specs.Verdicts.{first-records, answered-number, all-verdicts}
 use Rattle.monitor.specs.Examples.{event-set, same}
 use Rattle.calls.specs.Sooner.{records, settling-record}
 
@@ -33,7 +33,7 @@ abbrev at : (time : ℕ) → List ℕ → List ℕ
 at time letters = record-bytes time (event-set letters)
 
 abbrev log-of-version : (version : ℕ) → List ℕ → List ℕ
-log-of-version version bytes = header version ++ bytes
+log-of-version version bytes = log-header version ++ bytes
 
 -- the conditions of the paper, in the order of `Asked`
 abbrev met : (φ : Formula) (log : List ℕ) → List Bool
@@ -75,7 +75,7 @@ pub record Row (φ : Formula) : Type 0 where
 unfoldable pub settled : {φ : Formula} → Row φ → Bool
 settled {φ} r =
     agree (met φ (r .log)) (true ∷ true ∷ true ∷ true ∷ true ∷ true ∷ [])
-    && (eqb (answered false (rule-of φ) (r .log) (records (r .log))) (r .answered-before)
+    && (eqb (answered-number false (rule-of φ) (r .log) (records (r .log))) (r .answered-before)
     && (leb (r .answered-before) (r .position)
     && (same (settling-record (r .one) (r .log) (r .position) true) (r .with-letter)
     && (same (settling-record (r .one) (r .log) (r .position) false) (r .without)
@@ -168,11 +168,11 @@ every-row = (refl, refl, refl, refl, refl)
 unfoldable pub fails : {φ : Formula} → OneTimed φ → (log : List ℕ) (conditions : List Bool) (with-letter without : Bool) → Bool
 fails {φ} one log conditions with-letter without =
     agree (met φ log) conditions
-    && (eqb (answered false (rule-of φ) log (records log)) 0
+    && (eqb (answered-number false (rule-of φ) log (records log)) 0
     && agree (settles true ∷ settles false ∷ []) (with-letter ∷ without ∷ []))
   where
     settles : Bool → Bool
-    settles holds = accepted (longer one log 0 holds) && ltb 0 (answered false (rule-of φ) (longer one log 0 holds) (suc (records log)))
+    settles holds = accepted (longer one log 0 holds) && ltb 0 (answered-number false (rule-of φ) (longer one log 0 holds) (suc (records log)))
 
 -- behind a service record at second 9 no record comes within 3 seconds; 3,600 seconds after 4,294,963,696 there is no time; a record with
 -- letter 31 is no position, and settles nothing

@@ -9,7 +9,7 @@ use mathlib.Core.List.{List, [], _∷_, _++_}
 use lib.ListN.{length, getD, take}
 use Rattle.mtl.specs.Formula.{Formula}
 use Rattle.mtl.specs.Log.{Log}
-use Rattle.sooner.specs.Sooner.{OneTimed, letter-of, letter-in, latest, settling-time}
+use Rattle.sooner.specs.Sooner.{OneTimed, timed-letter, letter-in, latest, settling-time}
 use Rattle.bits.specs.Packed.{number}
 use Rattle.rule.specs.Refusal.{refusal}
 use Rattle.trace.specs.Format.{record-count, time-at, skips-of, dropped, records-of, total-records, malformed}
@@ -17,7 +17,7 @@ use Rattle.trace.specs.Positions.{is-service}
 use Rattle.trace.specs.Order.{falls}
 use Rattle.trace.specs.Making.{record-bytes}
 use Rattle.emit.specs.Verdicts.{formulas-of}
-use Rattle.emit.specs.Verdicts.{first-records, answered, all-verdicts}
+use Rattle.emit.specs.Verdicts.{first-records, answered-number, all-verdicts}
 use Rattle.monitor.specs.Resume.{Answer, gave, Resumes}
 use Rattle.calls.specs.Calls.{Call, closed-by, laid, Lends}
 use Rattle.calls.specs.Calls.{Untouched, BringsAfter, Calls}
@@ -30,7 +30,7 @@ abbrev pub positions-of : List ℕ → Log
 positions-of log = first-records false log (records log)
 
 -- THE CONDITIONS, and beside each what fails without it
-pub record Asked {φ : Formula} (one : OneTimed φ) (rule log : List ℕ) : Type 0 where
+pub record Conditions {φ : Formula} (one : OneTimed φ) (rule log : List ℕ) : Type 0 where
   pub accepted : refusal rule ≡ 0
   -- "a rule that is one next or until over letters": of next[0,inf] (e0 or not e0) the last position is open, and every record settles it yes
   pub rule-is : formulas-of rule ≡ φ ∷ []
@@ -67,7 +67,7 @@ pub record Accepts (rule log r : List ℕ) : Type 0 where
 pub record Settles (rule log r : List ℕ) (i byte : ℕ) : Type 0 where
   pub accepts : Accepts rule log r
   -- it is answered then, and this is its byte among the verdicts
-  pub settled : i < answered false rule (log ++ r) (suc (records log))
+  pub settled : i < answered-number false rule (log ++ r) (suc (records log))
   pub says : getD (all-verdicts false rule (log ++ r) (suc (records log))) i 0 ≡ byte
   -- so it stands among the bytes of every list, once the resume that brings the record has caught up: they are all of these
   pub laid-there : (h : List Call) (point : List ℕ) → Calls rule log h point →
@@ -81,22 +81,22 @@ SettledBothWays rule log i = (yes no : List ℕ) × Settles rule log yes i 1 × 
 
 -- the record that settles position i: with the letter that can make the formula true, or with no letter
 abbrev pub settling-record : {φ : Formula} → OneTimed φ → (log : List ℕ) (i : ℕ) (holds : Bool) → List ℕ
-settling-record one log i holds = record-bytes (settling-time one (positions-of log) i) (number holds * 2 ^ letter-of one)
+settling-record one log i holds = record-bytes (settling-time one (positions-of log) i) (number holds * 2 ^ timed-letter one)
 
 -- PAPER 14, for every rule and every log that meet the conditions
 pub record ToldSooner {φ : Formula} (one : OneTimed φ) (rule log : List ℕ) : Type 0 where
   -- an open position is settled yes by one record, and no by another of the same time
-  pub open-settled : (i : ℕ) → i < positions-of log .size → answered false rule log (records log) ≤ i →
+  pub open-settled : (i : ℕ) → i < positions-of log .size → answered-number false rule log (records log) ≤ i →
       Settles rule log (settling-record one log i true) i 1 × Settles rule log (settling-record one log i false) i 0
   -- a position is open exactly when two lengthenings settle it differently
-  pub exactly-when : (i : ℕ) → i < positions-of log .size → (answered false rule log (records log) ≤ i) ↔ SettledBothWays rule log i
+  pub exactly-when : (i : ℕ) → i < positions-of log .size → (answered-number false rule log (records log) ≤ i) ↔ SettledBothWays rule log i
   -- an answered position has the same byte on every longer log, by any number of records
-  pub answered-alike : (i : ℕ) → i < answered false rule log (records log) → (more : List ℕ) → Untouched (log ++ more) →
-      (i < answered false rule (log ++ more) (records (log ++ more))) ×
+  pub answered-alike : (i : ℕ) → i < answered-number false rule log (records log) → (more : List ℕ) → Untouched (log ++ more) →
+      (i < answered-number false rule (log ++ more) (records (log ++ more))) ×
       (getD (all-verdicts false rule (log ++ more) (records (log ++ more))) i 0 ≡ getD (all-verdicts false rule log (records log)) i 0)
   -- of a log that was trimmed it is said through the untouched log for which it stands: "dropped ones included", and no open position is
   -- in a record that was dropped
   pub trimmed-counts : (h : List Call) (log′ : List ℕ) → BringsAfter rule log h (records log) log′ → total-records log′ ≡ total-records log
   pub none-dropped : (h : List Call) (point : List ℕ) → Calls rule log h point → closed-by h ≡ false →
       (log′ : List ℕ) → BringsAfter rule log h (records log) log′ →
-      (i : ℕ) → i < positions-of log .size → answered false rule log (records log) ≤ i → dropped log′ ≤ positions-of log .place i
+      (i : ℕ) → i < positions-of log .size → answered-number false rule log (records log) ≤ i → dropped log′ ≤ positions-of log .place i

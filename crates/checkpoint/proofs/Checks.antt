@@ -15,13 +15,13 @@ use Rattle.mtl.specs.Satisfaction.{any}
 use Rattle.mtl.proofs.Bounded.{and-iff, leb-iff, any-false-iff}
 use Rattle.rule.specs.declared.Entry.{Entry}
 use Rattle.rule.specs.Entries.{version, count, decoded, entry}
-use Rattle.rule.specs.Refusal.{first, before, refusal}
+use Rattle.rule.specs.Refusal.{first, or-else, refusal}
 use Rattle.rule.proofs.Headers.{first-zero, or-left, or-right, Decoded, before-none, measured-once}
 use Rattle.rule.specs.declared.refusals.Header.{Header}
 use Rattle.rule.specs.declared.Measured.{Measured}
 use Rattle.rule.specs.declared.Measured.the-variants.{Words as Weighed}
 use Rattle.rule.specs.declared.Measured.the-variants.{Refused as Unmeasured}
-use Rattle.rule.specs.Postfix.{most}
+use Rattle.rule.specs.Postfix.{most-formulas}
 use Rattle.rule.specs.Words.{header-words, offset}
 use Rattle.rule.specs.Measure.{measured}
 use Rattle.rule.specs.Measure.{answer as weighing}
@@ -33,7 +33,7 @@ use Rattle.trace.specs.Order.{disordered}
 use Rattle.trace.specs.View.{records-from}
 use Rattle.trace.specs.Making.{trimmed}
 use Rattle.trace.proofs.Laws.{well-formed-iff}
-use Rattle.checkpoint.specs.Checkpoint.{given, seen, last, closed-with, log-kind, first-wanted, no-count, after-latest, need, foreign, block-at, block-outside, block-in-range, waiting-in-range, room, noes-outside, closed-in-range, kind-in-range, outside, header-in-range}
+use Rattle.checkpoint.specs.Checkpoint.{given, seen, last, closed-with, log-kind, first-wanted, no-count, after-latest, need, foreign, block-at, block-outside, block-in-range, waiting-in-range, room, noes-outside, closed-in-range, kind-in-range, words-outside, header-in-range}
 use Rattle.verdicts.specs.Counts.{noes-in-range}
 use Rattle.checkpoint.specs.Refusal.{open-refusal, resumes-closed, closes-more, other-version, point-refusal, trimming-refusal, words-refusal, summary-refusal}
 use Rattle.checkpoint.specs.Code.{sized-of, sized-number, checked-by, checked-number, sized-by, Covers, own-checked}
@@ -49,7 +49,7 @@ passed-over n bad other e = ap (λ (b : Bool). first n b other) e
 
 -- n is the number of a refusal: of 1 to 9 where one applies, else `other`
 pub record Met (rule p : List ℕ) (other n : ℕ) : Type 0 where
-  pub number : n ≡ before (open-refusal rule (length p)) other
+  pub number : n ≡ or-else (open-refusal rule (length p)) other
   pub some : 0 < n
 
 -- refusals 1 to 9
@@ -61,13 +61,13 @@ stopped rule p other r m n sized stops-at numbered =
     let is : n ≡ m = numbered ∙ ap sized-number stops-at in
     let number : open-refusal rule (length p) ≡ n =
     sym (sized-refusal rule (length p)) ∙ ap sized-number (sym sized) ∙ sym numbered in
-    let met-first : before n other ≡ n = rw (ne-eqb n 0 (λ e. omega arith)) in
-    record { number = sym (ap (λ (k : ℕ). before k other) number ∙ met-first); some = omega arith }
+    let met-first : or-else n other ≡ n = rw (ne-eqb n 0 (λ e. omega arith)) in
+    record { number = sym (ap (λ (k : ℕ). or-else k other) number ∙ met-first); some = omega arith }
 
-pub not-stopped : (rule p : List ℕ) (other w : ℕ) → Words w ≡ sized-of rule (length p) → before (open-refusal rule (length p)) other ≡ other
+pub not-stopped : (rule p : List ℕ) (other w : ℕ) → Words w ≡ sized-of rule (length p) → or-else (open-refusal rule (length p)) other ≡ other
 not-stopped rule p other w sized =
     let none : open-refusal rule (length p) ≡ 0 = sym (sized-refusal rule (length p)) ∙ ap sized-number (sym sized) in
-    ap (λ (k : ℕ). before k other) none
+    ap (λ (k : ℕ). or-else k other) none
 
 -- the number that the check's answer stands for is the refusal's
 checked-is : (number : ℕ) → checked-number (checked-by number) ≡ number
@@ -105,7 +105,7 @@ pub record Passes (rule log p : List ℕ) : Type 0 where
   pub wanted : first-wanted p ≤ seen p
   pub undropped : dropped log ≤ first-wanted p
   pub no-fewer : seen p ≤ total-records log
-  pub counted : (k : ℕ) → k < most (version rule) → no-count p k ≤ 1000000
+  pub counted : (k : ℕ) → k < most-formulas (version rule) → no-count p k ≤ 1000000
   pub held : (k : ℕ) → k < count rule → word p (block-at (header-words (version rule)) (decoded rule) k + 12) ≤ 64
   pub records : total-records log ≤ 1000000
 
@@ -143,16 +143,16 @@ passes closing rule log p none =
     let t = decoded rule in
     let n = count rule in
     let tenth = first-zero 9 (foreign v t n p) _ none in
-    let eleventh = first-zero 10 (outside v t n p) _ (tenth .1) in
+    let eleventh = first-zero 10 (words-outside v t n p) _ (tenth .1) in
     let twentieth = first-zero 19 (resumes-closed closing (closed-with p)) _ (eleventh .1) in
     let twelfth = first-zero 11 (malformed log) _ (twentieth .1) in
     let last = first-zero 21 (other-version log (log-kind p)) _ (twelfth .1) in
     let thirteenth = first-zero 12 (ltb (total-records log) (seen p)) _ (last .1) in
     let repeated = first-zero 20 (closes-more closing (closed-with p) (total-records log)) _ (thirteenth .1) in
     let missing = first-zero 23 (ltb (first-wanted p) (dropped log)) _ (repeated .1) in
-    let (few, wanted, noes) = header-given (most v) p
-    (not-false (header-in-range (most v) p) (or-left (negate (header-in-range (most v) p)) (any n (block-outside base t p)) (eleventh .0))) in
-    let blocks = any-false-iff n (block-outside base t p) .0 (or-right (negate (header-in-range (most v) p)) (any n (block-outside base t p)) (eleventh .0)) in
+    let (few, wanted, noes) = header-given (most-formulas v) p
+    (not-false (header-in-range (most-formulas v) p) (or-left (negate (header-in-range (most-formulas v) p)) (any n (block-outside base t p)) (eleventh .0))) in
+    let blocks = any-false-iff n (block-outside base t p) .0 (or-right (negate (header-in-range (most-formulas v) p)) (any n (block-outside base t p)) (eleventh .0)) in
     record {
       given = few;
       wanted = wanted;
@@ -168,7 +168,7 @@ pub room-to-trim : (version : ℕ) (t : List Entry) (n lent : ℕ) (log p : List
     length (trimmed log (first-wanted p)) ≤ lent
 room-to-trim version t n lent log p none =
     let tenth = first-zero 9 (foreign version t n p) _ none in
-    let eleventh = first-zero 10 (outside version t n p) _ (tenth .1) in
+    let eleventh = first-zero 10 (words-outside version t n p) _ (tenth .1) in
     let twelfth = first-zero 11 (malformed log) _ (eleventh .1) in
     let other = first-zero 21 (other-version log (log-kind p)) _ (twelfth .1) in
     let plain = first-zero 22 (negate (skips-of log)) _ (other .1) in

@@ -13,7 +13,7 @@ use Rattle.mtl.specs.Satisfaction.{any}
 use Rattle.rule.specs.declared.Entry.{Entry}
 use Rattle.rule.specs.Entries.{entry}
 use Rattle.rule.specs.Words.{own, header-words, offset}
-use Rattle.rule.specs.Postfix.{most}
+use Rattle.rule.specs.Postfix.{most-formulas}
 use Rattle.rule.proofs.Spans.{own-least, offset-mono}
 use Rattle.blocks.specs.Block.{word, cells-of}
 use Rattle.checkpoint.specs.Checkpoint.{block-at}
@@ -32,7 +32,7 @@ in-block base t ws k i =
     getD-drop (offset t k) (drop base ws) i 0 ∙ getD-drop base ws (offset t k + i) 0 ∙ ap (word ws) (omega arith)
 
 -- the counts of no and the latest of each formula lie among the checkpoint's own words
-pub noes-within : (version : ℕ) → 8 + most version + most version ≤ header-words version
+pub noes-within : (version : ℕ) → 8 + most-formulas version + most-formulas version ≤ header-words version
 noes-within version = go (eqb version 1)
   where
     go : (b : Bool) → 8 + cond b 1 8 + cond b 1 8 ≤ cond b 16 24
@@ -79,7 +79,7 @@ module _ {base : ℕ} {t : List Entry} {n at k : ℕ} (walk : Walk base t n at k
 
 -- a walk that does not go on has passed all of them
 pub walk-ends : {base : ℕ} {t : List Entry} {n at k : ℕ} → Walk base t n at k → (k < n → ⊥) → k ≡ n
-walk-ends walk h = let most = walk .most in omega arith
+walk-ends walk h = let most-formulas = walk .most in omega arith
 
 pub any-more : (n : ℕ) (p : ℕ → Bool) → any (n + 1) p ≡ any n p || p n
 unfolding any

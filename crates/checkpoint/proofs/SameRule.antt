@@ -16,8 +16,8 @@ use Rattle.rule.specs.declared.Entry.{Entry}
 use Rattle.rule.specs.Bytes.{byte, word16, word32}
 use Rattle.rule.specs.Entries.{version, count, decoded, entry, entry-of}
 use Rattle.rule.specs.Words.{header-words, offset, own}
-use Rattle.rule.specs.Refusal.{marked, unmarked, other-version, malformed, header-refusal, entries-refusal, refusal}
-use Rattle.rule.specs.Accepted.{InRange}
+use Rattle.rule.specs.Refusal.{marked, unmarked, unknown-version, wrong-size, header-refusal, entries-refusal, refusal}
+use Rattle.rule.specs.Accepted.{FieldsInRange}
 use Rattle.rule.proofs.Headers.{first-zero, before-none, or-left, or-right}
 use Rattle.rule.proofs.Decoded.{decoded-at}
 use Rattle.rule.proofs.Acceptance.{accepted}
@@ -50,8 +50,8 @@ header-of : (s : List ℕ) → header-refusal s ≡ 0 → Header s
 unfolding header-refusal
 header-of s e =
     let a = first-zero 0 (unmarked s) _ e in
-    let b = first-zero 1 (other-version s) _ (a .1) in
-    let d = first-zero 3 (malformed s) 0 (b .1) in
+    let b = first-zero 1 (unknown-version s) _ (a .1) in
+    let d = first-zero 3 (wrong-size s) 0 (b .1) in
     let marks = and-iff (eqb (byte s 0) 0x4B && eqb (byte s 1) 0x52) (eqb (byte s 2) 0x4C) .0
     (not-false (marked s) (or-right (ltb (length s) 8) (negate (marked s)) (a .0))) in
     let two = and-iff (eqb (byte s 0) 0x4B) (eqb (byte s 1) 0x52) .0 (marks .0) in
@@ -73,7 +73,7 @@ header-accepted s e = before-none (header-refusal s) (entries-refusal (version s
 -- WHAT A COPY IS
 
 -- an entry in its ranges, by its copy
-same-entry : (e f : Entry) → InRange e → InRange f → copy-head e ≡ copy-head f → copy-ends e ≡ copy-ends f → e ≡ f
+same-entry : (e f : Entry) → FieldsInRange e → FieldsInRange f → copy-head e ≡ copy-head f → copy-ends e ≡ copy-ends f → e ≡ f
 same-entry e f range range′ head ends =
     let letter = range .letter in
     let letter′ = range′ .letter in
@@ -84,7 +84,7 @@ same-entry e f range range′ head ends =
     let high-same : e .high ≡ f .high = omega arith in
     λ i. record { kind = first .0 i; letter = first .1 i; low = low-same i; high = high-same i }
   where
-    below : (e : Entry) → InRange e → e .high < 2 ^ 32
+    below : (e : Entry) → FieldsInRange e → e .high < 2 ^ 32
     below e range = ⊎-elim (λ finite. omega arith) (λ none. let is = none .0 in omega arith) (range .high)
 
 both-equal : (v w x y : ℕ) → negate (eqb v w && eqb x y) ≡ false → (v ≡ w) × (x ≡ y)

@@ -10,7 +10,7 @@ use Rattle.mtl.specs.Satisfaction.{any}
 use Rattle.rule.specs.declared.Entry.{Entry}
 use Rattle.rule.specs.Entries.{version, count, decoded, entry}
 use Rattle.rule.specs.Words.{header-words, offset, words}
-use Rattle.rule.specs.Postfix.{most}
+use Rattle.rule.specs.Postfix.{most-formulas}
 use Rattle.blocks.specs.Block.{word, cells-of}
 use Rattle.verdicts.specs.Counts.{Noes, latest-of, noes-in-range}
 
@@ -52,13 +52,13 @@ first-wanted p = word p 7
 abbrev pub no-count : List ℕ → (k : ℕ) → ℕ
 no-count p k = word p (8 + k)
 
-abbrev pub after-latest : (most : ℕ) → List ℕ → (k : ℕ) → ℕ
-after-latest most p k = word p (8 + most + k)
+abbrev pub after-latest : (most-formulas : ℕ) → List ℕ → (k : ℕ) → ℕ
+after-latest most-formulas p k = word p (8 + most-formulas + k)
 
 -- "A point now stores the count of no among verdicts given and the position of the latest, or none", and since document 02, paper 8,
 -- "one per formula"
-abbrev pub stored-noes : (most : ℕ) → List ℕ → (k : ℕ) → Noes
-stored-noes most p k = record { count = no-count p k; latest = latest-of (after-latest most p k) }
+abbrev pub stored-noes : (most-formulas : ℕ) → List ℕ → (k : ℕ) → Noes
+stored-noes most-formulas p k = record { count = no-count p k; latest = latest-of (after-latest most-formulas p k) }
 
 -- "Words needed": those that `measure` gives
 abbrev pub need : List ℕ → ℕ
@@ -110,8 +110,8 @@ block-outside base t p k =
     && waiting-in-range (entry t k .kind) (seen p) (drop (block-at base t k) p))
 
 -- the count of formula k or its latest is outside its range; where the rule has no formula k, the library leaves both 0
-abbrev pub noes-outside : (most : ℕ) → List ℕ → (k : ℕ) → Bool
-noes-outside most p k = negate (noes-in-range (given p) (no-count p k) (after-latest most p k))
+abbrev pub noes-outside : (most-formulas : ℕ) → List ℕ → (k : ℕ) → Bool
+noes-outside most-formulas p k = negate (noes-in-range (given p) (no-count p k) (after-latest most-formulas p k))
 
 -- after an accepted closing no call that brings more records is accepted, nor one that brings fewer
 abbrev pub closed-in-range : (closed-with seen : ℕ) → Bool
@@ -122,12 +122,12 @@ abbrev pub kind-in-range : (kind seen closed-with : ℕ) → Bool
 kind-in-range kind seen closed-with = leb kind 2 && (ltb 0 kind || (eqb seen 0 && eqb closed-with 0))
 
 -- "at most 1,000,000 records", "d above the records seen"
-abbrev pub header-in-range : (most : ℕ) → List ℕ → Bool
-header-in-range most p =
+abbrev pub header-in-range : (most-formulas : ℕ) → List ℕ → Bool
+header-in-range most-formulas p =
     leb (seen p) 1000000 && leb (given p) (seen p) && ltb (last p) (2 ^ 32) && closed-in-range (closed-with p) (seen p)
     && kind-in-range (log-kind p) (seen p) (closed-with p) && leb (first-wanted p) (seen p)
-    && negate (any most (noes-outside most p))
+    && negate (any most-formulas (noes-outside most-formulas p))
 
 -- refusal 11: "A word of the point is outside its range"
-abbrev pub outside : (version : ℕ) → List Entry → ℕ → List ℕ → Bool
-outside version t n p = negate (header-in-range (most version) p) || any n (block-outside (header-words version) t p)
+abbrev pub words-outside : (version : ℕ) → List Entry → ℕ → List ℕ → Bool
+words-outside version t n p = negate (header-in-range (most-formulas version) p) || any n (block-outside (header-words version) t p)

@@ -7,16 +7,16 @@ use lib.ListN.{length}
 use lib.Dec.{leb, ltb, eqb}
 use Rattle.rule.specs.declared.Entry.{Entry}
 use Rattle.rule.specs.Entries.{version, count, decoded}
-use Rattle.rule.specs.Refusal.{first, before, refusal}
+use Rattle.rule.specs.Refusal.{first, or-else, refusal}
 use Rattle.trace.specs.Format.{skips-of, dropped, total-records, malformed}
 use Rattle.trace.specs.Order.{disordered}
 use Rattle.trace.specs.View.{records-from}
 use Rattle.trace.specs.Making.{trimmed}
-use Rattle.checkpoint.specs.Checkpoint.{seen, last, closed-with, log-kind, kind-of-log, first-wanted, need, foreign, outside}
+use Rattle.checkpoint.specs.Checkpoint.{seen, last, closed-with, log-kind, kind-of-log, first-wanted, need, foreign, words-outside}
 
 -- open, on a checkpoint of so many words: refusals 1 to 9
 abbrev pub open-refusal : List ℕ → ℕ → ℕ
-open-refusal rule lent = before (refusal rule) (first 9 (ltb lent (need rule)) 0)
+open-refusal rule lent = or-else (refusal rule) (first 9 (ltb lent (need rule)) 0)
 
 -- "20 when carry on is given a closed point" (document 02, paper 9)
 abbrev pub resumes-closed : (closing : Bool) (closed-with : ℕ) → Bool
@@ -60,7 +60,7 @@ trimming-refusal lent log p =
 
 -- refusals 10 and 11, of a rule's version and n entries and a checkpoint's words, or what comes after them
 abbrev pub words-refusal : (version : ℕ) → List Entry → ℕ → List ℕ → ℕ → ℕ
-words-refusal version t n p other = first 10 (foreign version t n p) (first 11 (outside version t n p) other)
+words-refusal version t n p other = first 10 (foreign version t n p) (first 11 (words-outside version t n p) other)
 
 -- refusals 10 and 11 and these, of a rule's version and n entries, a log's bytes and a checkpoint's words
 abbrev pub point-refusal : (closing : Bool) (version : ℕ) → List Entry → ℕ → List ℕ → List ℕ → ℕ
@@ -69,15 +69,15 @@ point-refusal closing version t n log p = words-refusal version t n p (log-refus
 -- resume and closing: all refusals, for every rule, log and checkpoint, forged ones included
 abbrev pub resume-refusal : (closing : Bool) (rule log point : List ℕ) → ℕ
 resume-refusal closing rule log point =
-    before (open-refusal rule (length point)) (point-refusal closing (version rule) (decoded rule) (count rule) log point)
+    or-else (open-refusal rule (length point)) (point-refusal closing (version rule) (decoded rule) (count rule) log point)
 
 -- trim, into a buffer of so many bytes
 abbrev pub trim-refusal : (rule log point : List ℕ) (lent : ℕ) → ℕ
 trim-refusal rule log point lent =
-    before (open-refusal rule (length point))
+    or-else (open-refusal rule (length point))
     (words-refusal (version rule) (decoded rule) (count rule) point (trimming-refusal lent log point))
 
 -- summary: "checks 1 to 11", for every rule and checkpoint
 abbrev pub summary-refusal : (rule point : List ℕ) → ℕ
 summary-refusal rule point =
-    before (open-refusal rule (length point)) (words-refusal (version rule) (decoded rule) (count rule) point 0)
+    or-else (open-refusal rule (length point)) (words-refusal (version rule) (decoded rule) (count rule) point 0)

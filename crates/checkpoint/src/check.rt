@@ -15,7 +15,7 @@ ghost use Rattle.checkpoint.specs.Refusal.{closes-more, other-version, r
 ghost use Rattle.trace.specs.Format.{total-records};
 ghost use Rattle.trace.specs.Making.{trimmed};
 ghost use Rattle.blocks.specs.Block.{word, cells-of};
-ghost use Rattle.rule.specs.Postfix.{most};
+ghost use Rattle.rule.specs.Postfix.{most-formulas};
 use super::header;
 use blocks::word;
 use rule::Entry;
@@ -253,7 +253,7 @@ fn behind(first: usize, seen: usize) -> usize
 // Refusal 11, where it is known whether some block has a word outside its range.
 fn is_outside(version: usize, ranges: bool, point: &[u64]) -> bool
     requires { ⌜ (16 ≤ length (now point)) × (header-words version ≤ length (now point)) ⌝ }
-    ensures { λ r. ⌜ r ≡ negate (header-in-range (most version) (now (point .entry))) || ranges ⌝ }
+    ensures { λ r. ⌜ r ≡ negate (header-in-range (most-formulas version) (now (point .entry))) || ranges ⌝ }
 {
     let most = rule::most_of(version);
     let seen = point[header::SEEN];

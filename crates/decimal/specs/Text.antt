@@ -24,8 +24,8 @@ abbrev pub decimal : ℕ → List ℕ
 decimal n = decimal-in (suc n) n
 
 -- one space, and yes or no
-abbrev pub word : (holds : Bool) → List ℕ
-word holds = cond holds (ascii " yes") (ascii " no")
+abbrev pub verdict-word : (holds : Bool) → List ℕ
+verdict-word holds = cond holds (ascii " yes") (ascii " no")
 
 -- a call that writes bytes into a lent text from one place on, and gives the place behind them: "the bytes behind what a call
 -- writes are kept", and so are those before

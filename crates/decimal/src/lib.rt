@@ -1,7 +1,7 @@
 // Bytes, numbers and words written into a lent text, one behind the other.
 ghost use Prim.Native.Nat.{_+_, _≤_};
 ghost use lib.ListN.{length};
-ghost use Rattle.decimal.specs.Text.{decimal, word, Writes};
+ghost use Rattle.decimal.specs.Text.{decimal, verdict-word, Writes};
 
 // Writes bytes into the text from `at` on, and gives where they end.
 pub fn put(bytes: &[u8], text: &mut [u8], at: usize) -> usize
@@ -29,7 +29,7 @@ pub fn put_number(n: usize, text: &mut [u8], at: usize) -> usize
 // One space, and yes or no.
 pub fn put_word(holds: bool, text: &mut [u8], at: usize) -> usize
     requires { ⌜ at + 4 ≤ length (now text) ⌝ }
-    ensures { λ r. ⌜ Writes (now (text .entry)) at (word holds) r (now (text .exit)) ⌝ }
+    ensures { λ r. ⌜ Writes (now (text .entry)) at (verdict-word holds) r (now (text .exit)) ⌝ }
 {
     if holds {
         put(b" yes", text, at)

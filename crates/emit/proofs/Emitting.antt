@@ -30,13 +30,13 @@ use Rattle.engine.specs.Tops.{Tops, Ended}
 use Rattle.engine.proofs.Formulas.{rule-size}
 use Rattle.checkpoint.specs.Checkpoint.{given, seen, last, first-wanted, kind-of-log, stored-noes}
 use Rattle.emit.specs.Top.{part-of, Top}
-use Rattle.emit.specs.Code.{Fits, Gave, Viewed, noted, Notes, Ready, Emits}
+use Rattle.emit.specs.Code.{Fits, Gave, Viewed, noted, Notes, ReadyToEmit, Emits}
 use Rattle.emit.specs.declared.Emitted.{Emitted}
 use Rattle.emit.proofs.Places.{part-same}
 
 -- the formulas of the rule have all words behind the header
 pub fits-of : (t : List Entry) (n : ℕ) (ends : List ℕ) (number most base deep : ℕ) (s ws table tops : List ℕ) →
-    Ready t n ends number most base deep s ws → (fs : List Formula) → Ended t n ends number fs → Tops table tops base number fs →
+    ReadyToEmit t n ends number most base deep s ws → (fs : List Formula) → Ended t n ends number fs → Tops table tops base number fs →
     Fits table tops base number fs (length ws)
 fits-of t n ends number most base deep s ws table tops ready fs ended laid =
     record {

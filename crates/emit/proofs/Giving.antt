@@ -23,16 +23,16 @@ use Rattle.verdicts.proofs.Written.{written, length-written, drop-written, writ
 use Rattle.rule.specs.Postfix.{formula}
 use Rattle.blocks.specs.Block.{word}
 use Rattle.blocks.specs.Step.{Agrees}
-use Rattle.engine.specs.Tops.{place}
+use Rattle.engine.specs.Tops.{top-column}
 use Rattle.engine.proofs.Onward.{formula-refl, formula-trans}
 use Rattle.engine.proofs.Uniform.{agrees-later}
 use Rattle.checkpoint.specs.Checkpoint.{given, stored-noes}
 use Rattle.emit.specs.Verdicts.{columns}
-use Rattle.emit.specs.Top.{held-count, part-of, Top}
-use Rattle.emit.specs.Code.{Fits, Held, Answered, all-spent, Spendable, Giving, Frame, Gave}
+use Rattle.emit.specs.Top.{top-count, part-of, Top}
+use Rattle.emit.specs.Code.{Fits, Held, Answered, taken-verdicts, CanTake, Giving, Frame, Gave}
 use Rattle.emit.proofs.Meaning.{joint-least, all-bits, verdict-answers}
 use Rattle.emit.proofs.Places.{count-at, bits-at}
-use Rattle.emit.proofs.Spending.{its-row, length-all, now-given, now-header, now-spare, now-noes, now-onward, top-spent}
+use Rattle.emit.proofs.TakingOut.{its-row, length-all, now-given, now-header, now-spare, now-noes, now-onward, top-taken-out}
 
 -- NOTHING COUNTED IN A WORD OF YES
 
@@ -84,7 +84,7 @@ noes-held {most = most} room held k h =
 
 -- as many verdicts as there are or as have room, and whether there are more, from what is held then
 counted : (base : ℕ) (fs : List Formula) (L : Log) (d c room r : ℕ) (ws′ : List ℕ) → c ≤ room → (0 < r → room ≤ c) →
-    ((k : ℕ) → k < length fs → r ≤ held-count (formula fs k) (part-of base fs k ws′)) →
+    ((k : ℕ) → k < length fs → r ≤ top-count (formula fs k) (part-of base fs k ws′)) →
     Top base fs L (d + c) ws′ → d + c + r ≤ L .size → (r ≡ 0 → joint-progress fs L ≡ d + c) →
     (c ≡ min (joint-progress fs L - d) room) × (ltb 0 r ≡ ltb (d + c) (joint-progress fs L))
 counted base fs L d c room r ws′ fits full least top size short =
@@ -143,7 +143,7 @@ module _ {table tops : List ℕ} {base number most : ℕ} {fs : List Formula} {v
   module _ (n : ℕ) (answers : List ℕ) (within : n ≤ r) (inside : done + n ≤ length sheet)
       (answered : Answered tops number ws₂ answers) where
     abbrev ws₃ : List ℕ
-    ws₃ = all-spent tops most n number ws₂
+    ws₃ = taken-verdicts tops most n number ws₂
 
     abbrev rows : List ℕ
     rows = take (columns fs) answers
@@ -164,8 +164,8 @@ module _ {table tops : List ℕ} {base number most : ℕ} {fs : List Formula} {v
     row-at k h = getD-take (columns fs) answers k 0 h
 
     -- the no of this portion, formula by formula; an empty rule has none
-    noes-spent : (k : ℕ) → k < columns fs → stored-noes most ws₃ k ≡ laid-behind (stored-noes most ws₂ k) (given ws₂) (noes-of-bits n (getD answers k 0))
-    noes-spent k h =
+    noes-taken-out : (k : ℕ) → k < columns fs → stored-noes most ws₃ k ≡ laid-behind (stored-noes most ws₂ k) (given ws₂) (noes-of-bits n (getD answers k 0))
+    noes-taken-out k h =
         ⊎-elim
         (λ (none : number ≤ k).
         let empty : number ≡ 0 = omega (arith, fits .laid .number) in
@@ -186,13 +186,13 @@ module _ {table tops : List ℕ} {base number most : ℕ} {fs : List Formula} {v
         let new : noes-in k sheet₂ (done + n) ≡ laid-behind (noes-in k sheet₁ done) done (noes-of-bits n bits) =
         noes-written k done n rows sheet₁ (omega (arith, length-rows)) inside₁ ∙
         ap (λ (b : ℕ). laid-behind (noes-in k sheet₁ done) done (noes-of-bits n b)) (row-at k h) in
-        noes-spent k h ∙
+        noes-taken-out k h ∙
         ap₂ (λ (x : Noes) (d : ℕ). laid-behind x d (noes-of-bits n bits)) (noes-held counts held k (most-columns k h) ∙ going .noes k h) at ∙
         behind-behind (stored-noes most ws k) (noes-in k sheet₁ done) (given ws) done (zeros n bits) (latest-of (last-zero n bits)) ∙
         ap (laid-behind (stored-noes most ws k) (given ws)) (sym new)
 
-    spent-frame : Frame base most fs ws₂ ws₃
-    spent-frame =
+    taken-out-frame : Frame base most fs ws₂ ws₃
+    taken-out-frame =
         record {
           header = now-header most n ws₂ fits-now counts few;
           spare = λ k late h. now-spare most n ws₂ fits-now counts few k (omega (arith, fits .laid .number)) h;
@@ -214,20 +214,20 @@ module _ {table tops : List ℕ} {base number most : ℕ} {fs : List Formula} {v
           count = omega (arith, now-given most n ws₂ fits-now counts few, held .header 1 (omega (arith, fits .header)), going .count);
           frame =
               frame-then base most fs ws ws₁ ws₃ (going .frame)
-              (frame-then base most fs ws₁ ws₂ ws₃ (frame-held counts held) spent-frame);
+              (frame-then base most fs ws₁ ws₂ ws₃ (frame-held counts held) taken-out-frame);
           noes = noes-portion;
           meaning = λ L d never agrees top.
               let so-far = going .meaning L d never agrees top in
               let (next, size, short) = held .meaning L (d + done) never (agrees-later agrees (omega arith)) (so-far .top) in
-              let place : d + done + n ≡ d + (done + n) = omega arith in
+              let top-column : d + done + n ≡ d + (done + n) = omega arith in
               record {
-                top = rw place at (top-spent most n ws₂ fits-now counts few L (d + done) (λ k h. omega (arith, held .least k h)) (omega arith) next);
+                top = rw top-column at (top-taken-out most n ws₂ fits-now counts few L (d + done) (λ k h. omega (arith, held .least k h)) (omega arith) next);
                 bytes = λ i below.
                     ⊎-elim
                     (λ (late : done ≤ i).
-                    let place : done + (i - done) ≡ i = omega arith in
+                    let top-column : done + (i - done) ≡ i = omega arith in
                     let there : d + done + (i - done) ≡ d + i = omega arith in
-                    rw place at (written-at done n rows sheet₁ inside₁ (i - done) (omega arith)) ∙
+                    rw top-column at (written-at done n rows sheet₁ inside₁ (i - done) (omega arith)) ∙
                     sym (rw there at
                     (verdict-answers fs L (d + done + (i - done)) (i - done) answers (answered .long) (fits .laid .few) (omega (arith, few-bits))
                     (λ k h.
@@ -240,9 +240,9 @@ module _ {table tops : List ℕ} {base number most : ℕ} {fs : List Formula} {v
         }
 
   -- a portion can be taken
-  pub spendable : (n : ℕ) → n ≤ r → done + n ≤ length sheet → length sheet < 2 ^ 63 → most ≤ 8 → given ws ≤ 1000000 →
-      ((k : ℕ) → k < most → word ws (8 + k) ≤ 1000000) → Spendable tops number most n ws₂
-  spendable n within inside short small given noes =
+  pub takeable : (n : ℕ) → n ≤ r → done + n ≤ length sheet → length sheet < 2 ^ 63 → most ≤ 8 → given ws ≤ 1000000 →
+      ((k : ℕ) → k < most → word ws (8 + k) ≤ 1000000) → CanTake tops number most n ws₂
+  takeable n within inside short small given noes =
       let at : word ws₂ 1 ≡ word ws 1 + done = held .header 1 (omega (arith, fits .header)) ∙ going .count in
       record {
         few = omega (arith, held .few);

@@ -18,16 +18,16 @@ use Rattle.trace.specs.View.{total}
 use Rattle.blocks.specs.Block.{word}
 use Rattle.blocks.specs.Step.{Agrees, Batched}
 use Rattle.blocks.proofs.Words.{empty-buffer}
-use Rattle.engine.specs.State.{words, own-at, words-before, State, OnwardAll, OnwardFormula}
+use Rattle.engine.specs.State.{needed-words, own-at, words-before, State, OnwardAll, OnwardFormula}
 use Rattle.engine.proofs.Onward.{formula-refl, formula-trans, all-formula}
 use Rattle.engine.specs.Ask.{part, back, stored, Asks}
-use Rattle.engine.specs.Tops.{place}
+use Rattle.engine.specs.Tops.{top-column}
 use Rattle.engine.proofs.Parts.{part-back, drop-back}
 use Rattle.engine.proofs.Held.{HeldWords, held-state, formula-held}
 use Rattle.engine.proofs.Beside.{before-grows}
 use Rattle.engine.proofs.Uniform.{agrees-later}
 use Rattle.checkpoint.specs.Checkpoint.{given}
-use Rattle.emit.specs.Top.{held-count, held-bits, part-of, Top}
+use Rattle.emit.specs.Top.{top-count, top-bits, part-of, Top}
 use Rattle.emit.specs.Code.{Fits, HeldOne, Held}
 use Rattle.emit.proofs.Kept.{kept-own}
 use Rattle.emit.proofs.Meaning.{joint-le, joint-least, reads-wanted}
@@ -42,7 +42,7 @@ same-or-not j k =
 
 -- nothing to do where it holds something
 pub already : {table tops : List ℕ} {base number : ℕ} {fs : List Formula} (v s : List ℕ) (k : ℕ) (ws : List ℕ) (r : ℕ) →
-    Fits table tops base number fs (length ws) → k < length fs → r ≡ word ws (place 3 tops k) → 0 < r → HeldOne base fs v s k ws r ws
+    Fits table tops base number fs (length ws) → k < length fs → r ≡ word ws (top-column 3 tops k) → 0 < r → HeldOne base fs v s k ws r ws
 already {base = base} {fs = fs} v s k ws r fits h is some =
     record {
       words-length = refl;
@@ -74,18 +74,18 @@ module _ (from to : ℕ) (ys ws : List ℕ) (ordered : from ≤ to) (inside : to
 
 -- formula k of formulas that fit, with its own words replaced by ys
 module _ {table tops : List ℕ} {base number : ℕ} {fs : List Formula} (v s : List ℕ) (k : ℕ) (ws : List ℕ)
-    (fits : Fits table tops base number fs (length ws)) (h : k < length fs) (empty : word ws (place 3 tops k) ≡ 0) where
+    (fits : Fits table tops base number fs (length ws)) (h : k < length fs) (empty : word ws (top-column 3 tops k) ≡ 0) where
   abbrev φ : Formula
   φ = formula fs k
 
   abbrev from : ℕ
-  from = place 1 tops k
+  from = top-column 1 tops k
 
   abbrev to : ℕ
-  to = place 2 tops k
+  to = top-column 2 tops k
 
   abbrev slot : ℕ
-  slot = place 3 tops k
+  slot = top-column 3 tops k
 
   from-is : from ≡ base + words-before fs k
   from-is = fits .laid .each k h .from
@@ -105,7 +105,7 @@ module _ {table tops : List ℕ} {base number : ℕ} {fs : List Formula} (v s : 
   inside : to ≤ length ws
   inside = let p = its-place in omega (arith, to-is, p .inside)
 
-  span : to - from ≡ words φ
+  span : to - from ≡ needed-words φ
   span = let p = its-place in omega (arith, from-is, to-is, p .next)
 
   module _ (ys : List ℕ) (kept : length ys ≡ to - from) where
@@ -120,7 +120,7 @@ module _ {table tops : List ℕ} {base number : ℕ} {fs : List Formula} (v s : 
         ((L : Log) (d : ℕ) → NeverFalls L → Agrees v s L (wanted fs d) → State φ L d (part-of base fs k ws) → (settled-to φ L ≡ d) × State φ L d ys) →
         HeldOne base fs v s k ws r asked
     asked-open r is goes means =
-        let none : held-count φ ys ≡ 0 = kept-own φ (part-of base fs k ws) ys goes 12 (omega arith) (omega arith) ∙ count-at fits k h ws ∙ empty in
+        let none : top-count φ ys ≡ 0 = kept-own φ (part-of base fs k ws) ys goes 12 (omega arith) (omega arith) ∙ count-at fits k h ws ∙ empty in
         let long = length-back from to ys ws ordered inside kept in
         let same-fits : Fits table tops base number fs (length asked) = rw long fits in
         record {
@@ -129,10 +129,10 @@ module _ {table tops : List ℕ} {base number : ℕ} {fs : List Formula} (v s : 
           others = λ i away. word-back from to ys ws ordered inside kept i (λ l m. away (omega (arith, from-is)) (omega (arith, to-is)));
           onward = rw asked-part (all-formula φ (part-of base fs k ws) ys goes);
           meaning = λ L d never agrees waits.
-              let still : d + held-count φ (part-of base fs k ws) ≡ d = omega (arith, count-at fits k h ws, empty) in
-              let here : d + held-count φ ys ≡ d = omega arith in
+              let still : d + top-count φ (part-of base fs k ws) ≡ d = omega (arith, count-at fits k h ws, empty) in
+              let here : d + top-count φ ys ≡ d = omega arith in
               let (is-open, next) = means L d never agrees (rw still at (waits .state)) in (
-                rw asked-part (record { buffer = empty-buffer φ L d (held-count φ ys) (held-bits φ ys) (omega (arith, is-open)) none; state = rw here next }),
+                rw asked-part (record { buffer = empty-buffer φ L d (top-count φ ys) (top-bits φ ys) (omega (arith, is-open)) none; state = rw here next }),
                 λ z. is-open,
               );
         }
@@ -164,19 +164,19 @@ module _ {table tops : List ℕ} {base number : ℕ} {fs : List Formula} (v s : 
       part-filled : (i : ℕ) → (i ≡ own-at φ + 12 → ⊥) → (i ≡ own-at φ + 13 → ⊥) → word (part-of base fs k filled) i ≡ word ys i
       part-filled i ne ne′ =
           ⊎-elim
-          (λ (l : words φ ≤ i).
-          List·getD-eq-default (part-of base fs k filled) 0 {n = i} (omega (arith, length-take (words φ) (drop (base + words-before fs k) filled))) ∙
+          (λ (l : needed-words φ ≤ i).
+          List·getD-eq-default (part-of base fs k filled) 0 {n = i} (omega (arith, length-take (needed-words φ) (drop (base + words-before fs k) filled))) ∙
           sym (List·getD-eq-default ys 0 {n = i} (omega (arith, kept, span))))
-          (λ (l : i < words φ).
+          (λ (l : i < needed-words φ).
           part-word base fs k filled i l ∙
           filled-other (base + words-before fs k + i) (λ e. ne (omega (arith, slot-is))) (λ e. ne′ (omega (arith, slot-is))) ∙
           sym (part-word base fs k asked i l) ∙ ap (λ (l : List ℕ). word l i) asked-part)
-          (le-or-lt (words φ) i)
+          (le-or-lt (needed-words φ) i)
 
       length-filled-part : length (part-of base fs k filled) ≡ length ys
       length-filled-part =
           let p = its-place in
-          omega (arith, length-take (words φ) (drop (base + words-before fs k) filled), length-drop (base + words-before fs k) filled, length-filled, kept, span, p .next, p .inside)
+          omega (arith, length-take (needed-words φ) (drop (base + words-before fs k) filled), length-drop (base + words-before fs k) filled, length-filled, kept, span, p .next, p .inside)
 
       held-words : HeldWords (own-at φ) ys (part-of base fs k filled)
       held-words = record { room = omega (arith, length-filled-part); same = part-filled }
@@ -197,10 +197,10 @@ module _ {table tops : List ℕ} {base number : ℕ} {fs : List Formula} (v s : 
             onward = formula-trans φ (part-of base fs k ws) ys (part-of base fs k filled) (all-formula φ (part-of base fs k ws) ys goes)
                 (formula-held φ ys (part-of base fs k filled) held-words);
             meaning = λ L d never agrees waits.
-                let still : d + held-count φ (part-of base fs k ws) ≡ d = omega (arith, count-at fits k h ws, empty) in
+                let still : d + top-count φ (part-of base fs k ws) ≡ d = omega (arith, count-at fits k h ws, empty) in
                 let (gives, next) = means L d never agrees (rw still at (waits .state)) in
-                let n : held-count φ (part-of base fs k filled) ≡ count = count-at filled-fits k h filled ∙ filled-count in
-                let b : held-bits φ (part-of base fs k filled) ≡ bits = bits-at filled-fits k h filled ∙ filled-bits in (
+                let n : top-count φ (part-of base fs k filled) ≡ count = count-at filled-fits k h filled ∙ filled-count in
+                let b : top-bits φ (part-of base fs k filled) ≡ bits = bits-at filled-fits k h filled ∙ filled-bits in (
                   record {
                     buffer = rw (n, b) (gives .buffer);
                     state = rw n (held-state φ L (d + count) ys (part-of base fs k filled) held-words next);
@@ -210,7 +210,7 @@ module _ {table tops : List ℕ} {base number : ℕ} {fs : List Formula} (v s : 
           }
 
   -- what asking promises
-  asked-by : (b : Bool) (r : ℕ) (ws′ : List ℕ) → r ≡ word ws′ slot → Asks table v s (place 0 tops k) from to slot ws b ws′ →
+  asked-by : (b : Bool) (r : ℕ) (ws′ : List ℕ) → r ≡ word ws′ slot → Asks table v s (top-column 0 tops k) from to slot ws b ws′ →
       HeldOne base fs v s k ws r ws′
   asked-by true r ws′ is (ys, kept, goes, (bits, count, some, e, means)) =
       let has = fits .laid .each k h .has in
@@ -222,8 +222,8 @@ module _ {table tops : List ℕ} {base number : ℕ} {fs : List Formula} (v s : 
       (λ L d never agrees state. means φ L d has never (agrees-later agrees (reads-wanted fs k d h)) (rw (lent-part fits k h ws) state)))
 
 pub asked-holds : {table tops : List ℕ} {base number : ℕ} {fs : List Formula} (v s : List ℕ) (k : ℕ) (ws : List ℕ) (b : Bool) (r : ℕ) (ws′ : List ℕ) →
-    Fits table tops base number fs (length ws) → k < length fs → word ws (place 3 tops k) ≡ 0 → r ≡ word ws′ (place 3 tops k) →
-    Asks table v s (place 0 tops k) (place 1 tops k) (place 2 tops k) (place 3 tops k) ws b ws′ → HeldOne base fs v s k ws r ws′
+    Fits table tops base number fs (length ws) → k < length fs → word ws (top-column 3 tops k) ≡ 0 → r ≡ word ws′ (top-column 3 tops k) →
+    Asks table v s (top-column 0 tops k) (top-column 1 tops k) (top-column 2 tops k) (top-column 3 tops k) ws b ws′ → HeldOne base fs v s k ws r ws′
 asked-holds v s k ws b r ws′ fits h empty is asks = asked-by v s k ws fits h empty b r ws′ is asks
 
 -- ALL FORMULAS
@@ -233,7 +233,7 @@ pub record Asked (base : ℕ) (fs : List Formula) (v s : List ℕ) (ws : List �
   pub words-length : length ws′ ≡ length ws
   pub header : (i : ℕ) → i < base → word ws′ i ≡ word ws i
   pub few : r ≤ 64
-  pub least : (k : ℕ) → k < n → k < length fs → r ≤ held-count (formula fs k) (part-of base fs k ws′)
+  pub least : (k : ℕ) → k < n → k < length fs → r ≤ top-count (formula fs k) (part-of base fs k ws′)
   pub onward : (k : ℕ) → k < length fs → OnwardFormula (formula fs k) (part-of base fs k ws) (part-of base fs k ws′)
   pub meaning : (L : Log) (d : ℕ) → NeverFalls L → Agrees v s L (wanted fs d) → Top base fs L d ws →
       Top base fs L d ws′ × (d + r ≤ L .size) × (r ≡ 0 → joint-progress fs L ≡ d)
@@ -311,7 +311,7 @@ module _ {base : ℕ} {fs : List Formula} {v s : List ℕ} {ws : List ℕ} {n r 
       }
 
 module _ {base : ℕ} {fs : List Formula} {v s : List ℕ} {ws : List ℕ} {n r : ℕ} {ws′ : List ℕ} (a : Asked base fs v s ws n r ws′) where
-  held-by : ((k : ℕ) → k < length fs → r ≤ held-count (formula fs k) (part-of base fs k ws′)) → Held base fs v s ws r ws′
+  held-by : ((k : ℕ) → k < length fs → r ≤ top-count (formula fs k) (part-of base fs k ws′)) → Held base fs v s ws r ws′
   held-by least =
       record { words-length = a .words-length; header = a .header; few = a .few; least = least; onward = a .onward; meaning = a .meaning }
 

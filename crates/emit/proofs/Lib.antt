@@ -3,7 +3,7 @@ pub mod Meaning
 pub mod Kept
 pub mod Places
 pub mod Holding
-pub mod Spending
+pub mod TakingOut
 pub mod Giving
 pub mod Turns
 pub mod Emitting

@@ -7,11 +7,11 @@ use lib.Dec.{ltb}
 use lib.ListN.{length, take}
 use Rattle.mtl.specs.Formula.{Formula}
 use Rattle.verdicts.proofs.Written.{written}
-use Rattle.engine.specs.Tops.{place}
+use Rattle.engine.specs.Tops.{top-column}
 use Rattle.emit.specs.Verdicts.{columns}
-use Rattle.emit.specs.Code.{Fits, Fitting, Held, Holds, Answered, all-spent, Spendable, Gives, Countable}
+use Rattle.emit.specs.Code.{Fits, Fitting, Held, Holds, Answered, taken-verdicts, CanTake, GivesVerdicts, Countable}
 use Rattle.emit.proofs.Places.{held-inside}
-use Rattle.emit.proofs.Giving.{Going, going-none, portion-more, spendable, gave}
+use Rattle.emit.proofs.Giving.{Going, going-none, portion-more, takeable, gave}
 
 -- `done` verdicts are given, and the rest of the sheet is as it was
 pub record Underway (table tops : List ℕ) (number most : ℕ) (v s ws sheet : List ℕ) (done : ℕ) (ws₁ sheet₁ : List ℕ) : Type 0 where
@@ -34,12 +34,12 @@ module _ {table tops : List ℕ} {number most : ℕ} {v s ws sheet : List ℕ} {
     held : (base : ℕ) (fs : List Formula) → Fits table tops base number fs (length ws) → Held base fs v s ws₁ r ws₂
     held base fs fits = holds base fs (rw (under .words-length) fits)
 
-    pub ended : (0 < r → length sheet ≤ done) → Gives table tops v s number most ws sheet (record { count = done; more = ltb 0 r }) ws₂ sheet₁
+    pub ended : (0 < r → length sheet ≤ done) → GivesVerdicts table tops v s number most ws sheet (record { count = done; more = ltb 0 r }) ws₂ sheet₁
     ended full base fs fits counts =
         gave fits counts (able .formulas) (able .small .0) (under .going base fs fits counts) (held base fs fits) full
 
     -- the answers' places
-    pub copyable : (number ≤ 8) × ((k : ℕ) → k < number → place 3 tops k + 1 < length ws₂)
+    pub copyable : (number ≤ 8) × ((k : ℕ) → k < number → top-column 3 tops k + 1 < length ws₂)
     copyable =
         let f = able .fits in
         let h = held (f .0) (f .1) (f .2) in (
@@ -61,22 +61,22 @@ module _ {table tops : List ℕ} {number most : ℕ} {v s ws sheet : List ℕ} {
       pub countable : done + n < 2 ^ 64
       countable = omega (arith, inside)
 
-      pub spends : Spendable tops number most n ws₂
-      spends =
+      pub takes-out : CanTake tops number most n ws₂
+      takes-out =
           let f = able .fits in
-          spendable (f .2) (f .3) (able .formulas) (able .small .0) (under .going (f .0) (f .1) (f .2) (f .3)) (held (f .0) (f .1) (f .2)) n (omega arith) inside
+          takeable (f .2) (f .3) (able .formulas) (able .small .0) (under .going (f .0) (f .1) (f .2) (f .3)) (held (f .0) (f .1) (f .2)) n (omega arith) inside
           short (able .small .1) (able .given) (able .noes)
 
       -- n verdicts more
       pub turned : (answers : List ℕ) (c : ℕ) → c ≡ max 1 number → Answered tops number ws₂ answers → (ws₃ sheet₂ : List ℕ) →
-          ws₃ ≡ all-spent tops most n number ws₂ → sheet₂ ≡ written done n (take c answers) sheet₁ →
+          ws₃ ≡ taken-verdicts tops most n number ws₂ → sheet₂ ≡ written done n (take c answers) sheet₁ →
           Underway table tops number most v s ws sheet (done + n) ws₃ sheet₂
-      turned answers c is-columns answered ws₃ sheet₂ spent wrote =
+      turned answers c is-columns answered ws₃ sheet₂ taken-out wrote =
           let next : (base : ℕ) (fs : List Formula) → Fits table tops base number fs (length ws) → 8 + most + most ≤ base →
           Going base most fs v s ws sheet (done + n) ws₃ sheet₂ =
           λ base fs fits counts.
           let same : c ≡ columns fs = is-columns ∙ ap (max 1) (fits .laid .number) in
-          rw (spent, wrote, same)
+          rw (taken-out, wrote, same)
           (portion-more fits counts (able .formulas) (able .small .0) (under .going base fs fits counts) (held base fs fits) n answers (omega arith) inside answered) in
           let f = able .fits in
           let g = next (f .0) (f .1) (f .2) (f .3) in

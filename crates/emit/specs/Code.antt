@@ -24,10 +24,10 @@ use Rattle.trace.specs.Window.{Found}
 use Rattle.blocks.specs.Block.{word}
 use Rattle.blocks.specs.Step.{Agrees}
 use Rattle.engine.specs.State.{words-before, OnwardFormula}
-use Rattle.engine.specs.Tops.{place, Tops, Ended}
+use Rattle.engine.specs.Tops.{top-column, Tops, Ended}
 use Rattle.checkpoint.specs.Checkpoint.{given, seen, last, closed-with, log-kind, kind-of-log, first-wanted, stored-noes}
 use Rattle.emit.specs.Verdicts.{columns, verdict}
-use Rattle.emit.specs.Top.{held-count, Waiting, part-of, Top}
+use Rattle.emit.specs.Top.{top-count, Waiting, part-of, Top}
 use Rattle.emit.specs.declared.Emitted.{Emitted}
 
 -- the formulas' places in so many words: all of them behind the header
@@ -43,7 +43,7 @@ Fitting table tops number size = (base : ℕ) × (fs : List Formula) × Fits tab
 -- asking formula k, where it holds nothing: r is how many answers it holds then
 pub record HeldOne (base : ℕ) (fs : List Formula) (v s : List ℕ) (k : ℕ) (ws : List ℕ) (r : ℕ) (ws′ : List ℕ) : Type 0 where
   pub words-length : length ws′ ≡ length ws
-  pub count : r ≡ held-count (formula fs k) (part-of base fs k ws′)
+  pub count : r ≡ top-count (formula fs k) (part-of base fs k ws′)
   pub others : (i : ℕ) → ((base + words-before fs k ≤ i) → (i < base + words-before fs (suc k)) → ⊥) → word ws′ i ≡ word ws i
   pub onward : OnwardFormula (formula fs k) (part-of base fs k ws) (part-of base fs k ws′)
   pub meaning : (L : Log) (d : ℕ) → NeverFalls L → Agrees v s L (wanted fs d) → Waiting (formula fs k) L d (part-of base fs k ws) →
@@ -59,7 +59,7 @@ pub record Held (base : ℕ) (fs : List Formula) (v s ws : List ℕ) (r : ℕ) (
   pub words-length : length ws′ ≡ length ws
   pub header : (i : ℕ) → i < base → word ws′ i ≡ word ws i
   pub few : r ≤ 64
-  pub least : (k : ℕ) → k < length fs → r ≤ held-count (formula fs k) (part-of base fs k ws′)
+  pub least : (k : ℕ) → k < length fs → r ≤ top-count (formula fs k) (part-of base fs k ws′)
   pub onward : (k : ℕ) → k < length fs → OnwardFormula (formula fs k) (part-of base fs k ws) (part-of base fs k ws′)
   pub meaning : (L : Log) (d : ℕ) → NeverFalls L → Agrees v s L (wanted fs d) → Top base fs L d ws →
       Top base fs L d ws′ × (d + r ≤ L .size) × (r ≡ 0 → joint-progress fs L ≡ d)
@@ -71,40 +71,40 @@ Holds table tops v s number ws r ws′ =
 -- the words of answers that the formulas hold; of an empty rule one word of yes
 pub record Answered (tops : List ℕ) (number : ℕ) (ws answers : List ℕ) : Type 0 where
   pub long : length answers ≡ 8
-  pub each : (k : ℕ) → k < number → getD answers k 0 ≡ word ws (place 3 tops k + 1)
+  pub each : (k : ℕ) → k < number → getD answers k 0 ≡ word ws (top-column 3 tops k + 1)
   pub none : number ≡ 0 → getD answers 0 0 ≡ 2 ^ 64 - 1
 
 -- n of the answers at `held` given from d on, and the no among them counted at `at` and `late`
-abbrev pub spent-one : (held at late d n : ℕ) → List ℕ → List ℕ
-spent-one held at late d n ws =
+abbrev pub taken-answers : (held at late d n : ℕ) → List ℕ → List ℕ
+taken-answers held at late d n ws =
     let bits = word ws (held + 1) in
     set (set (set (set ws at (word ws at + zeros n bits)) late (later-end (word ws late) d (last-zero n bits)))
     held (word ws held - n))
     (held + 1) (bits / 2 ^ n)
 
 -- the same of the first k formulas, whose answers stand at `held`
-unfoldable pub spent : (held : ℕ → ℕ) (most d n k : ℕ) → List ℕ → List ℕ
-spent held most d n zero ws = ws
-spent held most d n (suc k) ws = spent-one (held k) (8 + k) (8 + most + k) d n (spent held most d n k ws)
+unfoldable pub taken-out : (held : ℕ → ℕ) (most d n k : ℕ) → List ℕ → List ℕ
+taken-out held most d n zero ws = ws
+taken-out held most d n (suc k) ws = taken-answers (held k) (8 + k) (8 + most + k) d n (taken-out held most d n k ws)
 
 -- all of them, and n verdicts more given
-abbrev pub all-spent : (tops : List ℕ) (most n number : ℕ) → List ℕ → List ℕ
-all-spent tops most n number ws = set (spent (place 3 tops) most (given ws) n number ws) 1 (given ws + n)
+abbrev pub taken-verdicts : (tops : List ℕ) (most n number : ℕ) → List ℕ → List ℕ
+taken-verdicts tops most n number ws = set (taken-out (top-column 3 tops) most (given ws) n number ws) 1 (given ws + n)
 
 -- where the formulas' answers stand: behind the counts, one formula behind the other
-pub record Row (held : ℕ → ℕ) (most number size : ℕ) : Type 0 where
+pub record HeldApart (held : ℕ → ℕ) (most number size : ℕ) : Type 0 where
   pub formulas : number ≤ most
   pub above : (k : ℕ) → k < number → 8 + most + most ≤ held k
   pub apart : (j k : ℕ) → j < k → k < number → held j + 2 ≤ held k
   pub inside : (k : ℕ) → k < number → held k + 1 < size
 
 -- n verdicts can be taken out of every formula's answers, and counted
-pub record Spendable (tops : List ℕ) (number most n : ℕ) (ws : List ℕ) : Type 0 where
+pub record CanTake (tops : List ℕ) (number most n : ℕ) (ws : List ℕ) : Type 0 where
   pub few : n ≤ 64
   pub small : most ≤ 8
   pub room : 1 < length ws
-  pub row : Row (place 3 tops) most number (length ws)
-  pub held : (k : ℕ) → k < number → n ≤ word ws (place 3 tops k)
+  pub row : HeldApart (top-column 3 tops) most number (length ws)
+  pub held : (k : ℕ) → k < number → n ≤ word ws (top-column 3 tops k)
   pub counted : (k : ℕ) → k < number → word ws (8 + k) + n < 2 ^ 64
   pub given : given ws + n < 2 ^ 64
 
@@ -133,8 +133,8 @@ pub record Gave (base most : ℕ) (fs : List Formula) (v s ws sheet : List ℕ) 
       Giving base fs L d (r .count) ws′ sheet′ × (r .count ≡ min (joint-progress fs L - d) (length sheet)) ×
       (r .more ≡ ltb (d + r .count) (joint-progress fs L))
 
-abbrev pub Gives : (table tops v s : List ℕ) (number most : ℕ) (ws sheet : List ℕ) (r : Emitted) (ws′ sheet′ : List ℕ) → Type 0
-Gives table tops v s number most ws sheet r ws′ sheet′ =
+abbrev pub GivesVerdicts : (table tops v s : List ℕ) (number most : ℕ) (ws sheet : List ℕ) (r : Emitted) (ws′ sheet′ : List ℕ) → Type 0
+GivesVerdicts table tops v s number most ws sheet r ws′ sheet′ =
     (base : ℕ) (fs : List Formula) → Fits table tops base number fs (length ws) → 8 + most + most ≤ base → Gave base most fs v s ws sheet r ws′ sheet′
 
 -- a call's verdicts begin with at most 1,000,000 given and as many counted, so that no count can wrap
@@ -191,7 +191,7 @@ pub record Emits (base most : ℕ) (fs : List Formula) (s : List ℕ) (skips clo
       (r .more ≡ ltb (d + r .count) (joint-progress fs L)) × (first-wanted ws′ ≡ wanted-record L (seen ws′) (wanted fs (d + r .count)))
 
 -- the decoded entries of an accepted rule, where its formulas end, and the words that they need
-pub record Ready (t : List Entry) (n : ℕ) (ends : List ℕ) (number most base deep : ℕ) (s ws : List ℕ) : Type 0 where
+pub record ReadyToEmit (t : List Entry) (n : ℕ) (ends : List ℕ) (number most base deep : ℕ) (s ws : List ℕ) : Type 0 where
   pub few : n ≤ 128
   pub well-formed : WellFormed t n
   pub the-formulas : List Formula

@@ -47,9 +47,9 @@ abbrev pub wanted-after : (rule log : List ℕ) (d n : ℕ) → ℕ
 wanted-after rule log d n = wanted-record (first-records false log n) n (wanted (formulas-of rule) d)
 
 -- the answered number A of a rule on the first n records
-abbrev pub answered : (closed : Bool) (rule log : List ℕ) → ℕ → ℕ
-answered closed rule log n = joint-progress (formulas-of rule) (first-records closed log n)
+abbrev pub answered-number : (closed : Bool) (rule log : List ℕ) → ℕ → ℕ
+answered-number closed rule log n = joint-progress (formulas-of rule) (first-records closed log n)
 
 -- "The verdicts of an untouched log are A bytes": all verdicts of a rule on the first n records
 abbrev pub all-verdicts : (closed : Bool) (rule log : List ℕ) → ℕ → List ℕ
-all-verdicts closed rule log n = verdicts (formulas-of rule) (first-records closed log n) (answered closed rule log n)
+all-verdicts closed rule log n = verdicts (formulas-of rule) (first-records closed log n) (answered-number closed rule log n)

@@ -6,10 +6,10 @@ ghost use Prim.Native.Nat.{ℕ, suc, _+_, _-_, _≤_, _<_, _^_, min, max};
 ghost use lib.ListN.{length};
 ghost use Rattle.blocks.specs.Block.{word};
 ghost use Rattle.trace.specs.View.{Views};
-ghost use Rattle.engine.specs.Tops.{place};
+ghost use Rattle.engine.specs.Tops.{top-column};
 ghost use Rattle.verdicts.specs.Counts.{later-end};
 ghost use Rattle.checkpoint.specs.Checkpoint.{given, first-wanted};
-ghost use Rattle.emit.specs.Code.{Fitting, HoldsOne, Holds, Answered, spent-one, all-spent, Spendable, Gives, Countable, Viewed, Notes, Ready, Emission};
+ghost use Rattle.emit.specs.Code.{Fitting, HoldsOne, Holds, Answered, taken-answers, taken-verdicts, CanTake, GivesVerdicts, Countable, Viewed, Notes, ReadyToEmit, Emission};
 use checkpoint::header;
 use engine::tops;
 use rule::Entry;
@@ -107,7 +107,7 @@ fn hold(
 
 // Copies the words of answers that the formulas hold; where there is no formula, one word of yes.
 fn copy_answers(tops: &[usize; 32], number: usize, words: &[u64], answers: &mut [u64; 8])
-    requires { ⌜ (number ≤ 8) × (length (now answers) ≡ 8) × ((k : ℕ) → k < number → place 3 (now tops) k + 1 < length (now words)) ⌝ }
+    requires { ⌜ (number ≤ 8) × (length (now answers) ≡ 8) × ((k : ℕ) → k < number → top-column 3 (now tops) k + 1 < length (now words)) ⌝ }
     ensures { λ _. ⌜ Answered (now (tops .entry)) number (now (words .entry)) (now (answers .exit)) ⌝ }
 {
     answers[0] = ALL_YES;
@@ -129,9 +129,9 @@ fn later_end(old: u64, given: u64, last: u64) -> u64
 }
 
 // Takes n of the answers at `held`, and counts the no among them at `at` and `late`.
-fn spend_one(words: &mut [u64], held: usize, at: usize, late: usize, given: u64, n: u64)
+fn take_answers(words: &mut [u64], held: usize, at: usize, late: usize, given: u64, n: u64)
     requires { ⌜ (n ≤ 64) × (at < length (now words)) × (late < length (now words)) × (held + 1 < length (now words)) × (n ≤ word (now words) held) × (word (now words) at + n < 2 ^ 64) × (given + n < 2 ^ 64) ⌝ }
-    ensures { λ _. ⌜ now (words .exit) ≡ spent-one held at late given n (now (words .entry)) ⌝ }
+    ensures { λ _. ⌜ now (words .exit) ≡ taken-answers held at late given n (now (words .entry)) ⌝ }
 {
     let count = words[held];
     let bits = words[held + 1];
@@ -145,15 +145,15 @@ fn spend_one(words: &mut [u64], held: usize, at: usize, late: usize, given: u64,
 }
 
 // Takes n verdicts out of the answers of all formulas.
-fn spend(tops: &[usize; 32], number: usize, most: usize, words: &mut [u64], n: u64)
-    requires { ⌜ Spendable (now tops) number most n (now words) ⌝ }
-    ensures { λ _. ⌜ now (words .exit) ≡ all-spent (now (tops .entry)) most n number (now (words .entry)) ⌝ }
+fn take_verdicts(tops: &[usize; 32], number: usize, most: usize, words: &mut [u64], n: u64)
+    requires { ⌜ CanTake (now tops) number most n (now words) ⌝ }
+    ensures { λ _. ⌜ now (words .exit) ≡ taken-verdicts (now (tops .entry)) most n number (now (words .entry)) ⌝ }
 {
     let given = words[header::GIVEN];
     let mut k: usize = 0;
     while k < number {
         let held = tops::place(tops, k, tops::HELD);
-        spend_one(
+        take_answers(
             words,
             held,
             header::NO_COUNT + k,
@@ -187,7 +187,7 @@ fn give_many(
     sheet: &mut [u8],
 ) -> Emitted
     requires { ⌜ Countable (now table) (now tops) number most (now words) × (length (now copy) ≡ 520) × (length (now waiting) ≡ 520) × Views (now view) (now records) ⌝ }
-    ensures { λ r. ⌜ Gives (now (table .entry)) (now (tops .entry)) (now (view .entry)) (now (records .entry)) number most (now (words .entry)) (now (sheet .entry)) r (now (words .exit)) (now (sheet .exit)) ⌝ }
+    ensures { λ r. ⌜ GivesVerdicts (now (table .entry)) (now (tops .entry)) (now (view .entry)) (now (records .entry)) number most (now (words .entry)) (now (sheet .entry)) r (now (words .exit)) (now (sheet .exit)) ⌝ }
 {
     let columns = columns_of(number);
     let mut answers = [0u64; 8];
@@ -203,7 +203,7 @@ fn give_many(
         }
         copy_answers(tops, number, words, &mut answers);
         verdicts::write_answers(sheet, done, count as usize, &answers, columns);
-        spend(tops, number, most, words, count);
+        take_verdicts(tops, number, most, words, count);
         done += count as usize;
     }
 }
@@ -221,7 +221,7 @@ fn give_one(
     sheet: &mut [u8],
 ) -> Emitted
     requires { ⌜ Countable (now table) (now tops) 1 most (now words) × (length (now copy) ≡ 520) × (length (now waiting) ≡ 520) × Views (now view) (now records) ⌝ }
-    ensures { λ r. ⌜ Gives (now (table .entry)) (now (tops .entry)) (now (view .entry)) (now (records .entry)) 1 most (now (words .entry)) (now (sheet .entry)) r (now (words .exit)) (now (sheet .exit)) ⌝ }
+    ensures { λ r. ⌜ GivesVerdicts (now (table .entry)) (now (tops .entry)) (now (view .entry)) (now (records .entry)) 1 most (now (words .entry)) (now (sheet .entry)) r (now (words .exit)) (now (sheet .exit)) ⌝ }
 {
     let mut answers = [0u64; 8];
     let mut done: usize = 0;
@@ -236,7 +236,7 @@ fn give_one(
         }
         copy_answers(tops, 1, words, &mut answers);
         verdicts::write_answers(sheet, done, n as usize, &answers, 1);
-        spend(tops, 1, most, words, n);
+        take_verdicts(tops, 1, most, words, n);
         done += n as usize;
     }
 }
@@ -255,7 +255,7 @@ fn give(
     sheet: &mut [u8],
 ) -> Emitted
     requires { ⌜ Countable (now table) (now tops) number most (now words) × (length (now copy) ≡ 520) × (length (now waiting) ≡ 520) × Views (now view) (now records) ⌝ }
-    ensures { λ r. ⌜ Gives (now (table .entry)) (now (tops .entry)) (now (view .entry)) (now (records .entry)) number most (now (words .entry)) (now (sheet .entry)) r (now (words .exit)) (now (sheet .exit)) ⌝ }
+    ensures { λ r. ⌜ GivesVerdicts (now (table .entry)) (now (tops .entry)) (now (view .entry)) (now (records .entry)) number most (now (words .entry)) (now (sheet .entry)) r (now (words .exit)) (now (sheet .exit)) ⌝ }
 {
     if number == 1 {
         return give_one(
@@ -349,7 +349,7 @@ pub fn emit(
     words: &mut [u64],
     sheet: &mut [u8],
 ) -> Emitted
-    requires { ⌜ Ready entries count ends number most base depth (now records) (now words) ⌝ }
+    requires { ⌜ ReadyToEmit entries count ends number most base depth (now records) (now words) ⌝ }
     ensures { λ r. ⌜ Emission skips closed entries count ends number most base depth (now (records .entry)) (now (words .entry)) (now (sheet .entry)) r (now (words .exit)) (now (sheet .exit)) ⌝ }
 {
     let mut table = [0u32; 1024];

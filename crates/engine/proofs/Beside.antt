@@ -9,7 +9,7 @@ use lib.Seq.{drop-drop, ext-getD}
 use Rattle.mtl.specs.Formula.{Formula}
 use Rattle.mtl.proofs.Bounded.{le-or-lt}
 use Rattle.rule.specs.Postfix.{formula}
-use Rattle.engine.specs.State.{words, words-before, formula-words, own-at}
+use Rattle.engine.specs.State.{needed-words, words-before, formula-words, own-at}
 use Rattle.engine.specs.Ask.{part, back}
 use Rattle.engine.proofs.Parts.{put-back, back-from, part-back, part-before, drop-back}
 use Rattle.engine.proofs.Held.{HeldWords, own-block, held-part, part-beside}
@@ -28,13 +28,13 @@ before-more fs k (suc j) =
 pub before-grows : (fs : List Formula) (k m : ℕ) → k ≤ m → words-before fs k ≤ words-before fs m
 before-grows fs k m h = let e : k + (m - k) ≡ m = omega arith in subst (λ i. words-before fs k ≤ words-before fs i) e (before-more fs k (m - k))
 
-pub before-next : (fs : List Formula) (k : ℕ) → words-before fs (suc k) ≡ words-before fs k + words (formula fs k)
+pub before-next : (fs : List Formula) (k : ℕ) → words-before fs (suc k) ≡ words-before fs k + needed-words (formula fs k)
 unfolding words-before
 before-next fs k = refl
 
 -- the words of two formulas lie apart
 apart : (fs : List Formula) (k m : ℕ) → (m ≡ k → ⊥) →
-    (words-before fs m + words (formula fs m) ≤ words-before fs k) ⊎ (words-before fs k + words (formula fs k) ≤ words-before fs m)
+    (words-before fs m + needed-words (formula fs m) ≤ words-before fs k) ⊎ (words-before fs k + needed-words (formula fs k) ≤ words-before fs m)
 apart fs k m other =
     ⊎-elim
     (λ (h : k ≤ m). inr (omega (arith, before-next fs k, before-grows fs (suc k) m (later h))))
@@ -46,17 +46,17 @@ apart fs k m other =
 
 module _ (fs : List Formula) (base : ℕ) where
   -- the words of formula k, out of all words of the checkpoint
-  words-out : (k : ℕ) (ws : List ℕ) → formula-words fs k (drop base ws) ≡ take (words (formula fs k)) (drop (base + words-before fs k) ws)
-  words-out k ws = ap (take (words (formula fs k))) (drop-drop (words-before fs k) base ws)
+  words-out : (k : ℕ) (ws : List ℕ) → formula-words fs k (drop base ws) ≡ take (needed-words (formula fs k)) (drop (base + words-before fs k) ws)
+  words-out k ws = ap (take (needed-words (formula fs k))) (drop-drop (words-before fs k) base ws)
 
   pub formula-part : (k : ℕ) (ws : List ℕ) → part (base + words-before fs k) (base + words-before fs (suc k)) ws ≡ formula-words fs k (drop base ws)
   formula-part k ws =
-      let e : base + words-before fs (suc k) - (base + words-before fs k) ≡ words (formula fs k) = omega (arith, before-next fs k) in
+      let e : base + words-before fs (suc k) - (base + words-before fs k) ≡ needed-words (formula fs k) = omega (arith, before-next fs k) in
       ap (λ n. take n (drop (base + words-before fs k) ws)) e ∙ sym (words-out k ws)
 
   -- LENT AND PUT BACK
 
-  module _ (k : ℕ) (ys ws : List ℕ) (inside : base + words-before fs (suc k) ≤ length ws) (size : length ys ≡ words (formula fs k)) where
+  module _ (k : ℕ) (ys ws : List ℕ) (inside : base + words-before fs (suc k) ≤ length ws) (size : length ys ≡ needed-words (formula fs k)) where
     back-is : put-back (base + words-before fs k) (base + words-before fs (suc k)) ys ws ≡
         back (base + words-before fs k) (base + words-before fs (suc k)) ys ws
     back-is = back-from (base + words-before fs k) (base + words-before fs (suc k)) ys ws (omega (arith, before-next fs k))
@@ -73,13 +73,13 @@ module _ (fs : List Formula) (base : ℕ) where
         formula-words fs m (drop base (put-back (base + words-before fs k) (base + words-before fs (suc k)) ys ws)) ≡ formula-words fs m (drop base ws)
     back-beside m other =
         words-out m (put-back (base + words-before fs k) (base + words-before fs (suc k)) ys ws) ∙
-        ap (λ l. take (words (formula fs m)) (drop (base + words-before fs m) l)) back-is ∙
+        ap (λ l. take (needed-words (formula fs m)) (drop (base + words-before fs m) l)) back-is ∙
         ⊎-elim
-        (λ (h : words-before fs m + words (formula fs m) ≤ words-before fs k).
+        (λ (h : words-before fs m + needed-words (formula fs m) ≤ words-before fs k).
         part-before (base + words-before fs k) (base + words-before fs (suc k)) ys ws (omega (arith, before-next fs k)) inside (omega (arith, before-next fs k))
-        (base + words-before fs m) (words (formula fs m)) (omega arith))
-        (λ (h : words-before fs k + words (formula fs k) ≤ words-before fs m).
-        ap (take (words (formula fs m)))
+        (base + words-before fs m) (needed-words (formula fs m)) (omega arith))
+        (λ (h : words-before fs k + needed-words (formula fs k) ≤ words-before fs m).
+        ap (take (needed-words (formula fs m)))
         (drop-back (base + words-before fs k) (base + words-before fs (suc k)) ys ws (omega (arith, before-next fs k)) inside (omega (arith, before-next fs k))
         (base + words-before fs m) (omega (arith, before-next fs k))))
         (apart fs k m other) ∙
@@ -92,23 +92,23 @@ module _ (fs : List Formula) (base : ℕ) where
     pub held-here : HeldWords (own-at (formula fs k)) (formula-words fs k (drop base ws)) (formula-words fs k (drop base ws′))
     held-here =
         rw (words-out k ws, words-out k ws′)
-        (held-part (own-at (formula fs k)) (base + words-before fs k) (words (formula fs k)) ws ws′ held)
+        (held-part (own-at (formula fs k)) (base + words-before fs k) (needed-words (formula fs k)) ws ws′ held)
 
     -- the other formulas' are as they were
     pub held-beside : length ws ≡ length ws′ → (m : ℕ) → (m ≡ k → ⊥) → formula-words fs m (drop base ws′) ≡ formula-words fs m (drop base ws)
     held-beside long m other =
         let at = base + words-before fs m in
-        let size = words (formula fs m) in
+        let size = needed-words (formula fs m) in
         words-out m ws′ ∙
         ext-getD 0 (take size (drop at ws′)) (take size (drop at ws))
         (omega (arith, length-take size (drop at ws), length-take size (drop at ws′), length-drop at ws, length-drop at ws′))
         (λ i h. part-beside (base + words-before fs k + own-at (formula fs k)) at size ws ws′ far held .1 i) ∙
         sym (words-out m ws)
       where
-        far : (base + words-before fs m + words (formula fs m) ≤ base + words-before fs k + own-at (formula fs k) + 12) ⊎
+        far : (base + words-before fs m + needed-words (formula fs m) ≤ base + words-before fs k + own-at (formula fs k) + 12) ⊎
             (base + words-before fs k + own-at (formula fs k) + 14 ≤ base + words-before fs m)
         far =
             ⊎-elim
-            (λ (h : words-before fs m + words (formula fs m) ≤ words-before fs k). inl (omega arith))
-            (λ (h : words-before fs k + words (formula fs k) ≤ words-before fs m). inr (omega (arith, own-block (formula fs k))))
+            (λ (h : words-before fs m + needed-words (formula fs m) ≤ words-before fs k). inl (omega arith))
+            (λ (h : words-before fs k + needed-words (formula fs k) ≤ words-before fs m). inr (omega (arith, own-block (formula fs k))))
             (apart fs k m other)

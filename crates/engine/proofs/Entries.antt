@@ -18,12 +18,12 @@ use Rattle.rule.specs.declared.Entry.{Entry}
 use Rattle.rule.specs.Entries.{entry}
 use Rattle.rule.specs.Words.{ring-words, own-words, own, offset}
 use Rattle.rule.specs.Postfix.{root}
-use Rattle.rule.specs.Operands.{operands, left, part, FormulaAt, Unary, Binary}
+use Rattle.rule.specs.Operands.{operands, left, subformula-words, FormulaAt, Unary, Binary}
 use Rattle.rule.specs.Accepted.{WellFormed}
 use Rattle.rule.proofs.Spans.{own-least, offset-mono}
 use Rattle.blocks.specs.Block.{word, taken, left-count, right-count, waiting-head, kind-of, high-of, FreshBlock, Onward, cells-of, InRange, Own, Core, Buffers, Ready}
-use Rattle.engine.specs.State.{words, Parts, Absent, State, OnwardParts, OnwardNone, OnwardAll, OnwardFormula}
-use Rattle.engine.specs.Layout.{first}
+use Rattle.engine.specs.State.{needed-words, Parts, Absent, State, OnwardParts, OnwardNone, OnwardAll, OnwardFormula}
+use Rattle.engine.specs.Layout.{subformula-first}
 use Rattle.engine.proofs.Parts.{take-drop-take}
 use Rattle.engine.proofs.Rows.{words-at, fields-of}
 use Rattle.engine.proofs.Heads.{HeadsWithin, heads-fresh, heads-within}
@@ -32,7 +32,7 @@ use Rattle.blocks.proofs.Onward.{onward-fewer, onward-same}
 
 -- the words of the subformula that ends at entry k
 abbrev pub part-words : List Entry → ℕ → List ℕ → List ℕ
-part-words t k W = take (part t k) (drop (offset t (first t k)) W)
+part-words t k W = take (subformula-words t k) (drop (offset t (subformula-first t k)) W)
 
 -- WORDS IN PARTS OF LISTS
 
@@ -68,15 +68,15 @@ range-same b b′ same r =
 
 module _ (t : List Entry) (W : List ℕ) where
   -- from a part's first entry to behind its last
-  pub part-ends : (k : ℕ) → offset t (first t k) + part t k ≡ offset t (suc k)
-  part-ends k = let g = offset-mono t (first t k) (suc k) (omega arith) in omega arith
+  pub part-ends : (k : ℕ) → offset t (subformula-first t k) + subformula-words t k ≡ offset t (suc k)
+  part-ends k = let g = offset-mono t (subformula-first t k) (suc k) (omega arith) in omega arith
 
-  module _ (k a c : ℕ) (all : part t k ≡ a + c + own (entry t k)) where
+  module _ (k a c : ℕ) (all : subformula-words t k ≡ a + c + own (entry t k)) where
     all-same : Same (own (entry t k)) (drop (a + c) (part-words t k W)) (drop (offset t k) W)
     unfolding offset
     all-same =
         let p = part-ends k in
-        part-same W (offset t (first t k)) (part t k) (a + c) (own (entry t k)) (offset t k) (omega arith) (omega arith)
+        part-same W (offset t (subformula-first t k)) (subformula-words t k) (a + c) (own (entry t k)) (offset t k) (omega arith) (omega arith)
 
     own-same : Same 16 (drop (a + c) (part-words t k W)) (drop (offset t k) W)
     own-same i l = all-same i (omega (arith, own-least (entry t k .kind) (entry t k .high)))
@@ -89,8 +89,8 @@ module _ (t : List Entry) (W : List ℕ) where
     own-room n h room =
         let p = part-ends k in
         let g = offset-mono t (suc k) n h in
-        let d = length-drop (offset t (first t k)) W in
-        let l = length-take-le (part t k) (drop (offset t (first t k)) W) (omega arith) in
+        let d = length-drop (offset t (subformula-first t k)) W in
+        let l = length-take-le (subformula-words t k) (drop (offset t (subformula-first t k)) W) (omega arith) in
         let l′ = length-drop (a + c) (part-words t k W) in
         omega arith
 
@@ -181,7 +181,7 @@ entry-fields P φ e is p =
     rw (← (f .kind), ← (f .high)) (subst (λ x. P (x .kind) (x .high)) is p)
 
 module _ (t : List Entry) (n : ℕ) (W : List ℕ) (room : offset t n ≤ length W) (φ : Formula) (k a c : ℕ) (h : k < n) (is : entry t k ≡ root φ)
-    (all : part t k ≡ a + c + own (entry t k))
+    (all : subformula-words t k ≡ a + c + own (entry t k))
     (block : FreshBlock (entry t k .kind) (drop (offset t k) W)) (L : Log) where
   fresh-block : FreshBlock (kind-of φ) (drop (a + c) (part-words t k W))
   fresh-block =
@@ -229,7 +229,7 @@ fields-entry P φ e is p =
     subst (λ x. P (x .kind) (x .high)) (sym is) (rw (f .kind, f .high) p)
 
 own-ranged : (t : List Entry) (W : List ℕ) (φ : Formula) (L : Log) (records : ℕ) → Placed L records → (g k a c : ℕ) → entry t k ≡ root φ →
-    part t k ≡ a + c + own (entry t k) → Ready φ L g (drop (a + c) (part-words t k W)) → (j : ℕ) → k ≤ j → j ≤ k → Ranged t W (L .size) records j
+    subformula-words t k ≡ a + c + own (entry t k) → Ready φ L g (drop (a + c) (part-words t k W)) → (j : ℕ) → k ≤ j → j ≤ k → Ranged t W (L .size) records j
 own-ranged t W φ L records placed g k a c is all ready j l l′ =
     let b = drop (a + c) (part-words t k W) in
     let b′ = drop (offset t k) W in
@@ -249,7 +249,7 @@ own-ranged t W φ L records placed g k a c is all ready j l l′ =
 abbrev pub OnwardEntry : (w : ℕ) → List Entry → (W W′ : List ℕ) → ℕ → Type 0
 OnwardEntry w t W W′ j = Onward w (drop (offset t j) W) (drop (offset t j) W′)
 
-own-onward : (w : ℕ) (t : List Entry) (W W′ : List ℕ) (k a c : ℕ) → part t k ≡ a + c + own (entry t k) →
+own-onward : (w : ℕ) (t : List Entry) (W W′ : List ℕ) (k a c : ℕ) → subformula-words t k ≡ a + c + own (entry t k) →
     Onward w (drop (a + c) (part-words t k W)) (drop (a + c) (part-words t k W′)) → (j : ℕ) → k ≤ j → j ≤ k → OnwardEntry w t W W′ j
 own-onward w t W W′ k a c all onward j l l′ =
     subst (OnwardEntry w t W W′) (omega arith)
@@ -288,49 +288,49 @@ module _ (t : List Entry) (n : ℕ) (ok : WellFormed t n) (χ φ : Formula) (k :
   unary : Unary t k
   unary = ok .unary k h (ap (λ x. operands (x .kind)) is ∙ one)
 
-  one-words : words φ ≡ part t (k - 1)
+  one-words : needed-words φ ≡ subformula-words t (k - 1)
   one-words = sym (words-at t n ok φ (k - 1) (omega arith) at)
 
-  one-first : first t (k - 1) ≡ first t k
+  one-first : subformula-first t (k - 1) ≡ subformula-first t k
   one-first = omega (arith, unary .below, unary .span-is)
 
-  one-part : part t k ≡ 0 + words φ + own (entry t k)
+  one-part : subformula-words t k ≡ 0 + needed-words φ + own (entry t k)
   one-part = omega (arith, unary .part-is, one-words)
 
-  one-right : (W : List ℕ) → take (words φ) (drop 0 (part-words t k W)) ≡ part-words t (k - 1) W
+  one-right : (W : List ℕ) → take (needed-words φ) (drop 0 (part-words t k W)) ≡ part-words t (k - 1) W
   one-right W =
-      part-of-part W (offset t (first t k)) (part t k) 0 (words φ) (offset t (first t (k - 1))) (rw one-first (omega arith)) (omega (arith, one-part)) ∙
-      ap (λ x. take x (drop (offset t (first t (k - 1))) W)) one-words
+      part-of-part W (offset t (subformula-first t k)) (subformula-words t k) 0 (needed-words φ) (offset t (subformula-first t (k - 1))) (rw one-first (omega arith)) (omega (arith, one-part)) ∙
+      ap (λ x. take x (drop (offset t (subformula-first t (k - 1))) W)) one-words
 
   -- entry k itself, and the entries of its operand
-  from-one : (P : ℕ → Type 0) → ((j : ℕ) → k ≤ j → j ≤ k → P j) → ((j : ℕ) → first t (k - 1) ≤ j → j ≤ k - 1 → P j) →
-      (j : ℕ) → first t k ≤ j → j ≤ k → P j
+  from-one : (P : ℕ → Type 0) → ((j : ℕ) → k ≤ j → j ≤ k → P j) → ((j : ℕ) → subformula-first t (k - 1) ≤ j → j ≤ k - 1 → P j) →
+      (j : ℕ) → subformula-first t k ≤ j → j ≤ k → P j
   from-one P here right j from to =
       ⊎-elim (λ (l : k ≤ j). here j l to) (λ (l : j < k). right j (omega (arith, one-first)) (omega arith)) (le-or-lt k j)
 
-  module _ (W W′ : List ℕ) (right : OnwardAll φ (part-words t (k - 1) W) (part-words t (k - 1) W′) → OnwardFrom t W W′ (first t (k - 1)) (k - 1)) where
-    onward-one : OnwardParts 12 OnwardNone (OnwardAll φ) 0 (words φ) (part-words t k W) (part-words t k W′) → OnwardFrom t W W′ (first t k) k
+  module _ (W W′ : List ℕ) (right : OnwardAll φ (part-words t (k - 1) W) (part-words t (k - 1) W′) → OnwardFrom t W W′ (subformula-first t (k - 1)) (k - 1)) where
+    onward-one : OnwardParts 12 OnwardNone (OnwardAll φ) 0 (needed-words φ) (part-words t k W) (part-words t k W′) → OnwardFrom t W W′ (subformula-first t k) k
     onward-one s =
-        from-one (OnwardEntry 12 t W W′) (own-onward 12 t W W′ k 0 (words φ) one-part (s .own)) (right (rw (one-right W, one-right W′) at (s .right)))
+        from-one (OnwardEntry 12 t W W′) (own-onward 12 t W W′ k 0 (needed-words φ) one-part (s .own)) (right (rw (one-right W, one-right W′) at (s .right)))
 
-    formula-one : OnwardParts 14 OnwardNone (OnwardAll φ) 0 (words φ) (part-words t k W) (part-words t k W′) → FormulaFrom t W W′ (first t k) k
+    formula-one : OnwardParts 14 OnwardNone (OnwardAll φ) 0 (needed-words φ) (part-words t k W) (part-words t k W′) → FormulaFrom t W W′ (subformula-first t k) k
     formula-one s =
-        from-one (FormulaEntry t W W′ k) (λ j l l′. as-last t W W′ k j l l′ (own-onward 14 t W W′ k 0 (words φ) one-part (s .own) j l l′))
-        (operand-entries t W W′ (first t (k - 1)) (k - 1) k (right (rw (one-right W, one-right W′) at (s .right))))
+        from-one (FormulaEntry t W W′ k) (λ j l l′. as-last t W W′ k j l l′ (own-onward 14 t W W′ k 0 (needed-words φ) one-part (s .own) j l l′))
+        (operand-entries t W W′ (subformula-first t (k - 1)) (k - 1) k (right (rw (one-right W, one-right W′) at (s .right))))
 
   module _ (W : List ℕ) (L : Log) where
-    fresh-one : offset t n ≤ length W → FreshFrom t W (first t k) k →
-        (FreshFrom t W (first t (k - 1)) (k - 1) → State φ L 0 (part-words t (k - 1) W)) →
-        Parts (Ready χ L 0) Absent (State φ L) 0 (words φ) (part-words t k W)
+    fresh-one : offset t n ≤ length W → FreshFrom t W (subformula-first t k) k →
+        (FreshFrom t W (subformula-first t (k - 1)) (k - 1) → State φ L 0 (part-words t (k - 1) W)) →
+        Parts (Ready χ L 0) Absent (State φ L) 0 (needed-words φ) (part-words t k W)
     fresh-one room fresh right =
-        fresh-parts t n W room χ k 0 (words φ) h is one-part (fresh k (omega (arith, unary .span-is)) (omega arith)) L Absent (State φ L) _ _ refl (one-right W) tt
+        fresh-parts t n W room χ k 0 (needed-words φ) h is one-part (fresh k (omega (arith, unary .span-is)) (omega arith)) L Absent (State φ L) _ _ refl (one-right W) tt
         (right (λ j l l′. fresh j (omega (arith, one-first)) (omega arith)))
 
-    ranged-one : (records : ℕ) → Placed L records → (g : ℕ) → Parts (Ready χ L g) Absent (State φ L) 0 (words φ) (part-words t k W) →
-        ((p : ℕ) → State φ L p (part-words t (k - 1) W) → RangedFrom t W (L .size) records (first t (k - 1)) (k - 1)) →
-        RangedFrom t W (L .size) records (first t k) k
+    ranged-one : (records : ℕ) → Placed L records → (g : ℕ) → Parts (Ready χ L g) Absent (State φ L) 0 (needed-words φ) (part-words t k W) →
+        ((p : ℕ) → State φ L p (part-words t (k - 1) W) → RangedFrom t W (L .size) records (subformula-first t (k - 1)) (k - 1)) →
+        RangedFrom t W (L .size) records (subformula-first t k) k
     ranged-one records placed g s right =
-        from-one (Ranged t W (L .size) records) (own-ranged t W χ L records placed g k 0 (words φ) is one-part (s .own))
+        from-one (Ranged t W (L .size) records) (own-ranged t W χ L records placed g k 0 (needed-words φ) is one-part (s .own))
         (right _ (subst (State φ L _) (one-right W) (s .right)))
 
 -- an entry of χ with two operands φ and ψ
@@ -339,35 +339,35 @@ module _ (t : List Entry) (n : ℕ) (ok : WellFormed t n) (χ φ ψ : Formula) (
   binary : Binary t k
   binary = ok .binary k h (ap (λ x. operands (x .kind)) is ∙ two)
 
-  two-lefts : words φ ≡ part t (left t k)
+  two-lefts : needed-words φ ≡ subformula-words t (left t k)
   two-lefts = sym (words-at t n ok φ (left t k) (omega arith) at-left)
 
-  two-rights : words ψ ≡ part t (k - 1)
+  two-rights : needed-words ψ ≡ subformula-words t (k - 1)
   two-rights = sym (words-at t n ok ψ (k - 1) (omega arith) at-right)
 
-  two-first : first t (left t k) ≡ first t k
+  two-first : subformula-first t (left t k) ≡ subformula-first t k
   two-first = omega (arith, binary .below, binary .span-is)
 
-  two-next : first t (k - 1) ≡ suc (left t k)
+  two-next : subformula-first t (k - 1) ≡ suc (left t k)
   two-next = omega (arith, binary .below)
 
-  two-part : part t k ≡ words φ + words ψ + own (entry t k)
+  two-part : subformula-words t k ≡ needed-words φ + needed-words ψ + own (entry t k)
   two-part = omega (arith, binary .part-is, two-lefts, two-rights)
 
-  two-left : (W : List ℕ) → take (words φ) (part-words t k W) ≡ part-words t (left t k) W
+  two-left : (W : List ℕ) → take (needed-words φ) (part-words t k W) ≡ part-words t (left t k) W
   two-left W =
-      part-of-part W (offset t (first t k)) (part t k) 0 (words φ) (offset t (first t (left t k))) (rw two-first (omega arith)) (omega (arith, two-part)) ∙
-      ap (λ x. take x (drop (offset t (first t (left t k))) W)) two-lefts
+      part-of-part W (offset t (subformula-first t k)) (subformula-words t k) 0 (needed-words φ) (offset t (subformula-first t (left t k))) (rw two-first (omega arith)) (omega (arith, two-part)) ∙
+      ap (λ x. take x (drop (offset t (subformula-first t (left t k))) W)) two-lefts
 
-  two-right : (W : List ℕ) → take (words ψ) (drop (words φ) (part-words t k W)) ≡ part-words t (k - 1) W
+  two-right : (W : List ℕ) → take (needed-words ψ) (drop (needed-words φ) (part-words t k W)) ≡ part-words t (k - 1) W
   two-right W =
-      let e : offset t (first t k) + words φ ≡ offset t (first t (k - 1)) = rw (two-next, ← two-first, two-lefts) (part-ends t W (left t k)) in
-      part-of-part W (offset t (first t k)) (part t k) (words φ) (words ψ) (offset t (first t (k - 1))) e (omega (arith, two-part)) ∙
-      ap (λ x. take x (drop (offset t (first t (k - 1))) W)) two-rights
+      let e : offset t (subformula-first t k) + needed-words φ ≡ offset t (subformula-first t (k - 1)) = rw (two-next, ← two-first, two-lefts) (part-ends t W (left t k)) in
+      part-of-part W (offset t (subformula-first t k)) (subformula-words t k) (needed-words φ) (needed-words ψ) (offset t (subformula-first t (k - 1))) e (omega (arith, two-part)) ∙
+      ap (λ x. take x (drop (offset t (subformula-first t (k - 1))) W)) two-rights
 
   -- entry k itself, and the entries of its operands
-  from-two : (P : ℕ → Type 0) → ((j : ℕ) → k ≤ j → j ≤ k → P j) → ((j : ℕ) → first t (left t k) ≤ j → j ≤ left t k → P j) →
-      ((j : ℕ) → first t (k - 1) ≤ j → j ≤ k - 1 → P j) → (j : ℕ) → first t k ≤ j → j ≤ k → P j
+  from-two : (P : ℕ → Type 0) → ((j : ℕ) → k ≤ j → j ≤ k → P j) → ((j : ℕ) → subformula-first t (left t k) ≤ j → j ≤ left t k → P j) →
+      ((j : ℕ) → subformula-first t (k - 1) ≤ j → j ≤ k - 1 → P j) → (j : ℕ) → subformula-first t k ≤ j → j ≤ k → P j
   from-two P here lefts rights j from to =
       ⊎-elim
       (λ (l : k ≤ j). here j l to)
@@ -378,42 +378,42 @@ module _ (t : List Entry) (n : ℕ) (ok : WellFormed t n) (χ φ ψ : Formula) (
       (le-or-lt j (left t k)))
       (le-or-lt k j)
 
-  module _ (W W′ : List ℕ) (lefts : OnwardAll φ (part-words t (left t k) W) (part-words t (left t k) W′) → OnwardFrom t W W′ (first t (left t k)) (left t k))
-      (rights : OnwardAll ψ (part-words t (k - 1) W) (part-words t (k - 1) W′) → OnwardFrom t W W′ (first t (k - 1)) (k - 1)) where
-    onward-two : OnwardParts 12 (OnwardAll φ) (OnwardAll ψ) (words φ) (words ψ) (part-words t k W) (part-words t k W′) → OnwardFrom t W W′ (first t k) k
+  module _ (W W′ : List ℕ) (lefts : OnwardAll φ (part-words t (left t k) W) (part-words t (left t k) W′) → OnwardFrom t W W′ (subformula-first t (left t k)) (left t k))
+      (rights : OnwardAll ψ (part-words t (k - 1) W) (part-words t (k - 1) W′) → OnwardFrom t W W′ (subformula-first t (k - 1)) (k - 1)) where
+    onward-two : OnwardParts 12 (OnwardAll φ) (OnwardAll ψ) (needed-words φ) (needed-words ψ) (part-words t k W) (part-words t k W′) → OnwardFrom t W W′ (subformula-first t k) k
     onward-two s =
-        from-two (OnwardEntry 12 t W W′) (own-onward 12 t W W′ k (words φ) (words ψ) two-part (s .own))
+        from-two (OnwardEntry 12 t W W′) (own-onward 12 t W W′ k (needed-words φ) (needed-words ψ) two-part (s .own))
         (lefts (rw (two-left W, two-left W′) at (s .left)))
         (rights (rw (two-right W, two-right W′) at (s .right)))
 
-    formula-two : OnwardParts 14 (OnwardAll φ) (OnwardAll ψ) (words φ) (words ψ) (part-words t k W) (part-words t k W′) → FormulaFrom t W W′ (first t k) k
+    formula-two : OnwardParts 14 (OnwardAll φ) (OnwardAll ψ) (needed-words φ) (needed-words ψ) (part-words t k W) (part-words t k W′) → FormulaFrom t W W′ (subformula-first t k) k
     formula-two s =
-        from-two (FormulaEntry t W W′ k) (λ j l l′. as-last t W W′ k j l l′ (own-onward 14 t W W′ k (words φ) (words ψ) two-part (s .own) j l l′))
-        (operand-entries t W W′ (first t (left t k)) (left t k) k (lefts (rw (two-left W, two-left W′) at (s .left))))
-        (operand-entries t W W′ (first t (k - 1)) (k - 1) k (rights (rw (two-right W, two-right W′) at (s .right))))
+        from-two (FormulaEntry t W W′ k) (λ j l l′. as-last t W W′ k j l l′ (own-onward 14 t W W′ k (needed-words φ) (needed-words ψ) two-part (s .own) j l l′))
+        (operand-entries t W W′ (subformula-first t (left t k)) (left t k) k (lefts (rw (two-left W, two-left W′) at (s .left))))
+        (operand-entries t W W′ (subformula-first t (k - 1)) (k - 1) k (rights (rw (two-right W, two-right W′) at (s .right))))
 
   module _ (W : List ℕ) (L : Log) where
-    fresh-two : offset t n ≤ length W → FreshFrom t W (first t k) k →
-        (FreshFrom t W (first t (left t k)) (left t k) → State φ L 0 (part-words t (left t k) W)) →
-        (FreshFrom t W (first t (k - 1)) (k - 1) → State ψ L 0 (part-words t (k - 1) W)) →
-        Parts (Ready χ L 0) (State φ L) (State ψ L) (words φ) (words ψ) (part-words t k W)
+    fresh-two : offset t n ≤ length W → FreshFrom t W (subformula-first t k) k →
+        (FreshFrom t W (subformula-first t (left t k)) (left t k) → State φ L 0 (part-words t (left t k) W)) →
+        (FreshFrom t W (subformula-first t (k - 1)) (k - 1) → State ψ L 0 (part-words t (k - 1) W)) →
+        Parts (Ready χ L 0) (State φ L) (State ψ L) (needed-words φ) (needed-words ψ) (part-words t k W)
     fresh-two room fresh lefts rights =
-        fresh-parts t n W room χ k (words φ) (words ψ) h is two-part (fresh k (omega (arith, binary .span-is)) (omega arith)) L (State φ L) (State ψ L) _ _ (two-left W) (two-right W)
+        fresh-parts t n W room χ k (needed-words φ) (needed-words ψ) h is two-part (fresh k (omega (arith, binary .span-is)) (omega arith)) L (State φ L) (State ψ L) _ _ (two-left W) (two-right W)
         (lefts (λ j l l′. fresh j (omega (arith, two-first)) (omega arith)))
         (rights (λ j l l′. fresh j (omega (arith, two-first, two-next)) (omega arith)))
 
-    ranged-two : (records : ℕ) → Placed L records → (g : ℕ) → Parts (Ready χ L g) (State φ L) (State ψ L) (words φ) (words ψ) (part-words t k W) →
-        ((p : ℕ) → State φ L p (part-words t (left t k) W) → RangedFrom t W (L .size) records (first t (left t k)) (left t k)) →
-        ((p : ℕ) → State ψ L p (part-words t (k - 1) W) → RangedFrom t W (L .size) records (first t (k - 1)) (k - 1)) →
-        RangedFrom t W (L .size) records (first t k) k
+    ranged-two : (records : ℕ) → Placed L records → (g : ℕ) → Parts (Ready χ L g) (State φ L) (State ψ L) (needed-words φ) (needed-words ψ) (part-words t k W) →
+        ((p : ℕ) → State φ L p (part-words t (left t k) W) → RangedFrom t W (L .size) records (subformula-first t (left t k)) (left t k)) →
+        ((p : ℕ) → State ψ L p (part-words t (k - 1) W) → RangedFrom t W (L .size) records (subformula-first t (k - 1)) (k - 1)) →
+        RangedFrom t W (L .size) records (subformula-first t k) k
     ranged-two records placed g s lefts rights =
-        from-two (Ranged t W (L .size) records) (own-ranged t W χ L records placed g k (words φ) (words ψ) is two-part (s .own))
+        from-two (Ranged t W (L .size) records) (own-ranged t W χ L records placed g k (needed-words φ) (needed-words ψ) is two-part (s .own))
         (lefts _ (subst (State φ L _) (two-left W) (s .left)))
         (rights _ (subst (State ψ L _) (two-right W) (s .right)))
 
 -- THEOREM: the words that open writes have the state at 0, on every log.
 pub fresh-state : (t : List Entry) (n : ℕ) → WellFormed t n → (W : List ℕ) → offset t n ≤ length W → (φ : Formula) (k : ℕ) → k < n →
-    FormulaAt t k φ → (L : Log) → FreshFrom t W (first t k) k → State φ L 0 (part-words t k W)
+    FormulaAt t k φ → (L : Log) → FreshFrom t W (subformula-first t k) k → State φ L 0 (part-words t k W)
 unfolding FormulaAt State
 fresh-state t n ok W room (letter l) k h e L fresh =
     let p = ok .leaf k h (ap (λ x. operands (x .kind)) e) in
@@ -438,7 +438,7 @@ fresh-state t n ok W room (until low high φ ψ) k h (e, b, f, f′) L fresh =
 
 -- THEOREM: where the words have the state, every block is in its ranges.
 pub state-ranges : (t : List Entry) (n : ℕ) → WellFormed t n → (W : List ℕ) (φ : Formula) (k : ℕ) → k < n → FormulaAt t k φ →
-    (L : Log) (records : ℕ) → Placed L records → (g : ℕ) → State φ L g (part-words t k W) → RangedFrom t W (L .size) records (first t k) k
+    (L : Log) (records : ℕ) → Placed L records → (g : ℕ) → State φ L g (part-words t k W) → RangedFrom t W (L .size) records (subformula-first t k) k
 unfolding FormulaAt State
 state-ranges t n ok W (letter l) k h e L records placed g s =
     let p = ok .leaf k h (ap (λ x. operands (x .kind)) e) in
@@ -463,7 +463,7 @@ state-ranges t n ok W (until low high φ ψ) k h (e, b, f, f′) L records place
 
 -- THEOREM: where no head goes back in a subformula's blocks and words 12 to 15 are kept, so it is in each of its entries' blocks.
 pub entries-onward : (t : List Entry) (n : ℕ) → WellFormed t n → (W W′ : List ℕ) (φ : Formula) (k : ℕ) → k < n → FormulaAt t k φ →
-    OnwardAll φ (part-words t k W) (part-words t k W′) → OnwardFrom t W W′ (first t k) k
+    OnwardAll φ (part-words t k W) (part-words t k W′) → OnwardFrom t W W′ (subformula-first t k) k
 unfolding FormulaAt OnwardAll
 entries-onward t n ok W W′ (letter l) k h e s =
     let p = ok .leaf k h (ap (λ x. operands (x .kind)) e) in
@@ -488,7 +488,7 @@ entries-onward t n ok W W′ (until low high φ ψ) k h (e, b, f, f′) s =
 
 -- THEOREM: the same but for words 12 and 13 of the formula's own block.
 pub entries-formula : (t : List Entry) (n : ℕ) → WellFormed t n → (W W′ : List ℕ) (φ : Formula) (k : ℕ) → k < n → FormulaAt t k φ →
-    OnwardFormula φ (part-words t k W) (part-words t k W′) → FormulaFrom t W W′ (first t k) k
+    OnwardFormula φ (part-words t k W) (part-words t k W′) → FormulaFrom t W W′ (subformula-first t k) k
 unfolding FormulaAt
 entries-formula t n ok W W′ (letter l) k h e s =
     let p = ok .leaf k h (ap (λ x. operands (x .kind)) e) in

@@ -18,8 +18,8 @@ use Rattle.rule.specs.Operands.{FormulaAt}
 use Rattle.rule.specs.Accepted.{WellFormed, Whole}
 use Rattle.rule.proofs.Order.{some-size, within-whole}
 use Rattle.blocks.specs.Block.{kind-of, high-of, FreshBlock}
-use Rattle.engine.specs.State.{words, words-before, formula-words, own-at, State, OnwardFormula}
-use Rattle.engine.specs.Layout.{first}
+use Rattle.engine.specs.State.{needed-words, words-before, formula-words, own-at, State, OnwardFormula}
+use Rattle.engine.specs.Layout.{subformula-first}
 use Rattle.engine.proofs.Uniform.{all-words}
 use Rattle.engine.proofs.Rows.{words-at, fields-of}
 use Rattle.engine.proofs.Entries.{part-words, part-ends, Ranged, OnwardEntry, FormulaFrom, fresh-state, state-ranges, entries-formula}
@@ -56,10 +56,10 @@ module _ (t : List Entry) (n : ℕ) (ok : WellFormed t n) (fs : List Formula) (w
     pub last-below : last-entry fs k < n
     last-below = omega (arith, some-size (formula fs k), within-whole t n fs whole k h)
 
-    last-first : first t (last-entry fs k) ≡ start fs k
+    last-first : subformula-first t (last-entry fs k) ≡ start fs k
     last-first = omega (arith, some-size (formula fs k), whole .each k h .spans)
 
-    last-words : words (formula fs k) + offset t (start fs k) ≡ offset t (start fs (suc k))
+    last-words : needed-words (formula fs k) + offset t (start fs k) ≡ offset t (start fs (suc k))
     last-words =
         omega (
           arith,
@@ -120,7 +120,7 @@ module _ (t : List Entry) (n : ℕ) (ok : WellFormed t n) (fs : List Formula) (w
   inside j h = inside-first j (length fs) (omega arith) (omega (arith, whole .all))
 
   -- what holds for every entry of every formula holds for every entry
-  by-formula : (P : ℕ → Type 0) → ((k : ℕ) → k < length fs → (j : ℕ) → first t (last-entry fs k) ≤ j → j ≤ last-entry fs k → P j) →
+  by-formula : (P : ℕ → Type 0) → ((k : ℕ) → k < length fs → (j : ℕ) → subformula-first t (last-entry fs k) ≤ j → j ≤ last-entry fs k → P j) →
       (j : ℕ) → j < n → P j
   by-formula P each j h =
       let (k, is) = inside j h in
@@ -146,7 +146,7 @@ module _ (t : List Entry) (n : ℕ) (ok : WellFormed t n) (fs : List Formula) (w
   -- THEOREM: where each formula's words have gone on, no head goes back in any entry's block and its words 14 and 15 are kept; words 12
   -- to 15 are where the entry is no formula's last.
   module _ (W W′ : List ℕ) (onward : (k : ℕ) → k < length fs → OnwardFormula (formula fs k) (formula-words fs k W) (formula-words fs k W′)) where
-    blocks : (k : ℕ) (h : k < length fs) → FormulaFrom t W W′ (first t (last-entry fs k)) (last-entry fs k)
+    blocks : (k : ℕ) (h : k < length fs) → FormulaFrom t W W′ (subformula-first t (last-entry fs k)) (last-entry fs k)
     blocks k h =
         entries-formula t n ok W W′ (formula fs k) (last-entry fs k) (last-below k h) (last-at k h)
         (rw (words-are k h W, words-are k h W′) (onward k h))

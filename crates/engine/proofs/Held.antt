@@ -16,12 +16,12 @@ use Rattle.blocks.specs.Ring.{Ring}
 use Rattle.blocks.specs.Block.{word, kind-of, high-of, InRange, Own, Buffers, Ready}
 use Rattle.blocks.specs.Step.{has-left, has-right, left-of, right-of}
 use Rattle.blocks.proofs.Onward.{still}
-use Rattle.engine.specs.State.{words, left-words, right-words, own-at, Parts, Absent, State, OnwardParts, OnwardNone, OnwardAll, OnwardOperand, OnwardFormula}
+use Rattle.engine.specs.State.{needed-words, left-words, right-words, own-at, Parts, Absent, State, OnwardParts, OnwardNone, OnwardAll, OnwardOperand, OnwardFormula}
 use Rattle.engine.proofs.Uniform.{all-words}
 use Rattle.engine.proofs.Heads.{heads-same}
 
 -- a formula's own block has 16 words and more
-pub own-block : (φ : Formula) → own-at φ + 16 ≤ words φ
+pub own-block : (φ : Formula) → own-at φ + 16 ≤ needed-words φ
 own-block φ = omega (arith, all-words φ, own-least (kind-of φ) (high-of φ))
 
 -- ONE BLOCK
@@ -203,24 +203,24 @@ pub held-state : (φ : Formula) (L : Log) (g : ℕ) (ws ws′ : List ℕ) → He
 unfolding State
 held-state (letter k) L g ws ws′ held s = parts-held (letter k) L g Absent Absent 0 0 ws ws′ held absent-held absent-held s
 held-state (not φ) L g ws ws′ held s =
-    parts-held (not φ) L g Absent (State φ L) 0 (words φ) ws ws′ held absent-held
+    parts-held (not φ) L g Absent (State φ L) 0 (needed-words φ) ws ws′ held absent-held
     (λ p us us′ same. held-state φ L p us us′ (same-held (own-at φ) us us′ same)) s
 held-state (or φ ψ) L g ws ws′ held s =
-    parts-held (or φ ψ) L g (State φ L) (State ψ L) (words φ) (words ψ) ws ws′ held
+    parts-held (or φ ψ) L g (State φ L) (State ψ L) (needed-words φ) (needed-words ψ) ws ws′ held
     (λ p us us′ same. held-state φ L p us us′ (same-held (own-at φ) us us′ same))
     (λ p us us′ same. held-state ψ L p us us′ (same-held (own-at ψ) us us′ same)) s
 held-state (previous low high φ) L g ws ws′ held s =
-    parts-held (previous low high φ) L g Absent (State φ L) 0 (words φ) ws ws′ held absent-held
+    parts-held (previous low high φ) L g Absent (State φ L) 0 (needed-words φ) ws ws′ held absent-held
     (λ p us us′ same. held-state φ L p us us′ (same-held (own-at φ) us us′ same)) s
 held-state (next low high φ) L g ws ws′ held s =
-    parts-held (next low high φ) L g Absent (State φ L) 0 (words φ) ws ws′ held absent-held
+    parts-held (next low high φ) L g Absent (State φ L) 0 (needed-words φ) ws ws′ held absent-held
     (λ p us us′ same. held-state φ L p us us′ (same-held (own-at φ) us us′ same)) s
 held-state (since low high φ ψ) L g ws ws′ held s =
-    parts-held (since low high φ ψ) L g (State φ L) (State ψ L) (words φ) (words ψ) ws ws′ held
+    parts-held (since low high φ ψ) L g (State φ L) (State ψ L) (needed-words φ) (needed-words ψ) ws ws′ held
     (λ p us us′ same. held-state φ L p us us′ (same-held (own-at φ) us us′ same))
     (λ p us us′ same. held-state ψ L p us us′ (same-held (own-at ψ) us us′ same)) s
 held-state (until low high φ ψ) L g ws ws′ held s =
-    parts-held (until low high φ ψ) L g (State φ L) (State ψ L) (words φ) (words ψ) ws ws′ held
+    parts-held (until low high φ ψ) L g (State φ L) (State ψ L) (needed-words φ) (needed-words ψ) ws ws′ held
     (λ p us us′ same. held-state φ L p us us′ (same-held (own-at φ) us us′ same))
     (λ p us us′ same. held-state ψ L p us us′ (same-held (own-at ψ) us us′ same)) s
 
@@ -250,12 +250,12 @@ none-same us us′ same = tt
 all-same : (φ : Formula) (ws ws′ : List ℕ) → SamePart ws ws′ → OnwardAll φ ws ws′
 unfolding OnwardAll
 all-same (letter k) ws ws′ same = parts-same OnwardNone OnwardNone 0 0 ws ws′ same none-same none-same
-all-same (not φ) ws ws′ same = parts-same OnwardNone (OnwardAll φ) 0 (words φ) ws ws′ same none-same (all-same φ)
-all-same (or φ ψ) ws ws′ same = parts-same (OnwardAll φ) (OnwardAll ψ) (words φ) (words ψ) ws ws′ same (all-same φ) (all-same ψ)
-all-same (previous low high φ) ws ws′ same = parts-same OnwardNone (OnwardAll φ) 0 (words φ) ws ws′ same none-same (all-same φ)
-all-same (next low high φ) ws ws′ same = parts-same OnwardNone (OnwardAll φ) 0 (words φ) ws ws′ same none-same (all-same φ)
-all-same (since low high φ ψ) ws ws′ same = parts-same (OnwardAll φ) (OnwardAll ψ) (words φ) (words ψ) ws ws′ same (all-same φ) (all-same ψ)
-all-same (until low high φ ψ) ws ws′ same = parts-same (OnwardAll φ) (OnwardAll ψ) (words φ) (words ψ) ws ws′ same (all-same φ) (all-same ψ)
+all-same (not φ) ws ws′ same = parts-same OnwardNone (OnwardAll φ) 0 (needed-words φ) ws ws′ same none-same (all-same φ)
+all-same (or φ ψ) ws ws′ same = parts-same (OnwardAll φ) (OnwardAll ψ) (needed-words φ) (needed-words ψ) ws ws′ same (all-same φ) (all-same ψ)
+all-same (previous low high φ) ws ws′ same = parts-same OnwardNone (OnwardAll φ) 0 (needed-words φ) ws ws′ same none-same (all-same φ)
+all-same (next low high φ) ws ws′ same = parts-same OnwardNone (OnwardAll φ) 0 (needed-words φ) ws ws′ same none-same (all-same φ)
+all-same (since low high φ ψ) ws ws′ same = parts-same (OnwardAll φ) (OnwardAll ψ) (needed-words φ) (needed-words ψ) ws ws′ same (all-same φ) (all-same ψ)
+all-same (until low high φ ψ) ws ws′ same = parts-same (OnwardAll φ) (OnwardAll ψ) (needed-words φ) (needed-words ψ) ws ws′ same (all-same φ) (all-same ψ)
 
 operand-same : (b : Bool) (φ : Formula) (us us′ : List ℕ) → SamePart us us′ → OnwardOperand b φ us us′
 operand-same true φ us us′ same = all-same φ us us′ same

@@ -14,7 +14,7 @@ use Rattle.mtl.proofs.Closing.{settled-le-size, settled-since, settled-grows, s
 use Rattle.bits.proofs.Laws.{packed-same}
 use Rattle.blocks.specs.Ring.{Witness, Witnesses}
 use Rattle.blocks.specs.Block.{taken, kind-of, high-of, cells-of, InRange, Until, Own, Buffer, Buffers, Ready}
-use Rattle.engine.specs.State.{words, Parts, Absent, State}
+use Rattle.engine.specs.State.{needed-words, Parts, Absent, State}
 use Rattle.engine.proofs.Heads.{heads-longer}
 
 -- a witness is one by the truth values below its position
@@ -156,17 +156,17 @@ unfolding State
 state-longer (letter k) K L longer falls g ws s =
     parts-map _ _ Absent Absent Absent Absent 0 0 ws (ready-longer K L longer falls (letter k) g) absent absent s
 state-longer (not φ) K L longer falls g ws s =
-    parts-map _ _ Absent Absent _ _ 0 (words φ) ws (ready-longer K L longer falls (not φ) g) absent (state-longer φ K L longer falls) s
+    parts-map _ _ Absent Absent _ _ 0 (needed-words φ) ws (ready-longer K L longer falls (not φ) g) absent (state-longer φ K L longer falls) s
 state-longer (or φ ψ) K L longer falls g ws s =
-    parts-map _ _ _ _ _ _ (words φ) (words ψ) ws (ready-longer K L longer falls (or φ ψ) g)
+    parts-map _ _ _ _ _ _ (needed-words φ) (needed-words ψ) ws (ready-longer K L longer falls (or φ ψ) g)
     (state-longer φ K L longer falls) (state-longer ψ K L longer falls) s
 state-longer (previous low high φ) K L longer falls g ws s =
-    parts-map _ _ Absent Absent _ _ 0 (words φ) ws (ready-longer K L longer falls (previous low high φ) g) absent (state-longer φ K L longer falls) s
+    parts-map _ _ Absent Absent _ _ 0 (needed-words φ) ws (ready-longer K L longer falls (previous low high φ) g) absent (state-longer φ K L longer falls) s
 state-longer (next low high φ) K L longer falls g ws s =
-    parts-map _ _ Absent Absent _ _ 0 (words φ) ws (ready-longer K L longer falls (next low high φ) g) absent (state-longer φ K L longer falls) s
+    parts-map _ _ Absent Absent _ _ 0 (needed-words φ) ws (ready-longer K L longer falls (next low high φ) g) absent (state-longer φ K L longer falls) s
 state-longer (since low high φ ψ) K L longer falls g ws s =
-    parts-map _ _ _ _ _ _ (words φ) (words ψ) ws (ready-longer K L longer falls (since low high φ ψ) g)
+    parts-map _ _ _ _ _ _ (needed-words φ) (needed-words ψ) ws (ready-longer K L longer falls (since low high φ ψ) g)
     (state-longer φ K L longer falls) (state-longer ψ K L longer falls) s
 state-longer (until low high φ ψ) K L longer falls g ws s =
-    parts-map _ _ _ _ _ _ (words φ) (words ψ) ws (ready-longer K L longer falls (until low high φ ψ) g)
+    parts-map _ _ _ _ _ _ (needed-words φ) (needed-words ψ) ws (ready-longer K L longer falls (until low high φ ψ) g)
     (state-longer φ K L longer falls) (state-longer ψ K L longer falls) s

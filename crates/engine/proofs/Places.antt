@@ -15,19 +15,19 @@ use Rattle.rule.specs.Words.{own, offset}
 use Rattle.rule.specs.Postfix.{formula}
 use Rattle.rule.specs.Accepted.{WellFormed}
 use Rattle.rule.proofs.Spans.{offset-mono}
-use Rattle.engine.specs.State.{words, words-before, own-at}
+use Rattle.engine.specs.State.{needed-words, words-before, own-at}
 use Rattle.engine.specs.Table.{column, Has}
 use Rattle.engine.specs.Layout.{Laid}
-use Rattle.engine.specs.Tops.{place, TopRow, Tops, Ended}
+use Rattle.engine.specs.Tops.{top-column, TopRow, Tops, Ended}
 use Rattle.engine.proofs.Rows.{sets-in, sets-out, words-at, column-is-part, row-ok, has-at}
 use Rattle.engine.proofs.Formulas.{last-entry, last-at, last-next, last-below, formula-offset, own-offset}
 
 -- the numbers of row k
 pub record Placed (tops : List ℕ) (base : ℕ) (fs : List Formula) (k : ℕ) : Type 0 where
-  pub entry : place 0 tops k ≡ last-entry fs k
-  pub from : place 1 tops k ≡ base + words-before fs k
-  pub to : place 2 tops k ≡ base + words-before fs (suc k)
-  pub held : place 3 tops k ≡ base + words-before fs k + own-at (formula fs k) + 12
+  pub entry : top-column 0 tops k ≡ last-entry fs k
+  pub from : top-column 1 tops k ≡ base + words-before fs k
+  pub to : top-column 2 tops k ≡ base + words-before fs (suc k)
+  pub held : top-column 3 tops k ≡ base + words-before fs k + own-at (formula fs k) + 12
 
 -- the rows before k, and where the words of formula k begin
 pub record Before (tops : List ℕ) (base from : ℕ) (fs : List Formula) (k : ℕ) : Type 0 where
@@ -49,7 +49,7 @@ module _ (t : List Entry) (n : ℕ) (ok : WellFormed t n) (table : List ℕ) (la
     turn-last : (last : ℕ) → last ≡ getD ends k 0 - 1 → last ≡ last-entry fs k
     turn-last last e = omega (arith, is .at k h, last-next t n ok fs (is .whole) k h)
 
-    last-column : column 7 table (last-entry fs k) ≡ words (formula fs k)
+    last-column : column 7 table (last-entry fs k) ≡ needed-words (formula fs k)
     last-column =
         column-is-part t n ok table laid (last-entry fs k) (last-below t n ok fs (is .whole) k h) ∙
         words-at t n ok (formula fs k) (last-entry fs k) (last-below t n ok fs (is .whole) k h) (last-at t n ok fs (is .whole) k h)
@@ -128,7 +128,7 @@ before-next fs tops base from k last all mine h size before turn =
           (λ (m : k ≤ j). subst (Placed (sets tops (k * 4) vs) base fs) (omega arith) here)
           (λ (m : j < k).
           let p = before .rows j m in
-          let out : (i : ℕ) → i < 4 → place i (sets tops (k * 4) vs) j ≡ place i tops j = λ i b. sets-out vs tops (k * 4) (j * 4 + i) (inl (omega arith)) in
+          let out : (i : ℕ) → i < 4 → top-column i (sets tops (k * 4) vs) j ≡ top-column i tops j = λ i b. sets-out vs tops (k * 4) (j * 4 + i) (inl (omega arith)) in
           record {
             entry = out 0 (omega arith) ∙ p .entry;
             from = out 1 (omega arith) ∙ p .from;

@@ -16,13 +16,13 @@ use Rattle.rule.specs.declared.Entry.{Entry}
 use Rattle.rule.specs.Entries.{entry}
 use Rattle.rule.specs.Words.{own}
 use Rattle.rule.specs.Postfix.{root}
-use Rattle.rule.specs.Operands.{operands, left, part, FormulaAt, Binary}
+use Rattle.rule.specs.Operands.{operands, left, subformula-words, FormulaAt, Binary}
 use Rattle.rule.specs.Accepted.{WellFormed}
 use Rattle.rule.proofs.Spans.{offset-mono}
-use Rattle.engine.specs.State.{words, left-words, right-words}
+use Rattle.engine.specs.State.{needed-words, left-words, right-words}
 use Rattle.blocks.specs.Kinds.{takes-left, takes-right, Fields}
 use Rattle.engine.specs.Table.{column, RowOk, RowsOk, Row, Has}
-use Rattle.engine.specs.Layout.{first, first-from, left-from, row-of, row, Laid}
+use Rattle.engine.specs.Layout.{subformula-first, first-from, left-from, row-of, row, Laid}
 
 -- The values that a function's loop stored one by one.
 
@@ -107,35 +107,35 @@ module _ (t : List Entry) (n : ℕ) (ok : WellFormed t n) where
       go (two f r o) = let b = ok .binary k h o .below in omega arith
 
   -- the words of row k
-  row-words : (k : ℕ) → k < n → getD (row t k) 7 0 ≡ part t k
+  row-words : (k : ℕ) → k < n → getD (row t k) 7 0 ≡ subformula-words t k
   row-words k h = go (arity-at k h)
     where
-      go : Arity (entry t k .kind) → getD (row t k) 7 0 ≡ part t k
+      go : Arity (entry t k .kind) → getD (row t k) 7 0 ≡ subformula-words t k
       go (none f r o) = let e = ok .leaf k h o .part-is in rw (f, r) (omega arith)
       go (one f r o) = let e = ok .unary k h o .part-is in rw (f, r) (omega arith)
       go (two f r o) = let e = ok .binary k h o .part-is in rw (f, r) (omega arith)
 
-  part-bound : (k : ℕ) → k < n → part t k ≤ 8192
+  part-bound : (k : ℕ) → k < n → subformula-words t k ≤ 8192
   part-bound k h =
       let g = offset-mono t (suc k) n h in
       let w = ok .within in
       omega arith
 
   -- the words of an operator's part, from its operands'
-  unary-words : (k : ℕ) {e : Entry} {w : ℕ} → k < n → entry t k ≡ e → operands (e .kind) ≡ 1 → part t (k - 1) ≡ w → part t k ≡ w + own e
+  unary-words : (k : ℕ) {e : Entry} {w : ℕ} → k < n → entry t k ≡ e → operands (e .kind) ≡ 1 → subformula-words t (k - 1) ≡ w → subformula-words t k ≡ w + own e
   unary-words k h e o p = ok .unary k h (ap (λ x. operands (x .kind)) e ∙ o) .part-is ∙ ap₂ _+_ p (ap own e)
 
   binary-words : (k : ℕ) {e : Entry} {w w′ : ℕ} → k < n → entry t k ≡ e → operands (e .kind) ≡ 2 →
-      part t (left t k) ≡ w → part t (k - 1) ≡ w′ → part t k ≡ w + w′ + own e
+      subformula-words t (left t k) ≡ w → subformula-words t (k - 1) ≡ w′ → subformula-words t k ≡ w + w′ + own e
   binary-words k h e o p q = ok .binary k h (ap (λ x. operands (x .kind)) e ∙ o) .part-is ∙ ap₂ _+_ (ap₂ _+_ p q) (ap own e)
 
   -- THE FIRST ENTRIES
 
-  pub first-step : (firsts : List ℕ) (k : ℕ) → k < n → ((j : ℕ) → j < k → getD firsts j 0 ≡ first t j) →
-      first-from (entry t k .kind) k firsts ≡ first t k
+  pub first-step : (firsts : List ℕ) (k : ℕ) → k < n → ((j : ℕ) → j < k → getD firsts j 0 ≡ subformula-first t j) →
+      first-from (entry t k .kind) k firsts ≡ subformula-first t k
   first-step firsts k h below = go (arity-at k h)
     where
-      go : Arity (entry t k .kind) → first-from (entry t k .kind) k firsts ≡ first t k
+      go : Arity (entry t k .kind) → first-from (entry t k .kind) k firsts ≡ subformula-first t k
       go (none f r o) = let s = ok .leaf k h o .span-is in rw (f, r) (omega arith)
       go (one f r o) =
           let u = ok .unary k h o in
@@ -146,10 +146,10 @@ module _ (t : List Entry) (n : ℕ) (ok : WellFormed t n) where
           let u = ok .binary k h o in
           let b = u .below in
           let s = u .span-is in
-          let e : first t (k - 1) - 1 ≡ left t k = omega arith in
+          let e : subformula-first t (k - 1) - 1 ≡ left t k = omega arith in
           rw (f, below (k - 1) (omega arith), e, below (left t k) (omega arith)) (omega arith)
 
-  left-is : (firsts : List ℕ) (k : ℕ) → k < n → ((j : ℕ) → j < k → getD firsts j 0 ≡ first t j) →
+  left-is : (firsts : List ℕ) (k : ℕ) → k < n → ((j : ℕ) → j < k → getD firsts j 0 ≡ subformula-first t j) →
       left-from (takes-left (entry t k .kind)) k firsts ≡ cond (takes-left (entry t k .kind)) (left t k) 0
   left-is firsts k h below = go (arity-at k h)
     where
@@ -164,17 +164,17 @@ module _ (t : List Entry) (n : ℕ) (ok : WellFormed t n) where
   -- THE ROWS
 
   module _ (table : List ℕ) where
-    column-words : (m k : ℕ) → m ≤ n → Laid t m table → k < m → column 7 table k ≡ part t k
+    column-words : (m k : ℕ) → m ≤ n → Laid t m table → k < m → column 7 table k ≡ subformula-words t k
     column-words m k h laid l = laid .rows k 7 l (omega arith) ∙ row-words k (omega arith)
 
     left-words-is : (k : ℕ) → k < n → Laid t k table →
         cond (takes-left (entry t k .kind)) (column 7 table (cond (takes-left (entry t k .kind)) (left t k) 0)) 0 ≡
-        cond (takes-left (entry t k .kind)) (part t (left t k)) 0
+        cond (takes-left (entry t k .kind)) (subformula-words t (left t k)) 0
     left-words-is k h laid = go (arity-at k h)
       where
         go : Arity (entry t k .kind) →
             cond (takes-left (entry t k .kind)) (column 7 table (cond (takes-left (entry t k .kind)) (left t k) 0)) 0 ≡
-            cond (takes-left (entry t k .kind)) (part t (left t k)) 0
+            cond (takes-left (entry t k .kind)) (subformula-words t (left t k)) 0
         go (none f r o) = rw f
         go (one f r o) = rw f
         go (two f r o) =
@@ -182,10 +182,10 @@ module _ (t : List Entry) (n : ℕ) (ok : WellFormed t n) where
             rw f (column-words k (left t k) (omega arith) laid (omega arith))
 
     right-words-is : (k : ℕ) → k < n → Laid t k table →
-        cond (takes-right (entry t k .kind)) (column 7 table (k - 1)) 0 ≡ cond (takes-right (entry t k .kind)) (part t (k - 1)) 0
+        cond (takes-right (entry t k .kind)) (column 7 table (k - 1)) 0 ≡ cond (takes-right (entry t k .kind)) (subformula-words t (k - 1)) 0
     right-words-is k h laid = go (takes-right (entry t k .kind)) (below-at k h)
       where
-        go : (b : Bool) → (b ≡ true → 0 < k) → cond b (column 7 table (k - 1)) 0 ≡ cond b (part t (k - 1)) 0
+        go : (b : Bool) → (b ≡ true → 0 < k) → cond b (column 7 table (k - 1)) 0 ≡ cond b (subformula-words t (k - 1)) 0
         go true below = let b = below refl in column-words k (k - 1) (omega arith) laid (omega arith)
         go false below = refl
 
@@ -203,8 +203,8 @@ module _ (t : List Entry) (n : ℕ) (ok : WellFormed t n) where
 -- One turn of `lay_out`: row k from the rows before it.
 pub record Next (t : List Entry) (k at a c : ℕ) : Type 0 where
   pub at-is : at ≡ cond (takes-left (entry t k .kind)) (left t k) 0
-  pub left-is : a ≡ cond (takes-left (entry t k .kind)) (part t (left t k)) 0
-  pub right-is : c ≡ cond (takes-right (entry t k .kind)) (part t (k - 1)) 0
+  pub left-is : a ≡ cond (takes-left (entry t k .kind)) (subformula-words t (left t k)) 0
+  pub right-is : c ≡ cond (takes-right (entry t k .kind)) (subformula-words t (k - 1)) 0
 
 pub laid-next : (t : List Entry) (n : ℕ) → WellFormed t n → (table : List ℕ) (k at a c : ℕ) → k < n → k < 128 → length table ≡ 1024 →
     Laid t k table → Next t k at a c → Laid t (k + 1) (sets table (k * 8) (row-of (entry t k) at a c))
@@ -213,7 +213,7 @@ laid-next t n ok table k at a c h l size laid is =
 
 -- the three numbers as the code has them
 module _ (t : List Entry) (n : ℕ) (ok : WellFormed t n) (k : ℕ) (h : k < n) (l : k < 128) where
-  pub left-next : (firsts : List ℕ) (takes : Bool) (at : ℕ) → ((j : ℕ) → j < k → getD firsts j 0 ≡ first t j) →
+  pub left-next : (firsts : List ℕ) (takes : Bool) (at : ℕ) → ((j : ℕ) → j < k → getD firsts j 0 ≡ subformula-first t j) →
       takes ≡ takes-left (entry t k .kind) → at ≡ left-from takes k firsts →
       at ≡ cond (takes-left (entry t k .kind)) (left t k) 0
   left-next firsts takes at begin e f = f ∙ ap (λ b. left-from b k firsts) e ∙ left-is t n ok firsts k h begin
@@ -222,7 +222,7 @@ module _ (t : List Entry) (n : ℕ) (ok : WellFormed t n) (k : ℕ) (h : k < n) 
   left-fits at e = let b = cond-below (takes-left (entry t k .kind)) (left t k) 127 (omega arith) in omega arith
 
   pub next-row : (firsts table : List ℕ) (takes takes′ : Bool) (at before a c : ℕ) →
-      ((j : ℕ) → j < k → getD firsts j 0 ≡ first t j) → Laid t k table →
+      ((j : ℕ) → j < k → getD firsts j 0 ≡ subformula-first t j) → Laid t k table →
       takes ≡ takes-left (entry t k .kind) → takes′ ≡ takes-right (entry t k .kind) →
       at ≡ left-from takes k firsts → before ≡ k - 1 →
       a ≡ cond takes (column 7 table at) 0 → c ≡ cond takes′ (column 7 table before) 0 → Next t k at a c
@@ -241,8 +241,8 @@ module _ (t : List Entry) (n : ℕ) (ok : WellFormed t n) (k : ℕ) (h : k < n) 
 -- THEOREMS
 
 -- the words of an entry's part are those of its subformula
-pub words-at : (t : List Entry) (n : ℕ) → WellFormed t n → (φ : Formula) (k : ℕ) → k < n → FormulaAt t k φ → part t k ≡ words φ
-unfolding FormulaAt words
+pub words-at : (t : List Entry) (n : ℕ) → WellFormed t n → (φ : Formula) (k : ℕ) → k < n → FormulaAt t k φ → subformula-words t k ≡ needed-words φ
+unfolding FormulaAt needed-words
 words-at t n ok (letter l) k h e = ok .leaf k h (ap (λ x. operands (x .kind)) e) .part-is ∙ ap own e
 words-at t n ok (not φ) k h (e, b, f) = unary-words t n ok k h e refl (words-at t n ok φ (k - 1) (omega arith) f)
 words-at t n ok (or φ ψ) k h (e, b, f, g) =
@@ -264,7 +264,7 @@ fields-of (since low high φ ψ) = record { kind = refl; letter = refl; low = re
 fields-of (until low high φ ψ) = record { kind = refl; letter = refl; low = refl; high = refl }
 
 module _ (t : List Entry) (n : ℕ) (ok : WellFormed t n) (table : List ℕ) (laid : Laid t n table) where
-  pub column-is-part : (k : ℕ) → k < n → column 7 table k ≡ part t k
+  pub column-is-part : (k : ℕ) → k < n → column 7 table k ≡ subformula-words t k
   column-is-part k h = column-words t n ok table n k (omega arith) laid h
 
   pub row-ok : (k : ℕ) → k < n → RowOk table k
@@ -279,12 +279,12 @@ module _ (t : List Entry) (n : ℕ) (ok : WellFormed t n) (table : List ℕ) (la
             let l′ = sym (ap takes-left e) ∙ l in
             let b = binary-at t n ok k h l′ .below in
             let at : column 4 table k ≡ left t k = laid .rows k 4 h (omega arith) ∙ (rw l′) in
-            let is : column 5 table k ≡ part t (left t k) = laid .rows k 5 h (omega arith) ∙ (rw l′) in
+            let is : column 5 table k ≡ subformula-words t (left t k) = laid .rows k 5 h (omega arith) ∙ (rw l′) in
             (omega arith, ap (column 7 table) at ∙ column-is-part (left t k) (omega arith) ∙ sym is);
         right = λ l.
             let l′ = sym (ap takes-right e) ∙ l in
             let b = below-at t n ok k h l′ in
-            let is : column 6 table k ≡ part t (k - 1) = laid .rows k 6 h (omega arith) ∙ (rw l′) in
+            let is : column 6 table k ≡ subformula-words t (k - 1) = laid .rows k 6 h (omega arith) ∙ (rw l′) in
             (b, column-is-part (k - 1) (omega arith) ∙ sym is);
         words = rw (laid .rows k 7 h (omega arith), laid .rows k 5 h (omega arith), laid .rows k 6 h (omega arith), e, laid .rows k 3 h (omega arith));
         bound = rw (column-is-part k h) (part-bound t n ok k h);
@@ -292,8 +292,8 @@ module _ (t : List Entry) (n : ℕ) (ok : WellFormed t n) (table : List ℕ) (la
 
   -- row k is that of the operator whose entry it is
   row-at : (φ : Formula) (k : ℕ) → k < n → entry t k ≡ root φ →
-      cond (takes-left (root φ .kind)) (part t (left t k)) 0 ≡ left-words φ →
-      cond (takes-right (root φ .kind)) (part t (k - 1)) 0 ≡ right-words φ → Row φ table k
+      cond (takes-left (root φ .kind)) (subformula-words t (left t k)) 0 ≡ left-words φ →
+      cond (takes-right (root φ .kind)) (subformula-words t (k - 1)) 0 ≡ right-words φ → Row φ table k
   row-at φ k h e a c =
       let f = fields-of φ in
       record {
@@ -303,8 +303,8 @@ module _ (t : List Entry) (n : ℕ) (ok : WellFormed t n) (table : List ℕ) (la
           low = laid .rows k 2 h (omega arith) ∙ ap (λ x. x .low) e ∙ f .low;
           high = laid .rows k 3 h (omega arith) ∙ ap (λ x. x .high) e ∙ f .high;
         };
-        left-words = laid .rows k 5 h (omega arith) ∙ ap (λ x. cond (takes-left (x .kind)) (part t (left t k)) 0) e ∙ a;
-        right-words = laid .rows k 6 h (omega arith) ∙ ap (λ x. cond (takes-right (x .kind)) (part t (k - 1)) 0) e ∙ c;
+        left-words = laid .rows k 5 h (omega arith) ∙ ap (λ x. cond (takes-left (x .kind)) (subformula-words t (left t k)) 0) e ∙ a;
+        right-words = laid .rows k 6 h (omega arith) ∙ ap (λ x. cond (takes-right (x .kind)) (subformula-words t (k - 1)) 0) e ∙ c;
       }
 
   left-column : (k : ℕ) {e : Entry} → k < n → entry t k ≡ e → takes-left (e .kind) ≡ true → column 4 table k ≡ left t k

@@ -14,7 +14,7 @@ use Rattle.mtl.proofs.Bounded.{true-and-false}
 use Rattle.rule.specs.Words.{own-words}
 use Rattle.blocks.specs.Block.{word, taken, left-count, right-count, kind-of, high-of, Own, Ready, Buffer, Buffers}
 use Rattle.blocks.specs.Step.{Agrees, has-left, has-right, left-of, right-of, reads-from}
-use Rattle.engine.specs.State.{State, Parts, Absent, words, left-words, right-words}
+use Rattle.engine.specs.State.{State, Parts, Absent, needed-words, left-words, right-words}
 use Rattle.engine.specs.Answer.{first-read}
 use Rattle.engine.specs.Table.{Has, Row, RowOk, column}
 use Rattle.engine.proofs.Parts.{Side, by-side, slot, lent, lent-left, lent-right}
@@ -196,8 +196,8 @@ operand-rows (until low high φ ψ) t k h =
     by-side (HasOperand (until low high φ ψ) t k) on-left (λ e. h .1) (λ e. h .2)
 
 -- its operands' words and its own block's are all that a formula has
-pub all-words : (φ : Formula) → words φ ≡ left-words φ + right-words φ + own-words (kind-of φ) (high-of φ)
-unfolding words
+pub all-words : (φ : Formula) → needed-words φ ≡ left-words φ + right-words φ + own-words (kind-of φ) (high-of φ)
+unfolding needed-words
 all-words (letter c) = refl
 all-words (not φ) = omega arith
 all-words (or φ ψ) = refl
@@ -207,7 +207,7 @@ all-words (since low high φ ψ) = refl
 all-words (until low high φ ψ) = refl
 
 -- the row says how many words the formula has
-pub row-words : (φ : Formula) (t : List ℕ) (k : ℕ) → RowOk t k → Row φ t k → words φ ≡ column 7 t k
+pub row-words : (φ : Formula) (t : List ℕ) (k : ℕ) → RowOk t k → Row φ t k → needed-words φ ≡ column 7 t k
 row-words φ t k ok r =
     all-words φ ∙
     rw (← r .left-words, ← r .right-words, ← r .fields .kind, ← r .fields .high) (sym (ok .words))

@@ -7,13 +7,13 @@ use lib.ListN.{getD}
 use Rattle.rule.specs.declared.Entry.{Entry}
 use Rattle.rule.specs.Entries.{entry}
 use Rattle.rule.specs.Words.{own}
-use Rattle.rule.specs.Operands.{span, left, part}
+use Rattle.rule.specs.Operands.{span, left, subformula-words}
 use Rattle.blocks.specs.Kinds.{takes-left, takes-right}
 use Rattle.engine.specs.Table.{column}
 
 -- the first entry of the subformula that ends at entry k
-abbrev pub first : List Entry → ℕ → ℕ
-first t k = suc k - span t k
+abbrev pub subformula-first : List Entry → ℕ → ℕ
+subformula-first t k = suc k - span t k
 
 -- that entry, and the left operand's, from those of the entries before k
 abbrev pub first-from : (kind k : ℕ) → List ℕ → ℕ
@@ -33,8 +33,8 @@ row t k =
     row-of
     (entry t k)
     (cond (takes-left (entry t k .kind)) (left t k) 0)
-    (cond (takes-left (entry t k .kind)) (part t (left t k)) 0)
-    (cond (takes-right (entry t k .kind)) (part t (k - 1)) 0)
+    (cond (takes-left (entry t k .kind)) (subformula-words t (left t k)) 0)
+    (cond (takes-right (entry t k .kind)) (subformula-words t (k - 1)) 0)
 
 -- the table holds the rows of the first n entries, and 0 behind them
 pub record Laid (t : List Entry) (n : ℕ) (table : List ℕ) : Type 0 where

@@ -8,22 +8,22 @@ use Rattle.mtl.specs.Formula.{Formula}
 use Rattle.rule.specs.declared.Entry.{Entry}
 use Rattle.rule.specs.Postfix.{formula, start}
 use Rattle.rule.specs.Accepted.{Whole}
-use Rattle.engine.specs.State.{words, words-before, own-at}
+use Rattle.engine.specs.State.{needed-words, words-before, own-at}
 use Rattle.engine.specs.Table.{column, RowsOk, Has}
 
 -- number j of row k
-abbrev pub place : (j : ℕ) → List ℕ → (k : ℕ) → ℕ
-place j tops k = getD tops (k * 4 + j) 0
+abbrev pub top-column : (j : ℕ) → List ℕ → (k : ℕ) → ℕ
+top-column j tops k = getD tops (k * 4 + j) 0
 
 -- the row of formula k, where the words of the first formula begin at base
 pub record TopRow (table tops : List ℕ) (base : ℕ) (fs : List Formula) (k : ℕ) : Type 0 where
-  pub entry : place 0 tops k < 128
-  pub rows : RowsOk table (place 0 tops k)
-  pub has : Has (formula fs k) table (place 0 tops k)
-  pub words : column 7 table (place 0 tops k) ≡ words (formula fs k)
-  pub from : place 1 tops k ≡ base + words-before fs k
-  pub to : place 2 tops k ≡ base + words-before fs (suc k)
-  pub held : place 3 tops k ≡ base + words-before fs k + own-at (formula fs k) + 12
+  pub entry : top-column 0 tops k < 128
+  pub rows : RowsOk table (top-column 0 tops k)
+  pub has : Has (formula fs k) table (top-column 0 tops k)
+  pub words : column 7 table (top-column 0 tops k) ≡ needed-words (formula fs k)
+  pub from : top-column 1 tops k ≡ base + words-before fs k
+  pub to : top-column 2 tops k ≡ base + words-before fs (suc k)
+  pub held : top-column 3 tops k ≡ base + words-before fs k + own-at (formula fs k) + 12
 
 pub record Tops (table tops : List ℕ) (base count : ℕ) (fs : List Formula) : Type 0 where
   pub number : count ≡ length fs

@@ -3,7 +3,7 @@ ghost use mathlib.Core.Path.{_≡_};
 ghost use mathlib.Core.List.{_∷_, []};
 ghost use Prim.Native.Nat.{_+_, _≤_, _<_};
 ghost use lib.Seq.{sets};
-ghost use Rattle.engine.specs.Tops.{place as place-spec};
+ghost use Rattle.engine.specs.Tops.{top-column as place-spec};
 
 // The columns of a row: the formula's last entry, where its words begin and end, and where its own block holds what was answered and
 // not given yet.

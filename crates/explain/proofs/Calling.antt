@@ -15,7 +15,7 @@ use Rattle.mtl.proofs.Bounded.{true-or-false, or-iff, true-and-false}
 use Rattle.rule.specs.declared.Entry.{Entry}
 use Rattle.rule.specs.Entries.{entry}
 use Rattle.rule.specs.Postfix.{size, formula, start}
-use Rattle.rule.specs.Refusal.{first, before, refusal}
+use Rattle.rule.specs.Refusal.{first, or-else, refusal}
 use Rattle.rule.proofs.Order.{start-grows}
 use Rattle.trace.specs.Format.{record-count, records-of, dropped, malformed}
 use Rattle.trace.specs.Order.{falls, disordered}
@@ -33,7 +33,7 @@ use Rattle.reasons.specs.OfRule.{log-in, reason-in}
 use Rattle.search.proofs.Records.{WholeView, whole-log, whole-agrees}
 use Rattle.explain.specs.declared.Explained.{Explained}
 use Rattle.explain.specs.declared.Explained.the-variants.{Written, Refused}
-use Rattle.explain.specs.Explain.{log-refusal, unexplained-in, explain-refusal, answer, Explains}
+use Rattle.explain.specs.Explain.{whole-log-refusal, unexplained-in, explain-refusal, answer, Explains}
 use Rattle.explain.specs.Code.{Lows, Ruled, Prepared, Told-of, Wrote, Copies}
 use Rattle.explain.proofs.Formulas.{size-some}
 
@@ -121,7 +121,7 @@ module _ (rule log : List ℕ) (k i : ℕ) (lent : List ℕ) where
   last = first 27 (unexplained-in (formulas-of rule) (log-in log) k i (length lent)) 0
 
   abbrev later : ℕ
-  later = before (log-refusal log) last
+  later = or-else (whole-log-refusal log) last
 
   stopped : (n : ℕ) → (n ≡ 0 → ⊥) → explain-refusal rule log k i (length lent) ≡ n → Explains rule log k i lent (Refused n) lent
   stopped n some e = let z = ne-eqb n 0 some in record { answer = rw (e, z) refl; bytes = rw (e, z) refl }
@@ -129,14 +129,14 @@ module _ (rule log : List ℕ) (k i : ℕ) (lent : List ℕ) where
   pub rule-refused : (n : ℕ) → n ≡ refusal rule → (n ≡ 0 → ⊥) → Explains rule log k i lent (Refused n) lent
   rule-refused n is some = stopped n some (ap (λ (b : Bool). cond b later (refusal rule)) (ne-eqb (refusal rule) 0 (λ z. some (is ∙ z))) ∙ sym is)
 
-  pub log-refused : refusal rule ≡ 0 → (n : ℕ) → n ≡ log-refusal log → (n ≡ 0 → ⊥) → Explains rule log k i lent (Refused n) lent
+  pub log-refused : refusal rule ≡ 0 → (n : ℕ) → n ≡ whole-log-refusal log → (n ≡ 0 → ⊥) → Explains rule log k i lent (Refused n) lent
   log-refused fine n is some =
       stopped n some
       (ap (λ (b : Bool). cond b later (refusal rule)) (eq-eqb (refusal rule) 0 fine) ∙
-      ap (λ (b : Bool). cond b last (log-refusal log)) (ne-eqb (log-refusal log) 0 (λ z. some (is ∙ z))) ∙ sym is)
+      ap (λ (b : Bool). cond b last (whole-log-refusal log)) (ne-eqb (whole-log-refusal log) 0 (λ z. some (is ∙ z))) ∙ sym is)
 
   -- a log that passes its checks
-  pub log-passes : log-refusal log ≡ 0 → (record-count (records-of log) ≤ 1000000) × (falls (records-of log) ≡ false)
+  pub log-passes : whole-log-refusal log ≡ 0 → (record-count (records-of log) ≤ 1000000) × (falls (records-of log) ≡ false)
   log-passes fine = by (malformed log) refl (ltb 0 (dropped log)) (disordered (records-of log) 0 0) refl fine
     where
       by : (a : Bool) → malformed log ≡ a → (d b : Bool) → disordered (records-of log) 0 0 ≡ b → first 12 a (first 24 d (first 14 b 0)) ≡ 0 →
@@ -146,13 +146,13 @@ module _ (rule log : List ℕ) (k i : ℕ) (lent : List ℕ) where
       by false e false true f z = absurd (omega arith)
       by false e false false f z = (well-formed-records log e .1 .few, neither (falls (records-of log)) _ .0 f .0)
 
-  pub explained : refusal rule ≡ 0 → log-refusal log ≡ 0 → (r : Explained) (lent′ : List ℕ) → Copies (formulas-of rule) (log-in log) k i lent r lent′ → Explains rule log k i lent r lent′
+  pub explained : refusal rule ≡ 0 → whole-log-refusal log ≡ 0 → (r : Explained) (lent′ : List ℕ) → Copies (formulas-of rule) (log-in log) k i lent r lent′ → Explains rule log k i lent r lent′
   explained fine well r lent′ copies = by (unexplained-in (formulas-of rule) (log-in log) k i (length lent)) refl
     where
       number : explain-refusal rule log k i (length lent) ≡ last
       number =
           ap (λ (b : Bool). cond b later (refusal rule)) (eq-eqb (refusal rule) 0 fine) ∙
-          ap (λ (b : Bool). cond b last (log-refusal log)) (eq-eqb (log-refusal log) 0 well)
+          ap (λ (b : Bool). cond b last (whole-log-refusal log)) (eq-eqb (whole-log-refusal log) 0 well)
 
       by : (b : Bool) → unexplained-in (formulas-of rule) (log-in log) k i (length lent) ≡ b → Explains rule log k i lent r lent′
       by true e =

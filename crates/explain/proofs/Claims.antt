@@ -16,13 +16,13 @@ use Rattle.emit.specs.Verdicts.{formulas-of, columns}
 use Rattle.reasons.specs.Text.{text}
 use Rattle.reasons.specs.OfRule.{log-in, reason-of, Explained}
 use Rattle.reasons.proofs.OfRule.{explained}
-use Rattle.explain.specs.Explain.{log-refusal, unexplained, explain-refusal}
+use Rattle.explain.specs.Explain.{whole-log-refusal, unexplained, explain-refusal}
 
 -- THEOREM: every fact of the text holds, together they force the verdict, and no other reason of the rule has this text.
 pub accepted-explained : (rule log : List ℕ) (k i room : ℕ) → explain-refusal rule log k i room ≡ 0 → Explained rule log k i
 accepted-explained rule log k i room none =
     let rule-fine = before-none (refusal rule) _ none in
-    let log-fine = before-none (log-refusal log) _ (rule-fine .1) in
+    let log-fine = before-none (whole-log-refusal log) _ (rule-fine .1) in
     let not-12 = first-zero 11 (malformed log) _ (log-fine .0) in
     let not-24 = first-zero 23 (ltb 0 (dropped log)) _ (not-12 .1) in
     let not-14 = first-zero 13 (disordered (records-of log) 0 0) 0 (not-24 .1) in

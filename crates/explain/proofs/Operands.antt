@@ -21,7 +21,7 @@ use Rattle.engine.specs.Table.{Has, Row, column}
 use Rattle.engine.proofs.Rows.{has-at, column-is-part}
 use Rattle.search.specs.Scan.{Starts}
 use Rattle.search.proofs.Zeros.{zero-state}
-use Rattle.explain.specs.Code.{Ruled, Shown, Answering}
+use Rattle.explain.specs.Code.{Ruled, OpenLog, Answering}
 
 -- the log is open: a formula has answered what its progress says
 pub open-settled : (φ : Formula) (L : Log) → L .closed ≡ false → settled-to φ L ≡ progress φ L

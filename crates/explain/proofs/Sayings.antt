@@ -14,13 +14,13 @@ use Rattle.mtl.specs.Progress.{progress}
 use Rattle.mtl.proofs.Until.{progress-le-size, progress-next}
 use Rattle.blocks.specs.Kinds.{takes-right}
 use Rattle.engine.specs.Table.{column}
-use Rattle.search.specs.Times.{Whole}
+use Rattle.search.specs.Times.{WholeLog}
 use Rattle.explain.specs.declared.saying.Saying.{Saying}
 use Rattle.explain.specs.Code.{saying-of, joining, Answering, Shape, Saids}
 use Rattle.explain.proofs.Operands.{fields-here, inside-here, answered-here}
 
 module _ (t v s : List ℕ) (k i : ℕ) (r : Saying) where
-  pub said-letter : (c : ℕ) → c ≡ column 1 t k → column 0 t k ≡ 0 → Shape 0 i r → ((L : Log) → Whole v s L → i < L .size → r ≡ saying-of (letter c) L i) → Saids t v s k i r
+  pub said-letter : (c : ℕ) → c ≡ column 1 t k → column 0 t k ≡ 0 → Shape 0 i r → ((L : Log) → WholeLog v s L → i < L .size → r ≡ saying-of (letter c) L i) → Saids t v s k i r
   said-letter c at kind shape means = record { shape = rw kind shape; meaning = by }
     where
       by : (φ : Formula) (L : Log) → Answering φ t v s k L i → r ≡ saying-of φ L i
@@ -60,7 +60,7 @@ module _ (t v s : List ℕ) (k i : ℕ) (r : Saying) where
       by (until low high φ ψ) L an = absurd (omega (arith, fields-here t v s L (until low high φ ψ) k i an .kind))
 
   pub said-previous : (l h : ℕ) → l ≡ column 2 t k → h ≡ column 3 t k → column 0 t k ≡ 3 → Shape 3 i r →
-      ((φ : Formula) (L : Log) → Whole v s L → i < L .size → r ≡ saying-of (previous l h φ) L i) → Saids t v s k i r
+      ((φ : Formula) (L : Log) → WholeLog v s L → i < L .size → r ≡ saying-of (previous l h φ) L i) → Saids t v s k i r
   said-previous l h low-is high-is kind shape means = record { shape = rw kind shape; meaning = by }
     where
       by : (φ : Formula) (L : Log) → Answering φ t v s k L i → r ≡ saying-of φ L i
@@ -76,7 +76,7 @@ module _ (t v s : List ℕ) (k i : ℕ) (r : Saying) where
       by (until low high φ ψ) L an = absurd (omega (arith, fields-here t v s L (until low high φ ψ) k i an .kind))
 
   pub said-next : (l h : ℕ) → l ≡ column 2 t k → h ≡ column 3 t k → column 0 t k ≡ 4 → Shape 4 i r →
-      ((φ : Formula) (L : Log) → Whole v s L → i + 1 < L .size → r ≡ saying-of (next l h φ) L i) → Saids t v s k i r
+      ((φ : Formula) (L : Log) → WholeLog v s L → i + 1 < L .size → r ≡ saying-of (next l h φ) L i) → Saids t v s k i r
   said-next l h low-is high-is kind shape means = record { shape = rw kind shape; meaning = by }
     where
       by : (φ : Formula) (L : Log) → Answering φ t v s k L i → r ≡ saying-of φ L i

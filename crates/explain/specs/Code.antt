@@ -32,7 +32,7 @@ use Rattle.reasons.specs.Reason.Cause.{by-left, by-time}
 use Rattle.reasons.specs.Reason.Says.{stands, not, or, prev, next, prev-none, since, until, since-no, until-no}
 use Rattle.reasons.specs.Text.{text}
 use Rattle.reasons.specs.OfRule.{reason-in}
-use Rattle.search.specs.Times.{Whole}
+use Rattle.search.specs.Times.{WholeLog}
 use Rattle.explain.specs.declared.sentence.Sentence.{Sentence}
 use Rattle.explain.specs.declared.saying.Saying.{Saying}
 use Rattle.explain.specs.declared.telling.Told.{Told}
@@ -151,8 +151,8 @@ pub record Ruled (e : List Entry) (n : ℕ) (t : List ℕ) : Type 0 where
   pub laid : Laid e n t
 
 -- the view and the records are the log, open
-pub record Shown (v s : List ℕ) (L : Log) : Type 0 where
-  pub whole : Whole v s L
+pub record OpenLog (v s : List ℕ) (L : Log) : Type 0 where
+  pub whole : WholeLog v s L
   pub falls : NeverFalls L
   pub agrees : Agrees v s L 0
   pub unclosed : L .closed ≡ false
@@ -164,7 +164,7 @@ pub record Answering (φ : Formula) (t v s : List ℕ) (k : ℕ) (L : Log) (i : 
   pub ruled : Ruled entries count t
   pub below : k < count
   pub formula : FormulaAt entries k φ
-  pub shown : Shown v s L
+  pub shown : OpenLog v s L
   pub answered : i < settled-to φ L
 
 -- what is sure of a saying, whatever the log
@@ -210,7 +210,7 @@ pub record Told-of (t v s ends : List ℕ) (number : ℕ) (fs : List Formula) (L
   pub count : ℕ
   pub ruled : Ruled entries count t
   pub ended : Ended entries count ends number fs
-  pub shown : Shown v s L
+  pub shown : OpenLog v s L
 
 abbrev pub AllAnswered : (t v s ends : List ℕ) (number i : ℕ) → Bool → Type 0
 AllAnswered t v s ends number i r = (fs : List Formula) (L : Log) → Told-of t v s ends number fs L → i < L .size → r ≡ ltb i (joint-progress fs L)
@@ -221,18 +221,18 @@ Reasoned fs L k i text₀ (Ends end) text′ = (k < columns fs) × (i < joint-pr
 Reasoned fs L k i text₀ Missing text′ = (columns fs ≤ k) ⊎ (joint-progress fs L ≤ i)
 
 -- whatever the log, the end lies within the text
-abbrev pub Inside : (text₀ : List ℕ) → Reason → Type 0
-Inside text₀ (Ends end) = end ≤ length text₀
-Inside text₀ Missing = Unit {0}
+abbrev pub EndsInside : (text₀ : List ℕ) → Reason → Type 0
+EndsInside text₀ (Ends end) = end ≤ length text₀
+EndsInside text₀ Missing = Unit {0}
 
 abbrev pub Reasons : (t v s ends : List ℕ) (number k i : ℕ) (text₀ : List ℕ) → Reason → List ℕ → Type 0
 Reasons t v s ends number k i text₀ r text′ =
-    Inside text₀ r × ((fs : List Formula) (L : Log) → Told-of t v s ends number fs L → Reasoned fs L k i text₀ r text′)
+    EndsInside text₀ r × ((fs : List Formula) (L : Log) → Told-of t v s ends number fs L → Reasoned fs L k i text₀ r text′)
 
 -- the same of a rule's entries and the records, whose times never fall
 abbrev pub ReasonsOf : (e : List Entry) (n : ℕ) (ends : List ℕ) (number : ℕ) (skips : Bool) (s : List ℕ) (k i : ℕ) (text₀ : List ℕ) → Reason → List ℕ → Type 0
 ReasonsOf e n ends number skips s k i text₀ r text′ =
-    Inside text₀ r ×
+    EndsInside text₀ r ×
     ((fs : List Formula) → Ended e n ends number fs → falls s ≡ false → Reasoned fs (log-of skips s) k i text₀ r text′)
 
 -- check 27, and the reason copied where it is not met

@@ -8,7 +8,7 @@ use lib.ListN.{length, drop}
 use Rattle.mtl.specs.Formula.{Formula}
 use Rattle.mtl.specs.Log.{Log}
 use Rattle.mtl.specs.Progress.{joint-progress}
-use Rattle.rule.specs.Refusal.{first, before, refusal}
+use Rattle.rule.specs.Refusal.{first, or-else, refusal}
 use Rattle.trace.specs.Format.{records-of, dropped, malformed}
 use Rattle.trace.specs.Order.{disordered}
 use Rattle.emit.specs.Verdicts.{formulas-of, columns}
@@ -18,8 +18,8 @@ use Rattle.explain.specs.declared.Explained.{Explained}
 use Rattle.explain.specs.declared.Explained.the-variants.{Written, Refused}
 
 -- the checks of the log: "12, 24 for any dropped record, and 14 from the first record on"
-abbrev pub log-refusal : List ℕ → ℕ
-log-refusal log = first 12 (malformed log) (first 24 (ltb 0 (dropped log)) (first 14 (disordered (records-of log) 0 0) 0))
+abbrev pub whole-log-refusal : List ℕ → ℕ
+whole-log-refusal log = first 12 (malformed log) (first 24 (ltb 0 (dropped log)) (first 14 (disordered (records-of log) 0 0) 0))
 
 -- the text of "the reason for its yes or no"
 abbrev pub reason-text : (rule log : List ℕ) (formula position : ℕ) → List ℕ
@@ -34,7 +34,7 @@ unexplained rule log k i room = unexplained-in (formulas-of rule) (log-in log) k
 
 -- "Checks are 1 to 8, 12, 24 .., and 14 ... 27 .. after these.": the first that applies, for every rule and log
 abbrev pub explain-refusal : (rule log : List ℕ) (formula position room : ℕ) → ℕ
-explain-refusal rule log k i room = before (refusal rule) (before (log-refusal log) (first 27 (unexplained rule log k i room) 0))
+explain-refusal rule log k i room = or-else (refusal rule) (or-else (whole-log-refusal log) (first 27 (unexplained rule log k i room) 0))
 
 -- "a call that writes a rule, a log or a text gives its length too", or a refusal's number
 pub record Answer : Type 0 where

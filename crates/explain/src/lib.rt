@@ -10,7 +10,7 @@ ghost use Rattle.rule.specs.Accepted.{WellFormed};
 ghost use Rattle.trace.specs.Format.{record-count};
 ghost use Rattle.trace.specs.View.{total};
 ghost use Rattle.engine.specs.Tops.{Ended};
-ghost use Rattle.explain.specs.Explain.{log-refusal, answer, Explains};
+ghost use Rattle.explain.specs.Explain.{whole-log-refusal, answer, Explains};
 ghost use Rattle.explain.specs.Code.{Prepared, AllAnswered, Reasons, ReasonsOf, CopiesOf};
 
 mod saying;
@@ -45,7 +45,7 @@ enum Reason {
 
 // Refusals 12, 24 and 14 of the log, 14 from the first record on; 0 where none applies.
 fn check_log(log: &[u8]) -> u32
-    ensures { λ r. ⌜ r ≡ log-refusal (now (log .entry)) ⌝ }
+    ensures { λ r. ⌜ r ≡ whole-log-refusal (now (log .entry)) ⌝ }
 {
     if trace::is_malformed(log) {
         return 12;

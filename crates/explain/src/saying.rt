@@ -6,7 +6,7 @@ ghost use lib.ListN.{length};
 ghost use Rattle.mtl.specs.Formula.{Formula};
 ghost use Rattle.mtl.specs.Log.{Log};
 ghost use Rattle.engine.specs.Table.{column};
-ghost use Rattle.search.specs.Times.{Whole};
+ghost use Rattle.search.specs.Times.{WholeLog};
 ghost use Rattle.explain.specs.Code.{saying-of, joining, gap-saying, found-saying, Lent, Answering, Shape, Saids};
 use super::sentence;
 use super::sentence::Sentence;
@@ -32,7 +32,7 @@ fn choose(first: bool, a: u64, b: u64) -> u64
 // A letter: yes or no.
 fn say_letter(records: &[u8], view: &[u64; 66], letter: u64, i: u64) -> Saying
     requires { ⌜ letter < 32 ⌝ }
-    ensures { λ r. ⌜ Shape 0 i r × ((L : Log) → Whole (now (view .entry)) (now (records .entry)) L → i < L .size → r ≡ saying-of (Formula.letter letter) L i) ⌝ }
+    ensures { λ r. ⌜ Shape 0 i r × ((L : Log) → WholeLog (now (view .entry)) (now (records .entry)) L → i < L .size → r ≡ saying-of (Formula.letter letter) L i) ⌝ }
 {
     let holds = times::has_letter(records, view, i, letter);
     Saying {
@@ -81,7 +81,7 @@ fn say_gap(kind: u64, low: u64, high: u64, earlier: u64, later: u64, beside: u64
 }
 
 fn say_previous(records: &[u8], view: &[u64; 66], low: u64, high: u64, i: u64) -> Saying
-    ensures { λ r. ⌜ Shape 3 i r × ((φ : Formula) (L : Log) → Whole (now (view .entry)) (now (records .entry)) L → i < L .size → r ≡ saying-of (Formula.previous low high φ) L i) ⌝ }
+    ensures { λ r. ⌜ Shape 3 i r × ((φ : Formula) (L : Log) → WholeLog (now (view .entry)) (now (records .entry)) L → i < L .size → r ≡ saying-of (Formula.previous low high φ) L i) ⌝ }
 {
     if i == 0 {
         return Saying {
@@ -103,7 +103,7 @@ fn say_previous(records: &[u8], view: &[u64; 66], low: u64, high: u64, i: u64) -
 
 fn say_next(records: &[u8], view: &[u64; 66], low: u64, high: u64, i: u64) -> Saying
     requires { ⌜ i ≤ 2000000 ⌝ }
-    ensures { λ r. ⌜ Shape 4 i r × ((φ : Formula) (L : Log) → Whole (now (view .entry)) (now (records .entry)) L → i + 1 < L .size → r ≡ saying-of (Formula.next low high φ) L i) ⌝ }
+    ensures { λ r. ⌜ Shape 4 i r × ((φ : Formula) (L : Log) → WholeLog (now (view .entry)) (now (records .entry)) L → i + 1 < L .size → r ≡ saying-of (Formula.next low high φ) L i) ⌝ }
 {
     let after = i + 1;
     let earlier = times::time_of(records, view, i);

@@ -9,7 +9,7 @@ use mir.Val.{boolByte}
 use lib.Dec.{eqb, ltb}
 use lib.ListN.{length}
 use Rattle.rule.specs.Entries.{version}
-use Rattle.rule.specs.Postfix.{most}
+use Rattle.rule.specs.Postfix.{most-formulas}
 use Rattle.rule.specs.Refusal.{refusal}
 use Rattle.rule.specs.declared.Measured.{Measured}
 use Rattle.rule.specs.declared.Measured.the-variants.{Words}
@@ -32,7 +32,7 @@ use Rattle.monitor.specs.Trim.{Answer as TrimAnswer, answer as trimmed-of, refu
 use Rattle.monitor.specs.declared.Trimmed.{Trimmed}
 use Rattle.monitor.specs.declared.Trimmed.the-variants.{Written as Shortened}
 use Rattle.monitor.specs.declared.Trimmed.the-variants.{Refused as Untrimmed}
-use Rattle.monitor.specs.Summary.{Told, counted, refused-with, Summarizes}
+use Rattle.monitor.specs.Summary.{TellsNoes, counted, refused-with, Summarizes}
 use Rattle.monitor.specs.Summary.{Answer as SummaryAnswer}
 use Rattle.monitor.proofs.Answers.{open-number, resume-number}
 use Rattle.monitor.specs.declared.FormulaCount.{FormulaCount}
@@ -54,7 +54,7 @@ use Rattle.text.proofs.Accepted.{refused-not-zero}
 use Rattle.worst.specs.declared.Made.{Made}
 use Rattle.worst.specs.declared.Made.the-variants.{Length}
 use Rattle.worst.specs.declared.Made.the-variants.{Refused as Unmade}
-use Rattle.worst.specs.Call.{answered, Writes}
+use Rattle.worst.specs.Call.{answered, WritesWorst}
 use Rattle.worst.specs.Call.{Answer as Making, answer as made-of}
 use Rattle.worst.proofs.Outcome.{not-zero}
 use Rattle.explain.specs.Explain.{reason-text, explain-refusal, answered as explained-as, Explains}
@@ -191,7 +191,7 @@ module _ (s p nos latest nos′ latest′ : List ℕ) where
   formulas = columns (formulas-of s)
 
   abbrev TellsOf : (number n : ℕ) → Type 0
-  TellsOf number n = Told number n (stored-noes (most (version s)) p) nos latest nos′ latest′
+  TellsOf number n = TellsNoes number n (stored-noes (most-formulas (version s)) p) nos latest nos′ latest′
 
   -- so many formulas are those of the rule; where the call is refused, their number plays no part
   told-by : (b : Bool) (n : ℕ) (a : SummaryAnswer) → eqb n 0 ≡ b → a ≡ cond b (counted formulas) (refused-with n) → TellsOf (a .number) (a .formulas) →
@@ -277,10 +277,10 @@ module _ (text rule : List ℕ) (old : ℕ) (o : Parsed) (rule′ : List ℕ) (h
         written = sym (ap (λ (p : Parsed). parse-of p .written) is);
       }
 
-module _ (low high n : ℕ) (log : List ℕ) (written : ℕ) (o : Made) (log′ : List ℕ) (h : Writes low high n log o log′) where
+module _ (low high n : ℕ) (log : List ℕ) (written : ℕ) (o : Made) (log′ : List ℕ) (h : WritesWorst low high n log o log′) where
   pub not-made : (k : ℕ) → o ≡ Unmade k → (r : ℕ) → r ≡ made-of o .number → WorstLogCall low high n log written r log′ written
   not-made k is r number =
-      let q : Writes low high n log (Unmade k) log′ = subst (λ (m : Made). Writes low high n log m log′) is h in
+      let q : WritesWorst low high n log (Unmade k) log′ = subst (λ (m : Made). WritesWorst low high n log m log′) is h in
       let same : r ≡ k = number ∙ ap (λ (m : Made). made-of m .number) is in
       record {
         number = same ∙ ap (λ (a : Making). a .number) (q .answer);

@@ -8,7 +8,7 @@ use lib.Dec.{eqb, ltb}
 use lib.ListN.{length}
 use Rattle.bits.specs.Packed.{number}
 use Rattle.rule.specs.Entries.{version}
-use Rattle.rule.specs.Postfix.{most}
+use Rattle.rule.specs.Postfix.{most-formulas}
 use Rattle.rule.specs.Measure.{measured}
 use Rattle.verdicts.specs.Counts.{counts}
 use Rattle.verdicts.specs.Tally.{tally-refusal, first-or-kept}
@@ -20,7 +20,7 @@ use Rattle.monitor.specs.Open.{Opening}
 use Rattle.monitor.specs.Resume.{Resumes}
 use Rattle.monitor.specs.Resume.{Answer as ResumeAnswer}
 use Rattle.monitor.specs.Trim.{trimmed-log}
-use Rattle.monitor.specs.Summary.{Told}
+use Rattle.monitor.specs.Summary.{TellsNoes}
 use Rattle.monitor.specs.Formulas.{formula-count}
 use Rattle.monitor.specs.Status.{known}
 use Rattle.text.specs.declared.Parsed.{Parsed}
@@ -81,7 +81,7 @@ pub record TallyCall (formulas : ℕ) (sheet nos yeses : List ℕ) (r : ℕ) (no
 -- for formula k the count of no stands in word k of the one buffer, and the position of the latest no in word k of the other
 pub record SummaryCall (rule p nos places : List ℕ) (r : ℕ) (nos′ places′ : List ℕ) : Type 0 where
   pub number : r ≡ summary-refusal rule p
-  pub words : Told r (columns (formulas-of rule)) (stored-noes (most (version rule)) p) nos places nos′ places′
+  pub words : TellsNoes r (columns (formulas-of rule)) (stored-noes (most-formulas (version rule)) p) nos places nos′ places′
 
 -- how many answers a verdict of the rule has
 pub record FormulasCall (rule : List ℕ) (n r n′ : ℕ) : Type 0 where

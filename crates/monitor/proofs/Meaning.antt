@@ -13,20 +13,20 @@ use Rattle.mtl.specs.Formula.{Formula}
 use Rattle.rule.specs.declared.Entry.{Entry}
 use Rattle.rule.specs.declared.measuring.Ends.{Ends}
 use Rattle.rule.specs.Entries.{version, count, decoded}
-use Rattle.rule.specs.Postfix.{most, formulas, formulas-or, formula, start}
+use Rattle.rule.specs.Postfix.{most-formulas, formulas, formulas-or, formula, start}
 use Rattle.rule.specs.Refusal.{refusal}
 use Rattle.rule.specs.Words.{offset}
 use Rattle.rule.specs.Accepted.{WellFormed, Whole}
 use Rattle.rule.specs.Code.{EndsOf}
 use Rattle.rule.proofs.Acceptance.{accepted}
 use Rattle.blocks.specs.Block.{word}
-use Rattle.engine.specs.State.{words, words-before, own-at, formula-words}
+use Rattle.engine.specs.State.{needed-words, words-before, own-at, formula-words}
 use Rattle.engine.specs.Tops.{Ended}
 use Rattle.engine.proofs.Formulas.{last-entry, own-offset}
 use Rattle.engine.proofs.Held.{own-block}
 use Rattle.checkpoint.specs.Checkpoint.{block-at}
 use Rattle.emit.specs.Verdicts.{formulas-of, columns}
-use Rattle.emit.specs.Top.{held-count, part-of}
+use Rattle.emit.specs.Top.{top-count, part-of}
 use Rattle.emit.proofs.Places.{part-word}
 
 -- a rule of either version may have a formula, and none has more than eight
@@ -34,7 +34,7 @@ most-by : (b : Bool) → (1 ≤ cond b 1 8) × (cond b 1 8 ≤ 8)
 most-by true = omega arith
 most-by false = omega arith
 
-pub most-few : (version : ℕ) → (1 ≤ most version) × (most version ≤ 8)
+pub most-few : (version : ℕ) → (1 ≤ most-formulas version) × (most-formulas version ≤ 8)
 most-few version = most-by (eqb version 1)
 
 module _ (rule : List ℕ) (fine : refusal rule ≡ 0) where
@@ -47,12 +47,12 @@ module _ (rule : List ℕ) (fine : refusal rule ≡ 0) where
       let a = accepted rule fine in
       subst (Whole (decoded rule) (count rule)) (sym (ap formulas-or (a .reads))) (a .whole)
 
-  pub few-formulas : length (formulas-of rule) ≤ most (version rule)
+  pub few-formulas : length (formulas-of rule) ≤ most-formulas (version rule)
   few-formulas =
       let a = accepted rule fine in
-      subst (λ (fs : List Formula). length fs ≤ most (version rule)) (sym (ap formulas-or (a .reads))) (a .not-more)
+      subst (λ (fs : List Formula). length fs ≤ most-formulas (version rule)) (sym (ap formulas-or (a .reads))) (a .not-more)
 
-  pub few-columns : columns (formulas-of rule) ≤ most (version rule)
+  pub few-columns : columns (formulas-of rule) ≤ most-formulas (version rule)
   few-columns = omega (arith, few-formulas, most-few (version rule))
 
   -- where each of them ends
@@ -67,11 +67,11 @@ module _ (rule : List ℕ) (fine : refusal rule ≡ 0) where
 
 -- a formula's words, behind those of the checkpoint's own
 pub part-is : (base : ℕ) (fs : List Formula) (k : ℕ) (ws : List ℕ) → part-of base fs k ws ≡ formula-words fs k (drop base ws)
-part-is base fs k ws = ap (take (words (formula fs k))) (sym (drop-drop (words-before fs k) base ws))
+part-is base fs k ws = ap (take (needed-words (formula fs k))) (sym (drop-drop (words-before fs k) base ws))
 
 -- how many answers formula k holds is word 12 of its last entry's block
 pub held-word : (base : ℕ) (t : List Entry) (n : ℕ) → WellFormed t n → (fs : List Formula) → Whole t n fs → (k : ℕ) → k < length fs → (ws : List ℕ) →
-    held-count (formula fs k) (part-of base fs k ws) ≡ word ws (block-at base t (last-entry fs k) + 12)
+    top-count (formula fs k) (part-of base fs k ws) ≡ word ws (block-at base t (last-entry fs k) + 12)
 held-word base t n ok fs whole k h ws =
     let φ = formula fs k in
     let at : base + words-before fs k + (own-at φ + 12) ≡ block-at base t (last-entry fs k) + 12 =

@@ -17,7 +17,7 @@ use Rattle.mtl.proofs.Bounded.{le-or-lt, any-false-iff}
 use Rattle.mtl.proofs.Closing.{settled-le-size}
 use Rattle.verdicts.proofs.Noes.{noes-ranged}
 use Rattle.rule.specs.Entries.{version, count, decoded, entry}
-use Rattle.rule.specs.Postfix.{most, formula, start}
+use Rattle.rule.specs.Postfix.{most-formulas, formula, start}
 use Rattle.rule.specs.Words.{own, header-words, offset}
 use Rattle.rule.specs.Refusal.{refusal}
 use Rattle.rule.proofs.Acceptance.{accepted}
@@ -26,11 +26,11 @@ use Rattle.blocks.specs.Block.{word, cells-of}
 use Rattle.engine.specs.State.{State}
 use Rattle.engine.proofs.Entries.{Ranged}
 use Rattle.engine.proofs.Formulas.{last-entry, last-next, rule-ranges}
-use Rattle.checkpoint.specs.Checkpoint.{given, seen, last, closed-with, log-kind, first-wanted, no-count, after-latest, need, block-at, waiting-in-range, block-outside, noes-outside, closed-in-range, kind-in-range, outside}
+use Rattle.checkpoint.specs.Checkpoint.{given, seen, last, closed-with, log-kind, first-wanted, no-count, after-latest, need, block-at, waiting-in-range, block-outside, noes-outside, closed-in-range, kind-in-range, words-outside}
 use Rattle.verdicts.specs.Counts.{noes-in-range}
 use Rattle.checkpoint.proofs.Offsets.{until-words, in-block, block-within, block-fits}
 use Rattle.emit.specs.Verdicts.{formulas-of, columns, verdicts}
-use Rattle.emit.specs.Top.{held-count, part-of}
+use Rattle.emit.specs.Top.{top-count, part-of}
 use Rattle.monitor.specs.Stands.{Stands}
 use Rattle.monitor.proofs.Meaning.{rule-whole, part-is, held-word}
 
@@ -97,7 +97,7 @@ module _ (rule : List ℕ) (K : Log) (n d : ℕ) (p : List ℕ) (fine : refusal 
       let fs = formulas-of rule in
       rule-ranges (decoded rule) (count rule) (accepted rule fine .well-formed) fs (rule-whole rule fine) behind K n (stands .placed)
       (λ k h. (
-        d + held-count (formula fs k) (part-of base fs k own-part),
+        d + top-count (formula fs k) (part-of base fs k own-part),
         subst (State (formula fs k) K _) (part-is base fs k own-part) (stands .top .each k h .state),
       ))
 
@@ -124,7 +124,7 @@ module _ (rule : List ℕ) (K : Log) (n d : ℕ) (p : List ℕ) (fine : refusal 
       let φ = formula fs k in
       let same : last-entry fs k ≡ j = omega (arith, last-next t (count rule) ok fs whole k l) in
       let r = block-fits base t (count rule) j h in
-      let count-is : held-count φ (part-of base fs k own-part) ≡ word p (block-at base t j + 12) =
+      let count-is : top-count φ (part-of base fs k own-part) ≡ word p (block-at base t j + 12) =
       held-word base t (count rule) ok fs whole k l own-part ∙ ap (λ (m : ℕ). word own-part (block-at base t m + 12)) same ∙
       own-word (block-at base t j + 12) (omega arith) in
       let b = stands .top .each k l .buffer in
@@ -162,9 +162,9 @@ module _ (rule : List ℕ) (K : Log) (n d : ℕ) (p : List ℕ) (fine : refusal 
       )
 
   -- each formula's no are among the verdicts given, and those of no formula are none
-  own-noes : (k : ℕ) → k < most (version rule) → noes-outside (most (version rule)) p k ≡ false
+  own-noes : (k : ℕ) → k < most-formulas (version rule) → noes-outside (most-formulas (version rule)) p k ≡ false
   own-noes k h =
-      let m = most (version rule) in
+      let m = most-formulas (version rule) in
       let fs = formulas-of rule in
       ⊎-elim
       (λ (none : columns fs ≤ k).
@@ -185,7 +185,7 @@ module _ (rule : List ℕ) (K : Log) (n d : ℕ) (p : List ℕ) (fine : refusal 
   own-kind = rw (stands .size) (stands .kind)
 
   -- refusal 11 is not met
-  pub not-outside : outside (version rule) (decoded rule) (count rule) p ≡ false
+  pub not-outside : words-outside (version rule) (decoded rule) (count rule) p ≡ false
   not-outside =
       let few = stands .few in
       let size = stands .size in
@@ -196,6 +196,6 @@ module _ (rule : List ℕ) (K : Log) (n d : ℕ) (p : List ℕ) (fine : refusal 
         own-closed,
         own-kind,
         le-leb (first-wanted p) (seen p) (omega (arith, stands .wanted, wanted-within K n (stands .placed) (wanted (formulas-of rule) d))),
-        any-false-iff (most (version rule)) (noes-outside (most (version rule)) p) .1 own-noes,
+        any-false-iff (most-formulas (version rule)) (noes-outside (most-formulas (version rule)) p) .1 own-noes,
         any-false-iff (count rule) (block-outside base (decoded rule) p) .1 in-range,
       )

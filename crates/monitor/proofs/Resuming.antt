@@ -18,7 +18,7 @@ use Rattle.verdicts.specs.Counts.{Noes, noes-in, laid-behind}
 use Rattle.rule.specs.declared.Entry.{Entry}
 use Rattle.rule.specs.declared.measuring.Ends.{Ends}
 use Rattle.rule.specs.Entries.{version, count, decoded}
-use Rattle.rule.specs.Postfix.{most, formulas, formulas-or, formula, start}
+use Rattle.rule.specs.Postfix.{most-formulas, formulas, formulas-or, formula, start}
 use Rattle.rule.specs.Refusal.{refusal}
 use Rattle.rule.specs.Words.{header-words, offset}
 use Rattle.rule.specs.Code.{EndsOf}
@@ -46,8 +46,8 @@ use Rattle.checkpoint.proofs.Copies.{foreign-same}
 use Rattle.checkpoint.proofs.Offsets.{in-block, block-fits, noes-within}
 use Rattle.checkpoint.proofs.Sizes.{enough}
 use Rattle.emit.specs.Verdicts.{formulas-of, columns, verdicts}
-use Rattle.emit.specs.Top.{held-count, held-bits, part-of, Waiting, Top}
-use Rattle.emit.specs.Code.{Giving, Brought, Emits, Emission, Ready}
+use Rattle.emit.specs.Top.{top-count, top-bits, part-of, Waiting, Top}
+use Rattle.emit.specs.Code.{Giving, Brought, Emits, Emission, ReadyToEmit}
 use Rattle.emit.specs.declared.Emitted.{Emitted}
 use Rattle.emit.proofs.Meaning.{joint-least}
 use Rattle.monitor.specs.Stands.{Stands}
@@ -70,8 +70,8 @@ resume-refused closing rule log p sheet n met =
 waiting-longer : (φ : Formula) (K L : Log) (d : ℕ) (ws : List ℕ) → Continues K L → NeverFalls L → Waiting φ K d ws → Waiting φ L d ws
 waiting-longer φ K L d ws longer never w =
     record {
-      buffer = buffer-longer K L longer never φ d (held-count φ ws) (held-bits φ ws) (w .buffer);
-      state = state-longer φ K L longer never (d + held-count φ ws) ws (w .state);
+      buffer = buffer-longer K L longer never φ d (top-count φ ws) (top-bits φ ws) (w .buffer);
+      state = state-longer φ K L longer never (d + top-count φ ws) ws (w .state);
     }
 
 top-longer : (base : ℕ) (fs : List Formula) (K L : Log) (d : ℕ) (ws : List ℕ) → Continues K L → NeverFalls L → Top base fs K d ws → Top base fs L d ws
@@ -131,7 +131,7 @@ kind-noted false seen closed-with = refl
 -- an accepted call: the words that the rule needs are ws′ then, the others are kept
 module _ (closing : Bool) (rule log p sheet : List ℕ) (ok : refusal rule ≡ 0) (room : need rule ≤ length p)
     (none : point-refusal closing (version rule) (decoded rule) (count rule) log p ≡ 0) (r : Emitted) (ws′ sheet′ : List ℕ)
-    (done : Emits (header-words (version rule)) (most (version rule)) (formulas-of rule) (wanted-records log p) (skips-of log) closing (take (need rule) p) sheet r ws′ sheet′) where
+    (done : Emits (header-words (version rule)) (most-formulas (version rule)) (formulas-of rule) (wanted-records log p) (skips-of log) closing (take (need rule) p) sheet r ws′ sheet′) where
   abbrev base : ℕ
   base = header-words (version rule)
 
@@ -156,7 +156,7 @@ module _ (closing : Bool) (rule log p sheet : List ℕ) (ok : refusal rule ≡ 0
   own-header : (i : ℕ) → i < 8 → i < need rule
   own-header i h = omega (arith, header-least (version rule))
 
-  own-counts : (k : ℕ) → k < most (version rule) → (8 + k < need rule) × (8 + most (version rule) + k < need rule)
+  own-counts : (k : ℕ) → k < most-formulas (version rule) → (8 + k < need rule) × (8 + most-formulas (version rule) + k < need rule)
   own-counts k h = omega (arith, noes-within (version rule))
 
   -- each formula's words, as its entries' blocks have them
@@ -220,9 +220,9 @@ module _ (closing : Bool) (rule log p sheet : List ℕ) (ok : refusal rule ≡ 0
 
   -- the no among the bytes written are counted behind those from before
   noes-now : (k : ℕ) → k < columns fs →
-      stored-noes (most (version rule)) after k ≡ laid-behind (stored-noes (most (version rule)) p k) (given p) (noes-in k sheet′ (r .count))
+      stored-noes (most-formulas (version rule)) after k ≡ laid-behind (stored-noes (most-formulas (version rule)) p k) (given p) (noes-in k sheet′ (r .count))
   noes-now k h =
-      let m = most (version rule) in
+      let m = most-formulas (version rule) in
       let inside = own-counts k (omega (arith, few-columns rule ok)) in
       rw (
         now (8 + k) (inside .0),
@@ -233,10 +233,10 @@ module _ (closing : Bool) (rule log p sheet : List ℕ) (ok : refusal rule ≡ 0
       )
       (done .noes k h)
 
-  unused-now : (k : ℕ) → columns fs ≤ k → k < most (version rule) →
-      (word after (8 + k) ≡ word p (8 + k)) × (word after (8 + most (version rule) + k) ≡ word p (8 + most (version rule) + k))
+  unused-now : (k : ℕ) → columns fs ≤ k → k < most-formulas (version rule) →
+      (word after (8 + k) ≡ word p (8 + k)) × (word after (8 + most-formulas (version rule) + k) ≡ word p (8 + most-formulas (version rule) + k))
   unused-now k h l =
-      let m = most (version rule) in
+      let m = most-formulas (version rule) in
       let inside = own-counts k l in
       let same = done .spare k (omega arith) l in (
         now (8 + k) (inside .0) ∙ same .0 ∙ was (8 + k) (inside .0),
@@ -364,7 +364,7 @@ module _ (closing : Bool) (rule log p : List ℕ) (v : ℕ) (t : List Entry) (n 
 
   -- the accepted rule is ready
   pub ready-of : (deep : ℕ) → deep ≡ deepest (formulas-or (formulas v t n)) → (records : List ℕ) → records ≡ wanted-records log p →
-      Ready t n (ends .at) (ends .number) (most v) (header-words v) deep records (part 0 w p)
+      ReadyToEmit t n (ends .at) (ends .number) (most-formulas v) (header-words v) deep records (part 0 w p)
   ready-of deep deep-is records handed =
       let e = enough rule (length p) w sized in
       let a = accepted rule (e .accepted) in
@@ -395,7 +395,7 @@ module _ (closing : Bool) (rule log p : List ℕ) (v : ℕ) (t : List Entry) (n 
   -- the words as they came back
   pub resume-given : (deep : ℕ) → deep ≡ deepest (formulas-or (formulas v t n)) → (sheet records : List ℕ) (skips : Bool) (r : Emitted) (ws′ sheet′ : List ℕ) →
       records ≡ wanted-records log p → skips ≡ skips-of log →
-      Emission skips closing t n (ends .at) (ends .number) (most v) (header-words v) deep records (part 0 w p) sheet r ws′ sheet′ →
+      Emission skips closing t n (ends .at) (ends .number) (most-formulas v) (header-words v) deep records (part 0 w p) sheet r ws′ sheet′ →
       Resumes closing rule log p sheet (gave (r .count) (r .more)) (put-back 0 w ws′ p) sheet′
   resume-given deep deep-is sheet records skips r ws′ sheet′ handed kind done =
       let e = enough rule (length p) w sized in

@@ -13,7 +13,7 @@ use Rattle.mtl.specs.Log.{Log}
 use Rattle.mtl.specs.Wanted.{wanted}
 use Rattle.verdicts.specs.Counts.{count-of, latest-no}
 use Rattle.rule.specs.Entries.{version, count, decoded, entry}
-use Rattle.rule.specs.Postfix.{most, formula}
+use Rattle.rule.specs.Postfix.{most-formulas, formula}
 use Rattle.rule.specs.Refusal.{refusal}
 use Rattle.rule.specs.Words.{header-words, offset}
 use Rattle.rule.proofs.Acceptance.{accepted}
@@ -30,7 +30,7 @@ use Rattle.checkpoint.proofs.Offsets.{in-block, block-fits, noes-within}
 use Rattle.checkpoint.proofs.Copies.{fresh-own, foreign-within}
 use Rattle.checkpoint.proofs.Sizes.{enough, sized-refusal}
 use Rattle.emit.specs.Verdicts.{formulas-of}
-use Rattle.emit.specs.Top.{held-count, held-bits, part-of, Waiting, Top}
+use Rattle.emit.specs.Top.{top-count, top-bits, part-of, Waiting, Top}
 use Rattle.monitor.specs.Open.{done, refused-with, Opens}
 use Rattle.monitor.specs.Stands.{Stands}
 use Rattle.monitor.proofs.Meaning.{rule-whole, few-columns, part-is, held-word}
@@ -56,11 +56,11 @@ module _ (rule ws : List ℕ) (fine : refusal rule ≡ 0) (size : length ws ≡ 
       let ok = accepted rule fine .well-formed in
       let whole = rule-whole rule fine in
       let φ = formula fs k in
-      let none : held-count φ (part-of base fs k ws) ≡ 0 =
+      let none : top-count φ (part-of base fs k ws) ≡ 0 =
       held-word base t n ok fs whole k h ws ∙ f .blocks (last-entry fs k) (last-below t n ok fs whole k h) 12 (omega arith) in
       let state = fresh-rule t n ok fs whole (drop base ws) (omega (arith, length-drop base ws)) fresh-block L k h in
       record {
-        buffer = empty-buffer φ L 0 (held-count φ (part-of base fs k ws)) (held-bits φ (part-of base fs k ws)) zero-le none;
+        buffer = empty-buffer φ L 0 (top-count φ (part-of base fs k ws)) (top-bits φ (part-of base fs k ws)) zero-le none;
         state = rw none (subst (State φ L 0) (sym (part-is base fs k ws)) state);
       }
 
@@ -95,9 +95,9 @@ module _ (rule p : List ℕ) (ok : refusal rule ≡ 0) (room : need rule ≤ len
       let least = header-least v in
       let noes = noes-within v in
       let closed-is = clear 5 (omega arith) (omega arith) (omega arith) in
-      let no-counted : (k : ℕ) → k < most v → word p (8 + k) ≡ 0 = λ k h. clear (8 + k) (omega arith) (omega arith) (omega arith) in
-      let no-latest : (k : ℕ) → k < most v → word p (8 + most v + k) ≡ 0 =
-      λ k h. clear (8 + most v + k) (omega arith) (omega arith) (omega arith) in
+      let no-counted : (k : ℕ) → k < most-formulas v → word p (8 + k) ≡ 0 = λ k h. clear (8 + k) (omega arith) (omega arith) (omega arith) in
+      let no-latest : (k : ℕ) → k < most-formulas v → word p (8 + most-formulas v + k) ≡ 0 =
+      λ k h. clear (8 + most-formulas v + k) (omega arith) (omega arith) (omega arith) in
       record {
         enough = room;
         own = foreign-within v t n p (take (need rule) p) own-word ∙ fresh-own v t n (take (need rule) p) f;
@@ -110,7 +110,7 @@ module _ (rule p : List ℕ) (ok : refusal rule ≡ 0) (room : need rule ≤ len
         wanted = rw (le-ltb (wanted (formulas-of rule) 0) (L .size) (omega arith)) (clear 7 (omega arith) (omega arith) (omega arith));
         top = fresh-top rule (take (need rule) p) ok (length-take-le (need rule) p room) f L;
         noes = λ k h.
-            let in-most : k < most v = omega (arith, few-columns rule ok) in
+            let in-most : k < most-formulas v = omega (arith, few-columns rule ok) in
             rw (no-counted k in-most, no-latest k in-most);
         unused = λ k h l. (no-counted k l, no-latest k l);
         spare = λ j h.

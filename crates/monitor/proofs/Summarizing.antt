@@ -11,7 +11,7 @@ use Rattle.verdicts.proofs.Listed.{listed-same}
 use Rattle.rule.specs.declared.Entry.{Entry}
 use Rattle.rule.specs.declared.measuring.Ends.{Ends}
 use Rattle.rule.specs.Entries.{version}
-use Rattle.rule.specs.Postfix.{most}
+use Rattle.rule.specs.Postfix.{most-formulas}
 use Rattle.rule.specs.Refusal.{refusal}
 use Rattle.rule.specs.Code.{EndsOf}
 use Rattle.rule.proofs.Headers.{Decoded}
@@ -20,7 +20,7 @@ use Rattle.checkpoint.specs.Refusal.{summary-refusal}
 use Rattle.checkpoint.proofs.Checks.{is-accepted, has-room}
 use Rattle.checkpoint.proofs.Offsets.{noes-within}
 use Rattle.emit.specs.Verdicts.{formulas-of, columns}
-use Rattle.monitor.specs.Summary.{position-or, no-position, counts-of, latest-words, Told, counted, refused-with, Summarizes}
+use Rattle.monitor.specs.Summary.{position-or, no-position, counts-of, latest-words, TellsNoes, counted, refused-with, Summarizes}
 use Rattle.monitor.specs.Status.{known}
 use Rattle.monitor.specs.Status.{answer as standing-of, refused-with as known-refused}
 use Rattle.monitor.specs.Formulas.{answer, formula-count}
@@ -31,8 +31,8 @@ use Rattle.monitor.specs.declared.FormulaCount.the-variants.{Refused as 
 use Rattle.monitor.proofs.Meaning.{most-few, few-columns, rule-ended}
 
 -- what is told of counts is told of the same counts
-pub told-same : (n : ℕ) (x y : ℕ → Noes) (nos latest nos′ latest′ : List ℕ) → ((k : ℕ) → k < n → x k ≡ y k) → Told 0 n x nos latest nos′ latest′ →
-    Told 0 n y nos latest nos′ latest′
+pub told-same : (n : ℕ) (x y : ℕ → Noes) (nos latest nos′ latest′ : List ℕ) → ((k : ℕ) → k < n → x k ≡ y k) → TellsNoes 0 n x nos latest nos′ latest′ →
+    TellsNoes 0 n y nos latest nos′ latest′
 told-same n x y nos latest nos′ latest′ same (counts, ends) =
     let counts-are : counts-of x n ≡ counts-of y n =
     listed-same (λ k. x k .count) (λ k. y k .count) n (λ k h. ap (λ (z : Noes). z .count) (same k h)) in
@@ -70,7 +70,7 @@ module _ (rule p : List ℕ) where
   module _ (none : summary-refusal rule p ≡ 0) where
     -- the counts of all formulas stand in the checkpoint
     pub counts-fit : (v : ℕ) → v ≡ version rule → (m : ℕ) → m ≡ columns (formulas-of rule) →
-        (m ≤ 8) × (m ≤ most v) × (8 + most v + most v ≤ length p)
+        (m ≤ 8) × (m ≤ most-formulas v) × (8 + most-formulas v + most-formulas v ≤ length p)
     counts-fit v is m e =
         let fine = is-accepted rule p none in
         let room = has-room rule p none in
@@ -78,7 +78,7 @@ module _ (rule p : List ℕ) where
         rw is (omega (arith, few-columns rule fine, most-few (version rule)))
 
     pub summary-told : (nos latest nos′ latest′ : List ℕ) (v : ℕ) → v ≡ version rule → (m : ℕ) → m ≡ columns (formulas-of rule) →
-        Told 0 m (stored-noes (most v) p) nos latest nos′ latest′ → Summarizes rule p nos latest (counted m) nos′ latest′
+        TellsNoes 0 m (stored-noes (most-formulas v) p) nos latest nos′ latest′ → Summarizes rule p nos latest (counted m) nos′ latest′
     summary-told nos latest nos′ latest′ v is m e told = record { outcome = rw none (ap counted e); words = rw is at told }
 
     pub status-told : standing-of (Known (given p) (seen p) (first-wanted p) (ltb 0 (closed-with p))) ≡ known rule p

@@ -27,7 +27,7 @@ use Rattle.checkpoint.specs.Refusal.{resume-refusal}
 use Rattle.checkpoint.specs.Checkpoint.{format, copy-start, kind-of-log, copy-head, copy-ends, stored-noes}
 use Rattle.verdicts.specs.Bytes.{byte-of}
 use Rattle.verdicts.specs.Counts.{count-of, latest-no, Noes, noes-in, laid-behind, listed}
-use Rattle.emit.specs.Verdicts.{verdicts, wanted-after, answered, all-verdicts}
+use Rattle.emit.specs.Verdicts.{verdicts, wanted-after, answered-number, all-verdicts}
 use Rattle.monitor.specs.Trim.{trimmed-log, trimming}
 use Rattle.monitor.specs.Summary.{no-position, counts-of, latest-words}
 use Rattle.monitor.specs.Status.{Answer, told, refused-with, known}
@@ -140,8 +140,8 @@ pub record Row : Type 0 where
   pub more : Bool
 
 -- the first call on a fresh checkpoint, accepted, with room for all verdicts
-abbrev on-fresh : (rule log : List ℕ) (words reach answered : ℕ) (verdicts : List ℕ) → Row
-on-fresh rule log words reach answered verdicts =
+abbrev on-fresh : (rule log : List ℕ) (words reach answered-number : ℕ) (verdicts : List ℕ) → Row
+on-fresh rule log words reach answered-number verdicts =
     record {
       rule = rule;
       untouched = log;
@@ -155,7 +155,7 @@ on-fresh rule log words reach answered verdicts =
       number = 0;
       words = words;
       reach = reach;
-      answered = answered;
+      answered = answered-number;
       verdicts = verdicts;
       more = false;
     }
@@ -187,8 +187,8 @@ on-short r room verdicts = with-room r room verdicts true
 
 -- the next call with the same rule, accepted, with room for all verdicts: "The point then has d + c verdicts given, N records seen,
 -- and the last record's time", and `first` is the first record still wanted
-abbrev after : Row → (first : ℕ) (untouched brought : List ℕ) (answered : ℕ) (verdicts : List ℕ) → Row
-after r first untouched brought answered verdicts =
+abbrev after : Row → (first : ℕ) (untouched brought : List ℕ) (answered-number : ℕ) (verdicts : List ℕ) → Row
+after r first untouched brought answered-number verdicts =
     record {
       rule = r .rule;
       untouched = untouched;
@@ -202,7 +202,7 @@ after r first untouched brought answered verdicts =
       number = 0;
       words = r .words;
       reach = r .reach;
-      answered = answered;
+      answered = answered-number;
       verdicts = verdicts;
       more = false;
     }
@@ -282,7 +282,7 @@ brings-untouched r =
 unfoldable pub computes-verdicts : (closing : Bool) → Row → Bool
 computes-verdicts closing r =
     let n = total-records (r .brought) in
-    eqb (answered closing (r .rule) (r .untouched) n) (r .answered)
+    eqb (answered-number closing (r .rule) (r .untouched) n) (r .answered)
     && (same (take (r .room) (drop (r .given) (all-verdicts closing (r .rule) (r .untouched) n))) (r .verdicts)
     && agree (ltb (r .given + length (r .verdicts)) (r .answered)) (r .more))
 

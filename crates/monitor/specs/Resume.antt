@@ -16,7 +16,7 @@ use Rattle.blocks.specs.Step.{Agrees}
 use Rattle.verdicts.specs.Counts.{noes-in, laid-behind}
 use Rattle.rule.specs.Entries.{version, decoded}
 use Rattle.rule.specs.Entries.{count as entry-count}
-use Rattle.rule.specs.Postfix.{most}
+use Rattle.rule.specs.Postfix.{most-formulas}
 use Rattle.rule.specs.Words.{header-words}
 use Rattle.checkpoint.specs.Checkpoint.{given, seen, last, closed-with, log-kind, kind-of-log, first-wanted, no-count, after-latest, stored-noes, need, block-at, foreign}
 use Rattle.checkpoint.specs.Refusal.{resume-refusal}
@@ -64,7 +64,7 @@ wanted-records log p = records-from log (first-wanted p)
 
 -- an accepted call: what holds on any words, and `meaning`, where the checkpoint stands for the rule and a log as it was last
 -- seen, the log brought continues it, and the records from the first still wanted on are its own
-pub record Accepted (closing : Bool) (rule log p sheet : List ℕ) (c : ℕ) (more : Bool) (p′ sheet′ : List ℕ) : Type 0 where
+pub record AcceptedCall (closing : Bool) (rule log p sheet : List ℕ) (c : ℕ) (more : Bool) (p′ sheet′ : List ℕ) : Type 0 where
   pub room : c ≤ length sheet
   pub rest : drop c sheet′ ≡ drop c sheet
   pub beyond : drop (need rule) p′ ≡ drop (need rule) p
@@ -77,10 +77,10 @@ pub record Accepted (closing : Bool) (rule log p sheet : List ℕ) (c : ℕ) (mo
   pub onward : (first-wanted p ≤ first-wanted p′) × (first-wanted p′ ≤ seen p′)
   -- the no of each formula among the bytes written, behind those from before
   pub noes : (k : ℕ) → k < columns (formulas-of rule) →
-      stored-noes (most (version rule)) p′ k ≡ laid-behind (stored-noes (most (version rule)) p k) (given p) (noes-in k sheet′ c)
+      stored-noes (most-formulas (version rule)) p′ k ≡ laid-behind (stored-noes (most-formulas (version rule)) p k) (given p) (noes-in k sheet′ c)
   -- where the rule has no formula k, both words of its counts are kept
-  pub unused : (k : ℕ) → columns (formulas-of rule) ≤ k → k < most (version rule) →
-      (no-count p′ k ≡ no-count p k) × (after-latest (most (version rule)) p′ k ≡ after-latest (most (version rule)) p k)
+  pub unused : (k : ℕ) → columns (formulas-of rule) ≤ k → k < most-formulas (version rule) →
+      (no-count p′ k ≡ no-count p k) × (after-latest (most-formulas (version rule)) p′ k ≡ after-latest (most-formulas (version rule)) p k)
   -- the copy of the rule is kept, whatever else the words hold: as this call does not meet 10, no later one with the rule does
   pub own : foreign (version rule) (decoded rule) (entry-count rule) p′ ≡ foreign (version rule) (decoded rule) (entry-count rule) p
   -- no head goes back, whatever the words hold
@@ -91,7 +91,7 @@ pub record Accepted (closing : Bool) (rule log p sheet : List ℕ) (c : ℕ) (mo
       Gives rule L (total-records log) d sheet c more p′ sheet′
 
 abbrev pub Resuming : (refused closing : Bool) (rule log p sheet : List ℕ) (c : ℕ) (more : Bool) (p′ sheet′ : List ℕ) → Type 0
-Resuming false closing rule log p sheet c more p′ sheet′ = Accepted closing rule log p sheet c more p′ sheet′
+Resuming false closing rule log p sheet c more p′ sheet′ = AcceptedCall closing rule log p sheet c more p′ sheet′
 -- "rule, log, point and sheet keep their bytes"
 Resuming true closing rule log p sheet c more p′ sheet′ = (p′ ≡ p) × (sheet′ ≡ sheet)
 

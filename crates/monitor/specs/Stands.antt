@@ -10,7 +10,7 @@ use Rattle.mtl.specs.Log.{Log, Placed}
 use Rattle.mtl.specs.Wanted.{wanted, wanted-record}
 use Rattle.verdicts.specs.Counts.{noes-in}
 use Rattle.rule.specs.Entries.{version, count, decoded}
-use Rattle.rule.specs.Postfix.{most, start}
+use Rattle.rule.specs.Postfix.{most-formulas, start}
 use Rattle.rule.specs.Words.{header-words}
 use Rattle.blocks.specs.Block.{word}
 use Rattle.checkpoint.specs.Checkpoint.{seen, last, closed-with, log-kind, first-wanted, no-count, after-latest, stored-noes, need, block-at, foreign, kind-in-range}
@@ -31,10 +31,10 @@ pub record Stands (rule : List ℕ) (L : Log) (n d : ℕ) (p : List ℕ) : Type 
   pub wanted : first-wanted p ≡ wanted-record L n (wanted (formulas-of rule) d)
   pub top : Top (header-words (version rule)) (formulas-of rule) L d (take (need rule) p)
   -- of the verdicts given, for each formula
-  pub noes : (k : ℕ) → k < columns (formulas-of rule) → stored-noes (most (version rule)) p k ≡ noes-in k (verdicts (formulas-of rule) L d) d
+  pub noes : (k : ℕ) → k < columns (formulas-of rule) → stored-noes (most-formulas (version rule)) p k ≡ noes-in k (verdicts (formulas-of rule) L d) d
   -- where the rule has no formula k, both words of its counts are 0
-  pub unused : (k : ℕ) → columns (formulas-of rule) ≤ k → k < most (version rule) →
-      (no-count p k ≡ 0) × (after-latest (most (version rule)) p k ≡ 0)
+  pub unused : (k : ℕ) → columns (formulas-of rule) ≤ k → k < most-formulas (version rule) →
+      (no-count p k ≡ 0) × (after-latest (most-formulas (version rule)) p k ≡ 0)
   -- an entry is a formula's last, or holds no answers
   pub spare : (j : ℕ) → j < count rule →
       ((k : ℕ) × (k < length (formulas-of rule)) × (suc j ≡ start (formulas-of rule) (suc k))) ⊎

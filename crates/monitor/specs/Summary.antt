@@ -9,7 +9,7 @@ use lib.Dec.{eqb}
 use Rattle.verdicts.specs.Counts.{Noes, listed}
 use Rattle.verdicts.specs.Tally.{first-or-kept}
 use Rattle.rule.specs.Entries.{version}
-use Rattle.rule.specs.Postfix.{most}
+use Rattle.rule.specs.Postfix.{most-formulas}
 use Rattle.checkpoint.specs.Checkpoint.{stored-noes}
 use Rattle.checkpoint.specs.Refusal.{summary-refusal}
 use Rattle.emit.specs.Verdicts.{formulas-of, columns}
@@ -39,8 +39,8 @@ latest-words noes n = listed (λ k. position-or (noes k .latest) no-position) n
 
 -- "The stored .. counts, the latest positions .. become one per formula": those of n formulas stand in the first lent words and the
 -- others are kept, or all of them where the call has a refusal's number
-abbrev pub Told : (number n : ℕ) (noes : ℕ → Noes) (nos latest nos′ latest′ : List ℕ) → Type 0
-Told number n noes nos latest nos′ latest′ =
+abbrev pub TellsNoes : (number n : ℕ) (noes : ℕ → Noes) (nos latest nos′ latest′ : List ℕ) → Type 0
+TellsNoes number n noes nos latest nos′ latest′ =
     (nos′ ≡ first-or-kept number n nos (counts-of noes n)) × (latest′ ≡ first-or-kept number n latest (latest-words noes n))
 
 -- the paper's number and the value for each case: how many formulas there are counts of
@@ -65,4 +65,4 @@ summarized rule p = cond (eqb (summary-refusal rule p) 0) (counted (columns (for
 
 pub record Summarizes (rule p nos latest : List ℕ) (a : Answer) (nos′ latest′ : List ℕ) : Type 0 where
   pub outcome : a ≡ summarized rule p
-  pub words : Told (a .number) (a .formulas) (stored-noes (most (version rule)) p) nos latest nos′ latest′
+  pub words : TellsNoes (a .number) (a .formulas) (stored-noes (most-formulas (version rule)) p) nos latest nos′ latest′

@@ -29,7 +29,7 @@ use Rattle.mtl.proofs.Closing.{
 use Rattle.bits.specs.Packed.{Packed}
 use Rattle.bits.proofs.Laws.{packed-none, packed-push, packed-same, packed-not, packed-or, packed-and}
 use Rattle.trace.specs.Format.{time-at}
-use Rattle.trace.specs.View.{first, total, skips, in-slice}
+use Rattle.trace.specs.View.{slice-first, total, skips, in-slice}
 use Rattle.trace.specs.Window.{window-of, Lettered, Opened, Passed}
 use Rattle.trace.specs.declared.window.Letters.{Letters}
 use Rattle.trace.specs.declared.window.Window.{Window}
@@ -66,12 +66,12 @@ module _ (v b : List ℕ) (room : 16 ≤ length b) (n : ℕ) (some : 0 < n) wher
 
   module _ (L : Log) (g : ℕ) where
     pub letter-batch : {s : List ℕ} → Agrees v s L g → (k : ℕ) → taken b + n ≤ total v → {r : Letters} →
-        Lettered (skips v) s k (in-slice (first v) (head b)) n r → Ready (letter k) L g b →
-        Stepped (letter k) L g b (Batch (r .bits) n) (stores (read-stores n (first v + r .end) b) b)
+        Lettered (skips v) s k (in-slice (slice-first v) (head b)) n r → Ready (letter k) L g b →
+        Stepped (letter k) L g b (Batch (r .bits) n) (stores (read-stores n (slice-first v + r .end) b) b)
     unfolding sat
     letter-batch agrees k inside {r} lettered ready =
         let all = settled-letter L k in
-        let at = word-stores (read-stores n (first v + r .end) b) b (omega arith) in
+        let at = word-stores (read-stores n (slice-first v + r .end) b) b (omega arith) in
         let core = ready .core in
         let range = core .range in
         let size = agrees .size in
@@ -182,8 +182,8 @@ module _ (v b : List ℕ) (room : 16 ≤ length b) (n : ℕ) (some : 0 < n) wher
           λ i l.
           let before : g + i - 1 ≡ taken b + i = omega arith in
           let here : g + i ≡ g - 1 + i + 1 = omega arith in
-          let first : taken b + i ≡ g - 1 + i = omega arith in
-          rw (lt-ltb 0 (g + i) (omega arith), before, here, first)
+          let slice-first : taken b + i ≡ g - 1 + i = omega arith in
+          rw (lt-ltb 0 (g + i) (omega arith), before, here, slice-first)
           in
           let moved =
           taken-right
@@ -222,7 +222,7 @@ module _ (v b : List ℕ) (room : 16 ≤ length b) (n : ℕ) (some : 0 < n) wher
 
       -- position 0 is passed over
       pub next-pass : taken b ≡ 0 → n ≡ 1 → Ready (next low high φ) L g b → Stepped (next low high φ) L g b Again (took-right n b)
-      next-pass first one ready =
+      next-pass slice-first one ready =
           let still = word-stores (right-stores n b []) b (omega arith) 5 in
           let unread = word-stores (right-stores n b []) b (omega arith) 11 in
           right-ready (next low high φ) φ refl (λ x. x) (ready .core) (ready .buffers) h g (ready .core .reached)
@@ -270,7 +270,7 @@ module _ (v b : List ℕ) (room : 16 ≤ length b) (n : ℕ) (some : 0 < n) wher
 
 -- n answers taken through a window of one position more
 module _ (low high : ℕ) (v s b : List ℕ) (n : ℕ) (room : 16 ≤ length b) (w : Window) (copy : List ℕ)
-    (opened : Opened (skips v) s (in-slice (first v) (head b)) (n + 1) w copy) where
+    (opened : Opened (skips v) s (in-slice (slice-first v) (head b)) (n + 1) w copy) where
   pub took-near : (near e : ℕ) → Packed (near-after low high (time-at (window-of w s copy))) 0 n near → Passed v s (head b) n w e →
       TookNear low high v s b n (bitAnd near (right-bits b)) (set (took-right n b) 11 e)
   took-near near e packed passed =
@@ -349,7 +349,7 @@ previous-open v b low high φ L g agrees ready e =
 pub previous-first : (v b : List ℕ) → 16 ≤ length b → 0 < total v → answered b ≡ 0 → {s : List ℕ} (low high : ℕ) (φ : Formula) (L : Log) (g : ℕ) →
     Agrees v s L (g - 1) → Ready (previous low high φ) L g b → Stepped (previous low high φ) L g b (Batch 0 1) (set b 5 1)
 unfolding sat
-previous-first v b room some first low high φ L g agrees ready =
+previous-first v b room some slice-first low high φ L g agrees ready =
     let at = word-stores (put 5 1 ∷ []) b (omega arith) in
     let own = ready .core .own in
     let size = agrees .size in

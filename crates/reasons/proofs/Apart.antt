@@ -15,7 +15,7 @@ use Rattle.reasons.specs.Reason.Cause.{by-left, by-time}
 use Rattle.reasons.specs.Reason.Says.{stands, not, or, prev, next, prev-none, since, until, since-no, until-no}
 use Rattle.reasons.specs.Reason.Line.{empty, sentence}
 use Rattle.decimal.specs.Text.{ascii, decimal-in, decimal}
-use Rattle.reasons.specs.Text.{joined, cause-text, words, parts, text}
+use Rattle.reasons.specs.Text.{joined, cause-text, said-words, parts, text}
 
 -- READING THE PARTS BACK
 
@@ -140,7 +140,7 @@ line-of [] = empty
 line-of (p ∷ []) = empty
 line-of (p ∷ (q ∷ ws)) = sentence (value 0 p) (value 0 q) (says-of ws)
 
-says-back : (s : Says) → says-of (words s) ≡ s
+says-back : (s : Says) → says-of (said-words s) ≡ s
 unfolding says-of first ascii value
 says-back (stands k true) = ap (λ n. stands n true) (number-back k)
 says-back (stands k false) = ap (λ n. stands n false) (number-back k)
@@ -179,7 +179,7 @@ unfolding ascii plain-test
 plain-cause by-left = plain-by (ascii "left") refl
 plain-cause by-time = plain-by (ascii "time") refl
 
-plain-words : (s : Says) → Plains (words s)
+plain-words : (s : Says) → Plains (said-words s)
 unfolding Plains ascii plain-test
 plain-words (stands k true) = (plain-append (ascii "e") (decimal k) (plain-by (ascii "e") refl) (plain-number k), (plain-by (ascii "yes") refl, tt))
 plain-words (stands k false) = (plain-append (ascii "e") (decimal k) (plain-by (ascii "e") refl) (plain-number k), (plain-by (ascii "no") refl, tt))
@@ -198,7 +198,7 @@ line-read : (l : Line) (rest : List ℕ) → read [] [] (joined (parts l) ++ res
 unfolding ascii plain-test Plains
 line-read empty rest = read-line (ascii "empty") [] (plain-by (ascii "empty") refl, tt) [] rest
 line-read (sentence k i s) rest =
-    read-line (decimal k) (decimal i ∷ words s) (plain-number k, (plain-number i, plain-words s)) [] rest
+    read-line (decimal k) (decimal i ∷ said-words s) (plain-number k, (plain-number i, plain-words s)) [] rest
 
 text-back : (ls : List Line) → map line-of (read [] [] (text ls)) ≡ ls
 unfolding text read

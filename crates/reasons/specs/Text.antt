@@ -21,22 +21,22 @@ cause-text by-time = ascii "time"
 
 -- "for a letter e0 to e31 and yes or no, else paper 1's word and a decimal number (not and or: no number)"; of a previous "none for the gap
 -- where no position stands before"
-abbrev pub words : Says → List (List ℕ)
-words (stands k holds) = (ascii "e" ++ decimal k) ∷ cond holds (ascii "yes") (ascii "no") ∷ []
-words not = ascii "not" ∷ []
-words or = ascii "or" ∷ []
-words (prev gap) = ascii "prev" ∷ decimal gap ∷ []
-words (next gap) = ascii "next" ∷ decimal gap ∷ []
-words prev-none = ascii "prev" ∷ ascii "none" ∷ []
-words (since j) = ascii "since" ∷ decimal j ∷ []
-words (until j) = ascii "until" ∷ decimal j ∷ []
-words (since-no p cause) = ascii "since" ∷ decimal p ∷ cause-text cause ∷ []
-words (until-no p cause) = ascii "until" ∷ decimal p ∷ cause-text cause ∷ []
+abbrev pub said-words : Says → List (List ℕ)
+said-words (stands k holds) = (ascii "e" ++ decimal k) ∷ cond holds (ascii "yes") (ascii "no") ∷ []
+said-words not = ascii "not" ∷ []
+said-words or = ascii "or" ∷ []
+said-words (prev gap) = ascii "prev" ∷ decimal gap ∷ []
+said-words (next gap) = ascii "next" ∷ decimal gap ∷ []
+said-words prev-none = ascii "prev" ∷ ascii "none" ∷ []
+said-words (since j) = ascii "since" ∷ decimal j ∷ []
+said-words (until j) = ascii "until" ∷ decimal j ∷ []
+said-words (since-no p cause) = ascii "since" ∷ decimal p ∷ cause-text cause ∷ []
+said-words (until-no p cause) = ascii "until" ∷ decimal p ∷ cause-text cause ∷ []
 
 -- "the entry's number from 0, the position, then .."; "an empty rule's reason is the one line empty"
 abbrev pub parts : Line → List (List ℕ)
 parts empty = ascii "empty" ∷ []
-parts (sentence k i says) = decimal k ∷ decimal i ∷ words says
+parts (sentence k i says) = decimal k ∷ decimal i ∷ said-words says
 
 unfoldable pub text : List Line → List ℕ
 text [] = []

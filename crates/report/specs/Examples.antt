@@ -14,7 +14,7 @@ use Rattle.trace.specs.Positions.{passing, spot, positions}
 use Rattle.verdicts.specs.Bytes.{byte-of}
 use Rattle.emit.specs.Verdicts.{verdicts}
 use Rattle.decimal.specs.Text.{ascii, decimal-in, decimal}
-use Rattle.report.specs.Report.{words, lines, report}
+use Rattle.report.specs.Report.{verdict-words, lines, report}
 
 -- "Rule: letter 0, letter 1, until 0 to 2; 38 bytes"
 abbrev pub rule : List ℕ
@@ -39,24 +39,24 @@ log =
 
 -- "Output, all of it"
 pub full-run : report rule log ≡ ascii "verdicts 5 of 6\n0 no\n1 no\n2 no\n3 yes\n4 yes\n"
-unfolding ascii decimal-in words lines first-entries offset push-kind read header-refusal entries-refusal any all sat run progress settled-to joint-progress byte-of verdicts
+unfolding ascii decimal-in verdict-words lines first-entries offset push-kind read header-refusal entries-refusal any all sat run progress settled-to joint-progress byte-of verdicts
 full-run = refl
 
 -- request 3: an empty rule over the same log
 pub empty-rule : report (0x4B ∷ 0x52 ∷ 0x4C ∷ 0 ∷ 1 ∷ 0 ∷ 0 ∷ 0 ∷ []) log ≡ ascii "verdicts 6 of 6\n0 yes\n1 yes\n2 yes\n3 yes\n4 yes\n5 yes\n"
-unfolding ascii decimal-in words lines first-entries offset read header-refusal entries-refusal any settled-to joint-progress byte-of verdicts
+unfolding ascii decimal-in verdict-words lines first-entries offset read header-refusal entries-refusal any settled-to joint-progress byte-of verdicts
 empty-rule = refl
 
 -- request 8: the same until, and its not behind it
 pub two-formulas : report (0x4B ∷ 0x52 ∷ 0x4C ∷ 0 ∷ 2 ∷ 7 ∷ 0 ∷ 0 ∷ drop 8 rule ++ drop 8 rule ++ (1 ∷ 0 ∷ 0 ∷ 0 ∷ 0 ∷ 0 ∷ 0 ∷ 0 ∷ 0 ∷ 0 ∷ [])) log
     ≡ ascii "verdicts 5 of 6\n0 no yes\n1 no yes\n2 no yes\n3 yes no\n4 yes no\n"
-unfolding ascii decimal-in words lines first-entries offset push-kind read header-refusal entries-refusal any all sat run progress settled-to joint-progress byte-of verdicts
+unfolding ascii decimal-in verdict-words lines first-entries offset push-kind read header-refusal entries-refusal any all sat run progress settled-to joint-progress byte-of verdicts
 two-formulas = refl
 
 -- request 10: the same records as version 2 with a service record before them: the total counts it, and no position is its
 pub serviced : report rule (0x4B ∷ 0x4C ∷ 0x47 ∷ 0 ∷ 2 ∷ 0 ∷ 0 ∷ 0 ∷ 0 ∷ 0 ∷ 0 ∷ 9 ∷ 0x80 ∷ 0 ∷ 0 ∷ 0 ∷ drop 8 log)
     ≡ ascii "verdicts 5 of 7\n0 no\n1 no\n2 no\n3 yes\n4 yes\n"
-unfolding ascii decimal-in words lines passing spot positions first-entries offset push-kind read header-refusal entries-refusal any all sat run progress settled-to joint-progress byte-of verdicts
+unfolding ascii decimal-in verdict-words lines passing spot positions first-entries offset push-kind read header-refusal entries-refusal any all sat run progress settled-to joint-progress byte-of verdicts
 serviced = refl
 
 -- the same log with no rule

@@ -5,10 +5,10 @@ use mathlib.Core.List.{List, [], _++_}
 use lib.ListN.{length, getD}
 use lib.Dec.{ltb, eqb}
 use Rattle.bits.specs.Packed.{bit}
-use Rattle.rule.specs.Refusal.{first, before, refusal}
+use Rattle.rule.specs.Refusal.{first, or-else, refusal}
 use Rattle.trace.specs.Format.{record-count, dropped, records-of, malformed}
 use Rattle.trace.specs.Order.{disordered}
-use Rattle.decimal.specs.Text.{ascii, decimal, word}
+use Rattle.decimal.specs.Text.{ascii, decimal, verdict-word}
 use Rattle.emit.specs.Verdicts.{formulas-of, columns, all-verdicts}
 
 -- "A refusal prints `refused` and its number."
@@ -20,13 +20,13 @@ abbrev pub first-line : (given records : ℕ) → List ℕ
 first-line given records = ascii "verdicts " ++ decimal given ++ ascii " of " ++ decimal records ++ ascii "\n"
 
 -- "the words on a printed line become one per formula": those of the first n bits of a verdict, "in rule order from 0"
-unfoldable pub words : (verdict n : ℕ) → List ℕ
-words verdict zero = []
-words verdict (suc n) = words verdict n ++ word (bit verdict n)
+unfoldable pub verdict-words : (verdict n : ℕ) → List ℕ
+verdict-words verdict zero = []
+verdict-words verdict (suc n) = verdict-words verdict n ++ verdict-word (bit verdict n)
 
 -- "each other line a position and its verdict"
 abbrev pub line : (position columns verdict : ℕ) → List ℕ
-line position columns verdict = decimal position ++ words verdict columns ++ ascii "\n"
+line position columns verdict = decimal position ++ verdict-words verdict columns ++ ascii "\n"
 
 -- the lines of the first n verdicts; "counted from 0"
 unfoldable pub lines : (columns : ℕ) (verdicts : List ℕ) → ℕ → List ℕ
@@ -39,7 +39,7 @@ verdicts-text records columns verdicts = first-line (length verdicts) records ++
 -- "opens, carries on": the first refusal that applies. The checkpoint is fresh, with nothing given, seen or noted, and has room for
 -- every rule that passes 8. So 9, 10, 11, 13, 20 and 22 are never met, and 24 is for any dropped record
 abbrev pub run-refusal : (rule log : List ℕ) → ℕ
-run-refusal rule log = before (refusal rule) (first 12 (malformed log) (first 24 (ltb 0 (dropped log)) (first 14 (disordered (records-of log) 0 0) 0)))
+run-refusal rule log = or-else (refusal rule) (first 12 (malformed log) (first 24 (ltb 0 (dropped log)) (first 14 (disordered (records-of log) 0 0) 0)))
 
 -- "a file above 65,536 bytes prints `too long` before all else"
 abbrev pub too-long : (rule log : List ℕ) → Bool

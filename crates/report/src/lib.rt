@@ -5,7 +5,7 @@ ghost use lib.ListN.{length};
 ghost use Rattle.rule.specs.Refusal.{refusal};
 ghost use Rattle.emit.specs.Verdicts.{formulas-of, columns};
 ghost use Rattle.decimal.specs.Text.{Writes};
-ghost use Rattle.report.specs.Report.{refused-text, first-line, words, line, lines, too-long, report as Report·report};
+ghost use Rattle.report.specs.Report.{refused-text, first-line, verdict-words, line, lines, too-long, report as Report·report};
 use monitor::FormulaCount;
 use monitor::Opened;
 use monitor::Resumed;
@@ -42,7 +42,7 @@ fn put_counts(given: usize, records: usize, text: &mut [u8]) -> usize
 // The word of each formula, in rule order.
 fn put_words(verdict: u8, columns: usize, text: &mut [u8], from: usize) -> usize
     requires { ⌜ (columns ≤ 8) × (from + columns * 4 ≤ length (now text)) ⌝ }
-    ensures { λ r. ⌜ Writes (now (text .entry)) from (words verdict columns) r (now (text .exit)) ⌝ }
+    ensures { λ r. ⌜ Writes (now (text .entry)) from (verdict-words verdict columns) r (now (text .exit)) ⌝ }
 {
     let mut at = from;
     let mut left = columns;

@@ -16,7 +16,7 @@ use Rattle.rule.specs.Words.{words, limit}
 use Rattle.rule.specs.Postfix.{read, stack-after, formulas, postfixes}
 use Rattle.rule.specs.Refusal.{misshapen-at, misplaced-at, lacking, over-limit, header-refusal, entries-refusal, refusal}
 use Rattle.rule.specs.Operands.{FormulaAt}
-use Rattle.rule.specs.Accepted.{InRange, WellFormed, Whole, Accepted}
+use Rattle.rule.specs.Accepted.{FieldsInRange, WellFormed, Whole, Accepted}
 use Rattle.rule.proofs.Stacks.{stays-none, Left, left-over}
 use Rattle.rule.proofs.Order.{whole-of}
 use Rattle.rule.proofs.Headers.{first-zero, before-none, headed}
@@ -47,7 +47,7 @@ the-left none e = absurd (let z : _≡_ {A = ℕ} 0 1 = cc in omega arith)
 the-left (some fs) e = (fs, refl)
 
 module _ (version : ℕ) (t : List Entry) (n : ℕ) (long : n ≤ length t) (p : Passed version t n) where
-  ranges : (k : ℕ) → k < n → InRange (entry t k)
+  ranges : (k : ℕ) → k < n → FieldsInRange (entry t k)
   ranges k h = in-range (entry t k) (none-below n (misshapen-at t) (p .shapes) k h) (none-below n (misplaced-at t) (p .places) k h)
 
   those : (fs : List Formula) × (formulas version t n ≡ some fs)

@@ -17,7 +17,7 @@ use Rattle.rule.specs.Words.{header-words, words, limit}
 use Rattle.rule.specs.Postfix.{formulas}
 use Rattle.rule.specs.Refusal.{misshapen-at, misplaced-at, lacking, over-limit, entries-refusal}
 use Rattle.rule.specs.Measure.{Answer, refused, some-next, reach-of}
-use Rattle.rule.specs.Code.{totals, next-at, measured-entries, largest, reading}
+use Rattle.rule.specs.Code.{totals, is-next, measured-entries, largest, reading}
 use Rattle.rule.proofs.Order.{farthest-largest}
 use Rattle.rule.proofs.Nexts.{next-is}
 
@@ -72,7 +72,7 @@ module _ (version : ℕ) (t : List Entry) (n : ℕ) (sums : Totals) (s : sums �
   unfolding entries-refusal
   passes far next h a b e l f =
       let o : over-limit version t n ≡ false = le-ltb limit (words version t n) (omega (arith, words-are)) in
-      let g : any n (next-at t) ≡ next = sym (ap (λ (x : Totals). x .next) s) ∙ f in
+      let g : any n (is-next t) ≡ next = sym (ap (λ (x : Totals). x .next) s) ∙ f in
       simp (shape-is false a, place-is false b, some-of (formulas version t n) far e, o)
       (ap₂ {C = Answer} (λ (w m : ℕ). record { number = 0; words = w; reach = m }) words-are
       (sym (far-of (formulas version t n) far next (λ fs p. next-is version t n fs h p ∙ g) e)))

@@ -15,7 +15,7 @@ use Rattle.rule.specs.declared.refusals.Header.the-variants.{Count, Stop
 use Rattle.rule.specs.declared.Entry.{Entry}
 use Rattle.rule.specs.Bytes.{byte}
 use Rattle.rule.specs.Entries.{version, count, decoded}
-use Rattle.rule.specs.Refusal.{first, before, unmarked, other-version, malformed, header-refusal}
+use Rattle.rule.specs.Refusal.{first, or-else, unmarked, unknown-version, wrong-size, header-refusal}
 use Rattle.rule.specs.Measure.{measured}
 use Rattle.rule.specs.Code.{measured-entries, header, header-count, header-version, filled, measured-by}
 use Rattle.rule.proofs.Decoded.{decoded-filled}
@@ -33,7 +33,7 @@ pub or-right : (a b : Bool) → a || b ≡ false → b ≡ false
 or-right true b e = cc
 or-right false b e = e
 
-pub before-none : (m n : ℕ) → before m n ≡ 0 → (m ≡ 0) × (n ≡ 0)
+pub before-none : (m n : ℕ) → or-else m n ≡ 0 → (m ≡ 0) × (n ≡ 0)
 before-none m n = go (eqb m 0) refl
   where
     go : (b : Bool) → eqb m 0 ≡ b → cond b n m ≡ 0 → (m ≡ 0) × (n ≡ 0)
@@ -50,8 +50,8 @@ pub headed : (s : List ℕ) → header-refusal s ≡ 0 → Headed s
 unfolding header-refusal
 headed s e =
     let a = first-zero 0 (unmarked s) _ e in
-    let b = first-zero 1 (other-version s) _ (a .1) in
-    let d = first-zero 3 (malformed s) 0 (b .1) in
+    let b = first-zero 1 (unknown-version s) _ (a .1) in
+    let d = first-zero 3 (wrong-size s) 0 (b .1) in
     let f = or-left (ltb 128 (count s) || not (eqb (byte s 6) 0) || not (eqb (byte s 7) 0)) (not (eqb (length s) (8 + count s * 10))) (d .0) in
     record {
       one-or-two = either (eqb (version s) 1) (eqb (version s) 2) refl refl (b .0);

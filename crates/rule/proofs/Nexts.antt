@@ -14,7 +14,7 @@ use Rattle.rule.specs.declared.Entry.{Entry}
 use Rattle.rule.specs.Entries.{entry}
 use Rattle.rule.specs.Postfix.{unary, binary, push-kind, stack-after, formulas}
 use Rattle.rule.specs.Measure.{some-next}
-use Rattle.rule.specs.Code.{next-at}
+use Rattle.rule.specs.Code.{is-next}
 use Rattle.rule.proofs.Stacks.{Each, along, Left, left-over}
 use Rattle.rule.proofs.Order.{next-reverse}
 
@@ -58,21 +58,21 @@ pushed (suc (suc (suc (suc (suc zero))))) e fs = two-operands (since (e .low) (e
 pushed (suc (suc (suc (suc (suc (suc zero)))))) e fs = two-operands (until (e .low) (e .high)) fs (λ φ ψ. refl)
 pushed (suc (suc (suc (suc (suc (suc (suc above))))))) e fs = tt
 
-weaken : (t : List Entry) (k : ℕ) (fs : List Formula) (o : Option (List Formula)) → some-next fs ≡ any k (next-at t)
-    → Each (Grown (next-at t k) fs) o → Each (λ (gs : List Formula). some-next gs ≡ any (suc k) (next-at t)) o
+weaken : (t : List Entry) (k : ℕ) (fs : List Formula) (o : Option (List Formula)) → some-next fs ≡ any k (is-next t)
+    → Each (Grown (is-next t k) fs) o → Each (λ (gs : List Formula). some-next gs ≡ any (suc k) (is-next t)) o
 unfolding any
 weaken t k fs none i h = tt
-weaken t k fs (some gs) i h = h ∙ ap (λ (b : Bool). b || next-at t k) i
+weaken t k fs (some gs) i h = h ∙ ap (λ (b : Bool). b || is-next t k) i
 
-nexts-are : (t : List Entry) (n : ℕ) (fs : List Formula) → n ≤ length t → stack-after t n ≡ some fs → some-next fs ≡ any n (next-at t)
+nexts-are : (t : List Entry) (n : ℕ) (fs : List Formula) → n ≤ length t → stack-after t n ≡ some fs → some-next fs ≡ any n (is-next t)
 unfolding any
 nexts-are t n fs h e =
-    along (λ (k : ℕ) (gs : List Formula). some-next gs ≡ any k (next-at t)) t n h refl
+    along (λ (k : ℕ) (gs : List Formula). some-next gs ≡ any k (is-next t)) t n h refl
     (λ k gs l q. weaken t k gs (push-kind (entry t k .kind) (entry t k) gs) q (pushed (entry t k .kind) (entry t k) gs)) n (omega arith) fs e
 
 -- of the formulas that are left
 pub next-is : (version : ℕ) (t : List Entry) (n : ℕ) (fs : List Formula) → n ≤ length t → formulas version t n ≡ some fs
-    → some-next fs ≡ any n (next-at t)
+    → some-next fs ≡ any n (is-next t)
 next-is version t n fs h e =
     let l : Left version (stack-after t n) fs = left-over version (stack-after t n) fs e in
     ap some-next (l .order) ∙ next-reverse (l .stack) ∙ nexts-are t n (l .stack) h (l .stack-is)

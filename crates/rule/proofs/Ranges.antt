@@ -11,7 +11,7 @@ use Rattle.mtl.specs.Satisfaction.{any}
 use Rattle.rule.specs.declared.Entry.{Entry}
 use Rattle.mtl.specs.Formula.{unbounded}
 use Rattle.rule.specs.Refusal.{misshapen, misplaced}
-use Rattle.rule.specs.Accepted.{InRange}
+use Rattle.rule.specs.Accepted.{FieldsInRange}
 use Rattle.rule.proofs.Headers.{or-left, or-right}
 
 -- nowhere below n
@@ -74,7 +74,7 @@ module _ (e : Entry) (s : misshapen e ≡ false) (p : misplaced e ≡ false) whe
           let n : not (eqb (e .high) unbounded) ≡ true = ap not q in
           inl (ltb-false 3600 (e .high) (and-left (ltb 3600 (e .high)) (not (eqb (e .high) unbounded)) (place .2) n))
 
-  pub in-range : InRange e
+  pub in-range : FieldsInRange e
   in-range =
       record {
         kind = kind-is;

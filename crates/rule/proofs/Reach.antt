@@ -21,14 +21,14 @@ use Rattle.rule.specs.declared.Entry.{Entry}
 use Rattle.rule.specs.Entries.{count, decoded, entry}
 use Rattle.rule.specs.Postfix.{size, formula, start}
 use Rattle.rule.specs.Operands.{left, FormulaAt}
-use Rattle.rule.specs.Accepted.{InRange, WellFormed, Whole, Accepted}
+use Rattle.rule.specs.Accepted.{FieldsInRange, WellFormed, Whole, Accepted}
 use Rattle.rule.specs.Measure.{some-next, farthest, reach-of, measured}
 use Rattle.rule.specs.Refusal.{refusal}
 use Rattle.rule.proofs.Headers.{or-left, or-right}
 use Rattle.rule.proofs.Order.{some-size, within-whole}
 
 -- where every entry lies in its ranges, every until has an upper end
-untils : (t : List Entry) (n : ℕ) → ((k : ℕ) → k < n → InRange (entry t k)) → (φ : Formula) (k : ℕ) → k < n → FormulaAt t k φ → untils-end φ ≡ true
+untils : (t : List Entry) (n : ℕ) → ((k : ℕ) → k < n → FieldsInRange (entry t k)) → (φ : Formula) (k : ℕ) → k < n → FormulaAt t k φ → untils-end φ ≡ true
 unfolding FormulaAt untils-end
 untils t n ranges (letter l) k h a = refl
 untils t n ranges (not φ) k h a = untils t n ranges φ (k - 1) (omega arith) (a .2)

@@ -18,7 +18,7 @@ use Rattle.rule.specs.declared.measuring.Reading.the-variants.{Found, Fa
 use Rattle.rule.specs.declared.measuring.Quantity.{Quantity}
 use Rattle.rule.specs.declared.measuring.Quantity.the-variants.{Reach, Depth}
 use Rattle.rule.specs.Entries.{entry}
-use Rattle.rule.specs.Postfix.{unary, binary, push-kind, push, read, stack-after, fewest, most, left-by, formulas, formulas-or}
+use Rattle.rule.specs.Postfix.{unary, binary, push-kind, push, read, stack-after, fewest-formulas, most-formulas, left-by, formulas, formulas-or}
 use Rattle.rule.specs.Operands.{operands}
 use Rattle.rule.specs.Code.{quantity, joined-by, greatest, largest, reading}
 use Rattle.rule.proofs.Stacks.{stack-more, stays-none}
@@ -50,10 +50,10 @@ dropped of (φ ∷ fs) a (suc d) (suc j) e h =
     dropped of fs a d j (tail-eq-of-cons-eq e) (le-of-suc-le-suc h) ∙ ap (held a) i
 
 -- What an entry does to the stack: φ takes the place of its operands.
-pub record Step (of : Quantity) (fs : List Formula) (taken : ℕ) (made : Option (List Formula)) (most : ℕ) : Type 0 where
+pub record Step (of : Quantity) (fs : List Formula) (taken : ℕ) (made : Option (List Formula)) (most-formulas : ℕ) : Type 0 where
   pub φ : Formula
   pub is : made ≡ some (φ ∷ drop taken fs)
-  pub measures : quantity of φ ≡ most
+  pub measures : quantity of φ ≡ most-formulas
 
 unary-step : (of : Quantity) (f : Formula → Formula) (n : ℕ) (fs : List Formula) (a : List ℕ) (d : ℕ)
     → ((φ : Formula) → quantity of (f φ) ≡ n + quantity of φ) → map (quantity of) fs ≡ held a d → 1 ≤ d
@@ -213,14 +213,14 @@ greatest-held of (φ ∷ fs) a (suc d) e =
 
 -- the end of the loop: as many formulas as the version wants
 pub enough-formulas : (of : Quantity) (version : ℕ) (t : List Entry) (a : List ℕ) (d n : ℕ) → Running of t a d n
-    → (leb (fewest version) d && leb d (most version)) ≡ true → reading of (formulas version t n) ≡ Found (greatest a d)
+    → (leb (fewest-formulas version) d && leb d (most-formulas version)) ≡ true → reading of (formulas version t n) ≡ Found (greatest a d)
 enough-formulas of version t a d n r e =
     ap (λ (o : Option (List Formula)). reading of (left-by version o)) (r .stack-is)
     ∙ simp (height-is of t a d n r, e) (ap Found (largest-reverse of (r .formulas) ∙ greatest-held of (r .formulas) a d (r .measures)))
 
 -- too few or too many
 pub other-number : (of : Quantity) (version : ℕ) (t : List Entry) (a : List ℕ) (d n : ℕ) → Running of t a d n
-    → (leb (fewest version) d && leb d (most version)) ≡ false → reading of (formulas version t n) ≡ Faulty
+    → (leb (fewest-formulas version) d && leb d (most-formulas version)) ≡ false → reading of (formulas version t n) ≡ Faulty
 other-number of version t a d n r e =
     ap (λ (o : Option (List Formula)). reading of (left-by version o)) (r .stack-is)
     ∙ simp (height-is of t a d n r, e)
@@ -231,9 +231,9 @@ unfolding largest deepest
 largest-depth [] = refl
 largest-depth (φ ∷ fs) = ap (max (depth φ)) (largest-depth fs)
 
-pub depth-found : (o : Option (List Formula)) (most : ℕ) → reading Depth o ≡ Found most → most ≡ deepest (formulas-or o)
-depth-found none most e = absurd (let z : _≡_ {A = ℕ} 0 1 = cc in omega arith)
-depth-found (some fs) most e = let found : most ≡ largest Depth fs = cc in found ∙ largest-depth fs
+pub depth-found : (o : Option (List Formula)) (most-formulas : ℕ) → reading Depth o ≡ Found most-formulas → most-formulas ≡ deepest (formulas-or o)
+depth-found none most-formulas e = absurd (let z : _≡_ {A = ℕ} 0 1 = cc in omega arith)
+depth-found (some fs) most-formulas e = let found : most-formulas ≡ largest Depth fs = cc in found ∙ largest-depth fs
 
 pub depth-faulty : (o : Option (List Formula)) → reading Depth o ≡ Faulty → 0 ≡ deepest (formulas-or o)
 unfolding deepest

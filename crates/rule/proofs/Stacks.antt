@@ -13,7 +13,7 @@ use lib.Seq.{take-suc, take-add}
 use Rattle.mtl.specs.Formula.{Formula}
 use Rattle.rule.specs.declared.Entry.{Entry}
 use Rattle.rule.specs.Entries.{entry, blank}
-use Rattle.rule.specs.Postfix.{push-kind, push, read, stack-after, fewest, most, left-by}
+use Rattle.rule.specs.Postfix.{push-kind, push, read, stack-after, fewest-formulas, most-formulas, left-by}
 
 pub read-append : (xs ys : List Entry) (stack : Option (List Formula)) → read (xs ++ ys) stack ≡ read ys (read xs stack)
 unfolding read
@@ -57,22 +57,22 @@ pub record Left (version : ℕ) (o : Option (List Formula)) (fs : List Formula) 
   pub stack : List Formula
   pub stack-is : o ≡ some stack
   pub order : fs ≡ reverse stack
-  pub enough : fewest version ≤ length stack
-  pub not-more : length stack ≤ most version
+  pub enough : fewest-formulas version ≤ length stack
+  pub not-more : length stack ≤ most-formulas version
 
 pub left-over : (version : ℕ) (o : Option (List Formula)) (fs : List Formula) → left-by version o ≡ some fs → Left version o fs
 left-over version none fs e = no-stack e
-left-over version (some st) fs e = go (leb (fewest version) (length st)) (leb (length st) (most version)) refl refl e
+left-over version (some st) fs e = go (leb (fewest-formulas version) (length st)) (leb (length st) (most-formulas version)) refl refl e
   where
-    go : (a b : Bool) → leb (fewest version) (length st) ≡ a → leb (length st) (most version) ≡ b
+    go : (a b : Bool) → leb (fewest-formulas version) (length st) ≡ a → leb (length st) (most-formulas version) ≡ b
         → cond (a && b) (some (reverse st)) none ≡ some fs → Left version (some st) fs
     go true true p q e =
         record {
           stack = st;
           stack-is = refl;
           order = sym (same-stack e);
-          enough = leb-true (fewest version) (length st) p;
-          not-more = leb-true (length st) (most version) q;
+          enough = leb-true (fewest-formulas version) (length st) p;
+          not-more = leb-true (length st) (most-formulas version) q;
         }
     go true false p q e = no-stack e
     go false b p q e = no-stack e

@@ -11,7 +11,7 @@ use Rattle.rule.specs.declared.Entry.{Entry}
 use Rattle.rule.specs.Entries.{entry}
 use Rattle.rule.specs.Postfix.{unary, binary, push-kind, stack-after, size}
 use Rattle.rule.specs.Operands.{operands, span, left, FormulaAt, Unary, Binary}
-use Rattle.rule.specs.Accepted.{InRange}
+use Rattle.rule.specs.Accepted.{FieldsInRange}
 use Rattle.rule.proofs.Stacks.{Each, along}
 use Rattle.rule.proofs.Spans.{span-leaf, span-unary, span-binary, unary-of, binary-of}
 
@@ -125,7 +125,7 @@ module _ (t : List Entry) where
   -- an entry that is in its ranges, pushed
   pushed : (kind l low high : ℕ) (k : ℕ) (fs : List Formula)
       → (p : entry t k ≡ record { kind = kind; letter = l; low = low; high = high })
-      → InRange (record { kind = kind; letter = l; low = low; high = high }) → Stacked k fs
+      → FieldsInRange (record { kind = kind; letter = l; low = low; high = high }) → Stacked k fs
       → Each (Stacked (suc k)) (push-kind kind (record { kind = kind; letter = l; low = low; high = high }) fs)
   unfolding push-kind FormulaAt
   pushed zero l low high k fs p r q =
@@ -155,7 +155,7 @@ module _ (t : List Entry) where
   pushed (suc (suc (suc (suc (suc (suc (suc above))))))) l low high k fs p r q = tt
 
   -- the stack after k entries that are all in their ranges
-  pub stacked : (n : ℕ) → n ≤ length t → ((k : ℕ) → k < n → InRange (entry t k))
+  pub stacked : (n : ℕ) → n ≤ length t → ((k : ℕ) → k < n → FieldsInRange (entry t k))
       → (k : ℕ) → k ≤ n → (fs : List Formula) → stack-after t k ≡ some fs → Stacked k fs
   stacked n h r =
       along Stacked t n h refl

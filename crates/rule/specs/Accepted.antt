@@ -9,12 +9,12 @@ use Rattle.mtl.specs.Formula.{Formula, unbounded}
 use Rattle.rule.specs.declared.Entry.{Entry}
 use Rattle.rule.specs.Entries.{version, count, decoded, entries, entry}
 use Rattle.rule.specs.Words.{offset, words, limit}
-use Rattle.rule.specs.Postfix.{fewest, most, formulas, postfixes, size, formula, start}
+use Rattle.rule.specs.Postfix.{fewest-formulas, most-formulas, formulas, postfixes, size, formula, start}
 use Rattle.rule.specs.Operands.{operands, span, FormulaAt, Leaf, Unary, Binary}
 
 -- "Low and a finite high are 0 to 3,600 seconds, low not above high. High 4,294,967,295 means no upper end and is allowed for
 -- previous and since only", and by request 6 for next. "An unused field is zero."
-pub record InRange (e : Entry) : Type 0 where
+pub record FieldsInRange (e : Entry) : Type 0 where
   pub kind : e .kind ≤ 6
   pub letter : e .letter ≤ 31
   pub low : e .low ≤ 3600
@@ -25,7 +25,7 @@ pub record InRange (e : Entry) : Type 0 where
 
 -- of a decoded rule t with n entries
 pub record WellFormed (t : List Entry) (n : ℕ) : Type 0 where
-  pub in-range : (k : ℕ) → k < n → InRange (entry t k)
+  pub in-range : (k : ℕ) → k < n → FieldsInRange (entry t k)
   pub subformula : (k : ℕ) → k < n → (φ : Formula) × FormulaAt t k φ
   pub leaf : (k : ℕ) → k < n → operands (entry t k .kind) ≡ 0 → Leaf t k
   pub unary : (k : ℕ) → k < n → operands (entry t k .kind) ≡ 1 → Unary t k
@@ -51,8 +51,8 @@ pub record Accepted (s : List ℕ) : Type 0 where
   pub need : words (version s) (decoded s) (count s) ≤ limit
   pub the-formulas : List Formula
   pub reads : formulas (version s) (decoded s) (count s) ≡ some the-formulas
-  pub enough : fewest (version s) ≤ length the-formulas
-  pub not-more : length the-formulas ≤ most (version s)
+  pub enough : fewest-formulas (version s) ≤ length the-formulas
+  pub not-more : length the-formulas ≤ most-formulas (version s)
   pub whole : Whole (decoded s) (count s) the-formulas
   pub read-back : postfixes the-formulas ≡ entries s
   pub only : (fs : List Formula) → postfixes fs ≡ entries s → fs ≡ the-formulas

@@ -43,13 +43,13 @@ added-by Depth e = cond (eqb (e .kind) 3) 1 0
 abbrev pub joined-by : Quantity → Entry → ℕ → ℕ → ℕ
 joined-by of e left right = cond (eqb (e .kind) 0) 0 (added-by of e + max left right)
 
-abbrev pub next-at : List Entry → ℕ → Bool
-next-at t k = eqb (entry t k .kind) 4
+abbrev pub is-next : List Entry → ℕ → Bool
+is-next t k = eqb (entry t k .kind) 4
 
 -- the sums over the first n entries
 abbrev pub totals : List Entry → ℕ → Totals
 totals t n =
-    record { misshapen = any n (misshapen-at t); misplaced = any n (misplaced-at t); next = any n (next-at t); words = offset t n }
+    record { misshapen = any n (misshapen-at t); misplaced = any n (misplaced-at t); next = any n (is-next t); words = offset t n }
 
 -- the sums with one entry more
 abbrev pub with-entry : Totals → Entry → Totals

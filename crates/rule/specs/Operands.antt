@@ -33,8 +33,8 @@ abbrev pub left : List Entry → ℕ → ℕ
 left t k = k - 1 - span t (k - 1)
 
 -- the words of the subformula that ends at entry k: from those of its first entry up to and with its own
-abbrev pub part : List Entry → ℕ → ℕ
-part t k = offset t (suc k) - offset t (suc k - span t k)
+abbrev pub subformula-words : List Entry → ℕ → ℕ
+subformula-words t k = offset t (suc k) - offset t (suc k - span t k)
 
 -- the subformula that ends at entry k
 unfoldable pub FormulaAt : List Entry → ℕ → Formula → Type 0
@@ -51,16 +51,16 @@ FormulaAt t k (until low high φ ψ) =
 -- an entry with no operand
 pub record Leaf (t : List Entry) (k : ℕ) : Type 0 where
   pub span-is : span t k ≡ 1
-  pub part-is : part t k ≡ own (entry t k)
+  pub part-is : subformula-words t k ≡ own (entry t k)
 
 -- an entry with one operand, which is entry k - 1
 pub record Unary (t : List Entry) (k : ℕ) : Type 0 where
   pub below : 0 < k
   pub span-is : span t k ≡ 1 + span t (k - 1)
-  pub part-is : part t k ≡ part t (k - 1) + own (entry t k)
+  pub part-is : subformula-words t k ≡ subformula-words t (k - 1) + own (entry t k)
 
 -- an entry with two operands, entries left t k and k - 1
 pub record Binary (t : List Entry) (k : ℕ) : Type 0 where
   pub below : span t (k - 1) < k
   pub span-is : span t k ≡ 1 + span t (k - 1) + span t (left t k)
-  pub part-is : part t k ≡ part t (left t k) + part t (k - 1) + own (entry t k)
+  pub part-is : subformula-words t k ≡ subformula-words t (left t k) + subformula-words t (k - 1) + own (entry t k)

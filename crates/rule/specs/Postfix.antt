@@ -46,18 +46,18 @@ stack-after t n = read (take n t) (some [])
 
 -- How many formulas a rule leaves, at least and at most: of version 1 one, or none where it has no entry, "a count of 0 now means that
 -- every position is yes"; "Rule version 2 leaves one to eight formulas".
-abbrev pub fewest : (version : ℕ) → ℕ
-fewest version = cond (eqb version 1) 0 1
+abbrev pub fewest-formulas : (version : ℕ) → ℕ
+fewest-formulas version = cond (eqb version 1) 0 1
 
-abbrev pub most : (version : ℕ) → ℕ
-most version = cond (eqb version 1) 1 8
+abbrev pub most-formulas : (version : ℕ) → ℕ
+most-formulas version = cond (eqb version 1) 1 8
 
 -- The formulas that are left, in the order of the rule, the bottom of the stack first: none where "some entry lacks an operand", or
 -- where there are too few or too many.
 abbrev pub left-by : (version : ℕ) → Option (List Formula) → Option (List Formula)
 left-by version none = none
 left-by version (some stack) =
-    cond (leb (fewest version) (length stack) && leb (length stack) (most version)) (some (reverse stack)) none
+    cond (leb (fewest-formulas version) (length stack) && leb (length stack) (most-formulas version)) (some (reverse stack)) none
 
 -- the formulas of the first n entries
 abbrev pub formulas : (version : ℕ) → List Entry → ℕ → Option (List Formula)

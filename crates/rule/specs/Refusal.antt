@@ -23,12 +23,12 @@ abbrev pub unmarked : List ℕ → Bool
 unmarked s = ltb (length s) 8 || not (marked s)
 
 -- 2. "The rule's version is not 1.", and "2 accepts both versions"
-abbrev pub other-version : List ℕ → Bool
-other-version s = not (eqb (version s) 1 || eqb (version s) 2)
+abbrev pub unknown-version : List ℕ → Bool
+unknown-version s = not (eqb (version s) 1 || eqb (version s) 2)
 
 -- 4. "The count is above 128, a spare byte is not zero, or the length is not 8 + 10 × count."
-abbrev pub malformed : List ℕ → Bool
-malformed s = ltb 128 (count s) || not (eqb (byte s 6) 0) || not (eqb (byte s 7) 0) || not (eqb (length s) (8 + count s * 10))
+abbrev pub wrong-size : List ℕ → Bool
+wrong-size s = ltb 128 (count s) || not (eqb (byte s 6) 0) || not (eqb (byte s 7) 0) || not (eqb (length s) (8 + count s * 10))
 
 -- 5. "Some kind is above 6, some letter above 31, or some unused field not zero." Kind 0 uses the letter, kinds 3 to 6 low and high.
 abbrev pub misshapen : Entry → Bool
@@ -68,7 +68,7 @@ first n bad other = cond bad n other
 
 -- the refusals of the header; 0 where none of them applies. "Refusal 3 no longer occurs"
 unfoldable pub header-refusal : List ℕ → ℕ
-header-refusal s = first 1 (unmarked s) (first 2 (other-version s) (first 4 (malformed s) 0))
+header-refusal s = first 1 (unmarked s) (first 2 (unknown-version s) (first 4 (wrong-size s) 0))
 
 -- the refusals of n decoded entries
 unfoldable pub entries-refusal : (version : ℕ) → List Entry → ℕ → ℕ
@@ -77,9 +77,9 @@ entries-refusal version t n =
     (first 6 (any n (misplaced-at t)) (first 7 (lacking (formulas version t n)) (first 8 (over-limit version t n) 0)))
 
 -- of two numbers, the first that is not 0
-abbrev pub before : ℕ → ℕ → ℕ
-before m n = cond (eqb m 0) n m
+abbrev pub or-else : ℕ → ℕ → ℕ
+or-else m n = cond (eqb m 0) n m
 
 -- the number with which weighing the rule stops, and 0 where it is accepted
 abbrev pub refusal : List ℕ → ℕ
-refusal s = before (header-refusal s) (entries-refusal (version s) (decoded s) (count s))
+refusal s = or-else (header-refusal s) (entries-refusal (version s) (decoded s) (count s))

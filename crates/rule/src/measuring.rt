@@ -4,7 +4,7 @@ ghost use mathlib.Core.Path.{_≡_};
 ghost use Prim.Native.Nat.{_+_, _≤_, _<_, min, max};
 ghost use Rattle.mtl.specs.Wanted.{deepest};
 ghost use Rattle.rule.specs.Words.{own, header-words};
-ghost use Rattle.rule.specs.Postfix.{fewest, most, formulas, formulas-or};
+ghost use Rattle.rule.specs.Postfix.{fewest-formulas, most-formulas, formulas, formulas-or};
 ghost use Rattle.rule.specs.Measure.{answer};
 ghost use Rattle.rule.specs.Code.{added-by, joined-by, totals, with-entry, greatest, reading, measured-entries, header-count, measured-by, EndsOf};
 ghost use Rattle.rule.specs.Operands.{operands};
@@ -136,13 +136,13 @@ fn joined(of: Quantity, e: Entry, left: u64, right: u64) -> u64
 
 // The fewest and the most formulas of a rule.
 fn fewest_of(version: usize) -> usize
-    ensures { λ r. ⌜ r ≡ fewest version ⌝ }
+    ensures { λ r. ⌜ r ≡ fewest-formulas version ⌝ }
 {
     if version == 1 { 0 } else { 1 }
 }
 
 pub fn most_of(version: usize) -> usize
-    ensures { λ r. ⌜ r ≡ most version ⌝ }
+    ensures { λ r. ⌜ r ≡ most-formulas version ⌝ }
 {
     if version == 1 { 1 } else { 8 }
 }

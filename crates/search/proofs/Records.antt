@@ -18,7 +18,7 @@ use Rattle.trace.proofs.Positions.{log-placed, wanted-counts}
 use Rattle.trace.proofs.Slices.{Cut, served-before, served-place, served-shows, slice-shows}
 use Rattle.trace.proofs.Marks.{first-told, total-told, skips-told, closed-told}
 use Rattle.blocks.specs.Step.{Agrees}
-use Rattle.search.specs.Times.{Whole}
+use Rattle.search.specs.Times.{WholeLog}
 
 before-grows : (b : Bool) (s : List ℕ) (m n : ℕ) → m ≤ n → before b s m ≤ before b s n
 before-grows true s m n h = count-grows s m n h
@@ -43,7 +43,7 @@ module _ (b : Bool) (s v : List ℕ) (made : WholeView b s v) (keeps : Keeps s) 
   size : before (served b s) s (record-count s) ≡ before b s (record-count s)
   size = served-before b s
 
-  pub whole-log : Whole v s (log-of b s)
+  pub whole-log : WholeLog v s (log-of b s)
   whole-log =
       record {
         size = size-told b s v made;

@@ -13,10 +13,10 @@ use Rattle.trace.specs.Format.{record-count, time-at}
 use Rattle.trace.specs.Positions.{place, before}
 use Rattle.trace.specs.View.{total, skips}
 use Rattle.trace.specs.Window.{Found}
-use Rattle.search.specs.Times.{Whole, first-record, first-time}
+use Rattle.search.specs.Times.{WholeLog, first-record, first-time}
 use Rattle.search.proofs.Finding.{first-most, none-before, first-holds, first-unique}
 
-module _ (v s : List ℕ) (L : Log) (whole : Whole v s L) where
+module _ (v s : List ℕ) (L : Log) (whole : WholeLog v s L) where
   pub found-place : (i n r : ℕ) → i < L .size → n ≡ total v - i → Found (skips v) s n r → (r ≡ L .place i) × (r < record-count s)
   found-place i n r h e found =
       let all = whole .all in

@@ -11,10 +11,10 @@ use Rattle.mtl.specs.Formula.{Formula}
 use Rattle.mtl.specs.Log.{Log}
 use Rattle.rule.specs.declared.Entry.{Entry}
 use Rattle.rule.specs.Words.{offset, limit}
-use Rattle.rule.specs.Operands.{part, FormulaAt}
+use Rattle.rule.specs.Operands.{subformula-words, FormulaAt}
 use Rattle.rule.specs.Accepted.{WellFormed}
 use Rattle.engine.specs.State.{State}
-use Rattle.engine.specs.Layout.{first}
+use Rattle.engine.specs.Layout.{subformula-first}
 use Rattle.engine.proofs.Rows.{zeros}
 use Rattle.engine.proofs.Entries.{part-words, part-ends, fresh-state}
 use Rattle.rule.proofs.Spans.{offset-mono}
@@ -29,20 +29,20 @@ module _ (t : List Entry) (n : ℕ) (ok : WellFormed t n) (φ : Formula) (k : �
   long : length W ≡ offset t n
   long = length-replicate (offset t n) 0
 
-  part-room : part t k ≤ length (drop (offset t (first t k)) W)
+  part-room : subformula-words t k ≤ length (drop (offset t (subformula-first t k)) W)
   part-room =
       let p = part-ends t W k in
       let g = offset-mono t (suc k) n h in
-      let d = length-drop (offset t (first t k)) W in
+      let d = length-drop (offset t (subformula-first t k)) W in
       let l = long in
       omega arith
 
-  pub zero-state : (ws : List ℕ) → length ws ≡ part t k → ((i : ℕ) → getD ws i 0 ≡ 0) → State φ L 0 ws
+  pub zero-state : (ws : List ℕ) → length ws ≡ subformula-words t k → ((i : ℕ) → getD ws i 0 ≡ 0) → State φ L 0 ws
   zero-state ws size none =
       subst (State φ L 0)
       (ext-getD 0 (part-words t k W) ws
-      (length-take-le (part t k) (drop (offset t (first t k)) W) part-room ∙ sym size)
-      (λ i b. getD-take (part t k) (drop (offset t (first t k)) W) i 0 (omega (arith, length-take-le (part t k) (drop (offset t (first t k)) W) part-room)) ∙ all-zero (offset t (first t k)) i ∙ sym (none i)))
+      (length-take-le (subformula-words t k) (drop (offset t (subformula-first t k)) W) part-room ∙ sym size)
+      (λ i b. getD-take (subformula-words t k) (drop (offset t (subformula-first t k)) W) i 0 (omega (arith, length-take-le (subformula-words t k) (drop (offset t (subformula-first t k)) W) part-room)) ∙ all-zero (offset t (subformula-first t k)) i ∙ sym (none i)))
       (fresh-state t n ok W (omega (arith, long)) φ k h is L (λ j a b. record { own = λ i h. all-zero (offset t j) i; waiting = λ e. all-zero (offset t j) 16 }))
 
 -- a front of zeros

@@ -12,7 +12,7 @@ use Rattle.trace.specs.View.{total, skips}
 use Rattle.reasons.specs.Search.{first-where}
 
 -- the view v and the records s are the whole log L
-pub record Whole (v s : List ℕ) (L : Log) : Type 0 where
+pub record WholeLog (v s : List ℕ) (L : Log) : Type 0 where
   pub size : total v ≡ L .size
   pub all : before (skips v) s (record-count s) ≡ L .size
   pub place : (i : ℕ) → i < L .size → place (skips v) s 0 i ≡ L .place i

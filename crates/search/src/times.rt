@@ -3,12 +3,12 @@ ghost use mathlib.Core.Path.{_≡_};
 ghost use Prim.Native.Nat.{_≤_, _<_};
 ghost use Rattle.mtl.specs.Log.{Log};
 ghost use Rattle.trace.specs.Format.{record-count, time-at, has-letter as Format·has-letter};
-ghost use Rattle.search.specs.Times.{Whole, first-record, first-time};
+ghost use Rattle.search.specs.Times.{WholeLog, first-record, first-time};
 use trace::view;
 
 // The record that holds position i; the end of the records or one of them where there is no such position.
 fn record_of(records: &[u8], view: &[u64; 66], i: u64) -> usize
-    ensures { λ r. ⌜ ((L : Log) → Whole (now (view .entry)) (now (records .entry)) L → i < L .size → (r ≡ L .place i) × (r < record-count (now (records .entry)))) ⌝ }
+    ensures { λ r. ⌜ ((L : Log) → WholeLog (now (view .entry)) (now (records .entry)) L → i < L .size → (r ≡ L .place i) × (r < record-count (now (records .entry)))) ⌝ }
 {
     let behind = blocks::time::gap(i, view[view::TOTAL]);
     trace::window::find(records, view[view::SKIPS] == 1, behind) as usize
@@ -16,7 +16,7 @@ fn record_of(records: &[u8], view: &[u64; 66], i: u64) -> usize
 
 // The time of position i; 0 where there is no such position.
 pub fn time_of(records: &[u8], view: &[u64; 66], i: u64) -> u64
-    ensures { λ r. ⌜ (r < 4294967296) × ((L : Log) → Whole (now (view .entry)) (now (records .entry)) L → i < L .size → r ≡ L .time i) ⌝ }
+    ensures { λ r. ⌜ (r < 4294967296) × ((L : Log) → WholeLog (now (view .entry)) (now (records .entry)) L → i < L .size → r ≡ L .time i) ⌝ }
 {
     let r = record_of(records, view, i);
     if r < trace::count(records) {
@@ -29,7 +29,7 @@ pub fn time_of(records: &[u8], view: &[u64; 66], i: u64) -> u64
 // Whether a letter stands at position i.
 pub fn has_letter(records: &[u8], view: &[u64; 66], i: u64, letter: u64) -> bool
     requires { ⌜ letter < 32 ⌝ }
-    ensures { λ x. ⌜ ((L : Log) → Whole (now (view .entry)) (now (records .entry)) L → i < L .size → x ≡ L .letters i letter) ⌝ }
+    ensures { λ x. ⌜ ((L : Log) → WholeLog (now (view .entry)) (now (records .entry)) L → i < L .size → x ≡ L .letters i letter) ⌝ }
 {
     let r = record_of(records, view, i);
     if r < trace::count(records) {
@@ -56,7 +56,7 @@ fn first_record(records: &[u8], bound: u64) -> usize
 
 // The first position whose time is not below `bound`; the number of positions where there is none.
 pub fn first_at(records: &[u8], view: &[u64; 66], bound: u64) -> u64
-    ensures { λ r. ⌜ (r ≤ record-count (now (records .entry))) × ((L : Log) → Whole (now (view .entry)) (now (records .entry)) L → r ≡ first-time L bound) ⌝ }
+    ensures { λ r. ⌜ (r ≤ record-count (now (records .entry))) × ((L : Log) → WholeLog (now (view .entry)) (now (records .entry)) L → r ≡ first-time L bound) ⌝ }
 {
     let end = first_record(records, bound) * 8;
     trace::window::positions(&records[..end], view[view::SKIPS] == 1)

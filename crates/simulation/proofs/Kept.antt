@@ -10,7 +10,7 @@ use borrow.Author.Tests.{lt-ltb}
 use Rattle.bits.specs.Packed.{number}
 use Rattle.bits.proofs.Laws.{number-lt}
 use Rattle.simulation.specs.Generator.{xorshift}
-use Rattle.simulation.specs.Kiosk.{is-off, is-warming, is-free, is-printing, over, end-print, join, end-warming, switch-off, begin-print, begin-warming, second-of, run-after, kiosk-after}
+use Rattle.simulation.specs.Kiosk.{is-off, is-warming, is-free, is-printing, is-due, end-print, join, end-warming, switch-off, begin-print, begin-warming, second-of, run-after, kiosk-after}
 use Rattle.simulation.specs.Arrivals.{customers}
 use Rattle.simulation.specs.declared.Settings.{Settings}
 use Rattle.simulation.specs.declared.kiosk.Kiosk.{Kiosk}
@@ -64,7 +64,7 @@ served true (suc w) = rw (lt-ltb 0 (suc w) (omega arith)) (omega arith)
 
 end-print-kept : (time now : ℕ) (k : Kiosk) → customers (end-print time now k) ≡ customers k
 unfolding end-print
-end-print-kept time now k = let e = ended-head (k .head) (over time now (k .head)) now in omega arith
+end-print-kept time now k = let e = ended-head (k .head) (is-due time now (k .head)) now in omega arith
 
 join-kept : (gap draw : ℕ) (k : Kiosk) → customers (join gap draw k) ≡ customers k + number (join gap draw k .joined)
 unfolding join
@@ -72,11 +72,11 @@ join-kept gap draw k = omega arith
 
 end-warming-kept : (time now : ℕ) (k : Kiosk) → customers (end-warming time now k) ≡ customers k
 unfolding end-warming
-end-warming-kept time now k = rw (warmed-head (k .head) (over time now (k .head)) now)
+end-warming-kept time now k = rw (warmed-head (k .head) (is-due time now (k .head)) now)
 
 switch-off-kept : (time now : ℕ) (k : Kiosk) → customers (switch-off time now k) ≡ customers k
 unfolding switch-off
-switch-off-kept time now k = rw (off-head (k .head) (over time now (k .head)))
+switch-off-kept time now k = rw (off-head (k .head) (is-due time now (k .head)))
 
 begin-print-kept : (now : ℕ) (k : Kiosk) → customers (begin-print now k) ≡ customers k
 unfolding begin-print

@@ -6,7 +6,7 @@ use mathlib.Core.Bool.{Bool, true, false, cond, _&&_}
 use mathlib.Core.Path.{_≡_, refl}
 use lib.Dec.{leb, ltb}
 use borrow.Author.Tests.{lt-leb}
-use Rattle.simulation.specs.Kiosk.{is-off, is-warming, is-free, is-printing, over, with-head, end-print, join, end-warming, switch-off, begin-print, begin-warming, second-of}
+use Rattle.simulation.specs.Kiosk.{is-off, is-warming, is-free, is-printing, is-due, with-head, end-print, join, end-warming, switch-off, begin-print, begin-warming, second-of}
 use Rattle.simulation.specs.declared.Settings.{Settings}
 use Rattle.simulation.specs.declared.kiosk.Kiosk.{Kiosk}
 use Rattle.simulation.specs.declared.kiosk.Head.{Head}
@@ -69,7 +69,7 @@ module _ (s : Settings) (now draw : ℕ) (k : Kiosk) where
 
   module _ (some : 0 < s .switchoff) where
     abbrev goes : Head → Bool
-    goes h = is-free h && over (s .switchoff) now h
+    goes h = is-free h && is-due (s .switchoff) now h
 
     -- a head that becomes idle in this second is not due to go off in it
     stays : goes (Idle now) ≡ false

@@ -8,11 +8,11 @@ use lib.Dec.{ltb, eqb}
 use lib.ListN.{length}
 use borrow.Author.Tests.{ltb-false, eqb-false}
 use Rattle.bits.specs.Packed.{number}
-use Rattle.trace.specs.Making.{header, records-bytes, put}
+use Rattle.trace.specs.Making.{log-header, records-bytes, put}
 use Rattle.trace.proofs.Laws.{neither}
 use Rattle.trace.proofs.Making.{put-log}
 use Rattle.simulation.specs.Kiosk.{is-printing, kiosk-after}
-use Rattle.simulation.specs.Simulate.{outside, wrong-settings, log-length, out-of-range, time-of, events-in, given, answer, Answer, simulated, Simulates}
+use Rattle.simulation.specs.Simulate.{outside, wrong-settings, log-length, out-of-range, time-of, events-in, simulation-answer, answer, Answer, simulated, Simulates}
 use Rattle.simulation.specs.declared.Settings.{Settings}
 use Rattle.simulation.specs.declared.Simulated.the-variants.{Refused, Done}
 use Rattle.simulation.specs.declared.kiosk.Kiosk.{Kiosk}
@@ -48,7 +48,7 @@ in-range s seconds seed room e =
 pub refused-with : (s : Settings) (seconds seed room n : ℕ) → answer (Refused n) ≡ simulated s seconds seed room → n ≡ 26
 refused-with s seconds seed room n e = by (out-of-range s seconds seed room) e
   where
-    by : (b : Bool) → answer (Refused n) ≡ cond b (record { refused = true; number = 26; written = 0; finished = 0; printing = 0; waiting = 0 }) (given s seconds seed) → n ≡ 26
+    by : (b : Bool) → answer (Refused n) ≡ cond b (record { refused = true; number = 26; written = 0; finished = 0; printing = 0; waiting = 0 }) (simulation-answer s seconds seed) → n ≡ 26
     by true e = ap (λ (a : Answer). a .number) e
     by false e = absurd (true≢false (ap (λ (a : Answer). a .refused) e))
 
@@ -57,7 +57,7 @@ module _ (s : Settings) (seconds seed : ℕ) (log : List ℕ) where
   refuses e = record { outcome = rw e; bytes = rw e }
 
   pub accepts : (k : Kiosk) (log′ : List ℕ) (printing : ℕ) → out-of-range s seconds seed (length log) ≡ false → k ≡ kiosk-after s seed seconds →
-      printing ≡ number (is-printing (k .head)) → log′ ≡ put (put log 0 (header 1)) 8 (records-bytes time-of (events-in s seed) seconds) →
+      printing ≡ number (is-printing (k .head)) → log′ ≡ put (put log 0 (log-header 1)) 8 (records-bytes time-of (events-in s seed) seconds) →
       Simulates s seconds seed log (Done (8 + seconds * 8) (k .finished) printing (k .waiting)) log′
   accepts k log′ printing e is prints bytes =
       let fine = in-range s seconds seed (length log) e in

@@ -12,7 +12,7 @@ use Rattle.trace.specs.Order.{disordered}
 use Rattle.trace.proofs.Making.{time-back, events-back, made-well, made-ordered}
 use Rattle.simulation.specs.Generator.{xorshift, state-after}
 use Rattle.simulation.specs.Kiosk.{is-warm, is-printing, letter, events-of, run-after, kiosk-after}
-use Rattle.simulation.specs.Simulate.{out-of-range, time-of, events-in, log-of, given}
+use Rattle.simulation.specs.Simulate.{out-of-range, time-of, events-in, simulated-log, simulation-answer}
 use Rattle.simulation.specs.Arrivals.{arrivals, customers, NobodyLost}
 use Rattle.simulation.specs.declared.Settings.{Settings}
 use Rattle.simulation.specs.declared.kiosk.Kiosk.{Kiosk}
@@ -55,10 +55,10 @@ kiosk-letters k = letters (is-warm (k .head)) (k .began) (k .joined) (k .ended)
 module _ (s : Settings) (seed n : ℕ) (few : n ≤ 3600) where
   -- the records of the log
   abbrev written : List ℕ
-  written = records-of (log-of s seed n)
+  written = records-of (simulated-log s seed n)
 
   -- check 12 passes
-  pub well-formed : malformed (log-of s seed n) ≡ false
+  pub well-formed : malformed (simulated-log s seed n) ≡ false
   well-formed = made-well time-of (events-in s seed) n (omega arith)
 
   -- check 14 passes for a first call
@@ -89,7 +89,7 @@ nobody-lost s seconds seed room accepted =
     let few = in-range s seconds seed room accepted .few in
     record { every-second = all-counted s seed seconds few; given-sum = all-counted s seed seconds few seconds (omega arith) }
 
-pub printing-one : (s : Settings) (seed n : ℕ) → given s n seed .printing ≤ 1
+pub printing-one : (s : Settings) (seed n : ℕ) → simulation-answer s n seed .printing ≤ 1
 printing-one s seed n = omega (arith, number-lt (is-printing (kiosk-after s seed n .head)))
 
 -- "one draw" in each second

@@ -5,7 +5,7 @@ use mathlib.Core.Path.{_≡_}
 use Rattle.bits.specs.Packed.{number}
 use Rattle.trace.specs.Format.{has-letter, records-of}
 use Rattle.simulation.specs.Kiosk.{is-printing, kiosk-after}
-use Rattle.simulation.specs.Simulate.{log-of, given}
+use Rattle.simulation.specs.Simulate.{simulated-log, simulation-answer}
 use Rattle.simulation.specs.declared.Settings.{Settings}
 use Rattle.simulation.specs.declared.kiosk.Kiosk.{Kiosk}
 
@@ -20,7 +20,7 @@ customers k = k .finished + number (is-printing (k .head)) + k .waiting
 
 -- What is proved of an accepted call (proofs/Theorem): "After every second the three sum to the arrivals counted from the log."
 pub record NobodyLost (s : Settings) (seconds seed : ℕ) : Type 0 where
-  pub every-second : (n : ℕ) → n ≤ seconds → customers (kiosk-after s seed n) ≡ arrivals (records-of (log-of s seed seconds)) n
+  pub every-second : (n : ℕ) → n ≤ seconds → customers (kiosk-after s seed n) ≡ arrivals (records-of (simulated-log s seed seconds)) n
   -- so do the numbers that the call gives
-  pub given-sum : given s seconds seed .finished + given s seconds seed .printing + given s seconds seed .waiting ≡
-      arrivals (records-of (log-of s seed seconds)) seconds
+  pub given-sum : simulation-answer s seconds seed .finished + simulation-answer s seconds seed .printing + simulation-answer s seconds seed .waiting ≡
+      arrivals (records-of (simulated-log s seed seconds)) seconds

@@ -8,7 +8,7 @@ use Rattle.bits.specs.Packed.{number}
 use Rattle.trace.specs.Making.{records-bytes}
 use Rattle.simulation.specs.Generator.{xor, state-after}
 use Rattle.simulation.specs.Kiosk.{is-printing, end-print, join, end-warming, switch-off, begin-print, begin-warming, second-of, events-of, run-after, kiosk-after}
-use Rattle.simulation.specs.Simulate.{out-of-range, events-in, log-of}
+use Rattle.simulation.specs.Simulate.{out-of-range, events-in, simulated-log}
 use Rattle.simulation.specs.declared.Settings.{Settings}
 
 -- a row whose test is false is named by its number, the first being n
@@ -76,7 +76,7 @@ unfolding wrong follows run-after second-of end-print join end-warming switch-of
 run-computes = (refl, refl)
 
 -- the bytes of its first two seconds
-pub log-computes : log-of small 6 2 ≡
+pub log-computes : simulated-log small 6 2 ≡
     0x4B ∷ 0x4C ∷ 0x47 ∷ 0 ∷ 1 ∷ 0 ∷ 0 ∷ 0 ∷ 0 ∷ 0 ∷ 0 ∷ 0 ∷ 0 ∷ 0 ∷ 0 ∷ 4 ∷ 0 ∷ 0 ∷ 0 ∷ 1 ∷ 0 ∷ 0 ∷ 0 ∷ 3 ∷ []
 unfolding records-bytes run-after second-of end-print join end-warming switch-off begin-print begin-warming events-of xor
 log-computes = refl

@@ -46,8 +46,8 @@ since-of (Idle since) = since
 since-of (Printing since) = since
 
 -- "Warming or a print is due its time after it began"; a head "idle for the switch-off time"
-abbrev pub over : (time now : ℕ) → Head → Bool
-over time now head = leb (since-of head + time) now
+abbrev pub is-due : (time now : ℕ) → Head → Bool
+is-due time now head = leb (since-of head + time) now
 
 abbrev pub with-head : Kiosk → Head → Kiosk
 with-head k head = record {
@@ -66,7 +66,7 @@ started = record { head = Off; finished = 0; waiting = 0; began = false; joined 
 -- "a due print ends (letter 3)"; "the head is idle from the second in which either ended"
 unfoldable pub end-print : (time now : ℕ) → Kiosk → Kiosk
 end-print time now k =
-    let due = is-printing (k .head) && over time now (k .head) in
+    let due = is-printing (k .head) && is-due time now (k .head) in
     record {
       head = cond due (Idle now) (k .head);
       finished = k .finished + number due;
@@ -91,11 +91,11 @@ join gap draw k =
 
 -- "due warming ends"
 unfoldable pub end-warming : (time now : ℕ) → Kiosk → Kiosk
-end-warming time now k = with-head k (cond (is-warming (k .head) && over time now (k .head)) (Idle now) (k .head))
+end-warming time now k = with-head k (cond (is-warming (k .head) && is-due time now (k .head)) (Idle now) (k .head))
 
 -- "a warm head idle for the switch-off time goes off"
 unfoldable pub switch-off : (time now : ℕ) → Kiosk → Kiosk
-switch-off time now k = with-head k (cond (is-free (k .head) && over time now (k .head)) Off (k .head))
+switch-off time now k = with-head k (cond (is-free (k .head) && is-due time now (k .head)) Off (k .head))
 
 -- "a print begins if the head is warm and free and someone waits (letter 1)"
 unfoldable pub begin-print : (now : ℕ) → Kiosk → Kiosk

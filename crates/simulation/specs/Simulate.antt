@@ -40,8 +40,8 @@ abbrev pub events-in : Settings → (seed t : ℕ) → ℕ
 events-in s seed t = events-of (kiosk-after s seed (suc t))
 
 -- "Simulate 0 to 3,600 seconds, one version 1 record each, from time 0": the log of n seconds
-abbrev pub log-of : Settings → (seed n : ℕ) → List ℕ
-log-of s seed n = log-bytes time-of (events-in s seed) n
+abbrev pub simulated-log : Settings → (seed n : ℕ) → List ℕ
+simulated-log s seed n = log-bytes time-of (events-in s seed) n
 
 -- the paper's number and values for each case; `refused` tells the cases apart
 pub record Answer : Type 0 where
@@ -57,8 +57,8 @@ answer (Refused n) = record { refused = true; number = n; written = 0; finished 
 answer (Done w f p q) = record { refused = false; number = 0; written = w; finished = f; printing = p; waiting = q }
 
 -- "The call gives the numbers finished, printing and waiting", "its length too"
-abbrev pub given : Settings → (seconds seed : ℕ) → Answer
-given s seconds seed =
+abbrev pub simulation-answer : Settings → (seconds seed : ℕ) → Answer
+simulation-answer s seconds seed =
     let k = kiosk-after s seed seconds in
     record {
       refused = false;
@@ -73,12 +73,12 @@ abbrev pub simulated : Settings → (seconds seed room : ℕ) → Answer
 simulated s seconds seed room =
     cond (out-of-range s seconds seed room)
     (record { refused = true; number = 26; written = 0; finished = 0; printing = 0; waiting = 0 })
-    (given s seconds seed)
+    (simulation-answer s seconds seed)
 
 -- the lent buffer afterwards: the log, and what stood behind it; a refused call keeps every byte
 abbrev pub log-after : Settings → (seconds seed : ℕ) → List ℕ → List ℕ
 log-after s seconds seed log =
-    cond (out-of-range s seconds seed (length log)) log (log-of s seed seconds ++ drop (log-length seconds) log)
+    cond (out-of-range s seconds seed (length log)) log (simulated-log s seed seconds ++ drop (log-length seconds) log)
 
 pub record Simulates (s : Settings) (seconds seed : ℕ) (log : List ℕ) (r : Simulated) (log′ : List ℕ) : Type 0 where
   pub outcome : answer r ≡ simulated s seconds seed (length log)

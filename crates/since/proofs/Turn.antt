@@ -18,7 +18,7 @@ use Rattle.bits.specs.Packed.{bit, with-bit, Packed}
 use Rattle.bits.proofs.Laws.{with-bit-lt, packed-none, packed-push, packed-same}
 use Rattle.rule.specs.Words.{ring-words}
 use Rattle.trace.specs.Format.{time-at}
-use Rattle.trace.specs.View.{first, total, skips, in-slice}
+use Rattle.trace.specs.View.{slice-first, total, skips, in-slice}
 use Rattle.trace.specs.Window.{window-of, Opened}
 use Rattle.trace.specs.declared.window.Window.{Window}
 use Rattle.trace.proofs.Reading.{shown-time-bound}
@@ -140,7 +140,7 @@ module _ (low high : ℕ) (v s b : List ℕ) where
         absurd (omega arith)
 
     -- a window of them is open, and d is the block after their turns
-    module _ (some : 0 < n) (w : Window) (copy : List ℕ) (opened : Opened (skips v) s (in-slice (first v) (head b)) n w copy)
+    module _ (some : 0 < n) (w : Window) (copy : List ℕ) (opened : Opened (skips v) s (in-slice (slice-first v) (head b)) n w copy)
         (d : List ℕ) (long : length d ≡ length b) (answers : ℕ)
         (turn : Takes low high (time-at (window-of w s copy)) (left-bits b) (right-bits b) n b answers d) where
       turned-word : (i : ℕ) → i < 9 → word d i ≡ word b i
@@ -154,10 +154,10 @@ module _ (low high : ℕ) (v s b : List ℕ) where
 
       -- the block behind the taking, the head moved behind the window
       abbrev pub passed : List ℕ
-      passed = set (took-both n d) 11 (first v + w .end)
+      passed = set (took-both n d) 11 (slice-first v + w .end)
 
-      words : (i : ℕ) → word passed i ≡ after (both-stores n d (put 11 (first v + w .end) ∷ [])) (word d) i
-      words = word-stores (both-stores n d (put 11 (first v + w .end) ∷ [])) d (omega arith)
+      words : (i : ℕ) → word passed i ≡ after (both-stores n d (put 11 (slice-first v + w .end) ∷ [])) (word d) i
+      words = word-stores (both-stores n d (put 11 (slice-first v + w .end) ∷ [])) d (omega arith)
 
       -- the words that the taking does not write, and those that the turns do not write either
       behind : (i : ℕ) → 4 < i → (i ≡ 11 → ⊥) → word passed i ≡ word d i

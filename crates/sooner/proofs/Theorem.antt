@@ -14,7 +14,7 @@ use Rattle.mtl.specs.Progress.{progress}
 use Rattle.mtl.specs.Reading.{AtMost, Within}
 use Rattle.mtl.proofs.Bounded.{true-or-false, true-and-false, le-or-lt, within-iff, at-most-or-above, UntilBy}
 use Rattle.mtl.proofs.Until.{answered-operands, UntilSettledYes, UntilSettledNo, Ended, until-answered, until-settled-iff, ended-settled, until-yes, until-no}
-use Rattle.sooner.specs.Sooner.{OneTimed, low-of, high-of, letter-of, Interval, latest, last-of, settling-time, Adds, Told, BothWays}
+use Rattle.sooner.specs.Sooner.{OneTimed, timed-low, timed-high, timed-letter, Interval, latest, last-of, settling-time, Adds, Told, BothWays}
 use Rattle.sooner.specs.Sooner.OneTimed.{one-next, one-until}
 
 -- a position more, not before the last: the times do not fall
@@ -197,7 +197,7 @@ module _ (low high k l : ℕ) (iv : Interval low high) (L : Log) (falls : NeverF
   until-told false K adds = told-no K adds
 
 -- THEOREM. An open position of a log whose times never fall, and whose last position leaves room for every low in 32 bits.
-pub both-ways : {φ : Formula} (one : OneTimed φ) → Interval (low-of one) (high-of one) → (L : Log) → NeverFalls L → last-of L ≤ latest →
+pub both-ways : {φ : Formula} (one : OneTimed φ) → Interval (timed-low one) (timed-high one) → (L : Log) → NeverFalls L → last-of L ≤ latest →
     (i : ℕ) → i < L .size → progress φ L ≤ i → BothWays one L i
 both-ways one iv L falls last i h open′ =
     record {
@@ -206,7 +206,7 @@ both-ways one iv L falls last i h open′ =
       settles = told one iv open′;
     }
   where
-    told : {φ : Formula} (one : OneTimed φ) → Interval (low-of one) (high-of one) → progress φ L ≤ i →
-        (b : Bool) (K : Log) → Adds L (settling-time one L i) (letter-of one) b K → Told φ K i b
+    told : {φ : Formula} (one : OneTimed φ) → Interval (timed-low one) (timed-high one) → progress φ L ≤ i →
+        (b : Bool) (K : Log) → Adds L (settling-time one L i) (timed-letter one) b K → Told φ K i b
     told (one-next {low} {high} {k}) iv o = next-told low high k iv L falls i h o
     told (one-until {low} {high} {k} {l}) iv o = until-told low high k l iv L falls i h o

@@ -17,18 +17,18 @@ pub data OneTimed : Formula → Type 0 where
   one-until : {low high k l : ℕ} → OneTimed (until low high (letter k) (letter l))
 
 -- its interval
-abbrev pub low-of : {φ : Formula} → OneTimed φ → ℕ
-low-of (one-next {low} {high} {k}) = low
-low-of (one-until {low} {high} {k} {l}) = low
+abbrev pub timed-low : {φ : Formula} → OneTimed φ → ℕ
+timed-low (one-next {low} {high} {k}) = low
+timed-low (one-until {low} {high} {k} {l}) = low
 
-abbrev pub high-of : {φ : Formula} → OneTimed φ → ℕ
-high-of (one-next {low} {high} {k}) = high
-high-of (one-until {low} {high} {k} {l}) = high
+abbrev pub timed-high : {φ : Formula} → OneTimed φ → ℕ
+timed-high (one-next {low} {high} {k}) = high
+timed-high (one-until {low} {high} {k} {l}) = high
 
 -- the letter that can make it true: next's, or until's right one
-abbrev pub letter-of : {φ : Formula} → OneTimed φ → ℕ
-letter-of (one-next {low} {high} {k}) = k
-letter-of (one-until {low} {high} {k} {l}) = l
+abbrev pub timed-letter : {φ : Formula} → OneTimed φ → ℕ
+timed-letter (one-next {low} {high} {k}) = k
+timed-letter (one-until {low} {high} {k} {l}) = l
 
 -- letter l is one of the formula's
 unfoldable pub letter-in : Formula → (l : ℕ) → Bool
@@ -56,7 +56,7 @@ last-of L = L .time (L .size - 1)
 -- The time of the record that settles position i: the first that is not below the last, and low after the position. An open position's
 -- gap to it is not above high: of a next the position is the last; of an until the last lies at most high after it.
 abbrev pub settling-time : {φ : Formula} → OneTimed φ → Log → (i : ℕ) → ℕ
-settling-time one L i = max (last-of L) (L .time i + low-of one)
+settling-time one L i = max (last-of L) (L .time i + timed-low one)
 
 -- K is L and one position more, of this time: it has the letter, or it has no letter at all
 pub record Adds (L : Log) (time letter : ℕ) (holds : Bool) (K : Log) : Type 0 where
@@ -77,4 +77,4 @@ pub record Told (φ : Formula) (K : Log) (i : ℕ) (verdict : Bool) : Type 0 whe
 pub record BothWays {φ : Formula} (one : OneTimed φ) (L : Log) (i : ℕ) : Type 0 where
   pub order : last-of L ≤ settling-time one L i
   pub fits : settling-time one L i ≤ 4294967295
-  pub settles : (holds : Bool) (K : Log) → Adds L (settling-time one L i) (letter-of one) holds K → Told φ K i holds
+  pub settles : (holds : Bool) (K : Log) → Adds L (settling-time one L i) (timed-letter one) holds K → Told φ K i holds

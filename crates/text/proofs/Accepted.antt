@@ -20,7 +20,7 @@ use Rattle.rule.proofs.Headers.{first-zero}
 use Rattle.rule.proofs.Encoded.{weighed}
 use Rattle.text.specs.Tokens.{tokens, unreadable}
 use Rattle.text.specs.Grammar.{Level, Derives, Derived}
-use Rattle.text.specs.Parse.{Answer, entries-refusal, refusal, bytes, parsed, left, Parses}
+use Rattle.text.specs.Parse.{Answer, entries-refusal, text-refusal, bytes, parsed, rule-buffer-after, Parses}
 use Rattle.text.specs.declared.Parsed.the-variants.{Written, Refused}
 use Rattle.text.proofs.Cases.{by}
 use Rattle.text.proofs.Small.{none-misshapen}
@@ -34,15 +34,15 @@ pub record Weighed (text rule′ : List ℕ) (n : ℕ) : Type 0 where
 
 -- a rule is written where no refusal applies
 accepted : (text : List ℕ) (o : Option Formula) (room n : ℕ) → record { number = 0; written = n } ≡ parsed text o room
-    → (refusal text o room ≡ 0) × (n ≡ length (bytes o))
+    → (text-refusal text o room ≡ 0) × (n ≡ length (bytes o))
 accepted text o room n e =
-    by (eqb (refusal text o room) 0)
+    by (eqb (text-refusal text o room) 0)
     (λ p.
     let c : parsed text o room ≡ record { number = 0; written = length (bytes o) } = simp p in
-    (eqb-true (refusal text o room) 0 p, ap (λ (a : Answer). a .written) (e ∙ c)))
+    (eqb-true (text-refusal text o room) 0 p, ap (λ (a : Answer). a .written) (e ∙ c)))
     (λ p.
-    let c : parsed text o room ≡ record { number = refusal text o room; written = 0 } = simp p in
-    absurd (eqb-false (refusal text o room) 0 p (sym (ap (λ (a : Answer). a .number) (e ∙ c)))))
+    let c : parsed text o room ≡ record { number = text-refusal text o room; written = 0 } = simp p in
+    absurd (eqb-false (text-refusal text o room) 0 p (sym (ap (λ (a : Answer). a .number) (e ∙ c)))))
 
 weigh : (text rule rule′ : List ℕ) (n : ℕ) (φ : Formula) → Derives Level.ors (tokens text) φ → entries-refusal (postfix φ) (length rule) ≡ 0 → n ≡ length (rule-of φ)
     → rule′ ≡ rule-of φ ++ drop (length (rule-of φ)) rule → Weighed text rule′ n
@@ -62,13 +62,13 @@ pub accepted-by-measure : (text rule rule′ : List ℕ) (n : ℕ) → Parses te
 accepted-by-measure text rule rule′ n p =
     let (z, l) = accepted text (p .derives) (length rule) n (p .answers) in go (p .derives) (p .derived) z l (p .leaves)
   where
-    go : (o : Option Formula) → Derived (tokens text) o → refusal text o (length rule) ≡ 0 → n ≡ length (bytes o) → rule′ ≡ left text o rule
+    go : (o : Option Formula) → Derived (tokens text) o → text-refusal text o (length rule) ≡ 0 → n ≡ length (bytes o) → rule′ ≡ rule-buffer-after text o rule
         → Weighed text rule′ n
     go none d z l is = let a = first-zero 15 (unreadable text) (first 17 true (entries-refusal [] (length rule))) z in let b = first-zero 16 true (entries-refusal [] (length rule)) (a .1) in absurd (let w : _≡_ {A = ℕ} 0 1 = cc in omega arith)
-    go (some φ) d z l is = weigh text rule rule′ n φ d (first-zero 16 false (entries-refusal (postfix φ) (length rule)) (first-zero 15 (unreadable text) (first 17 false (entries-refusal (postfix φ) (length rule))) z .1) .1) l (is ∙ simp (eq-eqb (refusal text (some φ) (length rule)) 0 z))
+    go (some φ) d z l is = weigh text rule rule′ n φ d (first-zero 16 false (entries-refusal (postfix φ) (length rule)) (first-zero 15 (unreadable text) (first 17 false (entries-refusal (postfix φ) (length rule))) z .1) .1) l (is ∙ simp (eq-eqb (text-refusal text (some φ) (length rule)) 0 z))
 
 -- no refusal has the number 0: a text that is accepted has a rule's bytes
-some-bytes : (text : List ℕ) (o : Option Formula) (room : ℕ) → refusal text o room ≡ 0 → 0 ≡ length (bytes o) → ⊥
+some-bytes : (text : List ℕ) (o : Option Formula) (room : ℕ) → text-refusal text o room ≡ 0 → 0 ≡ length (bytes o) → ⊥
 unfolding encoded
 some-bytes text none room a l =
     let b = first-zero 15 (unreadable text) (first 17 true (entries-refusal [] room)) a in

@@ -13,7 +13,7 @@ use lib.ListN.{length, take, drop, getD, set, length-append}
 use lib.Seq.{sets-eq, take-at, length-take-le, drop-cons, set-at, append-snoc, take-suc}
 use Rattle.rule.specs.declared.Entry.{Entry}
 use Rattle.rule.specs.Encoding.{entry-bytes, body}
-use Rattle.text.specs.Reader.{start, Holds, Puts}
+use Rattle.text.specs.Reader.{start, Contains, Puts}
 
 -- ten stores one behind the other
 pub ten : (l : List ℕ) (i a b c d e f g h j k : ℕ) → i + 10 ≤ length l
@@ -54,7 +54,7 @@ unfolding body
 body-last xs e = body-append xs (e ∷ []) ∙ ap (λ (l : List ℕ). body xs ++ l) (append-nil (entry-bytes e))
 
 -- an entry put behind those that the buffer holds
-pub holds-put : (out out′ : List ℕ) (n r : ℕ) (e : Entry) (es : List Entry) → Puts out n e r out′ → Holds out n es → Holds out′ r (es ++ (e ∷ []))
+pub holds-put : (out out′ : List ℕ) (n r : ℕ) (e : Entry) (es : List Entry) → Puts out n e r out′ → Contains out n es → Contains out′ r (es ++ (e ∷ []))
 holds-put out out′ n r e es p h =
     record {
       long = p .kept ∙ h .long;
@@ -82,6 +82,6 @@ holds-put out out′ n r e es p h =
         ∙ ap (λ (s : List ℕ). start ++ s) (sym (body-last es e))
 
 -- at first it holds nothing
-pub holds-none : (out : List ℕ) → length out ≡ 1288 → take 8 out ≡ start → Holds out 0 []
+pub holds-none : (out : List ℕ) → length out ≡ 1288 → take 8 out ≡ start → Contains out 0 []
 unfolding body
 holds-none out l e = record { long = l; counts = refl; bytes = λ h. e }

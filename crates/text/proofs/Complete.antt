@@ -12,7 +12,7 @@ use Rattle.text.specs.Tokens.{Token}
 use Rattle.text.specs.Grammar.{Level, End, Prefix, Infix, Tree, interval, spell-prefix, spell-infix, spell, meaning, Derives, Derived, InOneWay}
 use Rattle.text.specs.Grammar.Level.{ors, timed, prefixed, atom}
 use Rattle.text.specs.Grammar.Tree.{letter, brackets, tight, one, untimed, two, sole, or}
-use Rattle.text.specs.Reader.{first, tail, Timing, timing, prefix-of, infix-of, before-operand, between-operands, Phrase, then, closed, phrase}
+use Rattle.text.specs.Reader.{first-token, tail, Timing, timing, prefix-of, infix-of, before-operand, between-operands, Phrase, then, bracketed, phrase}
 use Rattle.text.proofs.Cases.{nothing, same}
 use Rattle.text.proofs.Grammar.{sound}
 
@@ -75,7 +75,7 @@ enough (or t u) = omega (arith, enough t, enough u, length-append (spell t) (Tok
 
 -- a phrase of the lowest level that goes on, or ends here
 abbrev after : ℕ → Tree ors → List Token → Option (Phrase ors)
-after g t rest = cond (eqb (first rest) 2) (phrase g ors (some t) (tail rest)) (some (record { tree = t; rest = rest }))
+after g t rest = cond (eqb (first-token rest) 2) (phrase g ors (some t) (tail rest)) (some (record { tree = t; rest = rest }))
 
 abbrev goal : (l : Level) → Tree l → ℕ → List Token → Option (Phrase l)
 goal ors t f rest = after (f - terms t) t rest
@@ -85,13 +85,13 @@ goal atom t f rest = some (record { tree = t; rest = rest })
 
 -- whether what follows would belong to the phrase
 abbrev loose : Level → List Token → Bool
-loose ors rest = between-operands (first rest)
-loose timed rest = between-operands (first rest)
+loose ors rest = between-operands (first-token rest)
+loose timed rest = between-operands (first-token rest)
 loose prefixed rest = false
 loose atom rest = false
 
 -- an operand begins with a letter or a bracket
-atom-front : (t : Tree atom) (rest : List Token) → before-operand (first (spell t ++ rest)) ≡ false
+atom-front : (t : Tree atom) (rest : List Token) → before-operand (first-token (spell t ++ rest)) ≡ false
 unfolding spell
 atom-front (letter k) rest = refl
 atom-front (brackets t) rest = refl
@@ -125,7 +125,7 @@ complete (letter k) zero rest h n = absurd (omega arith)
 complete (letter k) (suc f) rest h n = refl
 complete (brackets t) zero rest h n = absurd (omega arith)
 complete (brackets t) (suc f) rest h n =
-    ap (λ (o : Option (Phrase ors)). then o closed)
+    ap (λ (o : Option (Phrase ors)). then o bracketed)
     (ap (phrase f ors none) (append-assoc (spell t) (Token.closing ∷ []) rest)
     ∙ complete t f (Token.closing ∷ rest) (omega arith) refl)
 complete (tight t) zero rest h n = absurd (omega arith)

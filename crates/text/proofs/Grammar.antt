@@ -15,7 +15,7 @@ use Rattle.text.proofs.Cases.{by, nothing, same}
 use Rattle.text.specs.Grammar.{Level, Prefix, Infix, Tree, end-token, interval, spell-prefix, spell-infix, spell}
 use Rattle.text.specs.Grammar.Level.{ors, timed, prefixed, atom}
 use Rattle.text.specs.Grammar.Tree.{letter, brackets, tight, one, untimed, two, or}
-use Rattle.text.specs.Reader.{kind, letter-value, number-value, first, first-letter, first-number, tail, Timing, end-of, bounded, timing, prefix-of, infix-of, before-operand, between-operands, Phrase, then, joined, closed, phrase}
+use Rattle.text.specs.Reader.{kind, letter-value, number-value, first-token, first-letter, first-number, tail, Timing, end-of, bounded, timing, prefix-of, infix-of, before-operand, between-operands, Phrase, then, joined, bracketed, phrase}
 
 -- a token from its number and its values
 abbrev decode : ℕ → ℕ → ℕ → Token
@@ -53,13 +53,13 @@ decoded Token.comma = refl
 decoded Token.unknown = refl
 
 -- the first token, once its number is known
-front : (k : ℕ) (ts : List Token) → (k ≡ 15 → ⊥) → first ts ≡ k → ts ≡ decode k (first-letter ts) (first-number ts) ∷ tail ts
+front : (k : ℕ) (ts : List Token) → (k ≡ 15 → ⊥) → first-token ts ≡ k → ts ≡ decode k (first-letter ts) (first-number ts) ∷ tail ts
 front k [] n e = absurd (n (sym e))
 front k (t ∷ ts) n e =
     ap (λ (x : Token). x ∷ ts) (sym (decoded t) ∙ ap (λ (j : ℕ). decode j (letter-value t) (number-value t)) e)
 
-front-by : (k : ℕ) (ts : List Token) → (k ≡ 15 → ⊥) → eqb (first ts) k ≡ true → ts ≡ decode k (first-letter ts) (first-number ts) ∷ tail ts
-front-by k ts n e = front k ts n (eqb-true (first ts) k e)
+front-by : (k : ℕ) (ts : List Token) → (k ≡ 15 → ⊥) → eqb (first-token ts) k ≡ true → ts ≡ decode k (first-letter ts) (first-number ts) ∷ tail ts
+front-by k ts n e = front k ts n (eqb-true (first-token ts) k e)
 
 then-some : {A B : Type 0} (o : Option A) (g : A → Option B) (b : B) → then o g ≡ some b → (a : A) × (o ≡ some a) × (g a ≡ some b)
 then-some none g b e = absurd (let z : _≡_ {A = ℕ} 0 1 = cc in omega arith)
@@ -67,12 +67,12 @@ then-some (some a) g b e = (a, refl, e)
 
 -- What is found is derived.
 
-end-front : (ts : List Token) → eqb (first ts) 7 || eqb (first ts) 8 ≡ true → ts ≡ end-token (end-of ts) ∷ tail ts
+end-front : (ts : List Token) → eqb (first-token ts) 7 || eqb (first-token ts) 8 ≡ true → ts ≡ end-token (end-of ts) ∷ tail ts
 end-front ts e =
-    by (eqb (first ts) 8)
+    by (eqb (first-token ts) 8)
     (λ p. front-by 8 ts (λ z. omega arith) p ∙ simp p)
     (λ p.
-    let q : eqb (first ts) 7 ≡ true = ⊎-elim (λ a. a) (λ a. absurd (true-and-false a p)) (or-iff (eqb (first ts) 7) (eqb (first ts) 8) .0 e) in
+    let q : eqb (first-token ts) 7 ≡ true = ⊎-elim (λ a. a) (λ a. absurd (true-and-false a p)) (or-iff (eqb (first-token ts) 7) (eqb (first-token ts) 8) .0 e) in
     front-by 7 ts (λ z. omega arith) q ∙ simp p)
 
 bounded-front : (ts : List Token) → bounded ts ≡ true
@@ -82,10 +82,10 @@ bounded-front ts e =
     let t2 = tail t1 in
     let t3 = tail t2 in
     let t4 = tail t3 in
-    let a = and-iff _ (eqb (first t4) 12) .0 e in
-    let b = and-iff _ (eqb (first t3) 7 || eqb (first t3) 8) .0 (a .0) in
-    let c = and-iff _ (eqb (first t2) 13) .0 (b .0) in
-    let d = and-iff (eqb (first ts) 11) (eqb (first t1) 7) .0 (c .0) in
+    let a = and-iff _ (eqb (first-token t4) 12) .0 e in
+    let b = and-iff _ (eqb (first-token t3) 7 || eqb (first-token t3) 8) .0 (a .0) in
+    let c = and-iff _ (eqb (first-token t2) 13) .0 (b .0) in
+    let d = and-iff (eqb (first-token ts) 11) (eqb (first-token t1) 7) .0 (c .0) in
     front-by 11 ts (λ z. omega arith) (d .0)
     ∙ ap (λ (l : List Token). Token.from ∷ l)
     (front-by 7 t1 (λ z. omega arith) (d .1)
@@ -110,7 +110,7 @@ timing-not : (ts : List Token) (w : Timing) → timing 1 ts ≡ some w → ts �
 unfolding timing
 timing-not ts w e = ap (λ (v : Timing). v .rest) (same e)
 
-prefix-front : (k : ℕ) (ts : List Token) (w : Timing) → first ts ≡ k → before-operand k ≡ true → timing k (tail ts) ≡ some w
+prefix-front : (k : ℕ) (ts : List Token) (w : Timing) → first-token ts ≡ k → before-operand k ≡ true → timing k (tail ts) ≡ some w
     → ts ≡ spell-prefix (prefix-of k w) ++ w .rest
 prefix-front k ts w f b e =
     by (eqb k 1)
@@ -131,7 +131,7 @@ prefix-front k ts w f b e =
     ∙ ap (λ (l : List Token). Token.next ∷ l) (timing-front k (tail ts) w p e)
     ∙ sym (ap (λ (o : Prefix). spell-prefix o ++ w .rest) (let o : prefix-of k w ≡ Prefix.next (w .low) (w .high) = simp (p, q) in o))))
 
-infix-front : (k : ℕ) (ts : List Token) (w : Timing) → first ts ≡ k → between-operands k ≡ true → timing k (tail ts) ≡ some w
+infix-front : (k : ℕ) (ts : List Token) (w : Timing) → first-token ts ≡ k → between-operands k ≡ true → timing k (tail ts) ≡ some w
     → ts ≡ spell-infix (infix-of k w) ++ w .rest
 infix-front k ts w f b e =
     by (eqb k 5)
@@ -168,10 +168,10 @@ sound (suc f) ors before ts p e =
     let (q, below, on) =
     then-some (phrase f timed none ts)
     (λ (q : Phrase timed).
-    cond (eqb (first (q .rest)) 2) (phrase f ors (some (joined before (q .tree))) (tail (q .rest))) (some (record { tree = joined before (q .tree); rest = q .rest })))
+    cond (eqb (first-token (q .rest)) 2) (phrase f ors (some (joined before (q .tree))) (tail (q .rest))) (some (record { tree = joined before (q .tree); rest = q .rest })))
     p e in
     let s = sound f timed none ts q below in
-    by (eqb (first (q .rest)) 2)
+    by (eqb (first-token (q .rest)) 2)
     (λ b.
     let r = sound f ors (some (joined before (q .tree))) (tail (q .rest)) p (simp b at on) in
     ap (λ (l : List Token). led ors before ++ l) (s ∙ ap (λ (l : List Token). spell (q .tree) ++ l) (front-by 2 (q .rest) (λ z. omega arith) b))
@@ -189,67 +189,67 @@ sound (suc f) timed before ts p e =
     let (q, below, on) =
     then-some (phrase f prefixed none ts)
     (λ (q : Phrase prefixed).
-    cond (between-operands (first (q .rest)))
-    (then (timing (first (q .rest)) (tail (q .rest)))
+    cond (between-operands (first-token (q .rest)))
+    (then (timing (first-token (q .rest)) (tail (q .rest)))
     (λ (w : Timing).
     then (phrase f timed none (w .rest))
-    (λ (u : Phrase timed). some (record { tree = two (q .tree) (infix-of (first (q .rest)) w) (u .tree); rest = u .rest }))))
+    (λ (u : Phrase timed). some (record { tree = two (q .tree) (infix-of (first-token (q .rest)) w) (u .tree); rest = u .rest }))))
     (some (record { tree = untimed (q .tree); rest = q .rest })))
     p e in
     let s = sound f prefixed none ts q below in
-    by (between-operands (first (q .rest)))
+    by (between-operands (first-token (q .rest)))
     (λ b.
     let (w, is, rest) =
-    then-some (timing (first (q .rest)) (tail (q .rest)))
+    then-some (timing (first-token (q .rest)) (tail (q .rest)))
     (λ (w : Timing).
     then (phrase f timed none (w .rest))
-    (λ (u : Phrase timed). some (record { tree = two (q .tree) (infix-of (first (q .rest)) w) (u .tree); rest = u .rest })))
+    (λ (u : Phrase timed). some (record { tree = two (q .tree) (infix-of (first-token (q .rest)) w) (u .tree); rest = u .rest })))
     p (simp b at on) in
     let (u, again, done) =
     then-some (phrase f timed none (w .rest))
-    (λ (u : Phrase timed). some (record { tree = two (q .tree) (infix-of (first (q .rest)) w) (u .tree); rest = u .rest }))
+    (λ (u : Phrase timed). some (record { tree = two (q .tree) (infix-of (first-token (q .rest)) w) (u .tree); rest = u .rest }))
     p rest in
     s
     ∙ ap (λ (l : List Token). spell (q .tree) ++ l)
-    (infix-front (first (q .rest)) (q .rest) w refl b is
-    ∙ ap (λ (l : List Token). spell-infix (infix-of (first (q .rest)) w) ++ l) (sound f timed none (w .rest) u again)
-    ∙ sym (append-assoc (spell-infix (infix-of (first (q .rest)) w)) (spell (u .tree)) (u .rest)))
-    ∙ sym (append-assoc (spell (q .tree)) (spell-infix (infix-of (first (q .rest)) w) ++ spell (u .tree)) (u .rest))
+    (infix-front (first-token (q .rest)) (q .rest) w refl b is
+    ∙ ap (λ (l : List Token). spell-infix (infix-of (first-token (q .rest)) w) ++ l) (sound f timed none (w .rest) u again)
+    ∙ sym (append-assoc (spell-infix (infix-of (first-token (q .rest)) w)) (spell (u .tree)) (u .rest)))
+    ∙ sym (append-assoc (spell (q .tree)) (spell-infix (infix-of (first-token (q .rest)) w) ++ spell (u .tree)) (u .rest))
     ∙ ap (λ (v : Phrase timed). spell (v .tree) ++ v .rest) (same done))
     (λ b.
     let r : record { tree = untimed (q .tree); rest = q .rest } ≡ p = same (simp b at on) in
     s ∙ ap (λ (v : Phrase timed). spell (v .tree) ++ v .rest) r)
 sound (suc f) prefixed before ts p e =
-    by (before-operand (first ts))
+    by (before-operand (first-token ts))
     (λ b.
     let (w, is, rest) =
-    then-some (timing (first ts) (tail ts))
+    then-some (timing (first-token ts) (tail ts))
     (λ (w : Timing).
     then (phrase f prefixed none (w .rest))
-    (λ (u : Phrase prefixed). some (record { tree = one (prefix-of (first ts) w) (u .tree); rest = u .rest })))
+    (λ (u : Phrase prefixed). some (record { tree = one (prefix-of (first-token ts) w) (u .tree); rest = u .rest })))
     p (simp b at e) in
     let (u, again, done) =
     then-some (phrase f prefixed none (w .rest))
-    (λ (u : Phrase prefixed). some (record { tree = one (prefix-of (first ts) w) (u .tree); rest = u .rest }))
+    (λ (u : Phrase prefixed). some (record { tree = one (prefix-of (first-token ts) w) (u .tree); rest = u .rest }))
     p rest in
-    prefix-front (first ts) ts w refl b is
-    ∙ ap (λ (l : List Token). spell-prefix (prefix-of (first ts) w) ++ l) (sound f prefixed none (w .rest) u again)
-    ∙ sym (append-assoc (spell-prefix (prefix-of (first ts) w)) (spell (u .tree)) (u .rest))
+    prefix-front (first-token ts) ts w refl b is
+    ∙ ap (λ (l : List Token). spell-prefix (prefix-of (first-token ts) w) ++ l) (sound f prefixed none (w .rest) u again)
+    ∙ sym (append-assoc (spell-prefix (prefix-of (first-token ts) w)) (spell (u .tree)) (u .rest))
     ∙ ap (λ (v : Phrase prefixed). spell (v .tree) ++ v .rest) (same done))
     (λ b.
     let (u, below, done) =
     then-some (phrase f atom none ts) (λ (u : Phrase atom). some (record { tree = tight (u .tree); rest = u .rest })) p (simp b at e) in
     sound f atom none ts u below ∙ ap (λ (v : Phrase prefixed). spell (v .tree) ++ v .rest) (same done))
 sound (suc f) atom before ts p e =
-    by (eqb (first ts) 0)
+    by (eqb (first-token ts) 0)
     (λ b.
     let r : record { tree = letter (first-letter ts); rest = tail ts } ≡ p = same (simp b at e) in
     front-by 0 ts (λ z. omega arith) b ∙ ap (λ (v : Phrase atom). spell (v .tree) ++ v .rest) r)
     (λ b.
-    by (eqb (first ts) 9)
+    by (eqb (first-token ts) 9)
     (λ c.
-    let (u, inner, rest) = then-some (phrase f ors none (tail ts)) closed p (simp (b, c) at e) in
-    by (eqb (first (u .rest)) 10)
+    let (u, inner, rest) = then-some (phrase f ors none (tail ts)) bracketed p (simp (b, c) at e) in
+    by (eqb (first-token (u .rest)) 10)
     (λ d.
     let r : record { tree = brackets (u .tree); rest = tail (u .rest) } ≡ p = same (simp d at rest) in
     front-by 9 ts (λ z. omega arith) c

@@ -17,7 +17,7 @@ use Rattle.text.specs.Tokens.{Token, tokens}
 use Rattle.text.specs.Grammar.{End, Prefix, Infix, Tree, meaning, bound, prefix-meaning, infix-meaning}
 use Rattle.text.specs.Grammar.Level.{ors, timed, prefixed, atom}
 use Rattle.text.specs.Grammar.End.{at}
-use Rattle.text.specs.Reader.{first, first-letter, first-number, tail, Lexed, Timing, end-of, bounded, timing, Timed, prefix-of, infix-of, before-operand, between-operands, Phrase, then, joined, closed, phrase, size, Holds, Puts, or-entry, Joins, written, given, Reads, Answers}
+use Rattle.text.specs.Reader.{first-token, first-letter, first-number, tail, Lexed, Timing, end-of, bounded, timing, Timed, prefix-of, infix-of, before-operand, between-operands, Phrase, then, joined, bracketed, phrase, size, Contains, Puts, or-entry, Joins, written, is-given, ReadsPhrase, ReadsLevel}
 use Rattle.text.specs.declared.token.Lexeme.{Lexeme}
 use Rattle.text.specs.declared.level.Ends.the-variants.{Interval, Missing}
 use Rattle.text.specs.declared.level.Read.{Read}
@@ -68,7 +68,7 @@ module _
     test-is : bounded ts ≡ test
     unfolding ts
     test-is =
-        simp (← la .kind-is, ← (lb .kind-is ∙ ap first (la .rest-is)), ← (lc .kind-is ∙ ap first rb), ← (ld .kind-is ∙ ap first rc), ← (le .kind-is ∙ ap first rd))
+        simp (← la .kind-is, ← (lb .kind-is ∙ ap first-token (la .rest-is)), ← (lc .kind-is ∙ ap first-token rb), ← (ld .kind-is ∙ ap first-token rc), ← (le .kind-is ∙ ap first-token rd))
 
     pub interval-there : (high : ℕ) → high ≡ cond (eqb (d .kind) 8) unbounded (d .value) → test ≡ true → Timed k text place (Interval (b .value) high (e .next))
     unfolding timing ts
@@ -78,8 +78,8 @@ module _
           (ap₂ (λ (n : ℕ) (l : List Token). some (record { low = n; high = end-of (tail (tail (tail ts))); rest = l }))
           (sym (lb .value-is ∙ ap first-number (la .rest-is))) (sym re)),
       h
-          ∙ ap₂ (λ (j v : ℕ). cond (eqb j 8) unbounded v) (ld .kind-is ∙ ap first rc) (ld .value-is ∙ ap first-number rc)
-          ∙ sym (bound-by (eqb (first (tail (tail (tail ts)))) 8) (first-number (tail (tail (tail ts))))),
+          ∙ ap₂ (λ (j v : ℕ). cond (eqb j 8) unbounded v) (ld .kind-is ∙ ap first-token rc) (ld .value-is ∙ ap first-number rc)
+          ∙ sym (bound-by (eqb (first-token (tail (tail (tail ts)))) 8) (first-number (tail (tail (tail ts))))),
       omega (arith, la .forward, lb .forward, lc .forward, ld .forward, le .forward),
     )
 
@@ -134,14 +134,14 @@ fuel : (P : ℕ → Type 0) (m f : ℕ) → m < f → ((g : ℕ) → m ≤ g →
 fuel P m zero h k = absurd (not-suc-le-zero h)
 fuel P m (suc g) h k = k g (le-of-suc-le-suc h)
 
-bare : (out : List ℕ) (n : ℕ) (es : List Entry) → Holds out n (es ++ []) → Holds out n es
-bare out n es h = subst (λ (l : List Entry). Holds out n l) (append-nil es) h
+bare : (out : List ℕ) (n : ℕ) (es : List Entry) → Contains out n (es ++ []) → Contains out n es
+bare out n es h = subst (λ (l : List Entry). Contains out n l) (append-nil es) h
 
 module _ (text : List ℕ) (place : ℕ) (x : Lexeme) (l : Lexed text place x) where
   -- A letter or a bracket.
 
   pub atom-letter : (out out′ : List ℕ) (n r : ℕ) → x .kind ≡ 0 → Puts out n (record { kind = 0; letter = x .letter; low = 0; high = 0 }) r out′
-      → Answers atom none text out place n (Phrased (x .next) r) out′
+      → ReadsLevel atom none text out place n (Phrased (x .next) r) out′
   unfolding phrase postfix meaning
   atom-letter out out′ n r e p =
       record {
@@ -151,46 +151,46 @@ module _ (text : List ℕ) (place : ℕ) (x : Lexeme) (l : Lexed text place x) w
             fuel (λ (m : ℕ). phrase m atom none (tokens (drop place text)) ≡ some (record { tree = Tree.letter (first-letter (tokens (drop place text))); rest = tokens (drop (x .next) text) }))
             (size atom text place) f h
             (λ g k.
-            simp (eq-eqb (first (tokens (drop place text))) 0 (sym (l .kind-is) ∙ e))
+            simp (eq-eqb (first-token (tokens (drop place text))) 0 (sym (l .kind-is) ∙ e))
             (ap (λ (us : List Token). some (record { tree = Tree.letter (first-letter (tokens (drop place text))); rest = us })) (sym (l .rest-is))));
         holds = λ es h.
-            subst (λ (v : ℕ). Holds out′ r (es ++ (record { kind = 0; letter = v; low = 0; high = 0 } ∷ []))) (l .letter-is)
+            subst (λ (v : ℕ). Contains out′ r (es ++ (record { kind = 0; letter = v; low = 0; high = 0 } ∷ []))) (l .letter-is)
             (holds-put out out′ n r (record { kind = 0; letter = x .letter; low = 0; high = 0 }) es p (bare out n es h));
       }
 
-  pub atom-neither : (out out′ : List ℕ) (n : ℕ) → (x .kind ≡ 0 → ⊥) → (x .kind ≡ 9 → ⊥) → Answers atom none text out place n Fault out′
+  pub atom-neither : (out out′ : List ℕ) (n : ℕ) → (x .kind ≡ 0 → ⊥) → (x .kind ≡ 9 → ⊥) → ReadsLevel atom none text out place n Fault out′
   unfolding phrase
   atom-neither out out′ n a b f h =
       fuel (λ (m : ℕ). phrase m atom none (tokens (drop place text)) ≡ none) (size atom text place) f h
       (λ g k.
-      simp (ne-eqb (first (tokens (drop place text))) 0 (λ e. a (l .kind-is ∙ e)), ne-eqb (first (tokens (drop place text))) 9 (λ e. b (l .kind-is ∙ e))))
+      simp (ne-eqb (first-token (tokens (drop place text))) 0 (λ e. a (l .kind-is ∙ e)), ne-eqb (first-token (tokens (drop place text))) 9 (λ e. b (l .kind-is ∙ e))))
 
   module _ (opens : x .kind ≡ 9) where
-    inside : (g : ℕ) → phrase (suc g) atom none (tokens (drop place text)) ≡ then (phrase g ors none (tokens (drop (x .next) text))) closed
+    inside : (g : ℕ) → phrase (suc g) atom none (tokens (drop place text)) ≡ then (phrase g ors none (tokens (drop (x .next) text))) bracketed
     unfolding phrase
     inside g =
-        simp (ne-eqb (first (tokens (drop place text))) 0 (λ e. omega (arith, l .kind-is)), eq-eqb (first (tokens (drop place text))) 9 (sym (l .kind-is) ∙ opens))
-        (ap (λ (us : List Token). then (phrase g ors none us) closed) (sym (l .rest-is)))
+        simp (ne-eqb (first-token (tokens (drop place text))) 0 (λ e. omega (arith, l .kind-is)), eq-eqb (first-token (tokens (drop place text))) 9 (sym (l .kind-is) ∙ opens))
+        (ap (λ (us : List Token). then (phrase g ors none us) bracketed) (sym (l .rest-is)))
 
     pub less-inside : size ors text (x .next) < size atom text place
     less-inside = omega (arith, l .moves (λ e. omega arith))
 
-    pub atom-empty : (out out′ : List ℕ) (n : ℕ) → Answers ors none text out (x .next) n Fault out′ → Answers atom none text out place n Fault out′
+    pub atom-empty : (out out′ : List ℕ) (n : ℕ) → ReadsLevel ors none text out (x .next) n Fault out′ → ReadsLevel atom none text out place n Fault out′
     atom-empty out out′ n bad f h =
         fuel (λ (m : ℕ). phrase m atom none (tokens (drop place text)) ≡ none) (size atom text place) f h
-        (λ g k. inside g ∙ ap (λ (o : Option (Phrase ors)). then o closed) (bad g (omega (arith, less-inside))))
+        (λ g k. inside g ∙ ap (λ (o : Option (Phrase ors)). then o bracketed) (bad g (omega (arith, less-inside))))
 
-    module _ (out out′ : List ℕ) (n p m : ℕ) (ok : Reads ors none text out (x .next) n p m out′) (y : Lexeme) (ly : Lexed text p y) where
+    module _ (out out′ : List ℕ) (n p m : ℕ) (ok : ReadsPhrase ors none text out (x .next) n p m out′) (y : Lexeme) (ly : Lexed text p y) where
       around : (g : ℕ) → size atom text place ≤ g
-          → phrase (suc g) atom none (tokens (drop place text)) ≡ closed (record { tree = ok .tree; rest = tokens (drop p text) })
-      around g k = inside g ∙ ap (λ (o : Option (Phrase ors)). then o closed) (ok .finds g (omega (arith, less-inside)))
+          → phrase (suc g) atom none (tokens (drop place text)) ≡ bracketed (record { tree = ok .tree; rest = tokens (drop p text) })
+      around g k = inside g ∙ ap (λ (o : Option (Phrase ors)). then o bracketed) (ok .finds g (omega (arith, less-inside)))
 
-      pub atom-unclosed : (y .kind ≡ 10 → ⊥) → Answers atom none text out place n Fault out′
+      pub atom-unclosed : (y .kind ≡ 10 → ⊥) → ReadsLevel atom none text out place n Fault out′
       atom-unclosed c f h =
           fuel (λ (m : ℕ). phrase m atom none (tokens (drop place text)) ≡ none) (size atom text place) f h
-          (λ g k. around g k ∙ simp (ne-eqb (first (tokens (drop p text))) 10 (λ e. c (ly .kind-is ∙ e))))
+          (λ g k. around g k ∙ simp (ne-eqb (first-token (tokens (drop p text))) 10 (λ e. c (ly .kind-is ∙ e))))
 
-      pub atom-brackets : y .kind ≡ 10 → Answers atom none text out place n (Phrased (y .next) m) out′
+      pub atom-brackets : y .kind ≡ 10 → ReadsLevel atom none text out place n (Phrased (y .next) m) out′
       unfolding meaning
       atom-brackets c =
           record {
@@ -201,18 +201,18 @@ module _ (text : List ℕ) (place : ℕ) (x : Lexeme) (l : Lexed text place x) w
                 (size atom text place) f h
                 (λ g k.
                 around g k
-                ∙ simp (eq-eqb (first (tokens (drop p text))) 10 (sym (ly .kind-is) ∙ c))
+                ∙ simp (eq-eqb (first-token (tokens (drop p text))) 10 (sym (ly .kind-is) ∙ c))
                 (ap (λ (us : List Token). some (record { tree = Tree.brackets (ok .tree); rest = us })) (sym (ly .rest-is))));
             holds = ok .holds;
           }
 
   -- A word before its operand.
 
-  tested : (q : ℕ → Bool) (b : Bool) → q (x .kind) ≡ b → q (first (tokens (drop place text))) ≡ b
+  tested : (q : ℕ → Bool) (b : Bool) → q (x .kind) ≡ b → q (first-token (tokens (drop place text))) ≡ b
   tested q b e = sym (ap q (l .kind-is)) ∙ e
 
-  pub prefixed-atom : (out out′ : List ℕ) (n : ℕ) (r : Read) → before-operand (x .kind) ≡ false → Answers atom none text out place n r out′
-      → Answers prefixed none text out place n r out′
+  pub prefixed-atom : (out out′ : List ℕ) (n : ℕ) (r : Read) → before-operand (x .kind) ≡ false → ReadsLevel atom none text out place n r out′
+      → ReadsLevel prefixed none text out place n r out′
   unfolding phrase meaning
   prefixed-atom out out′ n (Phrased p m) b ok =
       record {
@@ -247,7 +247,7 @@ module _ (text : List ℕ) (place : ℕ) (x : Lexeme) (l : Lexed text place x) w
     pub not-end : x .kind ≡ 15 → ⊥
     not-end e = let z : false ≡ true = sym (ap before-operand e) ∙ b in let w : _≡_ {A = ℕ} 0 1 = cc in omega arith
 
-    pub prefixed-missing : (out out′ : List ℕ) (n : ℕ) → Timed (x .kind) text (x .next) Missing → Answers prefixed none text out place n Fault out′
+    pub prefixed-missing : (out out′ : List ℕ) (n : ℕ) → Timed (x .kind) text (x .next) Missing → ReadsLevel prefixed none text out place n Fault out′
     prefixed-missing out out′ n t f h =
         fuel (λ (j : ℕ). phrase j prefixed none (tokens (drop place text)) ≡ none) (size prefixed text place) f h
         (λ g k.
@@ -271,7 +271,7 @@ module _ (text : List ℕ) (place : ℕ) (x : Lexeme) (l : Lexed text place x) w
           then o (λ (w : Timing). then (phrase g prefixed none (w .rest)) (λ (q : Phrase prefixed). some (record { tree = Tree.one (prefix-of (x .kind) w) (q .tree); rest = q .rest }))))
           (t .1)
 
-      pub prefixed-fault : (out out′ : List ℕ) (n : ℕ) → Answers prefixed none text out next n Fault out′ → Answers prefixed none text out place n Fault out′
+      pub prefixed-fault : (out out′ : List ℕ) (n : ℕ) → ReadsLevel prefixed none text out next n Fault out′ → ReadsLevel prefixed none text out place n Fault out′
       prefixed-fault out out′ n bad f h =
           fuel (λ (j : ℕ). phrase j prefixed none (tokens (drop place text)) ≡ none) (size prefixed text place) f h
           (λ g k.
@@ -279,9 +279,9 @@ module _ (text : List ℕ) (place : ℕ) (x : Lexeme) (l : Lexed text place x) w
           ∙ ap (λ (o : Option (Phrase prefixed)). then o (λ (q : Phrase prefixed). some (record { tree = Tree.one (prefix-of (x .kind) w₀) (q .tree); rest = q .rest })))
           (bad g (omega (arith, less-behind))))
 
-      pub prefixed-one : (out out′ out″ : List ℕ) (n p m r : ℕ) → Reads prefixed none text out next n p m out′
+      pub prefixed-one : (out out′ out″ : List ℕ) (n p m r : ℕ) → ReadsPhrase prefixed none text out next n p m out′
           → Puts out′ m (record { kind = x .kind; letter = 0; low = low; high = high }) r out″
-          → Answers prefixed none text out place n (Phrased p r) out″
+          → ReadsLevel prefixed none text out place n (Phrased p r) out″
       unfolding meaning
       prefixed-one out out′ out″ n p m r ok put =
           record {
@@ -295,7 +295,7 @@ module _ (text : List ℕ) (place : ℕ) (x : Lexeme) (l : Lexed text place x) w
                 ∙ ap (λ (o : Option (Phrase prefixed)). then o (λ (q : Phrase prefixed). some (record { tree = Tree.one (prefix-of (x .kind) w₀) (q .tree); rest = q .rest })))
                 (ok .finds g (omega (arith, less-behind))));
             holds = λ es h.
-                subst (λ (us : List Entry). Holds out″ r us)
+                subst (λ (us : List Entry). Contains out″ r us)
                 (append-assoc es (postfix (meaning (ok .tree))) _
                 ∙ ap (λ (us : List Entry). es ++ us)
                 (ap (λ (v : ℕ). postfix (meaning (ok .tree)) ++ (record { kind = x .kind; letter = 0; low = low; high = v } ∷ [])) (t .2)
@@ -303,21 +303,21 @@ module _ (text : List ℕ) (place : ℕ) (x : Lexeme) (l : Lexed text place x) w
                 (holds-put out′ out″ m r (record { kind = x .kind; letter = 0; low = low; high = high }) (es ++ postfix (meaning (ok .tree))) put (ok .holds es h));
           }
 
-full : (out : List ℕ) (n : ℕ) (es : List Entry) → Holds out n es → Holds out n (es ++ [])
-full out n es h = subst (λ (l : List Entry). Holds out n l) (sym (append-nil es)) h
+full : (out : List ℕ) (n : ℕ) (es : List Entry) → Contains out n es → Contains out n (es ++ [])
+full out n es h = subst (λ (l : List Entry). Contains out n l) (sym (append-nil es)) h
 
 -- A word between its operands.
 
 abbrev timed-rest : ℕ → Phrase prefixed → Option (Phrase timed)
 timed-rest g p =
-    cond (between-operands (first (p .rest)))
-    (then (timing (first (p .rest)) (tail (p .rest)))
+    cond (between-operands (first-token (p .rest)))
+    (then (timing (first-token (p .rest)) (tail (p .rest)))
     (λ (w : Timing).
     then (phrase g timed none (w .rest))
-    (λ (q : Phrase timed). some (record { tree = Tree.two (p .tree) (infix-of (first (p .rest)) w) (q .tree); rest = q .rest }))))
+    (λ (q : Phrase timed). some (record { tree = Tree.two (p .tree) (infix-of (first-token (p .rest)) w) (q .tree); rest = q .rest }))))
     (some (record { tree = Tree.untimed (p .tree); rest = p .rest }))
 
-pub timed-none : (text out out′ : List ℕ) (place n : ℕ) → Answers prefixed none text out place n Fault out′ → Answers timed none text out place n Fault out′
+pub timed-none : (text out out′ : List ℕ) (place n : ℕ) → ReadsLevel prefixed none text out place n Fault out′ → ReadsLevel timed none text out place n Fault out′
 unfolding phrase
 timed-none text out out′ place n bad f h =
     fuel (λ (j : ℕ). phrase j timed none (tokens (drop place text)) ≡ none) (size timed text place) f h
@@ -326,7 +326,7 @@ timed-none text out out′ place n bad f h =
 module _
     (text out out′ : List ℕ)
     (place n p m : ℕ)
-    (ok : Reads prefixed none text out place n p m out′)
+    (ok : ReadsPhrase prefixed none text out place n p m out′)
     (x : Lexeme)
     (l : Lexed text p x)
   where
@@ -335,7 +335,7 @@ module _
     unfolding phrase
     rest-of g k = ap (λ (o : Option (Phrase prefixed)). then o (timed-rest g)) (ok .finds g (omega arith))
 
-    pub timed-alone : between-operands (x .kind) ≡ false → Answers timed none text out place n (Phrased p m) out′
+    pub timed-alone : between-operands (x .kind) ≡ false → ReadsLevel timed none text out place n (Phrased p m) out′
     unfolding meaning
     timed-alone b =
         record {
@@ -360,7 +360,7 @@ module _
           (λ (w : Timing). then (phrase g timed none (w .rest)) (λ (q : Phrase timed). some (record { tree = Tree.two (ok .tree) (infix-of j w) (q .tree); rest = q .rest }))))
           (sym (l .kind-is)) (sym (l .rest-is)))
 
-      pub timed-missing : (out″ : List ℕ) → Timed (x .kind) text (x .next) Missing → Answers timed none text out place n Fault out″
+      pub timed-missing : (out″ : List ℕ) → Timed (x .kind) text (x .next) Missing → ReadsLevel timed none text out place n Fault out″
       timed-missing out″ t f h =
           fuel (λ (j : ℕ). phrase j timed none (tokens (drop place text)) ≡ none) (size timed text place) f h
           (λ g k.
@@ -387,7 +387,7 @@ module _
             then o (λ (w : Timing). then (phrase g timed none (w .rest)) (λ (q : Phrase timed). some (record { tree = Tree.two (ok .tree) (infix-of (x .kind) w) (q .tree); rest = q .rest }))))
             (t .1)
 
-        pub timed-fault : (out″ : List ℕ) → Answers timed none text out′ next m Fault out″ → Answers timed none text out place n Fault out″
+        pub timed-fault : (out″ : List ℕ) → ReadsLevel timed none text out′ next m Fault out″ → ReadsLevel timed none text out place n Fault out″
         timed-fault out″ bad f h =
             fuel (λ (j : ℕ). phrase j timed none (tokens (drop place text)) ≡ none) (size timed text place) f h
             (λ g k.
@@ -395,9 +395,9 @@ module _
             ∙ ap (λ (o : Option (Phrase timed)). then o (λ (q : Phrase timed). some (record { tree = Tree.two (ok .tree) (infix-of (x .kind) w₁) (q .tree); rest = q .rest })))
             (bad g (omega (arith, less-right))))
 
-        pub timed-two : (out″ out‴ : List ℕ) (p′ m′ r : ℕ) → Reads timed none text out′ next m p′ m′ out″
+        pub timed-two : (out″ out‴ : List ℕ) (p′ m′ r : ℕ) → ReadsPhrase timed none text out′ next m p′ m′ out″
             → Puts out″ m′ (record { kind = x .kind; letter = 0; low = low; high = high }) r out‴
-            → Answers timed none text out place n (Phrased p′ r) out‴
+            → ReadsLevel timed none text out place n (Phrased p′ r) out‴
         unfolding meaning
         timed-two out″ out‴ p′ m′ r ok′ put =
             record {
@@ -411,7 +411,7 @@ module _
                   ∙ ap (λ (o : Option (Phrase timed)). then o (λ (q : Phrase timed). some (record { tree = Tree.two (ok .tree) (infix-of (x .kind) w₁) (q .tree); rest = q .rest })))
                   (ok′ .finds g (omega (arith, less-right))));
               holds = λ es h.
-                  subst (λ (us : List Entry). Holds out‴ r us)
+                  subst (λ (us : List Entry). Contains out‴ r us)
                   (regrouped es (postfix (meaning (ok .tree))) (postfix (meaning (ok′ .tree))) (record { kind = x .kind; letter = 0; low = low; high = high })
                   ∙ ap (λ (us : List Entry). es ++ us)
                   (ap (λ (v : ℕ). postfix (meaning (ok .tree)) ++ postfix (meaning (ok′ .tree)) ++ (record { kind = x .kind; letter = 0; low = low; high = v } ∷ [])) (t .2)
@@ -424,35 +424,35 @@ module _
 
 abbrev ors-rest : ℕ → Option (Tree ors) → Phrase timed → Option (Phrase ors)
 ors-rest g before p =
-    cond (eqb (first (p .rest)) 2) (phrase g ors (some (joined before (p .tree))) (tail (p .rest))) (some (record { tree = joined before (p .tree); rest = p .rest }))
+    cond (eqb (first-token (p .rest)) 2) (phrase g ors (some (joined before (p .tree))) (tail (p .rest))) (some (record { tree = joined before (p .tree); rest = p .rest }))
 
-pub ors-none : (before : Option (Tree ors)) (text out out′ : List ℕ) (place n : ℕ) → Answers timed none text out place n Fault out′
-    → Answers ors before text out place n Fault out′
+pub ors-none : (before : Option (Tree ors)) (text out out′ : List ℕ) (place n : ℕ) → ReadsLevel timed none text out place n Fault out′
+    → ReadsLevel ors before text out place n Fault out′
 unfolding phrase
 ors-none before text out out′ place n bad f h =
     fuel (λ (j : ℕ). phrase j ors before (tokens (drop place text)) ≡ none) (size ors text place) f h
     (λ g k. ap (λ (o : Option (Phrase timed)). then o (ors-rest g before)) (bad g (omega arith)))
 
-joined-holds : (before : Option (Tree ors)) (later : Bool) (u : Tree timed) (out out′ out″ : List ℕ) (n m r : ℕ) → later ≡ given before → Joins later out′ m r out″
-    → ((es : List Entry) → Holds out n (es ++ []) → Holds out′ m (es ++ postfix (meaning u)))
-    → (es : List Entry) → Holds out n (es ++ written before) → Holds out″ r (es ++ postfix (meaning (joined before u)))
+joined-holds : (before : Option (Tree ors)) (later : Bool) (u : Tree timed) (out out′ out″ : List ℕ) (n m r : ℕ) → later ≡ is-given before → Joins later out′ m r out″
+    → ((es : List Entry) → Contains out n (es ++ []) → Contains out′ m (es ++ postfix (meaning u)))
+    → (es : List Entry) → Contains out n (es ++ written before) → Contains out″ r (es ++ postfix (meaning (joined before u)))
 unfolding meaning postfix
 joined-holds none true u out out′ out″ n m r g j k es h = absurd (let w : _≡_ {A = ℕ} 0 1 = cc in omega arith)
 joined-holds none false u out out′ out″ n m r g j k es h =
-    subst (λ (o : List ℕ). Holds o r (es ++ postfix (meaning u))) (sym (j .1)) (subst (λ (i : ℕ). Holds out′ i (es ++ postfix (meaning u))) (sym (j .0)) (k es h))
+    subst (λ (o : List ℕ). Contains o r (es ++ postfix (meaning u))) (sym (j .1)) (subst (λ (i : ℕ). Contains out′ i (es ++ postfix (meaning u))) (sym (j .0)) (k es h))
 joined-holds (some t) false u out out′ out″ n m r g j k es h = absurd (let w : _≡_ {A = ℕ} 0 1 = cc in omega arith)
 joined-holds (some t) true u out out′ out″ n m r g j k es h =
-    subst (λ (us : List Entry). Holds out″ r us) (regrouped es (postfix (meaning t)) (postfix (meaning u)) or-entry)
+    subst (λ (us : List Entry). Contains out″ r us) (regrouped es (postfix (meaning t)) (postfix (meaning u)) or-entry)
     (holds-put out′ out″ m r or-entry ((es ++ postfix (meaning t)) ++ postfix (meaning u)) j
     (k (es ++ postfix (meaning t)) (full out n (es ++ postfix (meaning t)) h)))
 
 module _
     (before : Option (Tree ors))
     (later : Bool)
-    (is : later ≡ given before)
+    (is : later ≡ is-given before)
     (text out out′ out″ : List ℕ)
     (place n p m r : ℕ)
-    (ok : Reads timed none text out place n p m out′)
+    (ok : ReadsPhrase timed none text out place n p m out′)
     (join : Joins later out′ m r out″)
     (x : Lexeme)
     (l : Lexed text p x)
@@ -462,7 +462,7 @@ module _
     unfolding phrase
     term g k = ap (λ (o : Option (Phrase timed)). then o (ors-rest g before)) (ok .finds g (omega arith))
 
-    pub ors-end : (x .kind ≡ 2 → ⊥) → Answers ors before text out place n (Phrased p r) out″
+    pub ors-end : (x .kind ≡ 2 → ⊥) → ReadsLevel ors before text out place n (Phrased p r) out″
     ors-end e =
         record {
           tree = joined before (ok .tree);
@@ -470,15 +470,15 @@ module _
           finds = λ f h.
               fuel (λ (j : ℕ). phrase j ors before (tokens (drop place text)) ≡ some (record { tree = joined before (ok .tree); rest = tokens (drop p text) }))
               (size ors text place) f h
-              (λ g k. term g k ∙ simp (ne-eqb (first (tokens (drop p text))) 2 (λ z. e (l .kind-is ∙ z))));
+              (λ g k. term g k ∙ simp (ne-eqb (first-token (tokens (drop p text))) 2 (λ z. e (l .kind-is ∙ z))));
           holds = joined-holds before later (ok .tree) out out′ out″ n m r is join (ok .holds);
         }
 
     pub less-term : x .kind ≡ 2 → size ors text (x .next) < size ors text place
     less-term e = omega (arith, l .moves (λ z. omega arith), ok .moves)
 
-    pub ors-more : (q : Read) (out‴ : List ℕ) → x .kind ≡ 2 → Answers ors (some (joined before (ok .tree))) text out″ (x .next) r q out‴
-        → Answers ors before text out place n q out‴
+    pub ors-more : (q : Read) (out‴ : List ℕ) → x .kind ≡ 2 → ReadsLevel ors (some (joined before (ok .tree))) text out″ (x .next) r q out‴
+        → ReadsLevel ors before text out place n q out‴
     ors-more (Phrased p′ m′) out‴ e ok′ =
         record {
           tree = ok′ .tree;
@@ -488,7 +488,7 @@ module _
               (size ors text place) f h
               (λ g k.
               term g k
-              ∙ simp (eq-eqb (first (tokens (drop p text))) 2 (sym (l .kind-is) ∙ e))
+              ∙ simp (eq-eqb (first-token (tokens (drop p text))) 2 (sym (l .kind-is) ∙ e))
               (ap (phrase g ors (some (joined before (ok .tree)))) (sym (l .rest-is)) ∙ ok′ .finds g (omega (arith, less-term e))));
           holds = λ es h. ok′ .holds es (joined-holds before later (ok .tree) out out′ out″ n m r is join (ok .holds) es h);
         }
@@ -496,5 +496,5 @@ module _
         fuel (λ (j : ℕ). phrase j ors before (tokens (drop place text)) ≡ none) (size ors text place) f h
         (λ g k.
         term g k
-        ∙ simp (eq-eqb (first (tokens (drop p text))) 2 (sym (l .kind-is) ∙ e))
+        ∙ simp (eq-eqb (first-token (tokens (drop p text))) 2 (sym (l .kind-is) ∙ e))
         (ap (phrase g ors (some (joined before (ok .tree)))) (sym (l .rest-is)) ∙ bad g (omega (arith, less-term e))))

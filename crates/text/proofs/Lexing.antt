@@ -11,8 +11,8 @@ use Rattle.mtl.proofs.Bounded.{le-or-lt, true-and-false}
 use lib.Dec.{ltb, eqb}
 use lib.ListN.{length, drop, getD, List·getD-eq-default, drop-of-length-le}
 use lib.Seq.{drop-cons}
-use Rattle.text.specs.Tokens.{Token, runs, word, sign, ended, signed, tokens-from, tokens, is-unknown, some-unknown}
-use Rattle.text.specs.Reader.{kind, letter-value, number-value, first, first-letter, first-number, tail, Marks, Skips, RunsTo, Lexed}
+use Rattle.text.specs.Tokens.{Token, runs, token-of, sign, ended, signed, tokens-from, tokens, is-unknown, some-unknown}
+use Rattle.text.specs.Reader.{kind, letter-value, number-value, first-token, first-letter, first-number, tail, Marks, Skips, RunsTo, Lexed}
 use Rattle.text.specs.declared.token.Mark.{Mark}
 use Rattle.text.specs.declared.token.Run.{Run}
 use Rattle.text.specs.declared.token.Lexeme.{Lexeme}
@@ -47,7 +47,7 @@ run-on run b s e =
     (λ p. let l = ltb-false run longest p in simp (p, e) (saturated run (run * 256 + b) s l (omega arith)))
 
 -- a byte that ends the run
-run-off : (run b : ℕ) (s : List ℕ) → runs b ≡ false → 0 < run → tokens-from run (b ∷ s) ≡ word run ∷ tokens (b ∷ s)
+run-off : (run b : ℕ) (s : List ℕ) → runs b ≡ false → 0 < run → tokens-from run (b ∷ s) ≡ token-of run ∷ tokens (b ∷ s)
 unfolding tokens-from
 run-off run b s e h = simp (e, ne-eqb run 0 (λ z. omega arith))
 
@@ -82,17 +82,17 @@ run-more text run i e =
     run-on run (getD text i 0) (drop (i + 1) text) e ∙ sym (ap (tokens-from run) (split text i (run-inside text i e)))
 
 pub run-ends : (text : List ℕ) (run i : ℕ) → runs (getD text i 0) ≡ false → 0 < run
-    → tokens-from run (drop i text) ≡ word run ∷ tokens (drop i text)
+    → tokens-from run (drop i text) ≡ token-of run ∷ tokens (drop i text)
 unfolding tokens-from
 run-ends text run i e h = ⊎-elim behind before (le-or-lt (length text) i)
   where
-    before : i < length text → tokens-from run (drop i text) ≡ word run ∷ tokens (drop i text)
+    before : i < length text → tokens-from run (drop i text) ≡ token-of run ∷ tokens (drop i text)
     before l =
         ap (tokens-from run) (split text i l)
         ∙ run-off run (getD text i 0) (drop (i + 1) text) e h
-        ∙ sym (ap (λ (s : List ℕ). word run ∷ tokens s) (split text i l))
+        ∙ sym (ap (λ (s : List ℕ). token-of run ∷ tokens s) (split text i l))
 
-    behind : length text ≤ i → tokens-from run (drop i text) ≡ word run ∷ tokens (drop i text)
+    behind : length text ≤ i → tokens-from run (drop i text) ≡ token-of run ∷ tokens (drop i text)
     behind l = simp (drop-of-length-le text l, ne-eqb run 0 (λ z. omega arith))
 
 pub run-grows : (text : List ℕ) (run i : ℕ) → runs (getD text i 0) ≡ true → 0 < grown run (getD text i 0)
@@ -125,7 +125,7 @@ module _ (text : List ℕ) (place next : ℕ) (t : Token) (is : tokens (drop pla
       → place < next → next ≤ length text → Lexed text place x
   lexed x a b c d l m =
       record {
-        kind-is = a ∙ sym (ap first is);
+        kind-is = a ∙ sym (ap first-token is);
         letter-is = b ∙ sym (ap first-letter is);
         value-is = c ∙ sym (ap first-number is);
         rest-is = ap (λ (n : ℕ). tokens (drop n text)) d ∙ sym (ap tail is);
@@ -135,10 +135,10 @@ module _ (text : List ℕ) (place next : ℕ) (t : Token) (is : tokens (drop pla
 
 -- the three ways out of `token_at`
 pub lexed-run : (text : List ℕ) (place start : ℕ) (r : Run) (m : Mark) (x : Lexeme) → Skips text place start → runs (getD text start 0) ≡ true
-    → RunsTo text start r → Marks (word (r .code)) m → x .kind ≡ m .kind → x .letter ≡ m .letter → x .value ≡ m .value
+    → RunsTo text start r → Marks (token-of (r .code)) m → x .kind ≡ m .kind → x .letter ≡ m .letter → x .value ≡ m .value
     → x .next ≡ r .next → Lexed text place x
 lexed-run text place start r m x s e u k a b c d =
-    lexed text place (r .next) (word (r .code)) (sym (s .tokens-are) ∙ u .tokens-are e) x
+    lexed text place (r .next) (token-of (r .code)) (sym (s .tokens-are) ∙ u .tokens-are e) x
     (a ∙ k .kind-is) (b ∙ k .letter-is) (c ∙ k .value-is) d
     (omega (arith, s .moves, u .inside e)) (u .inside e .1)
 
@@ -174,7 +174,7 @@ lexed-end text place start x s l a b c d =
     let e : tokens (drop start text) ≡ [] = ap tokens (drop-of-length-le text l) in
     let f : tokens (drop place text) ≡ [] = sym (s .tokens-are) ∙ e in
     record {
-      kind-is = a ∙ sym (ap first f);
+      kind-is = a ∙ sym (ap first-token f);
       letter-is = b ∙ sym (ap first-letter f);
       value-is = c ∙ sym (ap first-number f);
       rest-is = ap (λ (n : ℕ). tokens (drop n text)) d ∙ e ∙ sym (ap tail f);
@@ -200,7 +200,7 @@ kind-unknown Token.to = refl
 kind-unknown Token.comma = refl
 kind-unknown Token.unknown = refl
 
-some-unknown-is : (ts : List Token) → some-unknown ts ≡ eqb (first ts) 14 || some-unknown (tail ts)
+some-unknown-is : (ts : List Token) → some-unknown ts ≡ eqb (first-token ts) 14 || some-unknown (tail ts)
 unfolding some-unknown
 some-unknown-is [] = refl
 some-unknown-is (t ∷ ts) = ap (λ (b : Bool). b || some-unknown ts) (kind-unknown t)
@@ -223,7 +223,7 @@ not-the-end Token.to e = omega arith
 not-the-end Token.comma e = omega arith
 not-the-end Token.unknown e = omega arith
 
-ends-known : (ts : List Token) → first ts ≡ 15 → some-unknown ts ≡ false
+ends-known : (ts : List Token) → first-token ts ≡ 15 → some-unknown ts ≡ false
 unfolding some-unknown
 ends-known [] e = refl
 ends-known (t ∷ ts) e = absurd (not-the-end t e)
@@ -232,7 +232,7 @@ ends-known (t ∷ ts) e = absurd (not-the-end t e)
 module _ (text : List ℕ) (place : ℕ) (x : Lexeme) (l : Lexed text place x) where
   pub unknown-here : x .kind ≡ 14 → true ≡ some-unknown (tokens (drop place text))
   unknown-here e =
-      sym (some-unknown-is (tokens (drop place text)) ∙ simp (eq-eqb (first (tokens (drop place text))) 14 (sym (l .kind-is) ∙ e)))
+      sym (some-unknown-is (tokens (drop place text)) ∙ simp (eq-eqb (first-token (tokens (drop place text))) 14 (sym (l .kind-is) ∙ e)))
 
   pub none-unknown : x .kind ≡ 15 → false ≡ some-unknown (tokens (drop place text))
   none-unknown e = sym (ends-known (tokens (drop place text)) (sym (l .kind-is) ∙ e))
@@ -240,4 +240,4 @@ module _ (text : List ℕ) (place : ℕ) (x : Lexeme) (l : Lexed text place x) w
   pub unknown-later : (x .kind ≡ 14 → ⊥) → some-unknown (tokens (drop (x .next) text)) ≡ some-unknown (tokens (drop place text))
   unknown-later n =
       ap some-unknown (l .rest-is)
-      ∙ sym (some-unknown-is (tokens (drop place text)) ∙ simp (ne-eqb (first (tokens (drop place text))) 14 (λ e. n (l .kind-is ∙ e))))
+      ∙ sym (some-unknown-is (tokens (drop place text)) ∙ simp (ne-eqb (first-token (tokens (drop place text))) 14 (λ e. n (l .kind-is ∙ e))))

@@ -23,9 +23,9 @@ use Rattle.rule.proofs.Encoded.{length-body, weighed}
 use Rattle.text.specs.Tokens.{Token, tokens, some-unknown, unreadable}
 use Rattle.text.specs.Grammar.{meaning, Derived}
 use Rattle.text.specs.Grammar.Level.{ors}
-use Rattle.text.specs.Parse.{entries-refusal, refusal, bytes, Parses}
-use Rattle.text.specs.Reader.{Lexed, size, phrase, Holds, Reads, Answers}
-use Rattle.text.specs.Reader.{first as first-kind}
+use Rattle.text.specs.Parse.{entries-refusal, text-refusal, bytes, Parses}
+use Rattle.text.specs.Reader.{Lexed, size, phrase, Contains, ReadsPhrase, ReadsLevel}
+use Rattle.text.specs.Reader.{first-token as first-kind}
 use Rattle.text.specs.declared.Parsed.the-variants.{Written, Refused}
 use Rattle.text.specs.declared.token.Lexeme.{Lexeme}
 use Rattle.text.specs.declared.level.Read.the-variants.{Fault}
@@ -38,14 +38,14 @@ chosen : {A : Type 0} (m n : ℕ) (x y : A) → m ≡ suc n → cond (eqb m 0) x
 chosen m n x y e = simp (ne-eqb m 0 (λ z. omega arith))
 
 -- a refusal keeps the lent buffer
-refuses : (text rule : List ℕ) (o : Option Formula) (n : ℕ) → Derived (tokens text) o → refusal text o (length rule) ≡ suc n
+refuses : (text rule : List ℕ) (o : Option Formula) (n : ℕ) → Derived (tokens text) o → text-refusal text o (length rule) ≡ suc n
     → Parses text rule (Refused (suc n)) rule
 refuses text rule o n d e =
     record {
       derives = o;
       derived = d;
-      answers = sym (chosen (refusal text o (length rule)) n _ _ e ∙ ap (λ (k : ℕ). record { number = k; written = 0 }) e);
-      leaves = sym (chosen (refusal text o (length rule)) n _ _ e);
+      answers = sym (chosen (text-refusal text o (length rule)) n _ _ e ∙ ap (λ (k : ℕ). record { number = k; written = 0 }) e);
+      leaves = sym (chosen (text-refusal text o (length rule)) n _ _ e);
     }
 
 -- what is derived, where nothing was read
@@ -83,17 +83,17 @@ module _ (text rule : List ℕ) (short : length text ≤ 1024) (known : some-unk
   abbrev plenty : ℕ
   plenty = suc (size ors text 0) + 4 * length (tokens text)
 
-  pub faulty : (out out′ : List ℕ) → Answers ors none text out 0 0 Fault out′ → Parses text rule (Refused 17) rule
+  pub faulty : (out out′ : List ℕ) → ReadsLevel ors none text out 0 0 Fault out′ → Parses text rule (Refused 17) rule
   faulty out out′ bad = underived (decides (tokens text) plenty (omega arith) none (bad plenty (omega arith)))
 
-  module _ (out out′ : List ℕ) (p n : ℕ) (ok : Reads ors none text out 0 0 p n out′) (x : Lexeme) (l : Lexed text p x) where
+  module _ (out out′ : List ℕ) (p n : ℕ) (ok : ReadsPhrase ors none text out 0 0 p n out′) (x : Lexeme) (l : Lexed text p x) where
     outcome : Derived (tokens text) (at-end (tokens (drop p text)) (meaning (ok .tree)))
     outcome = decides (tokens text) plenty (omega arith) (some (record { tree = ok .tree; rest = tokens (drop p text) })) (ok .finds plenty (omega arith))
 
     pub unfinished : (x .kind ≡ 15 → ⊥) → Parses text rule (Refused 17) rule
     unfinished e = underived (subst (Derived (tokens text)) (at-end-none (tokens (drop p text)) (meaning (ok .tree)) (λ z. e (l .kind-is ∙ z))) outcome)
 
-    module _ (ends : x .kind ≡ 15) (begun : Holds out 0 []) where
+    module _ (ends : x .kind ≡ 15) (begun : Contains out 0 []) where
       abbrev φ : Formula
       φ = meaning (ok .tree)
 
@@ -104,7 +104,7 @@ module _ (text rule : List ℕ) (short : length text ≤ 1024) (known : some-unk
       derives-it =
           subst (Derived (tokens text)) (at-end-some (tokens (drop p text)) φ (sym (l .kind-is) ∙ ends)) outcome
 
-      held : Holds out′ n es
+      held : Contains out′ n es
       held = ok .holds [] begun
 
       pub too-many : 128 < n → Parses text rule (Refused 4) rule
@@ -148,7 +148,7 @@ module _ (text rule : List ℕ) (short : length text ≤ 1024) (known : some-unk
         exceeds = over-limit 1 es (length es)
 
         -- what remains of the refusals
-        pending : refusal text (some φ) (length rule) ≡ first 6 misplaces (first 8 exceeds (first 18 (ltb (length rule) (8 + length es * 10)) 0))
+        pending : text-refusal text (some φ) (length rule) ≡ first 6 misplaces (first 8 exceeds (first 18 (ltb (length rule) (8 + length es * 10)) 0))
         unfolding entries-refusal
         pending = simp (readable, le-ltb 128 (length es) (omega (arith, count-is)))
 
@@ -204,11 +204,11 @@ module _ (text rule : List ℕ) (short : length text ≤ 1024) (known : some-unk
               → Parses text rule (Written (8 + n * 10)) rule′
           wrote h rule′ is =
               let (a, b) = passed w far e in
-              let z : refusal text (some φ) (length rule) ≡ 0 =
+              let z : text-refusal text (some φ) (length rule) ≡ 0 =
               pending ∙ simp (a, b, le-ltb (length rule) (8 + length es * 10) (omega (arith, count-is))) in
               record {
                 derives = some φ;
                 derived = derives-it;
-                answers = ap (λ (k : ℕ). record { number = 0; written = k }) (sym rule-length) ∙ sym (simp (eq-eqb (refusal text (some φ) (length rule)) 0 z));
-                leaves = is ∙ sym (simp (eq-eqb (refusal text (some φ) (length rule)) 0 z));
+                answers = ap (λ (k : ℕ). record { number = 0; written = k }) (sym rule-length) ∙ sym (simp (eq-eqb (text-refusal text (some φ) (length rule)) 0 z));
+                leaves = is ∙ sym (simp (eq-eqb (text-refusal text (some φ) (length rule)) 0 z));
               }

@@ -14,7 +14,7 @@ use Rattle.mtl.proofs.Bounded.{any-false-iff}
 use Rattle.rule.specs.declared.Entry.{Entry}
 use Rattle.rule.specs.Postfix.{root, postfix}
 use Rattle.rule.specs.Refusal.{misshapen, misshapen-at}
-use Rattle.text.specs.Tokens.{Token, runs, lettered, numbered, numeral, word, sign, signed, tokens-from, tokens}
+use Rattle.text.specs.Tokens.{Token, runs, lettered, numbered, numeral, token-of, sign, signed, tokens-from, tokens}
 use Rattle.text.specs.Grammar.{Level, Prefix, Infix, Tree, spell-prefix, spell-infix, spell, meaning, Derives}
 use Rattle.text.specs.Grammar.Tree.{letter, brackets, tight, one, untimed, two, sole, or}
 use Rattle.text.specs.Reader.{letter-value}
@@ -53,8 +53,8 @@ lettered-small v = by (ltb v 32) (λ p. subst Small (sym (let e : lettered v ≡
 numbered-small : (v : ℕ) → Small (numbered v)
 numbered-small v = chosen (ltb v 10000) (Token.number v) Token.unknown (bare-small (Token.number v) refl) (bare-small Token.unknown refl)
 
-word-small : (run : ℕ) → Small (word run)
-unfolding word
+word-small : (run : ℕ) → Small (token-of run)
+unfolding token-of
 word-small run =
     chosen (eqb run 0x6E6F74) _ _ (bare-small Token.not refl)
     (chosen (eqb run 0x6F72) _ _ (bare-small Token.or refl)
@@ -79,11 +79,11 @@ put-front false t ts h k = (h, k)
 
 pub tokens-small : (run : ℕ) (s : List ℕ) → Each Small (tokens-from run s)
 unfolding tokens-from
-tokens-small run [] = put-front (eqb run 0) (word run) [] (word-small run) tt
+tokens-small run [] = put-front (eqb run 0) (token-of run) [] (word-small run) tt
 tokens-small run (b ∷ s) =
     by (runs b)
     (λ p. simp p (tokens-small (run * 256 + b) s))
-    (λ p. simp p (put-front (eqb run 0) (word run) (signed b (tokens-from 0 s)) (word-small run) (put-front (eqb b 32) (sign b) (tokens-from 0 s) (sign-small b) (tokens-small 0 s))))
+    (λ p. simp p (put-front (eqb run 0) (token-of run) (signed b (tokens-from 0 s)) (word-small run) (put-front (eqb b 32) (sign b) (tokens-from 0 s) (sign-small b) (tokens-small 0 s))))
 
 -- an entry with its shape
 abbrev Shaped : Entry → Type 0

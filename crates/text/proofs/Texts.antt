@@ -8,7 +8,7 @@ use lib.ListN.{length}
 use Rattle.mtl.specs.Formula.Formula.{letter, until}
 use Rattle.rule.specs.Postfix.{postfix}
 use Rattle.rule.specs.Encoding.{body, encoded, rule-of}
-use Rattle.text.specs.Tokens.{word, sign, tokens-from, tokens}
+use Rattle.text.specs.Tokens.{token-of, sign, tokens-from, tokens}
 use Rattle.text.specs.Grammar.{Level, meaning, Derived}
 use Rattle.text.specs.Reader.{timing, phrase}
 use Rattle.text.specs.Ascii.{ascii}
@@ -28,7 +28,7 @@ AllDerived [] = Unit {0}
 AllDerived (r ∷ rs) = IsDerived r × AllDerived rs
 
 pub every-text : AllDerived rows
-unfolding AllDerived rows repeated nots ascii tokens-from word sign phrase timing meaning
+unfolding AllDerived rows repeated nots ascii tokens-from token-of sign phrase timing meaning
 every-text = (derived _ refl, (derived _ refl, (derived _ refl, (derived _ refl, (derived _ refl, (derived _ refl, (derived _ refl, (derived _ refl, (derived _ refl, (derived _ refl, (derived _ refl, (derived _ refl, (derived _ refl, (derived _ refl, (derived _ refl, (derived _ refl, (derived _ refl, (derived _ refl, (derived _ refl, (derived _ refl, (derived _ refl, (derived _ refl, (derived _ refl, (derived _ refl, (derived _ refl, (derived _ refl, (derived _ refl, (derived _ refl, (derived _ refl, (derived _ refl, (derived _ refl, (derived _ refl, (derived _ refl, (derived _ refl, (derived _ refl, (derived _ refl, (derived _ refl, (derived _ refl, (derived _ refl, (derived _ refl, (derived _ refl, (derived _ refl, tt))))))))))))))))))))))))))))))))))))))))))
 
 -- the bytes of document 01's full run

@@ -3,7 +3,7 @@ use Prim.Native.Nat.{ℕ, _/_, _%_, _≤_, _<_}
 use native.Mathlib.Omega.{arith}
 use borrow.Author.Tests.{lt-ltb, le-ltb, eq-eqb, ne-eqb}
 use mathlib.Core.Path.{_≡_, sym, ap, subst, _∙_}
-use Rattle.text.specs.Tokens.{Token, single, longer, numeral, lettered, numbered, letter-or-number, word}
+use Rattle.text.specs.Tokens.{Token, single, longer, numeral, lettered, numbered, letter-or-number, token-of}
 use Rattle.text.specs.Reader.{kind, letter-value, number-value, Marks}
 use Rattle.text.specs.declared.token.Mark.{Mark}
 
@@ -47,14 +47,14 @@ plain-number run v m n p e k =
     (simp (ne-eqb (run / 256) 0x65 n, ne-eqb (run / 65536) 0x65 p) (sym (ap numbered e))) k
 
 -- a run that is one of the seven words
-pub bare-word : (t : Token) (w run : ℕ) (m : Mark) → word w ≡ t → letter-value t ≡ 0 → number-value t ≡ 0 → run ≡ w
-    → (m .kind ≡ kind t) × (m .letter ≡ 0) × (m .value ≡ 0) → Marks (word run) m
+pub bare-word : (t : Token) (w run : ℕ) (m : Mark) → token-of w ≡ t → letter-value t ≡ 0 → number-value t ≡ 0 → run ≡ w
+    → (m .kind ≡ kind t) × (m .letter ≡ 0) × (m .value ≡ 0) → Marks (token-of run) m
 bare-word t w run m e a b h k =
-    marks-as (word run) t m (ap word h ∙ e) (record { kind-is = k .0; letter-is = k .1 ∙ sym a; value-is = k .2 ∙ sym b })
+    marks-as (token-of run) t m (ap token-of h ∙ e) (record { kind-is = k .0; letter-is = k .1 ∙ sym a; value-is = k .2 ∙ sym b })
 
 pub other-word : (run : ℕ) → (run ≡ 0x6E6F74 → ⊥) → (run ≡ 0x6F72 → ⊥) → (run ≡ 0x70726576 → ⊥) → (run ≡ 0x6E657874 → ⊥)
-    → (run ≡ 0x73696E6365 → ⊥) → (run ≡ 0x756E74696C → ⊥) → (run ≡ 0x696E66 → ⊥) → word run ≡ letter-or-number run
-unfolding word
+    → (run ≡ 0x73696E6365 → ⊥) → (run ≡ 0x756E74696C → ⊥) → (run ≡ 0x696E66 → ⊥) → token-of run ≡ letter-or-number run
+unfolding token-of
 other-word run a b c d e f g =
     simp
     (ne-eqb run 0x6E6F74 a, ne-eqb run 0x6F72 b, ne-eqb run 0x70726576 c, ne-eqb run 0x6E657874 d, ne-eqb run 0x73696E6365 e, ne-eqb run 0x756E74696C f, ne-eqb run 0x696E66 g)
@@ -66,7 +66,7 @@ long-single b h = simp (le-ltb b 48 (omega arith), lt-ltb 57 b (omega arith))
 long-longer : (run front : ℕ) → 256 ≤ run → 1000 ≤ front → longer run front ≡ 10000
 long-longer run front h k = simp (le-ltb run 256 h, ne-eqb front 0 (λ e. omega arith), le-ltb front 1000 k)
 
-pub long-word : (run : ℕ) → 1099511627776 ≤ run → word run ≡ Token.unknown
+pub long-word : (run : ℕ) → 1099511627776 ≤ run → token-of run ≡ Token.unknown
 long-word run h =
     let a : single (run / 16777216) ≡ 10000 = long-single (run / 16777216) (omega arith) in
     let b : longer (run / 65536) (single (run / 16777216)) ≡ 10000 =

@@ -7,7 +7,7 @@ use mathlib.Core.Option.{some}
 use Rattle.mtl.specs.Formula.{Formula}
 use Rattle.mtl.specs.Formula.Formula.{letter, not, or, since, until}
 use Rattle.text.specs.Ascii.{ascii}
-use Rattle.text.specs.Tokens.{word, sign, tokens-from, tokens}
+use Rattle.text.specs.Tokens.{token-of, sign, tokens-from, tokens}
 use Rattle.text.specs.Grammar.{Prefix, Infix, Tree, spell, meaning, Derived}
 use Rattle.text.specs.Grammar.Level.{prefixed}
 use Rattle.text.specs.Grammar.End.{at}
@@ -29,7 +29,7 @@ pub rows :
     × Row "e0 or e1 or e2" (or (or (letter 0) (letter 1)) (letter 2))
     × Row "not e0 until[0,1] e1" (until 0 1 (not (letter 0)) (letter 1))
     × Row "(e0 or e1) until[0,1] e2" (until 0 1 (or (letter 0) (letter 1)) (letter 2))
-unfolding ascii tokens-from word sign spell meaning
+unfolding ascii tokens-from token-of sign spell meaning
 rows = (
   record {
     tree = sole (two (e 0) (Infix.since 0 (at 1)) (two (e 1) (Infix.until 0 (at 2)) (untimed (e 2))));

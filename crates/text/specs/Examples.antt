@@ -13,8 +13,8 @@ use Rattle.mtl.specs.Satisfaction.{any}
 use Rattle.rule.specs.Words.{offset}
 use Rattle.rule.specs.Postfix.{postfix}
 use Rattle.text.specs.Ascii.{ascii}
-use Rattle.text.specs.Tokens.{word, sign, tokens-from, some-unknown}
-use Rattle.text.specs.Parse.{entries-refusal, refusal}
+use Rattle.text.specs.Tokens.{token-of, sign, tokens-from, some-unknown}
+use Rattle.text.specs.Parse.{entries-refusal, text-refusal}
 
 -- a text, the bytes of the lent buffer, the number of the refusal that it meets or 0, and what the grammar derives from it
 pub record Row : Type 0 where
@@ -108,7 +108,7 @@ rows =
 
 -- 0, or the number n of a row that does not compute
 unfoldable pub wrong : ℕ → Row → ℕ
-wrong n r = cond (eqb (refusal (r .text) (r .derives) (r .room)) (r .number)) 0 n
+wrong n r = cond (eqb (text-refusal (r .text) (r .derives) (r .room)) (r .number)) 0 n
 
 -- none of the rows is wrong, the first of them having number n
 unfoldable pub Right : ℕ → List Row → Type 0
@@ -117,5 +117,5 @@ Right n (r ∷ rs) = (wrong n r ≡ 0) × Right (suc n) rs
 
 -- every row computes; an edit of the definitions that breaks a row has its number in an error
 pub every-row : Right 1 rows
-unfolding Right wrong rows repeated nots ascii tokens-from word sign some-unknown postfix entries-refusal any offset
+unfolding Right wrong rows repeated nots ascii tokens-from token-of sign some-unknown postfix entries-refusal any offset
 every-row = (refl, (refl, (refl, (refl, (refl, (refl, (refl, (refl, (refl, (refl, (refl, (refl, (refl, (refl, (refl, (refl, (refl, (refl, (refl, (refl, (refl, (refl, (refl, (refl, (refl, (refl, (refl, (refl, (refl, (refl, (refl, (refl, (refl, (refl, (refl, (refl, (refl, (refl, (refl, (refl, (refl, (refl, tt))))))))))))))))))))))))))))))))))))))))))

@@ -46,8 +46,8 @@ entries-of none = []
 entries-of (some φ) = postfix φ
 
 -- the number with which reading the text stops, by what the grammar derives from it; 0 where it is accepted
-abbrev pub refusal : List ℕ → Option Formula → ℕ → ℕ
-refusal text o room = first 16 (unreadable text) (first 17 (underived o) (entries-refusal (entries-of o) room))
+abbrev pub text-refusal : List ℕ → Option Formula → ℕ → ℕ
+text-refusal text o room = first 16 (unreadable text) (first 17 (underived o) (entries-refusal (entries-of o) room))
 
 -- the rule's bytes
 abbrev pub bytes : Option Formula → List ℕ
@@ -56,15 +56,15 @@ bytes (some φ) = rule-of φ
 
 abbrev pub parsed : List ℕ → Option Formula → ℕ → Answer
 parsed text o room =
-    cond (eqb (refusal text o room) 0) (record { number = 0; written = length (bytes o) }) (record { number = refusal text o room; written = 0 })
+    cond (eqb (text-refusal text o room) 0) (record { number = 0; written = length (bytes o) }) (record { number = text-refusal text o room; written = 0 })
 
 -- the lent buffer afterwards: "the bytes behind what a call writes are kept", and a refused call keeps them all
-abbrev pub left : List ℕ → Option Formula → List ℕ → List ℕ
-left text o rule = cond (eqb (refusal text o (length rule)) 0) (bytes o ++ drop (length (bytes o)) rule) rule
+abbrev pub rule-buffer-after : List ℕ → Option Formula → List ℕ → List ℕ
+rule-buffer-after text o rule = cond (eqb (text-refusal text o (length rule)) 0) (bytes o ++ drop (length (bytes o)) rule) rule
 
 -- what the grammar derives from the text's tokens, a formula or none, settles the rest
 pub record Parses (text rule : List ℕ) (r : Parsed) (rule′ : List ℕ) : Type 0 where
   pub derives : Option Formula
   pub derived : Derived (tokens text) derives
   pub answers : answer r ≡ parsed text derives (length rule)
-  pub leaves : rule′ ≡ left text derives rule
+  pub leaves : rule′ ≡ rule-buffer-after text derives rule

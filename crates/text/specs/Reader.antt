@@ -13,7 +13,7 @@ use lib.ListN.{length, take, drop, getD}
 use Rattle.rule.specs.declared.Entry.{Entry}
 use Rattle.rule.specs.Postfix.{postfix}
 use Rattle.rule.specs.Encoding.{entry-bytes, body}
-use Rattle.text.specs.Tokens.{Token, runs, word, tokens}
+use Rattle.text.specs.Tokens.{Token, runs, token-of, tokens}
 use Rattle.text.specs.Grammar.{Level, End, Prefix, Infix, Tree, meaning, bound}
 use Rattle.text.specs.Grammar.Level.{ors, timed, prefixed, atom}
 use Rattle.text.specs.Grammar.End.{at}
@@ -78,9 +78,9 @@ number-value Token.comma = 0
 number-value Token.unknown = 0
 
 -- the first token's number, 15 at the end, and its values
-abbrev pub first : List Token → ℕ
-first [] = 15
-first (t ∷ ts) = kind t
+abbrev pub first-token : List Token → ℕ
+first-token [] = 15
+first-token (t ∷ ts) = kind t
 
 abbrev pub first-letter : List Token → ℕ
 first-letter [] = 0
@@ -109,11 +109,11 @@ pub record Skips (text : List ℕ) (place next : ℕ) : Type 0 where
 -- the run at a place, where one stands: one word, and the place behind it
 pub record RunsTo (text : List ℕ) (place : ℕ) (r : Run) : Type 0 where
   pub inside : runs (getD text place 0) ≡ true → (place < r .next) × (r .next ≤ length text)
-  pub tokens-are : runs (getD text place 0) ≡ true → tokens (drop place text) ≡ word (r .code) ∷ tokens (drop (r .next) text)
+  pub tokens-are : runs (getD text place 0) ≡ true → tokens (drop place text) ≡ token-of (r .code) ∷ tokens (drop (r .next) text)
 
 -- the next token at a place of the text, and the place behind it
 pub record Lexed (text : List ℕ) (place : ℕ) (x : Lexeme) : Type 0 where
-  pub kind-is : x .kind ≡ first (tokens (drop place text))
+  pub kind-is : x .kind ≡ first-token (tokens (drop place text))
   pub letter-is : x .letter ≡ first-letter (tokens (drop place text))
   pub value-is : x .value ≡ first-number (tokens (drop place text))
   pub rest-is : tokens (drop (x .next) text) ≡ tail (tokens (drop place text))
@@ -127,14 +127,14 @@ pub record Timing : Type 0 where
   pub rest : List Token
 
 abbrev pub end-of : List Token → End
-end-of ts = cond (eqb (first ts) 8) End.inf (at (first-number ts))
+end-of ts = cond (eqb (first-token ts) 8) End.inf (at (first-number ts))
 
 -- [ number , number or inf ]
 abbrev pub bounded : List Token → Bool
 bounded ts =
-    eqb (first ts) 11 && eqb (first (tail ts)) 7 && eqb (first (tail (tail ts))) 13
-    && (eqb (first (tail (tail (tail ts)))) 7 || eqb (first (tail (tail (tail ts)))) 8)
-    && eqb (first (tail (tail (tail (tail ts))))) 12
+    eqb (first-token ts) 11 && eqb (first-token (tail ts)) 7 && eqb (first-token (tail (tail ts))) 13
+    && (eqb (first-token (tail (tail (tail ts)))) 7 || eqb (first-token (tail (tail (tail ts)))) 8)
+    && eqb (first-token (tail (tail (tail (tail ts))))) 12
 
 unfoldable pub timing : ℕ → List Token → Option Timing
 timing k ts =
@@ -175,26 +175,26 @@ abbrev pub joined : Option (Tree ors) → Tree timed → Tree ors
 joined none u = Tree.sole u
 joined (some t) u = Tree.or t u
 
-abbrev pub closed : Phrase ors → Option (Phrase atom)
-closed p = cond (eqb (first (p .rest)) 10) (some (record { tree = Tree.brackets (p .tree); rest = tail (p .rest) })) none
+abbrev pub bracketed : Phrase ors → Option (Phrase atom)
+bracketed p = cond (eqb (first-token (p .rest)) 10) (some (record { tree = Tree.brackets (p .tree); rest = tail (p .rest) })) none
 
 -- each level, by the levels that it calls
 abbrev pub atom-by : (List Token → Option (Phrase ors)) → List Token → Option (Phrase atom)
 atom-by inner ts =
-    let inside = then (inner (tail ts)) closed in
-    let other = cond (eqb (first ts) 9) inside none in
-    cond (eqb (first ts) 0) (some (record { tree = Tree.letter (first-letter ts); rest = tail ts })) other
+    let inside = then (inner (tail ts)) bracketed in
+    let other = cond (eqb (first-token ts) 9) inside none in
+    cond (eqb (first-token ts) 0) (some (record { tree = Tree.letter (first-letter ts); rest = tail ts })) other
 
 abbrev pub prefixed-by :
     (List Token → Option (Phrase prefixed)) → (List Token → Option (Phrase atom)) → List Token → Option (Phrase prefixed)
 prefixed-by again below ts =
     let operator : Option (Phrase prefixed) =
-    then (timing (first ts) (tail ts))
+    then (timing (first-token ts) (tail ts))
     (λ (w : Timing).
     then (again (w .rest))
-    (λ (p : Phrase prefixed). some (record { tree = Tree.one (prefix-of (first ts) w) (p .tree); rest = p .rest }))) in
+    (λ (p : Phrase prefixed). some (record { tree = Tree.one (prefix-of (first-token ts) w) (p .tree); rest = p .rest }))) in
     let operand : Option (Phrase prefixed) = then (below ts) (λ (p : Phrase atom). some (record { tree = Tree.tight (p .tree); rest = p .rest })) in
-    cond (before-operand (first ts)) operator operand
+    cond (before-operand (first-token ts)) operator operand
 
 abbrev pub timed-by :
     (List Token → Option (Phrase timed)) → (List Token → Option (Phrase prefixed)) → List Token → Option (Phrase timed)
@@ -202,11 +202,11 @@ timed-by again below ts =
     then (below ts)
     (λ (p : Phrase prefixed).
     let operator : Option (Phrase timed) =
-    then (timing (first (p .rest)) (tail (p .rest)))
+    then (timing (first-token (p .rest)) (tail (p .rest)))
     (λ (w : Timing).
     then (again (w .rest))
-    (λ (q : Phrase timed). some (record { tree = Tree.two (p .tree) (infix-of (first (p .rest)) w) (q .tree); rest = q .rest }))) in
-    cond (between-operands (first (p .rest))) operator (some (record { tree = Tree.untimed (p .tree); rest = p .rest })))
+    (λ (q : Phrase timed). some (record { tree = Tree.two (p .tree) (infix-of (first-token (p .rest)) w) (q .tree); rest = q .rest }))) in
+    cond (between-operands (first-token (p .rest))) operator (some (record { tree = Tree.untimed (p .tree); rest = p .rest })))
 
 abbrev pub ors-by :
     (Option (Tree ors) → List Token → Option (Phrase ors)) → (List Token → Option (Phrase timed)) → Option (Tree ors) → List Token → Option (Phrase ors)
@@ -214,7 +214,7 @@ ors-by again below before ts =
     then (below ts)
     (λ (p : Phrase timed).
     let on = again (some (joined before (p .tree))) (tail (p .rest)) in
-    cond (eqb (first (p .rest)) 2) on (some (record { tree = joined before (p .tree); rest = p .rest })))
+    cond (eqb (first-token (p .rest)) 2) on (some (record { tree = joined before (p .tree); rest = p .rest })))
 
 -- a phrase of a level at the front of the tokens, found in fewer than f calls that stand inside one another
 unfoldable pub phrase : ℕ → (l : Level) → Option (Tree ors) → List Token → Option (Phrase l)
@@ -239,7 +239,7 @@ abbrev pub start : List ℕ
 start = 0x4B ∷ 0x52 ∷ 0x4C ∷ 0 ∷ 1 ∷ 0 ∷ 0 ∷ 0 ∷ []
 
 -- the buffer has these entries, n of them; 129 for more than 128, of which it holds nothing
-pub record Holds (out : List ℕ) (n : ℕ) (es : List Entry) : Type 0 where
+pub record Contains (out : List ℕ) (n : ℕ) (es : List Entry) : Type 0 where
   pub long : length out ≡ 1288
   pub counts : n ≡ min (length es) 129
   pub bytes : length es ≤ 128 → take (8 + n * 10) out ≡ start ++ body es
@@ -262,21 +262,21 @@ abbrev pub written : Option (Tree ors) → List Entry
 written none = []
 written (some t) = postfix (meaning t)
 
-abbrev pub given : Option (Tree ors) → Bool
-given none = false
-given (some t) = true
+abbrev pub is-given : Option (Tree ors) → Bool
+is-given none = false
+is-given (some t) = true
 
 -- a level of the reader: it finds the phrase, and puts the entries of its formula behind those that the buffer has
-pub record Reads (l : Level) (before : Option (Tree ors)) (text out : List ℕ) (place n place′ n′ : ℕ) (out′ : List ℕ) : Type 0 where
+pub record ReadsPhrase (l : Level) (before : Option (Tree ors)) (text out : List ℕ) (place n place′ n′ : ℕ) (out′ : List ℕ) : Type 0 where
   pub tree : Tree l
   pub moves : place ≤ place′
   pub finds : (f : ℕ) → size l text place < f → phrase f l before (tokens (drop place text)) ≡ some (record { tree = tree; rest = tokens (drop place′ text) })
-  pub holds : (es : List Entry) → Holds out n (es ++ written before) → Holds out′ n′ (es ++ postfix (meaning tree))
+  pub holds : (es : List Entry) → Contains out n (es ++ written before) → Contains out′ n′ (es ++ postfix (meaning tree))
 
-abbrev pub Answers : (l : Level) → Option (Tree ors) → List ℕ → List ℕ → ℕ → ℕ → Read → List ℕ → Type 0
-Answers l before text out place n (Formula place′ n′) out′ = Reads l before text out place n place′ n′ out′
-Answers l before text out place n Fault out′ = (f : ℕ) → size l text place < f → phrase f l before (tokens (drop place text)) ≡ none
+abbrev pub ReadsLevel : (l : Level) → Option (Tree ors) → List ℕ → List ℕ → ℕ → ℕ → Read → List ℕ → Type 0
+ReadsLevel l before text out place n (Formula place′ n′) out′ = ReadsPhrase l before text out place n place′ n′ out′
+ReadsLevel l before text out place n Fault out′ = (f : ℕ) → size l text place < f → phrase f l before (tokens (drop place text)) ≡ none
 
 -- whatever phrase stands before this one, if one does
 abbrev pub AnswersAfter : Bool → List ℕ → List ℕ → ℕ → ℕ → Read → List ℕ → Type 0
-AnswersAfter later text out place n r out′ = (before : Option (Tree ors)) → later ≡ given before → Answers ors before text out place n r out′
+AnswersAfter later text out place n r out′ = (before : Option (Tree ors)) → later ≡ is-given before → ReadsLevel ors before text out place n r out′

@@ -48,8 +48,8 @@ letter-or-number run =
     (cond (eqb (run / 65536) 0x65) (lettered (numeral (run % 65536))) (numbered (numeral run)))
 
 -- not, or, prev, next, since, until, inf in ASCII; else a letter or a number
-unfoldable pub word : ℕ → Token
-word run =
+unfoldable pub token-of : ℕ → Token
+token-of run =
     cond (eqb run 0x6E6F74) not
     (cond (eqb run 0x6F72) or
     (cond (eqb run 0x70726576) prev
@@ -67,7 +67,7 @@ sign b =
 
 -- the run that has ended here, if there is one
 abbrev pub ended : ℕ → List Token → List Token
-ended run ts = cond (eqb run 0) ts (word run ∷ ts)
+ended run ts = cond (eqb run 0) ts (token-of run ∷ ts)
 
 -- a byte that is in no run: a space is no token
 abbrev pub signed : ℕ → List Token → List Token

@@ -5,7 +5,7 @@ ghost use mathlib.Core.Bool.{cond};
 ghost use mathlib.Core.Option.{none};
 ghost use lib.Dec.{eqb};
 ghost use Rattle.text.specs.Grammar.Level.{timed as timed-level, prefixed as prefixed-level, atom as atom-level};
-ghost use Rattle.text.specs.Reader.{Timed, Joins, Answers, AnswersAfter};
+ghost use Rattle.text.specs.Reader.{Timed, Joins, ReadsLevel, AnswersAfter};
 use super::entries;
 use super::token;
 
@@ -64,7 +64,7 @@ fn end(kind: u8, value: u32) -> u32
 
 // A letter, or a phrase in brackets.
 fn atom(text: &[u8], at: usize, out: &mut [u8; 1288], count: usize) -> Read
-    ensures { λ r. ⌜ Answers atom-level none (now (text .entry)) (now (out .entry)) at count r (now (out .exit)) ⌝ }
+    ensures { λ r. ⌜ ReadsLevel atom-level none (now (text .entry)) (now (out .entry)) at count r (now (out .exit)) ⌝ }
 {
     let token = token::token_at(text, at);
     if token.kind == token::LETTER {
@@ -95,7 +95,7 @@ fn atom(text: &[u8], at: usize, out: &mut [u8; 1288], count: usize) -> Read
 
 // not, prev and next, each before such a phrase.
 fn prefixed(text: &[u8], at: usize, out: &mut [u8; 1288], count: usize) -> Read
-    ensures { λ r. ⌜ Answers prefixed-level none (now (text .entry)) (now (out .entry)) at count r (now (out .exit)) ⌝ }
+    ensures { λ r. ⌜ ReadsLevel prefixed-level none (now (text .entry)) (now (out .entry)) at count r (now (out .exit)) ⌝ }
 {
     let token = token::token_at(text, at);
     let kind = token.kind;
@@ -120,7 +120,7 @@ fn prefixed(text: &[u8], at: usize, out: &mut [u8; 1288], count: usize) -> Read
 
 // since and until, which group to the right.
 fn timed(text: &[u8], at: usize, out: &mut [u8; 1288], count: usize) -> Read
-    ensures { λ r. ⌜ Answers timed-level none (now (text .entry)) (now (out .entry)) at count r (now (out .exit)) ⌝ }
+    ensures { λ r. ⌜ ReadsLevel timed-level none (now (text .entry)) (now (out .entry)) at count r (now (out .exit)) ⌝ }
 {
     let Read::Formula { at: left, count: n } = prefixed(text, at, out, count) else {
         return Read::Fault;

@@ -3,7 +3,7 @@ ghost use mathlib.Core.Path.{_≡_};
 ghost use mathlib.Core.Bool.{cond};
 ghost use Prim.Native.Nat.{_+_, _*_, _≤_, _<_};
 ghost use lib.Dec.{ltb};
-ghost use Rattle.text.specs.Tokens.{runs, single, extended, longer, numeral, lettered, numbered, letter-or-number, word, tokens, some-unknown};
+ghost use Rattle.text.specs.Tokens.{runs, single, extended, longer, numeral, lettered, numbered, letter-or-number, token-of, tokens, some-unknown};
 ghost use Rattle.text.specs.Tokens.{sign as sign-of};
 ghost use Rattle.text.specs.Reader.{kind, Marks, Skips, RunsTo, Lexed};
 
@@ -179,7 +179,7 @@ fn bare(kind: u8) -> Mark
 
 // The word that a run is: its bytes are those of not, or, prev, next, since, until, inf in ASCII, or a letter's or a number's.
 fn word_mark(run: u64) -> Mark
-    ensures { λ r. ⌜ Marks (word run) r ⌝ }
+    ensures { λ r. ⌜ Marks (token-of run) r ⌝ }
 {
     if run == 0x6E6F74 {
         bare(NOT)

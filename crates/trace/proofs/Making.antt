@@ -15,7 +15,7 @@ use lib.Seq.{length-take-le, take-at, drop-at, drop-drop, sets, sets-eq, length-
 use Rattle.mtl.proofs.Bounded.{le-or-lt, false-iff, and-iff}
 use Rattle.trace.specs.Format.{word-at, record-count, time-at, events-at, records-of, skips-of, malformed}
 use Rattle.trace.specs.Order.{disordered}
-use Rattle.trace.specs.Making.{header, word-bytes, record-bytes, records-bytes, log-bytes, trimmed-bytes, put}
+use Rattle.trace.specs.Making.{log-header, word-bytes, record-bytes, records-bytes, log-bytes, trimmed-bytes, put}
 use Rattle.trace.proofs.Laws.{well-formed-iff, ordered-iff}
 
 -- stores one behind the other
@@ -131,7 +131,7 @@ module _ (time events : ℕ → ℕ) where
   pub made-well : (n : ℕ) → n ≤ 1000000 → malformed (log-bytes time events n) ≡ false
   made-well n few =
       let size = records-length n in
-      let long = length-append (header 1) (records-bytes time events n) in
+      let long = length-append (log-header 1) (records-bytes time events n) in
       well-formed-iff (log-bytes time events n) .1
       (record { long = le-ltb (length (log-bytes time events n)) 8 (omega arith); header = refl; whole = omega arith; few = omega arith })
 
@@ -166,18 +166,18 @@ module _ (time events : ℕ → ℕ) where
 
   -- header and records
   pub put-log : (buffer : List ℕ) (n : ℕ) → 8 + n * 8 ≤ length buffer →
-      put (put buffer 0 (header 1)) 8 (records-bytes time events n) ≡ log-bytes time events n ++ drop (8 + n * 8) buffer
+      put (put buffer 0 (log-header 1)) 8 (records-bytes time events n) ≡ log-bytes time events n ++ drop (8 + n * 8) buffer
   put-log buffer n fits =
       let size = records-length n in
-      let total : 0 + length (log-bytes time events n) ≡ 8 + n * 8 = omega (arith, length-append (header 1) (records-bytes time events n)) in
-      put-behind buffer 0 (header 1) (records-bytes time events n) (omega arith) ∙ ap (λ (k : ℕ). log-bytes time events n ++ drop k buffer) total
+      let total : 0 + length (log-bytes time events n) ≡ 8 + n * 8 = omega (arith, length-append (log-header 1) (records-bytes time events n)) in
+      put-behind buffer 0 (log-header 1) (records-bytes time events n) (omega arith) ∙ ap (λ (k : ℕ). log-bytes time events n ++ drop k buffer) total
 
 -- header, count and records of a trimmed log
 pub put-trimmed : (buffer : List ℕ) (n : ℕ) (s : List ℕ) → 16 + length s ≤ length buffer →
-    put (put (put (put buffer 0 (header 3)) 8 (word-bytes (n / 4294967296))) 12 (word-bytes (n % 4294967296))) 16 s ≡ put buffer 0 (trimmed-bytes n s)
+    put (put (put (put buffer 0 (log-header 3)) 8 (word-bytes (n / 4294967296))) 12 (word-bytes (n % 4294967296))) 16 s ≡ put buffer 0 (trimmed-bytes n s)
 put-trimmed buffer n s fits =
     let high = word-bytes (n / 4294967296) in
     let low = word-bytes (n % 4294967296) in
-    ap (λ (b : List ℕ). put (put b 12 low) 16 s) (put-behind buffer 0 (header 3) high (omega arith)) ∙
-    ap (λ (b : List ℕ). put b 16 s) (put-behind buffer 0 (header 3 ++ high) low (omega arith)) ∙
-    put-behind buffer 0 ((header 3 ++ high) ++ low) s (omega arith)
+    ap (λ (b : List ℕ). put (put b 12 low) 16 s) (put-behind buffer 0 (log-header 3) high (omega arith)) ∙
+    ap (λ (b : List ℕ). put b 16 s) (put-behind buffer 0 (log-header 3 ++ high) low (omega arith)) ∙
+    put-behind buffer 0 ((log-header 3 ++ high) ++ low) s (omega arith)

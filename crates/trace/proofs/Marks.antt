@@ -16,7 +16,7 @@ use Rattle.bits.specs.Packed.{bit, number}
 use Rattle.bits.proofs.Laws.{bit-or}
 use Rattle.trace.specs.Format.{record-count}
 use Rattle.trace.specs.Positions.{is-service, positions, before}
-use Rattle.trace.specs.View.{first, total, skips, closed, marked, Marks, MarkedToo, Views, served, ViewOf}
+use Rattle.trace.specs.View.{slice-first, total, skips, closed, block-marked, BlockMarks, MarkedToo, Views, served, ViewOf}
 use Rattle.trace.specs.Window.{some-service}
 use Rattle.trace.proofs.Counting.{count-service, count-most}
 use Rattle.trace.proofs.Slices.{served-before, served-skips, flag-told}
@@ -27,7 +27,7 @@ use Rattle.trace.proofs.Slices.{served-before, served-skips, flag-told}
 abbrev pub word-of : (block : ℕ) → ℕ
 word-of block = 4 + block / 64
 
-by-bit : (v : List ℕ) (block : ℕ) → bit (getD v (word-of block) 0) (block % 64) ≡ true → marked v block ≡ true
+by-bit : (v : List ℕ) (block : ℕ) → bit (getD v (word-of block) 0) (block % 64) ≡ true → block-marked v block ≡ true
 by-bit v block one = or-iff (leb 3968 block) (bit (getD v (word-of block) 0) (block % 64)) .1 (inr one)
 
 power-bit : (k : ℕ) → bit (2 ^ k) k ≡ true
@@ -86,8 +86,8 @@ module _ (v : List ℕ) (block : ℕ) (long : length v ≡ 66) where
 -- WINDOWS WITHOUT MARKS
 
 -- a few records lie in the block of the first of them or in that of the record behind them
-pub none-marked : (v s : List ℕ) (from n : ℕ) → from + n ≤ record-count s → n ≤ 65 → Marks v s →
-    marked v (from / 256) || marked v ((from + n) / 256) ≡ false → some-service s from n ≡ false
+pub none-marked : (v s : List ℕ) (from n : ℕ) → from + n ≤ record-count s → n ≤ 65 → BlockMarks v s →
+    block-marked v (from / 256) || block-marked v ((from + n) / 256) ≡ false → some-service s from n ≡ false
 none-marked v s from n inside few marks none =
     any-false-iff n (λ (i : ℕ). is-service s (from + i)) .1
     (λ i h.
@@ -95,7 +95,7 @@ none-marked v s from n inside few marks none =
     (λ service.
     let here = marks (from + i) (omega arith) service in
     true-and-false
-    (or-iff (marked v (from / 256)) (marked v ((from + n) / 256)) .1
+    (or-iff (block-marked v (from / 256)) (block-marked v ((from + n) / 256)) .1
     (⊎-elim
     (λ l. let e : (from + i) / 256 ≡ from / 256 = omega arith in inl (rw e at here))
     (λ l. let e : (from + i) / 256 ≡ (from + n) / 256 = omega arith in inr (rw e at here))
@@ -118,7 +118,7 @@ pub record Marking (s : List ℕ) (found from : ℕ) (v : List ℕ) : Type 0 whe
   pub inside : from ≤ record-count s
   pub whole : from < record-count s → from % 256 ≡ 0
   pub counted : found ≡ positions s from
-  pub marks : (i : ℕ) → i < from → is-service s i ≡ true → marked v (i / 256) ≡ true
+  pub marks : (i : ℕ) → i < from → is-service s i ≡ true → block-marked v (i / 256) ≡ true
 
 module _ (s v : List ℕ) where
   pub marking-none : length v ≡ 66 → Marking s 0 0 v
@@ -127,11 +127,11 @@ module _ (s v : List ℕ) where
 
   pub marking-on : (found from n here : ℕ) (v′ : List ℕ) → Marking s found from v → from < record-count s → n ≡ min (record-count s - from) 256 →
       positions s from + here ≡ positions s (from + n) → MarkedToo v (from / 256) (ltb here n) v′ → Marking s (found + here) (from + n) v′
-  marking-on found from n here v′ so-far more size counts marked =
+  marking-on found from n here v′ so-far more size counts block-marked =
       let whole = so-far .whole more in
       let few : n ≤ 256 = omega arith in
       record {
-        long = marked .long;
+        long = block-marked .long;
         inside = omega arith;
         whole = λ h. omega arith;
         counted = ap (λ (m : ℕ). m + here) (so-far .counted) ∙ counts;
@@ -140,13 +140,13 @@ module _ (s v : List ℕ) where
             (λ low.
             let e : from / 256 ≡ i / 256 = omega arith in
             let fewer = ⊎-elim (λ all. absurd (all-counted s from n i (omega arith) low h service)) (λ l. l) (le-or-lt n here) in
-            rw (← e) (marked .this (lt-ltb here n fewer)))
-            (λ before. marked .kept (i / 256) (so-far .marks i before service))
+            rw (← e) (block-marked .this (lt-ltb here n fewer)))
+            (λ before. block-marked .kept (i / 256) (so-far .marks i before service))
             (le-or-lt from i);
       }
 
   pub marking-all : (found from : ℕ) → Marking s found from v → record-count s ≤ from →
-      (found ≡ positions s (record-count s)) × (length v ≡ 66) × Marks v s
+      (found ≡ positions s (record-count s)) × (length v ≡ 66) × BlockMarks v s
   marking-all found from so-far all =
       let end : from ≡ record-count s = omega (arith, so-far .inside) in
       (so-far .counted ∙ ap (positions s) end, so-far .long, λ i h service. so-far .marks i (omega arith) service)
@@ -164,7 +164,7 @@ numbers-first (x ∷ y ∷ []) a b c d h = absurd (omega arith)
 numbers-first (x ∷ y ∷ z ∷ []) a b c d h = absurd (omega arith)
 numbers-first (x ∷ y ∷ z ∷ w ∷ marks) a b c d h = refl
 
-marks-kept : (v : List ℕ) (a b c d block : ℕ) → marked (numbered v a b c d) block ≡ marked v block
+marks-kept : (v : List ℕ) (a b c d block : ℕ) → block-marked (numbered v a b c d) block ≡ block-marked v block
 marks-kept v a b c d block =
     ap (λ (w : ℕ). leb 3968 block || bit w (block % 64))
     (getD-set-other (set (set (set v 0 a) 1 b) 2 c) 3 (word-of block) d 0 (λ e. omega arith)
@@ -172,7 +172,7 @@ marks-kept v a b c d block =
     ∙ getD-set-other (set v 0 a) 1 (word-of block) b 0 (λ e. omega arith)
     ∙ getD-set-other v 0 (word-of block) a 0 (λ e. omega arith))
 
-pub view-made : (s v : List ℕ) (from q : ℕ) (skipping ended : Bool) → length v ≡ 66 → (skipping ≡ true → Marks v s) →
+pub view-made : (s v : List ℕ) (from q : ℕ) (skipping ended : Bool) → length v ≡ 66 → (skipping ≡ true → BlockMarks v s) →
     ViewOf from q skipping ended s (numbered v from (q + before skipping s (record-count s)) (number (served skipping s)) (number ended))
 view-made s v from q skipping ended long marks =
     let total = q + before skipping s (record-count s) in
@@ -187,8 +187,8 @@ view-made s v from q skipping ended long marks =
 
 -- what is told of a view that was made
 module _ {from q : ℕ} {skipping ended : Bool} {s v : List ℕ} (made : ViewOf from q skipping ended s v) where
-  pub first-told : first v ≡ from
-  first-told = ap (λ (u : List ℕ). first u) (made .numbers)
+  pub first-told : slice-first v ≡ from
+  first-told = ap (λ (u : List ℕ). slice-first u) (made .numbers)
 
   pub total-told : total v ≡ q + before skipping s (record-count s)
   total-told = ap (λ (u : List ℕ). total u) (made .numbers) ∙ ap (λ (n : ℕ). q + n) (served-before skipping s)

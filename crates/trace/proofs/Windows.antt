@@ -19,7 +19,7 @@ use Rattle.bits.proofs.Laws.{number-bit, packed-none, packed-same}
 use Rattle.trace.specs.Format.{record-count, events-at, has-letter}
 use Rattle.trace.specs.Positions.{is-service, seek, spot, place, moved, positions, Inside}
 use Rattle.trace.specs.Making.{put}
-use Rattle.trace.specs.View.{first, skips, in-slice}
+use Rattle.trace.specs.View.{slice-first, skips, in-slice}
 use Rattle.trace.specs.Window.{some-service, dense, record-of, SameRecord, letter-at, Counted, Copied, Lettered, Opened, Behind, Gathered, Windowed, Passed, Found}
 use Rattle.trace.specs.declared.window.Letters.{Letters}
 use Rattle.trace.specs.declared.window.Window.{Window}
@@ -413,7 +413,7 @@ module _ (v s : List ℕ) (head n : ℕ) (w : Window) where
 
   module _ (windowed : Windowed v s head n w) (some : 0 < n) where
     abbrev at : ℕ
-    at = in-slice (first v) head
+    at = in-slice (slice-first v) head
 
     pub begins : w .at ≡ at
     begins = windowed .3 .start
@@ -424,7 +424,7 @@ module _ (v s : List ℕ) (head n : ℕ) (w : Window) where
         let start = begins in
         omega (arith, windowed .2, dense-fits (skips v) s at m (sym (windowed .3 .kind) ∙ e))
 
-    pub passed-dense : w .dense ≡ true → Passed v s head n w (first v + w .at + n)
+    pub passed-dense : w .dense ≡ true → Passed v s head n w (slice-first v + w .at + n)
     passed-dense e =
         let start = begins in
         record {
@@ -435,7 +435,7 @@ module _ (v s : List ℕ) (head n : ℕ) (w : Window) where
               omega arith;
         }
 
-    pub passed-behind : w .dense ≡ false → (r : ℕ) → Behind s (w .at) n r → Passed v s head n w (first v + r)
+    pub passed-behind : w .dense ≡ false → (r : ℕ) → Behind s (w .at) n r → Passed v s head n w (slice-first v + r)
     passed-behind e r behind =
         let start = begins in
         let low = behind .onward in
@@ -445,7 +445,7 @@ module _ (v s : List ℕ) (head n : ℕ) (w : Window) where
           behind = λ m copy few opened inside more.
               let kind = sparse-skips (skips v) s at m (sym (opened .kind) ∙ e) inside (omega arith) in
               let from : Behind s at n r = rw begins at behind in
-              rw kind (ap (λ (x : ℕ). first v + x) (from .end (λ i h. (rw kind at inside) i (omega arith))));
+              rw kind (ap (λ (x : ℕ). slice-first v + x) (from .end (λ i h. (rw kind at inside) i (omega arith))));
         }
 
 -- THE FIRST RECORD WANTED

@@ -17,13 +17,13 @@ from-record n s = drop (n * 8) s
 
 -- "The log's part from byte 8 on, or behind the dropped count, passed to the record readers": those from record `first` on. Numbers count
 -- the records dropped, too; where record `first` is one of them, it is all that the log has.
-abbrev pub records-from : (log : List ℕ) (first : ℕ) → List ℕ
-records-from log first = from-record (first - dropped log) (records-of log)
+abbrev pub records-from : (log : List ℕ) (from : ℕ) → List ℕ
+records-from log from = from-record (from - dropped log) (records-of log)
 
 -- the four numbers with which a view begins: the record with which the slice begins; how many positions the log has, those before the slice
 -- included; whether service records are passed over in the slice, which is needed only where one lies there; whether the log is closed
-abbrev pub first : List ℕ → ℕ
-first v = getD v 0 0
+abbrev pub slice-first : List ℕ → ℕ
+slice-first v = getD v 0 0
 
 abbrev pub total : List ℕ → ℕ
 total v = getD v 1 0
@@ -35,41 +35,41 @@ abbrev pub closed : List ℕ → Bool
 closed v = eqb (getD v 3 0) 1
 
 -- these numbers of a slice that begins with record `first`, before which stand q positions
-abbrev pub view-of : (first q : ℕ) (skips closed : Bool) → List ℕ → List ℕ
+abbrev pub view-of : (from q : ℕ) (skips closed : Bool) → List ℕ → List ℕ
 view-of from q skipping ended s = from ∷ (q + before skipping s (record-count s)) ∷ number skipping ∷ number ended ∷ []
 
 -- a head at record r, in a slice that begins with record `first`: what lies before was passed, or is service records
-abbrev pub in-slice : (first r : ℕ) → ℕ
-in-slice first r = max r first - first
+abbrev pub in-slice : (from r : ℕ) → ℕ
+in-slice from r = max r from - from
 
 -- the slice shows position i of the log, which the head of position i finds
-pub record Shows (skips : Bool) (s : List ℕ) (first : ℕ) (L : Log) (i : ℕ) : Type 0 where
-  pub inside : place skips s (in-slice first (head-of L i)) 0 < record-count s
-  pub time : time-at s (place skips s (in-slice first (head-of L i)) 0) ≡ L .time i
-  pub letters : (k : ℕ) → has-letter s k (place skips s (in-slice first (head-of L i)) 0) ≡ L .letters i k
-  pub place : L .place i ≡ first + place skips s (in-slice first (head-of L i)) 0
+pub record Shows (skips : Bool) (s : List ℕ) (from : ℕ) (L : Log) (i : ℕ) : Type 0 where
+  pub inside : place skips s (in-slice from (head-of L i)) 0 < record-count s
+  pub time : time-at s (place skips s (in-slice from (head-of L i)) 0) ≡ L .time i
+  pub letters : (k : ℕ) → has-letter s k (place skips s (in-slice from (head-of L i)) 0) ≡ L .letters i k
+  pub place : L .place i ≡ from + place skips s (in-slice from (head-of L i)) 0
 
 -- MARKS
 
 -- behind the four numbers stand 62 words of marks, a bit for each block of 256 records of the slice: whether the block may have a service
 -- record. Blocks behind those, which lie beyond 1,000,000 records, count as marked.
-abbrev pub marked : (v : List ℕ) (block : ℕ) → Bool
-marked v block = leb 3968 block || bit (getD v (4 + block / 64) 0) (block % 64)
+abbrev pub block-marked : (v : List ℕ) (block : ℕ) → Bool
+block-marked v block = leb 3968 block || bit (getD v (4 + block / 64) 0) (block % 64)
 
 -- every service record lies in a marked block. A mark too many costs time and no answer.
-abbrev pub Marks : (v s : List ℕ) → Type 0
-Marks v s = (i : ℕ) → i < record-count s → is-service s i ≡ true → marked v (i / 256) ≡ true
+abbrev pub BlockMarks : (v s : List ℕ) → Type 0
+BlockMarks v s = (i : ℕ) → i < record-count s → is-service s i ≡ true → block-marked v (i / 256) ≡ true
 
 -- a block marked, if it has to be, beside those that were
 pub record MarkedToo (v : List ℕ) (block : ℕ) (needed : Bool) (v′ : List ℕ) : Type 0 where
   pub long : length v′ ≡ 66
-  pub this : needed ≡ true → marked v′ block ≡ true
-  pub kept : (b : ℕ) → marked v b ≡ true → marked v′ b ≡ true
+  pub this : needed ≡ true → block-marked v′ block ≡ true
+  pub kept : (b : ℕ) → block-marked v b ≡ true → block-marked v′ b ≡ true
 
 -- a view that windows can be opened by: no record's number wraps, and where service records are passed over, they are marked
 pub record Views (v s : List ℕ) : Type 0 where
-  pub numbered : first v + record-count s < 2 ^ 64
-  pub marks : skips v ≡ true → Marks v s
+  pub numbered : slice-first v + record-count s < 2 ^ 64
+  pub marks : skips v ≡ true → BlockMarks v s
 
 -- service records lie in the slice
 abbrev pub served : (skips : Bool) → List ℕ → Bool
@@ -79,4 +79,4 @@ served skipping s = ltb (before skipping s (record-count s)) (record-count s)
 -- marks
 pub record ViewOf (from q : ℕ) (skipping ended : Bool) (s v : List ℕ) : Type 0 where
   pub numbers : v ≡ view-of from q (served skipping s) ended s ++ drop 4 v
-  pub marks : skips v ≡ true → Marks v s
+  pub marks : skips v ≡ true → BlockMarks v s

@@ -10,7 +10,7 @@ use Rattle.mtl.specs.Satisfaction.{any}
 use Rattle.bits.specs.Packed.{Packed}
 use Rattle.trace.specs.Format.{record-count, has-letter}
 use Rattle.trace.specs.Positions.{is-service, spot, place, moved, positions, before, Inside}
-use Rattle.trace.specs.View.{first, skips, in-slice}
+use Rattle.trace.specs.View.{slice-first, skips, in-slice}
 use Rattle.trace.specs.declared.window.Letters.{Letters}
 use Rattle.trace.specs.declared.window.Picked.{Picked}
 use Rattle.trace.specs.declared.window.Window.{Window}
@@ -92,14 +92,14 @@ pub record Gathered (s : List ℕ) (from n : ℕ) (copy : List ℕ) (r : ℕ) : 
 -- a window opened from this head on, of n positions at least
 abbrev pub Windowed : (v s : List ℕ) (head n : ℕ) → Window → Type 0
 Windowed v s head n w =
-    (m : ℕ) × (copy : List ℕ) × (n ≤ m) × Opened (skips v) s (in-slice (first v) head) m w copy
+    (m : ℕ) × (copy : List ℕ) × (n ≤ m) × Opened (skips v) s (in-slice (slice-first v) head) m w copy
 
 -- the head after n of its positions
 pub record Passed (v s : List ℕ) (head n : ℕ) (w : Window) (r : ℕ) : Type 0 where
   pub onward : head ≤ r
   pub still : n ≡ 0 → r ≡ head
-  pub behind : (m : ℕ) (copy : List ℕ) → n ≤ m → Opened (skips v) s (in-slice (first v) head) m w copy →
-      Inside (skips v) s (in-slice (first v) head) m → 0 < n → r ≡ first v + moved (skips v) s (in-slice (first v) head) n
+  pub behind : (m : ℕ) (copy : List ℕ) → n ≤ m → Opened (skips v) s (in-slice (slice-first v) head) m w copy →
+      Inside (skips v) s (in-slice (slice-first v) head) m → 0 < n → r ≡ slice-first v + moved (skips v) s (in-slice (slice-first v) head) n
 
 -- the record that holds the position from which on there are n, "or the record after all seen where no seen record holds it"
 pub record Found (skips : Bool) (s : List ℕ) (n r : ℕ) : Type 0 where

@@ -7,7 +7,7 @@ ghost use Rattle.bits.specs.Packed.{number, Packed};
 ghost use Rattle.trace.specs.Format.{word-at, record-count, time-at, has-letter, version-of, skips-of, is-trimmed, dropped as dropped-of, records-of, total-records, wrong-mark, wrong-version, wrong-spare, too-short, malformed};
 ghost use Rattle.trace.specs.Order.{falls, FallsBetween, starts-below, disordered, last-time};
 ghost use Rattle.trace.specs.View.{from-record, records-from};
-ghost use Rattle.trace.specs.Making.{header, word-bytes, record-bytes, trimmed-bytes, put};
+ghost use Rattle.trace.specs.Making.{log-header, word-bytes, record-bytes, trimmed-bytes, put};
 
 pub mod view;
 pub mod window;
@@ -292,7 +292,7 @@ pub fn last_time(records: &[u8], seen: usize, last: u64) -> u64
 // Writes the header of a log of this version.
 pub fn write_header(log: &mut [u8], version: u8)
     requires { ⌜ 8 ≤ length (now log) ⌝ }
-    ensures { λ _. ⌜ now (log .exit) ≡ put (now (log .entry)) 0 (header version) ⌝ }
+    ensures { λ _. ⌜ now (log .exit) ≡ put (now (log .entry)) 0 (log-header version) ⌝ }
 {
     let mark = b"KLG";
     log[0] = mark[0];

@@ -6,7 +6,7 @@ ghost use Prim.Native.Nat.{ℕ, _+_, _-_, _≤_, _<_, _^_, min};
 ghost use lib.ListN.{length};
 ghost use Rattle.trace.specs.Format.{record-count};
 ghost use Rattle.trace.specs.Positions.{positions, before};
-ghost use Rattle.trace.specs.View.{marked, Marks, MarkedToo, ViewOf};
+ghost use Rattle.trace.specs.View.{block-marked, BlockMarks, MarkedToo, ViewOf};
 use super::window;
 
 pub const FIRST: usize = 0;
@@ -19,7 +19,7 @@ pub const CLOSED: usize = 3;
 
 // Whether a block is marked. A block behind the last mark counts as marked; no log has so many records.
 pub fn is_marked(view: &[u64; 66], block: usize) -> bool
-    ensures { λ r. ⌜ r ≡ marked (now (view .entry)) block ⌝ }
+    ensures { λ r. ⌜ r ≡ block-marked (now (view .entry)) block ⌝ }
 {
     if block < 3968 {
         bits::test(view[4 + block / 64], (block % 64) as u64)
@@ -48,7 +48,7 @@ fn block_size(left: usize) -> usize
 // Marks the blocks that have service records, and gives how many of all records are positions.
 fn mark_blocks(records: &[u8], view: &mut [u64; 66]) -> usize
     requires { ⌜ length (now view) ≡ 66 ⌝ }
-    ensures { λ r. ⌜ (r ≡ positions (now (records .entry)) (record-count (now (records .entry)))) × (length (now (view .exit)) ≡ 66) × Marks (now (view .exit)) (now (records .entry)) ⌝ }
+    ensures { λ r. ⌜ (r ≡ positions (now (records .entry)) (record-count (now (records .entry)))) × (length (now (view .exit)) ≡ 66) × BlockMarks (now (view .exit)) (now (records .entry)) ⌝ }
 {
     let end = super::count(records);
     let mut found: usize = 0;
@@ -66,7 +66,7 @@ fn mark_blocks(records: &[u8], view: &mut [u64; 66]) -> usize
 // The same, where the log's version has service records; else all records are positions, and nothing is marked.
 fn mark_positions(records: &[u8], skips: bool, view: &mut [u64; 66]) -> u64
     requires { ⌜ length (now view) ≡ 66 ⌝ }
-    ensures { λ r. ⌜ (r ≡ before skips (now (records .entry)) (record-count (now (records .entry)))) × (length (now (view .exit)) ≡ 66) × (skips ≡ true → Marks (now (view .exit)) (now (records .entry))) ⌝ }
+    ensures { λ r. ⌜ (r ≡ before skips (now (records .entry)) (record-count (now (records .entry)))) × (length (now (view .exit)) ≡ 66) × (skips ≡ true → BlockMarks (now (view .exit)) (now (records .entry))) ⌝ }
 {
     if skips {
         return mark_blocks(records, view) as u64;

@@ -9,7 +9,7 @@ ghost use Rattle.bits.specs.Packed.{number};
 ghost use Rattle.trace.specs.Format.{record-count};
 ghost use Rattle.trace.specs.Positions.{is-service, before};
 ghost use Rattle.trace.specs.Making.{put};
-ghost use Rattle.trace.specs.View.{first, skips, in-slice, Marks, Views};
+ghost use Rattle.trace.specs.View.{slice-first, skips, in-slice, BlockMarks, Views};
 ghost use Rattle.trace.specs.Window.{some-service, dense, window-of, record-of, Counted, Copied, Picks, Lettered, Gathered, Opened, Behind, Windowed, Passed, Found};
 use super::view;
 
@@ -122,7 +122,7 @@ fn in_slice(first: u64, head: u64) -> usize
 
 // The same of so few records that they lie in two blocks at most: where neither is marked, no record is looked at.
 fn finds_service(records: &[u8], view: &[u64; 66], from: usize, n: usize) -> bool
-    requires { ⌜ (from + n ≤ record-count (now records)) × (n ≤ 65) × Marks (now view) (now records) ⌝ }
+    requires { ⌜ (from + n ≤ record-count (now records)) × (n ≤ 65) × BlockMarks (now view) (now records) ⌝ }
     ensures { λ r. ⌜ r ≡ some-service (now (records .entry)) from n ⌝ }
 {
     if view::is_marked(view, from / 256) | view::is_marked(view, (from + n) / 256) {
@@ -311,7 +311,7 @@ fn pick_letters(records: &[u8], from: usize, n: usize, letter: u64) -> Letters
 // The letter at each of n positions from a head on, without a copy of their records.
 pub fn read_letters(records: &[u8], view: &[u64; 66], head: u64, n: u64, letter: u64) -> Letters
     requires { ⌜ (n ≤ 64) × (letter < 32) × Views (now view) (now records) ⌝ }
-    ensures { λ r. ⌜ Lettered (skips (now (view .entry))) (now (records .entry)) letter (in-slice (first (now (view .entry))) head) n r ⌝ }
+    ensures { λ r. ⌜ Lettered (skips (now (view .entry))) (now (records .entry)) letter (in-slice (slice-first (now (view .entry))) head) n r ⌝ }
 {
     let at = in_slice(view[view::FIRST], head);
     if is_dense(records, view, at, n as usize) {
@@ -325,7 +325,7 @@ pub fn read_letters(records: &[u8], view: &[u64; 66], head: u64, n: u64, letter:
 // The window of n positions from a head on; the copy is written where it is needed.
 pub fn open(records: &[u8], view: &[u64; 66], head: u64, n: u64, copy: &mut [u8; 520]) -> Window
     requires { ⌜ (n ≤ 65) × (length (now copy) ≡ 520) × Views (now view) (now records) ⌝ }
-    ensures { λ r. ⌜ Opened (skips (now (view .entry))) (now (records .entry)) (in-slice (first (now (view .entry))) head) n r (now (copy .exit)) ⌝ }
+    ensures { λ r. ⌜ Opened (skips (now (view .entry))) (now (records .entry)) (in-slice (slice-first (now (view .entry))) head) n r (now (copy .exit)) ⌝ }
 {
     let at = in_slice(view[view::FIRST], head);
     if is_dense(records, view, at, n as usize) {
@@ -376,8 +376,8 @@ fn behind(records: &[u8], from: usize, n: usize) -> usize
 
 // Where a head stands after all positions of its window, of which there is one at least.
 pub fn pass_all(window: Window, view: &[u64; 66]) -> u64
-    requires { ⌜ first (now view) + window .end < 2 ^ 64 ⌝ }
-    ensures { λ r. ⌜ r ≡ first (now (view .entry)) + window .end ⌝ }
+    requires { ⌜ slice-first (now view) + window .end < 2 ^ 64 ⌝ }
+    ensures { λ r. ⌜ r ≡ slice-first (now (view .entry)) + window .end ⌝ }
 {
     view[view::FIRST] + window.end as u64
 }

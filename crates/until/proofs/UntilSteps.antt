@@ -19,13 +19,13 @@ use Rattle.mtl.proofs.Closing.{settled-closed, by-closed, both-settled, both-fi
 use Rattle.bits.specs.Packed.{number}
 use Rattle.bits.proofs.Laws.{number-lt, packed-none}
 use Rattle.trace.specs.Format.{time-at}
-use Rattle.trace.specs.View.{first, total, skips, closed, in-slice}
+use Rattle.trace.specs.View.{slice-first, total, skips, closed, in-slice}
 use Rattle.trace.specs.Window.{window-of, Opened, Windowed, Passed}
 use Rattle.trace.specs.declared.window.Window.{Window}
 use Rattle.trace.proofs.Reading.{shown-time-bound}
-use Rattle.blocks.specs.Block.{word, taken, left-count, left-bits, right-count, right-bits, answered, last-left, last-right, last-time, head, waiting-head, Onward, Heads, Until, Buffer, Ready}
+use Rattle.blocks.specs.Block.{word, taken, left-count, left-bits, right-count, right-bits, answered, last-left, last-right, last-taken-time, head, waiting-head, Onward, Heads, Until, Buffer, Ready}
 use Rattle.blocks.specs.Step.{Agrees, Moved, Stepped, Ends}
-use Rattle.until.specs.Settle.{pick, settle-spec, time-of-none, next-of, Reads, Reached, Waiting, Walk, Holds, starts-of, ahead-of, last-taken, walked, Fits, Stuck, Wants}
+use Rattle.until.specs.Settle.{pick, settle-spec, time-of-none, next-of, ReadsTimes, Reached, StillWaits, Walk, HasRecords, starts-of, ahead-of, last-taken, walked, FitsRoom, Stuck, Wants}
 use Rattle.until.specs.declared.Last.{Last}
 use Rattle.until.specs.declared.Room.{Room}
 use Rattle.until.specs.declared.Walked.{Walked}
@@ -50,7 +50,7 @@ taken-fits l r n h = omega arith
 -- how far a step may go
 pub room : (b : List ℕ) (total : ℕ) {take look answer : ℕ} → taken b ≤ total →
     take ≡ min (min (min (left-count b) (right-count b)) (total - taken b)) 64 → taken b + take < 2 ^ 64 → look ≡ min (take + 1) (total - taken b) →
-    answer ≡ min (taken b - answered b + take) 64 → Fits b total (record { take = take; look = look; answer = answer })
+    answer ≡ min (taken b - answered b + take) 64 → FitsRoom b total (record { take = take; look = look; answer = answer })
 room b total {take = take} h e number ahead waiting =
     let a = available (taken b) (min (left-count b) (right-count b)) total take e in
     let most = taken-fits (left-count b) (right-count b) take (a .most) in
@@ -79,9 +79,9 @@ pub record Opens (v s b : List ℕ) (r : Room) (ahead : Window) (copy : List ℕ
   pub room : 17 ≤ length b
   pub byte : (i : ℕ) → getD s i 0 < 256
   pub behind : answered b ≤ taken b
-  pub fits : Fits b (total v) r
-  pub next : Opened (skips v) s (in-slice (first v) (head b)) (r .look) ahead copy
-  pub start : Opened (skips v) s (in-slice (first v) (waiting-head b)) (r .answer) starts waiting
+  pub fits : FitsRoom b (total v) r
+  pub next : Opened (skips v) s (in-slice (slice-first v) (head b)) (r .look) ahead copy
+  pub start : Opened (skips v) s (in-slice (slice-first v) (waiting-head b)) (r .answer) starts waiting
 
 module _ {v s b : List ℕ} {r : Room} {ahead : Window} {copy : List ℕ} {starts : Window} {waiting : List ℕ} (opens : Opens v s b r ahead copy starts waiting) where
   looks : (r .take ≤ r .look) × (taken b + r .look ≤ total v) × (taken b + r .take < total v → r .take < r .look) × (taken b + r .take ≡ total v → r .look ≤ r .take)
@@ -97,15 +97,15 @@ module _ {v s b : List ℕ} {r : Room} {ahead : Window} {copy : List ℕ} {start
       let number = opens .fits .number in
       (omega arith, opens .fits .few, looks .0, omega arith)
 
-  pub ahead-holds : Holds ahead s copy (r .look)
+  pub ahead-holds : HasRecords ahead s copy (r .look)
   ahead-holds = record { inside = readable v (head b) (opens .next); long = opens .next .long }
 
-  pub starts-holds : Holds starts s waiting (min (taken b - answered b + r .take) 64)
+  pub starts-holds : HasRecords starts s waiting (min (taken b - answered b + r .take) 64)
   starts-holds = record { inside = readable v (waiting-head b) (opens .start); long = rw (opens .fits .waiting) at (opens .start .long) }
 
   -- what they show is the log
   reads : {L : Log} {g : ℕ} → Agrees v s L g → answered b ≡ g → head b ≡ head-of L (taken b) → waiting-head b ≡ head-of L g →
-      Reads (starts-of starts s waiting) (ahead-of ahead s copy (r .take) (r .look) (closed v)) L g (taken b) (r .take)
+      ReadsTimes (starts-of starts s waiting) (ahead-of ahead s copy (r .take) (r .look) (closed v)) L g (taken b) (r .take)
   reads {L = L} {g = g} agrees at here there =
       let size = agrees .size in
       let behind = opens .behind in
@@ -197,7 +197,7 @@ module _ {low high : ℕ} {φ ψ : Formula} {L : Log} {g : ℕ} {b : List ℕ} (
   stands-at = let range = ready .core .range in rw (number-is (last-left b) (range .last-left), number-is (last-right b) (range .last-right)) (ready .core .own .1)
 
   -- an operand is wanted where none can be taken
-  pub wants-more : {v s : List ℕ} {r : Room} → Agrees v s L g → Fits b (total v) r → r .take ≡ 0 →
+  pub wants-more : {v s : List ℕ} {r : Room} → Agrees v s L g → FitsRoom b (total v) r → r .take ≡ 0 →
       ((settled-to φ L ≡ taken b) ⊎ (settled-to ψ L ≡ taken b) → settled-to (until low high φ ψ) L ≡ g) → (t : Step) → Wants b t →
       Stepped (until low high φ ψ) L g b t b
   wants-more agrees room none open′ (Batch bits count) t = absurd t
@@ -239,8 +239,8 @@ pub record First (low most : ℕ) (v s b : List ℕ) (end : ℕ) (ahead : Window
   pub some : answered b < taken b
   pub inside : taken b ≤ total v
   pub ends : end ≡ min 1 (total v - taken b)
-  pub next : Opened (skips v) s (in-slice (first v) (head b)) end ahead copy
-  pub start : Opened (skips v) s (in-slice (first v) (waiting-head b)) 1 starts waiting
+  pub next : Opened (skips v) s (in-slice (slice-first v) (head b)) end ahead copy
+  pub start : Opened (skips v) s (in-slice (slice-first v) (waiting-head b)) 1 starts waiting
   pub unknown :
       settle-spec low most (starts-of starts s waiting 0) (last-taken b) (next-of (time-at (window-of ahead s copy)) end (time-of-none (closed v)) 0) ≡ Unknown
 
@@ -352,7 +352,7 @@ module _ {low high most : ℕ} {v s b : List ℕ} {r : Room} {ahead : Window} {c
     lead : taken b ≡ g + (taken b - answered b)
     lead = let i = ready .core .own .0 in let behind = opens .behind in omega arith
 
-    seen : Reads (starts-of starts s waiting) (ahead-of ahead s copy (r .take) (r .look) (closed v)) L g (taken b) (r .take)
+    seen : ReadsTimes (starts-of starts s waiting) (ahead-of ahead s copy (r .take) (r .look) (closed v)) L g (taken b) (r .take)
     seen = reads opens agrees (ready .core .own .0) (ready .core .heads .0) (ready .core .heads .1)
 
     reached : Reached low high φ ψ L g (taken b) (w .bits) (w .count) (w .took) (w .last)
@@ -411,7 +411,7 @@ module _ {low high most : ℕ} {v s b : List ℕ} {r : Room} {ahead : Window} {c
     -- with nothing to take, g stays open
     module _ (none : w .count ≡ 0) (nothing : w .took ≡ 0) where
       -- what is known of it
-      unknown : Waiting low most (starts-of starts s waiting) (ahead-of ahead s copy (r .take) (r .look) (closed v)) (taken b - answered b) (r .take) (w .count) (w .took) (w .last)
+      unknown : StillWaits low most (starts-of starts s waiting) (ahead-of ahead s copy (r .take) (r .look) (closed v)) (taken b - answered b) (r .take) (w .count) (w .took) (w .last)
       unknown = went .walk .waiting none nothing
 
       behind : taken b + w .took ≤ both-settled φ ψ L

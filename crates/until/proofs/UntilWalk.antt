@@ -17,7 +17,7 @@ use Rattle.bits.specs.Packed.{number, with-bit}
 use Rattle.bits.proofs.Laws.{packed-push}
 use Rattle.trace.specs.View.{closed}
 use Rattle.blocks.specs.Block.{Until, Buffer}
-use Rattle.until.specs.Settle.{pick, is-met, is-over, settle-spec, time-of-none, look-spec, take-spec, Reads, Walks}
+use Rattle.until.specs.Settle.{pick, is-met, is-over, settle-spec, time-of-none, look-spec, take-spec, ReadsTimes, Walks}
 use Rattle.until.specs.declared.Last.{Last}
 use Rattle.until.specs.declared.Settled.{Settled}
 use Rattle.until.specs.declared.Settled.the-variants.{Known, Unknown}
@@ -180,7 +180,7 @@ module _ (low high most : ℕ) (clamp : most ≡ min high unbounded) (φ ψ : Fo
 
 -- what a walk sees
 pub sees-log : (start next : ℕ → ℕ) (lead n count took : ℕ) → count < 64 → took ≤ n → {L : Log} {g at : ℕ} → at ≡ g + lead → at + n ≤ L .size →
-    Reads start next L g at n → Sees L (g + count) (at + took) (start count) (next took) (leb (lead + took) count)
+    ReadsTimes start next L g at n → Sees L (g + count) (at + took) (start count) (next took) (leb (lead + took) count)
 sees-log start next lead n count took few all e inside reads =
     record {
       none-taken = λ t. let h = leb-true (lead + took) count t in omega arith;

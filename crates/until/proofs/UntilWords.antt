@@ -22,7 +22,7 @@ use Rattle.bits.specs.Packed.{bit, number, last-zero}
 use Rattle.bits.proofs.Laws.{bit-and, bit-not}
 use Rattle.bits.proofs.Zeros.{last-is-zero, one-behind-last}
 use Rattle.blocks.specs.Block.{Until, Buffer}
-use Rattle.until.specs.Settle.{is-met, take-spec, next-of, Reads, Reached, Walk, ByWords}
+use Rattle.until.specs.Settle.{is-met, take-spec, next-of, ReadsTimes, Reached, Walk, ByWords}
 use Rattle.until.specs.declared.Last.{Last}
 use Rattle.until.specs.declared.Walked.{Walked}
 use Rattle.until.proofs.UntilWalk.{is-number}
@@ -95,7 +95,7 @@ pub record Rises (start time : ℕ → ℕ) (lead n : ℕ) : Type 0 where
 
 -- on a log: the positions from g on wait, n from `at` on may be taken, and all of them lie within high
 module _ {low high most : ℕ} {φ ψ : Formula} {L : Log} {g at lead n left right : ℕ} {start next : ℕ → ℕ} {from : Last}
-    (clamp : most ≡ min high unbounded) (behind : at ≡ g + lead) (falls : NeverFalls L) (reads : Reads start next L g at n)
+    (clamp : most ≡ min high unbounded) (behind : at ≡ g + lead) (falls : NeverFalls L) (reads : ReadsTimes start next L g at n)
     (lefts : Buffer φ L at n left) (rights : Buffer ψ L at n right) (begun : Reached low high φ ψ L g at 0 0 0 from)
     (by : ByWords low most start next lead n from) where
   begins : Until low high (L .time) (sat φ L) (sat ψ L) g at (number (from .left)) (number (from .right)) (from .time)

@@ -17,7 +17,7 @@ use Rattle.bits.specs.Packed.{bit, number}
 use Rattle.trace.specs.Format.{record-count, time-at}
 use Rattle.trace.specs.Window.{window-of}
 use Rattle.trace.specs.declared.window.Window.{Window}
-use Rattle.blocks.specs.Block.{taken, left-count, right-count, answered, last-left, last-right, last-time, took-both, Until, Buffer, Ready}
+use Rattle.blocks.specs.Block.{taken, left-count, right-count, answered, last-left, last-right, last-taken-time, took-both, Until, Buffer, Ready}
 use Rattle.blocks.specs.Step.{Agrees}
 use Rattle.until.specs.declared.Last.{Last}
 use Rattle.until.specs.declared.Room.{Room}
@@ -61,7 +61,7 @@ abbrev pub take-spec : (next : ℕ → ℕ) (i left right : ℕ) → Last
 take-spec next i left right = record { left = bit left i; right = bit right i; time = next i }
 
 -- the times are those of the log's positions from g on, which wait, and of the n from `at` on, which may be taken, and the one behind them
-pub record Reads (start next : ℕ → ℕ) (L : Log) (g at n : ℕ) : Type 0 where
+pub record ReadsTimes (start next : ℕ → ℕ) (L : Log) (g at n : ℕ) : Type 0 where
   pub bound : (i : ℕ) → g ≤ i → i < L .size → L .time i < 2 ^ 32
   pub waiting : (i : ℕ) → i < 64 → g + i < at + n → start i ≡ L .time (g + i)
   pub ahead : (i : ℕ) → i ≤ n → at + i < L .size → next i ≡ L .time (at + i)
@@ -78,7 +78,7 @@ pub record Reached (low high : ℕ) (φ ψ : Formula) (L : Log) (g at bits count
 abbrev pub Walks : (low most : ℕ) (start next : ℕ → ℕ) (lead n left right : ℕ) → Last → (bits count took : ℕ) → Last → Type 0
 Walks low most start next lead n left right from bits count took last =
     (high : ℕ) (φ ψ : Formula) (L : Log) (g at : ℕ) → most ≡ min high unbounded → at ≡ g + lead → NeverFalls L →
-    Reads start next L g at n → Buffer φ L at n left → Buffer ψ L at n right →
+    ReadsTimes start next L g at n → Buffer φ L at n left → Buffer ψ L at n right →
     Reached low high φ ψ L g at 0 0 0 from → Reached low high φ ψ L g at bits count took last
 
 -- what it promises on any words
@@ -89,14 +89,14 @@ pub record Limits (lead n bits count took : ℕ) (from last : Last) : Type 0 whe
   pub bound : from .time < 2 ^ 32 → last .time < 2 ^ 32
 
 -- where a walk answers none and takes none: there is none to take, and the next to answer waits
-pub record Waiting (low most : ℕ) (start next : ℕ → ℕ) (lead n count took : ℕ) (last : Last) : Type 0 where
+pub record StillWaits (low most : ℕ) (start next : ℕ → ℕ) (lead n count took : ℕ) (last : Last) : Type 0 where
   pub all : took ≡ n
   pub unknown : look-spec low most start next lead count took last ≡ Unknown
 
 -- a whole walk
 pub record Walk (low most : ℕ) (start next : ℕ → ℕ) (lead n left right : ℕ) (from : Last) (w : Walked) : Type 0 where
   pub limits : Limits lead n (w .bits) (w .count) (w .took) from (w .last)
-  pub waiting : w .count ≡ 0 → w .took ≡ 0 → Waiting low most start next lead n (w .count) (w .took) (w .last)
+  pub waiting : w .count ≡ 0 → w .took ≡ 0 → StillWaits low most start next lead n (w .count) (w .took) (w .last)
   pub walks : Walks low most start next lead n left right from (w .bits) (w .count) (w .took) (w .last)
 
 -- the time of the latest right that left leads to, among n positions from i on; 0 where there is none
@@ -128,7 +128,7 @@ pub record ByWords (low high : ℕ) (start time : ℕ → ℕ) (lead n : ℕ) (f
   pub inside : time (n - 1) - start 0 ≤ high
 
 -- a window that has n records
-pub record Holds (w : Window) (s copy : List ℕ) (n : ℕ) : Type 0 where
+pub record HasRecords (w : Window) (s copy : List ℕ) (n : ℕ) : Type 0 where
   pub inside : w .dense ≡ true → w .at * 8 ≤ length s
   pub long : n ≤ record-count (window-of w s copy)
 
@@ -142,7 +142,7 @@ ahead-of w s copy n end closed =
 
 -- the last position taken, as the block keeps it
 abbrev pub last-taken : List ℕ → Last
-last-taken b = record { left = eqb (last-left b) 1; right = eqb (last-right b) 1; time = last-time b }
+last-taken b = record { left = eqb (last-left b) 1; right = eqb (last-right b) 1; time = last-taken-time b }
 
 -- the block after a walk, with the two heads
 abbrev pub walked : Walked → (head waiting-head : ℕ) → List ℕ → List ℕ
@@ -162,7 +162,7 @@ walked w head waiting-head b =
     waiting-head
 
 -- how far a step may go
-pub record Fits (b : List ℕ) (total : ℕ) (r : Room) : Type 0 where
+pub record FitsRoom (b : List ℕ) (total : ℕ) (r : Room) : Type 0 where
   pub left : r .take ≤ left-count b
   pub right : r .take ≤ right-count b
   pub few : r .take ≤ 64

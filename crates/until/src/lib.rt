@@ -11,7 +11,7 @@ ghost use Rattle.trace.specs.Window.{window-of};
 ghost use Rattle.bits.specs.Packed.{Packed};
 ghost use Rattle.blocks.specs.Block.{taken, left-count, left-bits, right-count, right-bits, answered};
 ghost use Rattle.blocks.specs.Step.{Steps, Ends};
-ghost use Rattle.until.specs.Settle.{settle-spec, time-of-none, next-of, look-spec, take-spec, latest-right, is-late, Met, Walk, ByWords, Holds, starts-of, ahead-of, last-taken, walked, Wants, Stuck, Fits};
+ghost use Rattle.until.specs.Settle.{settle-spec, time-of-none, next-of, look-spec, take-spec, latest-right, is-late, Met, Walk, ByWords, HasRecords, starts-of, ahead-of, last-taken, walked, Wants, Stuck, FitsRoom};
 ghost use Rattle.until.specs.declared.Settled.the-variants.{Unknown};
 use blocks::Step;
 use blocks::time;
@@ -390,7 +390,7 @@ fn walk_windows<'a>(
     block: &[u64],
 ) -> Walked
     requires { ⌜ (16 ≤ length (now block)) × (n ≤ 64) × (n ≤ end) × (taken (now block) - answered (now block) + n < 2 ^ 64) ⌝ }
-    requires { ⌜ Holds ahead (now records) (now copy) end × Holds starts (now records) (now waiting) (min (taken (now block) - answered (now block) + n) 64) ⌝ }
+    requires { ⌜ HasRecords ahead (now records) (now copy) end × HasRecords starts (now records) (now waiting) (min (taken (now block) - answered (now block) + n) 64) ⌝ }
     ensures { λ r. ⌜ Walk low high (starts-of starts (now (records .entry)) (now (waiting .entry))) (ahead-of ahead (now (records .entry)) (now (copy .entry)) n end closed) (taken (now (block .entry)) - answered (now (block .entry))) n (left-bits (now (block .entry))) (right-bits (now (block .entry))) (last-taken (now (block .entry))) r ⌝ }
 {
     let next = window::read(ahead, records, copy);
@@ -412,7 +412,7 @@ fn walk_windows<'a>(
 // How far a step may go on a log of `total` positions: it takes those that both operands have answered.
 fn room_of(block: &[u64], total: u64) -> Room
     requires { ⌜ (16 ≤ length (now block)) × (answered (now block) ≤ taken (now block)) × (taken (now block) ≤ total) ⌝ }
-    ensures { λ r. ⌜ Fits (now (block .entry)) total r ⌝ }
+    ensures { λ r. ⌜ FitsRoom (now (block .entry)) total r ⌝ }
 {
     let at = block[word::TAKEN];
     let both = blocks::smaller(block[word::LEFT_COUNT], block[word::RIGHT_COUNT]);
@@ -437,7 +437,7 @@ fn first_waits<'a>(
     closed: bool,
     block: &[u64],
 ) -> bool
-    requires { ⌜ (16 ≤ length (now block)) × Holds ahead (now records) (now copy) end × Holds starts (now records) (now waiting) 1 ⌝ }
+    requires { ⌜ (16 ≤ length (now block)) × HasRecords ahead (now records) (now copy) end × HasRecords starts (now records) (now waiting) 1 ⌝ }
     ensures { λ r. ⌜ (r ≡ true → settle-spec low high (starts-of starts (now (records .entry)) (now (waiting .entry)) 0) (last-taken (now (block .entry))) (next-of (time-at (window-of ahead (now (records .entry)) (now (copy .entry)))) end (time-of-none closed) 0) ≡ Unknown) ⌝ }
 {
     let next = window::read(ahead, records, copy);
@@ -461,7 +461,7 @@ fn must_wait(
     block: &[u64],
     room: Room,
 ) -> bool
-    requires { ⌜ (17 ≤ length (now block)) × (length (now copy) ≡ 520) × (length (now waiting) ≡ 520) × (answered (now block) ≤ taken (now block)) × Fits (now block) (total (now view)) room × Views (now view) (now records) ⌝ }
+    requires { ⌜ (17 ≤ length (now block)) × (length (now copy) ≡ 520) × (length (now waiting) ≡ 520) × (answered (now block) ≤ taken (now block)) × FitsRoom (now block) (total (now view)) room × Views (now view) (now records) ⌝ }
     ensures { λ r. ⌜ (r ≡ true → (room .take ≡ 0) × Stuck low high (now (view .entry)) (now (records .entry)) (now (block .entry))) ⌝ }
     ensures { λ _. ⌜ (length (now (copy .exit)) ≡ 520) × (length (now (waiting .exit)) ≡ 520) ⌝ }
 {

@@ -15,7 +15,7 @@ use Rattle.mtl.proofs.Bounded.{true-and-false}
 use Rattle.bits.specs.Packed.{bit, number}
 use Rattle.bits.proofs.Laws.{number-bit}
 use Rattle.verdicts.specs.Counts.{count-of, counts}
-use Rattle.verdicts.specs.Tally.{outside, beyond, answer, Tallies}
+use Rattle.verdicts.specs.Tally.{formulas-outside, beyond, answer, Tallies}
 use Rattle.verdicts.specs.declared.Tallied.the-variants.{Counted, Refused}
 
 -- BITS BEYOND THE FORMULAS', of all bytes taken together
@@ -85,24 +85,24 @@ or-false : (a b : Bool) → a || b ≡ false → (a ≡ false) × (b ≡ false)
 or-false false b e = (refl, e)
 or-false true b e = let z : true ≡ false = e in absurd (true-and-false refl z)
 
-pub inside : (formulas : ℕ) → outside formulas ≡ false → (0 < formulas) × (formulas ≤ 8)
+pub inside : (formulas : ℕ) → formulas-outside formulas ≡ false → (0 < formulas) × (formulas ≤ 8)
 inside formulas e =
     let (low, high) = or-false (ltb formulas 1) (ltb 8 formulas) e in
     (ltb-false formulas 1 low, ltb-false 8 formulas high)
 
 -- 15, and nothing is written
-pub refuses : (formulas : ℕ) (s nos yeses : List ℕ) → outside formulas || any (length s) (beyond formulas s) ≡ true →
+pub refuses : (formulas : ℕ) (s nos yeses : List ℕ) → formulas-outside formulas || any (length s) (beyond formulas s) ≡ true →
     Tallies formulas s nos yeses (answer (Refused 15)) nos yeses
 refuses formulas s nos yeses e = record { outcome = rw e; no-counts = refl; yes-counts = refl }
 
-pub refuses-number : (formulas : ℕ) (s nos yeses : List ℕ) → outside formulas ≡ true → Tallies formulas s nos yeses (answer (Refused 15)) nos yeses
+pub refuses-number : (formulas : ℕ) (s nos yeses : List ℕ) → formulas-outside formulas ≡ true → Tallies formulas s nos yeses (answer (Refused 15)) nos yeses
 refuses-number formulas s nos yeses e = refuses formulas s nos yeses (rw e)
 
-pub refuses-byte : (formulas : ℕ) (s nos yeses : List ℕ) → outside formulas ≡ false → any (length s) (beyond formulas s) ≡ true →
+pub refuses-byte : (formulas : ℕ) (s nos yeses : List ℕ) → formulas-outside formulas ≡ false → any (length s) (beyond formulas s) ≡ true →
     Tallies formulas s nos yeses (answer (Refused 15)) nos yeses
 refuses-byte formulas s nos yeses within e = refuses formulas s nos yeses (rw (within, e))
 
-pub tallies : (formulas : ℕ) (s nos yeses nos′ yeses′ : List ℕ) → outside formulas ≡ false → any (length s) (beyond formulas s) ≡ false →
+pub tallies : (formulas : ℕ) (s nos yeses nos′ yeses′ : List ℕ) → formulas-outside formulas ≡ false → any (length s) (beyond formulas s) ≡ false →
     (nos′ ≡ counts false formulas s ++ drop formulas nos) × (yeses′ ≡ counts true formulas s ++ drop formulas yeses) →
     Tallies formulas s nos yeses (answer Counted) nos′ yeses′
 tallies formulas s nos yeses nos′ yeses′ within none (no-counts, yes-counts) =

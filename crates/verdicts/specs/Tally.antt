@@ -11,8 +11,8 @@ use Rattle.verdicts.specs.declared.Tallied.{Tallied}
 use Rattle.verdicts.specs.declared.Tallied.the-variants.{Counted, Refused}
 
 -- "a number outside 1 to 8"
-abbrev pub outside : (formulas : ℕ) → Bool
-outside formulas = ltb formulas 1 || ltb 8 formulas
+abbrev pub formulas-outside : (formulas : ℕ) → Bool
+formulas-outside formulas = ltb formulas 1 || ltb 8 formulas
 
 -- "a bit beyond it": of byte i something is left behind the formulas' bits
 abbrev pub beyond : (formulas : ℕ) → List ℕ → (i : ℕ) → Bool
@@ -20,7 +20,7 @@ beyond formulas s i = ltb 0 (getD s i 0 / 2 ^ formulas)
 
 -- "15 is met by a bit beyond it or by a number outside 1 to 8"; 0 for no refusal
 abbrev pub tally-refusal : (formulas : ℕ) → List ℕ → ℕ
-tally-refusal formulas s = cond (outside formulas || any (length s) (beyond formulas s)) 15 0
+tally-refusal formulas s = cond (formulas-outside formulas || any (length s) (beyond formulas s)) 15 0
 
 -- the paper's number for each case, 0 or the refusal's; `refused` tells the cases apart
 pub record Answer : Type 0 where

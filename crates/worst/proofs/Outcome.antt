@@ -10,11 +10,11 @@ use borrow.Author.Tests.{ltb-false, eqb-true, eqb-false, eq-eqb}
 use Rattle.mtl.specs.Formula.{unbounded}
 use Rattle.rule.specs.Refusal.{first}
 use Rattle.rule.proofs.Headers.{or-left, or-right}
-use Rattle.trace.specs.Making.{header, records-bytes, put}
+use Rattle.trace.specs.Making.{log-header, records-bytes, put}
 use Rattle.trace.proofs.Making.{put-log}
-use Rattle.worst.specs.Written.{time-of, events-of}
+use Rattle.worst.specs.Written.{worst-time, events-of}
 use Rattle.worst.specs.Refusal.{interval-fault, size-of, no-room, worst-refusal}
-use Rattle.worst.specs.Call.{Answer, answer, Writes}
+use Rattle.worst.specs.Call.{Answer, answer, WritesWorst}
 use Rattle.worst.specs.Code.{checked}
 use Rattle.worst.specs.declared.Made.the-variants.{Length, Refused}
 use Rattle.worst.specs.declared.Checked.the-variants.{Passed, Stopped}
@@ -64,10 +64,10 @@ module _ (low high n : ℕ) (log : List ℕ) where
   lent = length log
 
   -- nothing is written
-  pub writes-nothing : (k : ℕ) → Stopped k ≡ checked low high n lent → Writes low high n log (Refused k) log
+  pub writes-nothing : (k : ℕ) → Stopped k ≡ checked low high n lent → WritesWorst low high n log (Refused k) log
   writes-nothing k e = go (eqb (worst-refusal low high n lent) 0) refl
     where
-      go : (b : Bool) → eqb (worst-refusal low high n lent) 0 ≡ b → Writes low high n log (Refused k) log
+      go : (b : Bool) → eqb (worst-refusal low high n lent) 0 ≡ b → WritesWorst low high n log (Refused k) log
       go true z = absurd (let impossible : Stopped k ≡ Passed n = e ∙ simp z in let zero : _≡_ {A = ℕ} 0 1 = cc in omega arith)
       go false z =
           let number : Stopped k ≡ Stopped (worst-refusal low high n lent) = e ∙ simp z in
@@ -76,7 +76,7 @@ module _ (low high n : ℕ) (log : List ℕ) where
 
   -- the log is written
   pub writes-log : (k : ℕ) (log′ : List ℕ) → Passed k ≡ checked low high n lent →
-      log′ ≡ put (put log 0 (header 1)) 8 (records-bytes (time-of high) events-of k) → Writes low high n log (Length (8 + k * 8)) log′
+      log′ ≡ put (put log 0 (log-header 1)) 8 (records-bytes (worst-time high) events-of k) → WritesWorst low high n log (Length (8 + k * 8)) log′
   writes-log k log′ e is =
       let (same, a) = passes low high n lent k e in
       let size : 8 + k * 8 ≡ size-of n = omega arith in
@@ -84,11 +84,11 @@ module _ (low high n : ℕ) (log : List ℕ) where
       let r = a .room in
       record {
         answer = simp z (ap (λ (l : ℕ). answer (Length l)) size);
-        bytes = simp z (is ∙ put-log (time-of high) events-of log k (omega arith) ∙ rw (size, same));
+        bytes = simp z (is ∙ put-log (worst-time high) events-of log k (omega arith) ∙ rw (size, same));
       }
 
   -- a refusal has a number
-  pub not-zero : (k : ℕ) (log′ : List ℕ) → Writes low high n log (Refused k) log′ → k ≡ 0 → ⊥
+  pub not-zero : (k : ℕ) (log′ : List ℕ) → WritesWorst low high n log (Refused k) log′ → k ≡ 0 → ⊥
   not-zero k log′ w zero = go (eqb (worst-refusal low high n lent) 0) refl
     where
       go : (b : Bool) → eqb (worst-refusal low high n lent) 0 ≡ b → ⊥

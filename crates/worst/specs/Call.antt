@@ -33,6 +33,6 @@ module _ (low high n lent : ℕ) where
 abbrev pub buffer-after : (low high n : ℕ) (log : List ℕ) → List ℕ
 buffer-after low high n log = if-written low high n (length log) (worst-bytes high n ++ drop (size-of n) log) log
 
-pub record Writes (low high n : ℕ) (log : List ℕ) (r : Made) (log′ : List ℕ) : Type 0 where
+pub record WritesWorst (low high n : ℕ) (log : List ℕ) (r : Made) (log′ : List ℕ) : Type 0 where
   pub answer : answer r ≡ answered low high n (length log)
   pub bytes : log′ ≡ buffer-after low high n log

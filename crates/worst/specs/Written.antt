@@ -7,8 +7,8 @@ use Rattle.trace.specs.Log.{log-of}
 use Rattle.trace.specs.Making.{log-bytes}
 
 -- "as its time the smaller of i and high"
-abbrev pub time-of : (high i : ℕ) → ℕ
-time-of high i = min i high
+abbrev pub worst-time : (high i : ℕ) → ℕ
+worst-time high i = min i high
 
 -- "letter 0 alone"; "letter k is the bit worth 2 to the k"
 abbrev pub events-of : (i : ℕ) → ℕ
@@ -16,7 +16,7 @@ events-of i = 2 ^ 0
 
 -- the log's bytes
 abbrev pub worst-bytes : (high n : ℕ) → List ℕ
-worst-bytes high n = log-bytes (time-of high) events-of n
+worst-bytes high n = log-bytes (worst-time high) events-of n
 
 -- the log of the logic that they are
 abbrev pub worst : (high n : ℕ) → Log

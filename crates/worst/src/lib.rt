@@ -4,9 +4,9 @@ ghost use mathlib.Core.Path.{_≡_};
 ghost use Prim.Native.Nat.{_+_, _*_, _≤_, min};
 ghost use lib.ListN.{length};
 ghost use Rattle.trace.specs.Making.{records-bytes, put};
-ghost use Rattle.worst.specs.Written.{time-of, events-of};
+ghost use Rattle.worst.specs.Written.{worst-time, events-of};
 ghost use Rattle.worst.specs.Refusal.{no-room};
-ghost use Rattle.worst.specs.Call.{answer, Writes};
+ghost use Rattle.worst.specs.Call.{answer, WritesWorst};
 ghost use Rattle.worst.specs.Code.{checked, checked-number};
 use rule::Entry;
 
@@ -91,7 +91,7 @@ fn smaller(a: u32, b: u32) -> u32
 // Writes n records behind the header.
 fn write_records(high: u32, n: usize, log: &mut [u8])
     requires { ⌜ (n ≤ 1000000) × (8 + n * 8 ≤ length (now log)) ⌝ }
-    ensures { λ _. ⌜ now (log .exit) ≡ put (now (log .entry)) 8 (records-bytes (time-of high) events-of n) ⌝ }
+    ensures { λ _. ⌜ now (log .exit) ≡ put (now (log .entry)) 8 (records-bytes (worst-time high) events-of n) ⌝ }
 {
     let end = 8 + n * 8;
     let mut at: usize = 8;
@@ -105,7 +105,7 @@ fn write_records(high: u32, n: usize, log: &mut [u8])
 
 // Writes a version 1 log of n records: record i has letter 0 alone, and as its time the smaller of i and high.
 pub fn worst_log(low: u32, high: u32, n: u64, log: &mut [u8]) -> Made
-    ensures { λ r. ⌜ Writes low high n (now (log .entry)) r (now (log .exit)) ⌝ }
+    ensures { λ r. ⌜ WritesWorst low high n (now (log .entry)) r (now (log .exit)) ⌝ }
 {
     let checked = check(low, high, n, log.len());
     let Checked::Passed(records) = checked else {

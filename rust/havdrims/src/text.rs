@@ -104,7 +104,9 @@ impl fmt::Display for TextError {
             TextFault::Dropped => write!(f, "`dropped` wants a number of records up to 1000000"),
             TextFault::Seconds { word, .. } => write!(f, "`{word}` is no number of seconds up to 4294967295"),
             TextFault::Letter { word } => write!(f, "`{word}` is no letter: letters are e0 to e31"),
-            TextFault::Service => write!(f, "`service` needs the line `version 2` or `version 3` before the first record"),
+            TextFault::Service => {
+                write!(f, "`service` needs the line `version 2` or `version 3` before the first record")
+            }
             TextFault::Falls { time, before } => write!(f, "second {time} comes after second {before}"),
             TextFault::TooMany => write!(f, "a log has at most 1,000,000 records, dropped ones included"),
         }

@@ -81,7 +81,10 @@ fn logs_of_version_2() {
 #[test]
 fn faults_of_a_version() {
     let fault = |text: &str| log_from_text(text).unwrap_err().to_string();
-    assert_eq!(fault("1 e0\n2 service\n"), "line 2: `service` needs the line `version 2` or `version 3` before the first record");
+    assert_eq!(
+        fault("1 e0\n2 service\n"),
+        "line 2: `service` needs the line `version 2` or `version 3` before the first record"
+    );
     assert!(fault("version 1\n2 service\n").starts_with("line 2: `service` needs"));
     for text in ["1 e0\nversion 2\n", "version 2\nversion 2\n"] {
         assert_eq!(fault(text), "line 2: the version stands once, before the first record");

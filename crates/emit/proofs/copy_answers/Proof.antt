@@ -8,13 +8,13 @@ use lib.ListN.{length, getD, length-set}
 use lib.Seq.{getD-set-same, getD-set-other}
 use Rattle.mtl.proofs.Bounded.{le-or-lt}
 use Rattle.blocks.specs.Block.{word}
-use Rattle.engine.specs.Tops.{place}
+use Rattle.engine.specs.Tops.{top-column}
 use Rattle.emit.proofs.copy_answers.Statement.{statement}
 use Rattle.emit.proofs.copy_answers.Tie as tie
 
 abbrev Inv-loop : tie.InvT-loop
 Inv-loop tops number words answers₀ k₀ answers k =
-    (k ≤ number) × (length answers ≡ 8) × ((j : ℕ) → j < k → getD answers j 0 ≡ word words (place 3 tops j + 1)) × (k ≡ 0 → getD answers 0 0 ≡ 2 ^ 64 - 1)
+    (k ≤ number) × (length answers ≡ 8) × ((j : ℕ) → j < k → getD answers j 0 ≡ word words (top-column 3 tops j + 1)) × (k ≡ 0 → getD answers 0 0 ≡ 2 ^ 64 - 1)
 
 abbrev μ-loop : tie.MeasureT-loop
 μ-loop tops number words answers₀ k₀ answers k = number - k

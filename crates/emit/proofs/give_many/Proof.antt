@@ -4,7 +4,7 @@ use borrow.Author.Needs.{needs}
 use mathlib.Core.Path.{_≡_, refl, _∙_}
 use native.Mathlib.Omega.{arith}
 use lib.ListN.{length}
-use Rattle.emit.proofs.Turns.{Underway, underway-none, fitting, ended, copyable, writable, fewer, countable, spends, turned}
+use Rattle.emit.proofs.Turns.{Underway, underway-none, fitting, ended, copyable, writable, fewer, countable, takes-out, turned}
 use Rattle.emit.proofs.give_many.Statement.{statement}
 use Rattle.emit.proofs.give_many.Tie as tie
 
@@ -52,10 +52,10 @@ write-answers-requires c κs =
     let (room, word) = writable p (l .inv .1) (c .before .before .before .before .before .before .before .before .before .hold .ensures .0) (c .before .before .before .before .before .before .available .result) (c .before .before .before .before .before .before .available .ensures .0) (omega (arith, s .good .1 .1 .1 .1 .1 .1 .1 .1 .1 .0 .1)) in
     (room, word, omega (arith, c .before .before .before .before .before .before .before .before .before .before .before .before .before .before .columns-of .ensures, p .formulas, p .small .1))
 
-spend-requires : tie.Need-spend-requires Inv-loop μ-loop
-spend-requires c κs =
+take-verdicts-requires : tie.Need-take-verdicts-requires Inv-loop μ-loop
+take-verdicts-requires c κs =
     let s = c .before .before .before .before .before .before .before .before .before .before .before .before .before .before .before .before .before .before .before .before .before .before in
-    spends (s .pre .0) (c .before .before .before .before .before .before .before .before .before .before .before .before .before .before .before .before .before .loop .inv .1) (c .before .before .before .before .before .before .before .before .before .before .before .before .before .hold .ensures .0) (c .before .before .before .before .before .before .before .before .before .before .available .result) (c .before .before .before .before .before .before .before .before .before .before .available .ensures .0) (omega (arith, s .good .1 .1 .1 .1 .1 .1 .1 .1 .1 .0 .1))
+    takes-out (s .pre .0) (c .before .before .before .before .before .before .before .before .before .before .before .before .before .before .before .before .before .loop .inv .1) (c .before .before .before .before .before .before .before .before .before .before .before .before .before .hold .ensures .0) (c .before .before .before .before .before .before .before .before .before .before .available .result) (c .before .before .before .before .before .before .before .before .before .before .available .ensures .0) (omega (arith, s .good .1 .1 .1 .1 .1 .1 .1 .1 .1 .0 .1))
 
 add-done : tie.Need-add-done Inv-loop μ-loop
 add-done c =
@@ -74,7 +74,7 @@ loop-again c =
     let a = c .before .before .before .before .before .before .before .before .before .copy-answers in (
       a .ensures .long,
       turned (s .pre .0) (c .before .before .before .before .before .before .before .before .before .before .before .before .before .before .before .before .before .before .before .before .loop .inv .1) (h .ensures .0) (c .before .before .before .before .before .before .before .before .before .before .before .before .before .available .result) (c .before .before .before .before .before .before .before .before .before .before .before .before .before .available .ensures .0) (omega (arith, s .good .1 .1 .1 .1 .1 .1 .1 .1 .1 .0 .1))
-          (a .last .1 .1 .1 .0) (c .before .before .before .before .before .before .before .before .before .before .before .before .before .before .before .before .before .before .before .before .before .columns-of .result) (c .before .before .before .before .before .before .before .before .before .before .before .before .before .before .before .before .before .before .before .before .before .columns-of .ensures) (a .ensures) _ _ (c .before .before .spend .ensures) (c .before .before .before .before .before .before .write-answers .ensures),
+          (a .last .1 .1 .1 .0) (c .before .before .before .before .before .before .before .before .before .before .before .before .before .before .before .before .before .before .before .before .before .columns-of .result) (c .before .before .before .before .before .before .before .before .before .before .before .before .before .before .before .before .before .before .before .before .before .columns-of .ensures) (a .ensures) _ _ (c .before .before .take-verdicts .ensures) (c .before .before .before .before .before .before .write-answers .ensures),
       h .ensures .1 .0,
       h .ensures .1 .1,
     )
@@ -94,7 +94,7 @@ give-many-spec =
     returns
     copy-answers-requires
     write-answers-requires
-    spend-requires
+    take-verdicts-requires
     add-done
     loop-less
     loop-again)

@@ -4,7 +4,7 @@ use mathlib.Core.Path.{_≡_, refl, sym, _∙_, subst}
 use native.Mathlib.Omega.{arith}
 use lib.ListN.{length}
 use Rattle.decimal.specs.Text.{Writes}
-use Rattle.report.specs.Report.{words}
+use Rattle.report.specs.Report.{verdict-words}
 use Rattle.decimal.proofs.Texts.{writes-none, writes-more}
 use Rattle.report.proofs.Lines.{short-words}
 use Rattle.report.proofs.put_words.Statement.{statement}
@@ -12,19 +12,19 @@ use Rattle.report.proofs.put_words.Tie as tie
 
 abbrev Inv-loop : tie.InvT-loop
 Inv-loop verdict columns text₀ from at₀ left₀ text at left =
-    (left ≤ columns) × (length text ≡ length text₀) × Writes text₀ from (words verdict (columns - left)) at text
+    (left ≤ columns) × (length text ≡ length text₀) × Writes text₀ from (verdict-words verdict (columns - left)) at text
 
 abbrev μ-loop : tie.MeasureT-loop
 μ-loop verdict columns text₀ from at₀ left₀ text at left = left
 
 loop-holds : tie.Need-loop-holds Inv-loop μ-loop
-unfolding words
+unfolding verdict-words
 loop-holds c =
     let a = c .before .args in
     let none-yet : 0 ≡ a .columns - a .columns = omega arith in (
       omega arith,
       refl,
-      subst (λ (k : ℕ). Writes (a .text .now) (a .from) (words (a .verdict) k) (a .from) (a .text .now)) none-yet (writes-none (a .text .now) (a .from)),
+      subst (λ (k : ℕ). Writes (a .text .now) (a .from) (verdict-words (a .verdict) k) (a .from) (a .text .now)) none-yet (writes-none (a .text .now) (a .from)),
     )
 
 sub-k : tie.Need-sub-k Inv-loop μ-loop
@@ -48,7 +48,7 @@ loop-less : tie.Need-loop-less Inv-loop μ-loop
 loop-less c = omega arith
 
 loop-again : tie.Need-loop-again Inv-loop μ-loop
-unfolding words
+unfolding verdict-words
 loop-again c =
     let l = c .before .before .before .before .before .before .loop in
     let w = c .before .before .put-word in
@@ -56,11 +56,11 @@ loop-again c =
     let k = s .args .columns - l .left in
     let short = short-words (s .args .verdict) k in
     let next : suc k ≡ s .args .columns - (l .left - 1) = omega arith in
-    let more : Writes (s .args .text .now) (s .args .from) (words (s .args .verdict) (suc k)) (w .result) (w .last .1 .0) =
+    let more : Writes (s .args .text .now) (s .args .from) (verdict-words (s .args .verdict) (suc k)) (w .result) (w .last .1 .0) =
     writes-more (l .inv .2) (omega (arith, s .pre .1, l .inv .2 .ends)) (rw (c .before .before .before .before .test .ensures) at (w .ensures)) in (
       omega arith,
       w .kept .1 .0 ∙ l .inv .1,
-      subst (λ (m : ℕ). Writes (s .args .text .now) (s .args .from) (words (s .args .verdict) m) (w .result) (w .last .1 .0)) next more,
+      subst (λ (m : ℕ). Writes (s .args .text .now) (s .args .from) (verdict-words (s .args .verdict) m) (w .result) (w .last .1 .0)) next more,
     )
 
 same-length : tie.Need-same-length Inv-loop μ-loop

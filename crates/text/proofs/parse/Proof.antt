@@ -10,15 +10,15 @@ use lib.Seq.{length-take-le}
 use Rattle.rule.specs.declared.Measured.{Measured}
 use Rattle.rule.specs.Measure.{answer, measured}
 use Rattle.text.specs.Grammar.Level.{ors}
-use Rattle.text.specs.Reader.{Answers}
+use Rattle.text.specs.Reader.{ReadsLevel}
 use Rattle.text.specs.declared.level.Read.{Read}
 use Rattle.text.proofs.Buffer.{holds-none}
 use Rattle.text.proofs.Outcome.{too-long, strange, faulty, unfinished, too-many, fits, rule-is, stopped, no-room, wrote}
 use Rattle.text.proofs.parse.Statement.{statement}
 use Rattle.text.proofs.parse.Tie as tie
 
-told : (text out out′ : List ℕ) {r q : Read} → r ≡ q → Answers ors none text out 0 0 r out′ → Answers ors none text out 0 0 q out′
-told text out out′ e h = subst (λ (x : Read). Answers ors none text out 0 0 x out′) e h
+told : (text out out′ : List ℕ) {r q : Read} → r ≡ q → ReadsLevel ors none text out 0 0 r out′ → ReadsLevel ors none text out 0 0 q out′
+told text out out′ e h = subst (λ (x : Read). ReadsLevel ors none text out 0 0 x out′) e h
 
 pub parse-spec : {M : Type 1} → statement M
 parse-spec =

@@ -5,7 +5,7 @@ use mathlib.Core.List.{List}
 use Prim.Native.Nat.{ℕ, _/_, _%_}
 use native.Mathlib.Omega.{arith}
 use borrow.Author.Needs.{needs}
-use Rattle.trace.specs.Making.{header, word-bytes, put}
+use Rattle.trace.specs.Making.{log-header, word-bytes, put}
 use Rattle.trace.proofs.Making.{put-trimmed}
 use Rattle.trace.proofs.write_trimmed.Statement.{statement}
 use Rattle.trace.proofs.write_trimmed.Tie as tie
@@ -18,7 +18,7 @@ returns c =
     let low = c .before .before .before .before .before .before .write-word2 in
     let rest = c .before .before .write-bytes in
     let n = a .dropped in
-    let header-first : first .last .0 ≡ put (a .log .now) 0 (header 3) = first .ensures in
+    let header-first : first .last .0 ≡ put (a .log .now) 0 (log-header 3) = first .ensures in
     let high-behind : high .last .0 ≡ put (first .last .0) 8 (word-bytes (n / 4294967296)) = high .ensures in
     let low-behind : low .last .0 ≡ put (high .last .0) 12 (word-bytes (n % 4294967296)) = low .ensures in
     let all = rest .ensures in (

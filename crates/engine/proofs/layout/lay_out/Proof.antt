@@ -6,14 +6,14 @@ use native.Mathlib.Omega.{arith}
 use lib.ListN.{getD, length, length-set}
 use lib.Seq.{length-sets}
 use borrow.Author.Needs.{needs}
-use Rattle.engine.specs.Layout.{first, Laid}
+use Rattle.engine.specs.Layout.{subformula-first, Laid}
 use Rattle.engine.proofs.Rows.{set-below, first-step, binary-at, laid-next, left-next, left-fits, next-row, next-fits}
 use Rattle.engine.proofs.layout.lay_out.Statement.{statement}
 use Rattle.engine.proofs.layout.lay_out.Tie as tie
 
 abbrev Inv-loop : tie.InvT-loop
 Inv-loop count table₀ entries firsts₀ k₀ table firsts k =
-    (k ≤ count) × (length table ≡ 1024) × Laid entries k table × (length firsts ≡ 128) × ((j : ℕ) → j < k → getD firsts j 0 ≡ first entries j)
+    (k ≤ count) × (length table ≡ 1024) × Laid entries k table × (length firsts ≡ 128) × ((j : ℕ) → j < k → getD firsts j 0 ≡ subformula-first entries j)
 
 abbrev μ-loop : tie.MeasureT-loop
 μ-loop count table₀ entries firsts₀ k₀ table firsts k = count - k
@@ -83,7 +83,7 @@ loop-again c =
       rw (p .ensures) (simp length-sets (l .inv .1)),
       rw (p .ensures) (laid-next (s .args .t1) (s .args .count) (s .pre .1) (l .table) (l .k) (e .result) (a .result) (b .result) (omega arith) (omega arith) (l .inv .1) (l .inv .2) row),
       simp length-set (l .inv .3),
-      set-below (first (s .args .t1)) (l .firsts) (l .k) (f .result) (omega arith) (l .inv .4)
+      set-below (subformula-first (s .args .t1)) (l .firsts) (l .k) (f .result) (omega arith) (l .inv .4)
           (f .ensures ∙ first-step (s .args .t1) (s .args .count) (s .pre .1) (l .firsts) (l .k) (omega arith) (l .inv .4)),
     )
 

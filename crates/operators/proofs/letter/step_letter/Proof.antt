@@ -5,7 +5,7 @@ use mathlib.Core.Path.{refl}
 use lib.ListN.{length-set}
 use borrow.Author.Needs.{needs}
 use Rattle.mtl.proofs.Closing.{settled-letter}
-use Rattle.trace.specs.View.{first}
+use Rattle.trace.specs.View.{slice-first}
 use Rattle.blocks.proofs.Words.{available}
 use Rattle.operators.proofs.Simple.{read-onward, letter-batch}
 use Rattle.operators.proofs.letter.step_letter.Statement.{statement}
@@ -32,7 +32,7 @@ returns-2 c =
     let left = available _ _ _ _ (n .ensures .0) in
     let lettered = c .before .read-letters .ensures in
     let onward = lettered .onward in (
-      read-onward (n .result) (first v + c .before .read-letters .result .end) b (start .pre .1) (omega arith),
+      read-onward (n .result) (slice-first v + c .before .read-letters .result .end) b (start .pre .1) (omega arith),
       λ L g falls agrees ready.
           letter-batch v b (start .pre .1) (n .result) (omega arith) L g agrees (start .args .letter) (left .inside (omega arith)) lettered ready,
     )

@@ -29,15 +29,15 @@ use mathlib.Core.Path.{_≡_, refl, subst}
 use mathlib.Core.List.{List}
 use mathlib.Core.Option.{Option, none, some}
 use Rattle.text.specs.Grammar.{Level, Tree}
-use Rattle.text.specs.Reader.{Timed, joined, size, Answers}
+use Rattle.text.specs.Reader.{Timed, joined, size, ReadsLevel}
 use Rattle.text.specs.declared.level.Ends.{Ends}
 use Rattle.text.specs.declared.level.Read.{Read}
 use Rattle.text.proofs.Levels.{atom-letter, atom-neither, less-inside, atom-empty, atom-unclosed, atom-brackets, prefixed-atom, prefixed-missing, less-behind, prefixed-fault, prefixed-one, timed-none, timed-alone, timed-missing, less-right, timed-fault, timed-two, ors-none, ors-more, ors-end}
 
 -- what a call answered, by its variant
 told : (l : Level) (before : Option (Tree Level.ors)) (text out : List ℕ) (place n : ℕ) (out′ : List ℕ) {r q : Read} → r ≡ q
-    → Answers l before text out place n r out′ → Answers l before text out place n q out′
-told l before text out place n out′ e h = subst (λ (x : Read). Answers l before text out place n x out′) e h
+    → ReadsLevel l before text out place n r out′ → ReadsLevel l before text out place n q out′
+told l before text out place n out′ e h = subst (λ (x : Read). ReadsLevel l before text out place n x out′) e h
 
 told-ends : (k : ℕ) (text : List ℕ) (place : ℕ) {r q : Ends} → r ≡ q → Timed k text place r → Timed k text place q
 told-ends k text place e h = subst (λ (x : Ends). Timed k text place x) e h

@@ -1,13 +1,13 @@
 -- `text::token::word_mark` meets its contract: the tests are those of `word`.
 use borrow.Author.Needs.{needs}
 use mathlib.Core.Path.{refl}
-use Rattle.text.specs.Tokens.{Token, word}
+use Rattle.text.specs.Tokens.{Token, token-of}
 use Rattle.text.proofs.Words.{marks-as, bare-word, other-word}
 use Rattle.text.proofs.token.word_mark.Statement.{statement}
 use Rattle.text.proofs.token.word_mark.Tie as tie
 
 pub word-mark-spec : {M : Type 1} → statement M
-unfolding word
+unfolding token-of
 word-mark-spec =
     tie.close
     (tie.spec

@@ -1,11 +1,11 @@
--- `spend_one` meets its contract: what is stored, by the contracts of the functions that count.
+-- `take_answers` meets its contract: what is stored, by the contracts of the functions that count.
 use borrow.Author.Needs.{needs}
 use native.Mathlib.Omega.{arith}
 use lib.ListN.{length-set}
-use Rattle.emit.proofs.spend_one.Statement.{statement}
-use Rattle.emit.proofs.spend_one.Tie as tie
-use Rattle.emit.proofs.spend_one.Reads as reads
-use Rattle.emit.proofs.spend_one.Lts as lts
+use Rattle.emit.proofs.take_answers.Statement.{statement}
+use Rattle.emit.proofs.take_answers.Tie as tie
+use Rattle.emit.proofs.take_answers.Reads as reads
+use Rattle.emit.proofs.take_answers.Lts as lts
 use Rattle.bits.proofs.count_zeros.Reads as count-zeros-reads
 use Rattle.bits.proofs.find_last_zero.Reads as find-last-zero-reads
 use Rattle.bits.proofs.rest.Reads as rest-reads
@@ -117,8 +117,8 @@ returns c =
     let s = c .before .before .before .before .before .before .before .before .before in
     simp (c .rest .ensures, c .before .later-end .ensures, c .before .before .before .find-last-zero .ensures .0, c .before .before .before .before .count-zeros .ensures .0)
 
-pub spend-one-spec : {M : Type 1} → statement M
-spend-one-spec =
+pub take-answers-spec : {M : Type 1} → statement M
+take-answers-spec =
     tie.close
     (tie.spec
     mul-count
