@@ -559,7 +559,7 @@ impl<'a, D: Disk> Card<'a, D> {
     }
 
     /// The log from the card's first record on.
-    fn own_part<'l>(&self, log: &'l [u8]) -> Result<Cow<'l, [u8]>, Fault> {
+    pub fn own_part<'l>(&self, log: &'l [u8]) -> Result<Cow<'l, [u8]>, Fault> {
         let first = self.so_far.first.record;
         if first == 0 {
             return Ok(Cow::Borrowed(log));

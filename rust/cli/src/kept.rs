@@ -123,8 +123,8 @@ pub fn looked_at(disk: &mut impl Disk) -> Vec<(String, String)> {
     let rows = files.rows();
     let whole = rows.iter().flatten().count();
     let evenings = files.evenings.as_ref().map(|_| match whole {
-        _ if whole == rows.len() => format!("{whole} rows"),
-        whole => format!("{whole} rows, {} damaged, cut or of another card", rows.len() - whole),
+        _ if whole == rows.len() => counted(whole, "row", "rows"),
+        whole => format!("{}, {} damaged, cut or of another card", counted(whole, "row", "rows"), rows.len() - whole),
     });
     let point = files.point.as_ref().map(|point| match Saved::decode(point) {
         Ok(_) => "good".to_string(),

@@ -1,6 +1,6 @@
 //! What a rule and its letters are called: of a card, a rule file or a formula.
 
-use crate::card::{self, Card};
+use crate::card::{self, Card, First};
 use crate::command::Failure;
 use crate::convert;
 use crate::disk::{read_all, Disk, Folder};
@@ -14,6 +14,14 @@ use std::path::Path;
 pub struct Named {
     pub rule: Rule,
     pub letters: Letters,
+}
+
+/// What a card has judged by its rule, and where it begins.
+pub struct Judged {
+    pub first: First,
+    pub verdicts: Vec<u8>,
+    /// The log that it was brought, from its first record on.
+    pub log: Vec<u8>,
 }
 
 impl Named {
@@ -34,6 +42,17 @@ impl Named {
         let letters = card.letters().map_err(failed)?;
         let rule = Rule::new(card.rule()).map_err(|refusal| Failure::fault(folder, refusal))?;
         Ok(Named { rule, letters })
+    }
+
+    /// The same, and what it has judged of a log, if the word names a card.
+    pub fn judged(word: &str, path: &str, log: &[u8]) -> Result<Option<Judged>, Failure> {
+        if !is_card(word) {
+            return Ok(None);
+        }
+        let mut disk = Folder::new(Path::new(word));
+        let card = Card::open(&mut disk, false).map_err(|fault| Failure::fault(word, fault))?;
+        let log = card.own_part(log).map_err(|fault| Failure::fault(path, fault))?.into_owned();
+        Ok(Some(Judged { first: card.so_far.first, verdicts: card.verdicts().to_vec(), log }))
     }
 }
 

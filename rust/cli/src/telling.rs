@@ -9,24 +9,30 @@ use std::slice;
 
 /// The records of a log that hold its positions, in turn, with their times.
 pub struct Places {
-    records: usize,
+    /// The first record's number, and one more than the last's.
+    first: usize,
+    end: usize,
     held: Vec<(usize, u32)>,
 }
 
 impl Places {
-    /// Of a log that has dropped none.
-    pub fn of(log: &Log<'_>) -> Result<Places, Refusal> {
+    /// Of a log that has dropped none, or of the part of one from a record on.
+    pub fn of(log: &Log<'_>, first: usize) -> Result<Places, Refusal> {
         if log.dropped() > 0 {
             return Err(Refusal::RecordDropped);
         }
         let positions = log.records().enumerate().filter(|(_, record)| !record.service);
-        Ok(Places { records: log.len(), held: positions.map(|(at, record)| (at, record.seconds)).collect() })
+        let held = positions.map(|(at, record)| (first + at, record.seconds)).collect();
+        Ok(Places { first, end: first + log.len(), held })
     }
 
-    /// The position that a record holds, or what it is instead.
+    /// The position that a record holds, counted from the first, or what it is instead.
     pub fn position(&self, record: usize) -> Result<u64, String> {
-        if record >= self.records {
-            return Err(match self.records {
+        if record < self.first {
+            return Err(format!("record {record} stands before the card's first, {}", self.first));
+        }
+        if record >= self.end {
+            return Err(match self.end {
                 0 => format!("there is no record {record}: the log has none"),
                 1 => format!("there is no record {record}: the log has one, 0"),
                 records => format!("there is no record {record}: the log has {records}, 0 to {}", records - 1),
@@ -69,14 +75,21 @@ impl Teller {
         Teller { entries: entries(rule, letters), places }
     }
 
-    pub fn told(&self, reason: &Reason, record: usize, formula: usize) -> String {
+    /// Whether the reason is that of a yes.
+    pub fn is_yes(&self, reason: &Reason) -> bool {
+        let mut lines = reason.lines().iter();
+        lines.len() == 0 || self.tree(&mut lines).yes
+    }
+
+    /// Of what is told, as `record 8, position 5`; of a rule with several formulas behind the number of one.
+    pub fn told(&self, reason: &Reason, what: &str, formula: Option<usize>) -> String {
         let mut lines = reason.lines().iter();
         if lines.len() == 0 {
-            return format!("record {record} is yes: the rule is empty\n");
+            return format!("{what} is yes: the rule is empty\n");
         }
-        let of = if formula == 0 { String::new() } else { format!(" under formula {formula}") };
+        let of = formula.map_or(String::new(), |formula| format!(" under formula {formula}"));
         let mut told = String::new();
-        self.tell(&self.tree(&mut lines), &format!("record {record}"), &of, 0, &mut told);
+        self.tell(&self.tree(&mut lines), what, &of, 0, &mut told);
         told
     }
 

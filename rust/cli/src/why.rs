@@ -1,5 +1,6 @@
 //! Why a record has its verdict: the library's reason as it is, or in sentences.
 
+use crate::card::First;
 use crate::command::Failure;
 use crate::named::Named;
 use crate::telling::{Places, Teller};
@@ -17,22 +18,47 @@ pub struct Question<'a> {
 }
 
 pub fn answer(question: &Question) -> Result<String, Failure> {
-    let Question { rule, log, .. } = question;
+    let Question { rule: asked, log, .. } = question;
     let record: usize = convert::number(question.record)?;
-    let Named { rule, letters } = Named::of(rule)?;
+    let Named { rule, letters } = Named::of(asked)?;
     let formula = formula(&rule, question.formula)?;
     let bytes = convert::log(log).map_err(|fault| convert::unread(log, fault))?;
-    let bytes = convert::opened(log, &bytes)?;
-    let places = Places::of(&bytes).map_err(|refusal| refused(log, &bytes, refusal))?;
+    convert::opened(log, &bytes)?;
+    // A card judges the log from its first record on, and so is it explained.
+    let judged = Named::judged(asked, log, &bytes)?;
+    let first = judged.as_ref().map_or(First::default(), |judged| judged.first);
+    let bytes = judged.as_ref().map_or(bytes.as_slice(), |judged| &judged.log);
+    let bytes = convert::opened(log, bytes)?;
+    let places = Places::of(&bytes, first.record as usize).map_err(|refusal| refused(log, &bytes, refusal))?;
     let position = places.position(record).map_err(|fault| Failure::fault(log, fault))?;
     let reason = match rule.explain(&bytes, formula, position) {
         Err(Refusal::NoReason) => return Err(Failure::fault(log, open(record, rule.formulas()))),
         reason => reason.map_err(|refusal| refused(log, &bytes, refusal))?,
     };
+    let teller = Teller::new(&rule, &letters, places);
+    let says = teller.is_yes(&reason);
+    let given = judged.as_ref().and_then(|judged| judged.verdicts.get(position as usize));
+    if given.is_some_and(|verdict| (verdict >> formula & 1 == 1) != says) {
+        return Err(Failure::fault(log, altered(record, says)));
+    }
     if !question.words {
         return Ok(reason.to_string());
     }
-    Ok(Teller::new(&rule, &letters, places).told(&reason, record, formula))
+    let number = first.position + position;
+    let what = match number == record as u64 {
+        true => format!("record {record}"),
+        false => format!("record {record}, position {number},"),
+    };
+    Ok(teller.told(&reason, &what, (rule.formulas() > 1).then_some(formula)))
+}
+
+/// The card's sheet has the other verdict.
+fn altered(record: usize, says: bool) -> String {
+    let [sheet, log] = if says { ["no", "yes"] } else { ["yes", "no"] };
+    format!(
+        "record {record} is {sheet} in the card's sheet, and {log} on this log: records were overwritten or altered since\n\
+         A reason needs the log as it was."
+    )
 }
 
 /// The number of the formula that is asked about. Of several it has to be said which.

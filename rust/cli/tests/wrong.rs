@@ -206,6 +206,7 @@ fn what_is_said_of_a_formula() {
     };
     word("e0 untill[0,90] e1", "   ^^^^^^", "`untill` is not known; did you mean until?");
     word("e0 and e1", "   ^^^", "`and` is not known; there is no and: `not (not A or not B)` says it");
+    word("if e0", "^^", "`if` is not known; `not A or B` says that B is so whenever A is");
     word("previous e0", "^^^^^^^^", "`previous` is not known; did you mean prev?");
     word("e0 elephant e1", "   ^^^^^^^^", "`elephant` is not known");
     word("Warm", "^^^^", "`Warm` is not known");

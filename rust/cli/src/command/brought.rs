@@ -70,7 +70,8 @@ impl<'a> Brought<'a> {
         let (says, hint) = match refusal {
             Refusal::PointClosed => {
                 let says = numbered("the card is closed: it takes no further records", refusal);
-                return Failure::fault(self.folder, format!("{says}\n{UNCHANGED}"));
+                let next = format!("`havdrims new NEW RULE.. --after {}` makes the next one. ", self.folder);
+                return Failure::fault(self.folder, format!("{says}\n{next}{UNCHANGED}"));
             }
             Refusal::FewerRecords => {
                 (format!("the log has {has} records, and the card has seen {seen}"), "Is this the whole log? ")

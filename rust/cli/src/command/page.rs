@@ -22,9 +22,16 @@ pub fn page(given: &Given) -> Answer {
     let page = page.map_err(|fault| log.failed(&fault, Some(&so_far)))?;
     file::put(&mut into, &name, page.html.as_bytes(), given.has("--force"))
         .map_err(|fault| Failure::fault(out, fault))?;
-    let no = |&(no, stretches): &(u64, u64)| match stretches {
+    let no = |no: &page::No| match no.stretches {
         0 => "0 no".to_string(),
-        _ => format!("{no} no in {}", parts::counted(stretches as usize, "stretch", "stretches")),
+        stretches => {
+            let stretches = parts::counted(stretches as usize, "stretch", "stretches");
+            let lost = match no.lost {
+                0 => String::new(),
+                lost => format!(", {lost} without time and reason: the log no longer has their records"),
+            };
+            format!("{} no in {stretches}{lost}", no.number)
+        }
     };
     Ok(by_formula(out, ": ", page.no.iter().map(no).collect()))
 }

@@ -101,7 +101,8 @@ fn check_json(files: &[(String, String)], opened: &Result<SoFar, Fault>, kept: O
         Ok(so_far) => (Some(so_far), so_far.status.given, None),
         Err(_) => {
             let after = kept.and_then(|kept| kept.after).map(|begins| begins.first.record);
-            (kept.map(|kept| &kept.so_far), kept.map_or(0, |kept| kept.verdicts.len() as u64), after)
+            let some = kept.filter(|kept| !kept.verdicts.is_empty());
+            (some.map(|kept| &kept.so_far), kept.map_or(0, |kept| kept.verdicts.len() as u64), after)
         }
     };
     Json::Object(vec![

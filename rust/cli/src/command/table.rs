@@ -262,7 +262,8 @@ for by a checksum and how to go on. The card is not changed. The exit status is 
         does: "print the reason for the yes or no of a record",
         more: "\
 RULE is a .krl file, a formula, or a card, whose names for letters are shown then. LOG is the whole log, with no record overwritten or dropped. RECORD
-is the record's number in it, from 0; a service record has no verdict, and an open record none yet.
+is the record's number in it, from 0; a service record has no verdict, and an open record none yet. Of a card the log is read from the
+card's first record on, positions count from there, and no reason is given that its sheet contradicts.
 
 The reason is a line for each part of the rule that counts: the number of its entry, a position, and what makes it yes
 or no there. Positions are numbered over the records that are no service records.

@@ -29,11 +29,24 @@ use std::time::{SystemTime, UNIX_EPOCH};
 use table::Numbers;
 use week::Days;
 
+/// The no of a formula, their stretches, and those of them whose beginning the log no longer has.
+pub struct No {
+    pub number: u64,
+    pub stretches: u64,
+    pub lost: u64,
+}
+
+impl No {
+    fn of(stretches: &[week::Stretch]) -> No {
+        let lost = stretches.iter().filter(|stretch| stretch.times.0.is_none()).count() as u64;
+        No { number: week::nos(stretches), stretches: stretches.len() as u64, lost }
+    }
+}
+
 /// A page, and what it comes to.
 pub struct Page {
     pub html: String,
-    /// The no of each formula, and its stretches.
-    pub no: Vec<(u64, u64)>,
+    pub no: Vec<No>,
 }
 
 /// The page of the card in this folder with its log, which is as it was or has lost what was released.
@@ -47,7 +60,7 @@ pub fn page(card: &mut Card<'_, impl Disk>, folder: &str, log: &[u8], clock: Clo
     let SoFar { status, services, first, .. } = card.so_far;
     let days = Days::of(&spans);
     let formulas = judged(card, &letters, seen, &spans, &days, clock)?;
-    let no = formulas.iter().map(|formula| (week::nos(&formula.stretches), formula.stretches.len() as u64)).collect();
+    let no = formulas.iter().map(|formula| No::of(&formula.stretches)).collect();
     let known: u64 = spans.iter().map(|span| span.held.len() as u64).sum();
     let open_from = place(&spans, status.given).zip(spans.last().and_then(Span::ends));
     let document = Document {

@@ -119,6 +119,7 @@ fn not_known(what: &str, found: &str) -> (String, String) {
         "|" => "; did you mean or?".to_string(),
         "!" | "~" => "; did you mean not?".to_string(),
         "previous" => "; did you mean prev?".to_string(),
+        "if" | "then" | "implies" => "; `not A or B` says that B is so whenever A is".to_string(),
         _ => did_you_mean(found, WORDS),
     };
     (format!("the {what} `{found}` is not known{hint}"), known())

@@ -206,7 +206,9 @@ fn a_closing_is_meant() {
 fn a_closed_card() {
     let place = Place::with_card(1);
     place.ok(&["close", "card", "day.klg", "--final"]);
-    let closed = "card: the card is closed: it takes no further records (refused 20)\nNothing was changed.\n";
+    let closed =
+        "card: the card is closed: it takes no further records (refused 20)\n`havdrims new NEW RULE.. --after card` \
+                  makes the next one. Nothing was changed.\n";
     refuses(&place, &["evening", "card", "day.klg"], closed);
     refuses(&place, &["evening", "card", "tuesday.klg"], closed);
     let more = "the log has 19 records, and the card was closed with 14 (refused 21)";

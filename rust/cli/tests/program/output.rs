@@ -219,6 +219,12 @@ fn summaries_and_checks_for_other_programs() {
             assert_eq!(json.at("files.5.name"), &Json::Text("a \"file\"\n\u{1}".to_string()));
         }
     }
+    let mut sheet = fs::read(place.path("card/sheet")).unwrap();
+    sheet[3] ^= 1;
+    fs::write(place.path("card/sheet"), sheet).unwrap();
+    let (printed, _) = place.partly(&["check", "card", "--json"]);
+    let json = Reader::all(&printed);
+    assert_eq!((json.at("so_far"), json.number("vouched_verdicts")), (&Json::Null, 0));
     fs::write(place.path("card/card.txt"), b"").unwrap();
     let (printed, _) = place.partly(&["check", "card", "--json"]);
     let json = Reader::all(&printed);

@@ -164,6 +164,10 @@ fn records_that_were_overwritten() {
         assert_eq!(lines[2], whole[2]);
         let text = plain(&place.page("tuesday.klg", &[]));
         assert!(text.contains("2 stretches are not drawn: the log no longer holds these records"), "{text}");
+        let lost = "without time and reason: the log no longer has their records\n";
+        let said =
+            format!("lost.html\n  formula 0: 3 no in 3 stretches, 2 {lost}  formula 1: 1 no in 1 stretch, 1 {lost}");
+        assert_eq!(place.ok(&["page", "card", "tuesday.klg", "lost.html", "--force"]), said);
         assert!(text.contains("Of 11 judged records the log no longer holds what this card has seen"), "{text}");
         assert!(text.contains("The log still holds day 1 0:"), "{text}");
         assert!(text.contains("not known: the log no longer holds these records"), "{text}");

@@ -49,7 +49,7 @@ fn the_reasons_of_the_sample_day() {
     let said = place.ok(&["why", RULE, "visit.klg", "8", "--words"]);
     let until = "e0 until[0,90] e1 is no at record 8: record 9 does not have e0, and no record from 8 to 9 has e1";
     let both =
-        format!("record 8 is no: neither of these is yes\n  not e2 is no at record 8: record 8 has e2\n  {until}\n");
+        format!("record 8, position 5, is no: neither of these is yes\n  not e2 is no at record 8: record 8 has e2\n  {until}\n");
     assert_eq!(said, both);
     let said = place.ok(&["why", "--words", RULE, "day.klg", "2"]);
     let until = "record 4 has e1, 60 seconds later, and every record from 2 to 3 has e0";
@@ -106,6 +106,7 @@ fn several_formulas_and_none() {
         prev[0,inf] e0 is no at record 7: record 6 is 55 seconds before, and record 6 does not have e0\n";
     assert_eq!(why(&["7", "--formula", "1", "--words"]), said);
     assert_eq!(why(&["5", "--formula", "0"]), "5 5 or\n1 5 not\n0 5 e2 yes\n4 5 until 6 left\n");
+    assert!(why(&["5", "--formula", "0", "--words"]).starts_with("record 5 is no under formula 0: neither of"));
     let said = place.fails(2, &["why", "two.krl", "day.klg", "5"]);
     assert!(said.starts_with("the rule has 2 formulas: which of them? --formula 0 to 1\n"), "{said}");
     let said = place.fails(2, &["why", "two.krl", "day.klg", "5", "--formula", "2"]);
@@ -117,6 +118,50 @@ fn several_formulas_and_none() {
     assert_eq!(place.ok(&["why", "empty.krl", "day.klg", "13"]), "empty\n");
     let said = place.ok(&["why", "empty.krl", "day.klg", "13", "--words"]);
     assert_eq!(said, "record 13 is yes: the rule is empty\n");
+}
+
+/// A card is not told a reason that its sheet contradicts.
+#[test]
+fn a_log_that_is_no_longer_as_the_card_saw_it() {
+    let place = Place::with_logs();
+    place.ok(&["new", "two", RULE, "not e1 or prev[0,inf] e0"]);
+    place.ok(&["evening", "two", "day.klg"]);
+    let said = place.ok(&["why", "two", "day.klg", "7", "--formula", "1", "--words"]);
+    assert!(said.starts_with("record 7 is no under formula 1: "), "{said}");
+    // Record 6 gets letter 0, which it did not have, and record 5 loses letter 2.
+    let mut bytes = fs::read(place.path("day.klg")).unwrap();
+    bytes[8 + 8 * 6 + 7] |= 1;
+    bytes[8 + 8 * 5 + 7] &= !4;
+    fs::write(place.path("altered.klg"), bytes).unwrap();
+    for (record, formula) in [("7", "1"), ("5", "0")] {
+        let text = format!(
+            "altered.klg: record {record} is no in the card's sheet, and yes on this log: records were overwritten or \
+             altered since\nA reason needs the log as it was.\n"
+        );
+        for words in [&["--words"][..], &[]] {
+            let asked = [&["why", "two", "altered.klg", record, "--formula", formula], words].concat();
+            assert_eq!(place.fails(1, &asked), text);
+        }
+    }
+    // A verdict that is the same on both, and a rule file, which knows no sheet.
+    place.ok(&["why", "two", "altered.klg", "8", "--formula", "0"]);
+    place.ok(&["why", "two/rule.krl", "altered.klg", "7", "--formula", "1"]);
+}
+
+/// A card that begins in the middle of a log is told reasons from there on, in the log's own numbers.
+#[test]
+fn a_card_that_begins_in_the_middle() {
+    let place = Place::with_logs();
+    place.ok(&["new", "card", "prev[0,inf] e0", "--from", "8"]);
+    place.ok(&["evening", "card", "visit.klg"]);
+    let why = |record: &str| place.ok(&["why", "card", "visit.klg", record, "--words"]);
+    assert_eq!(why("8"), "record 8 is no: no record stands before it\n");
+    assert!(place
+        .ok(&["why", "prev[0,inf] e0", "visit.klg", "8", "--words"])
+        .starts_with("record 8, position 5, is yes"));
+    assert!(why("9").starts_with("record 9 is yes: record 8 is "), "{}", why("9"));
+    let said = place.fails(1, &["why", "card", "visit.klg", "7"]);
+    assert_eq!(said, "visit.klg: record 7 stands before the card's first, 8\n");
 }
 
 /// Each form of a sentence.
@@ -225,7 +270,10 @@ fn reasons_in_sentences() {
                 0,
                 "record 0 is no: record 4 does not have e0, and no record from 0 to 4, service records aside, has e1\n",
             ),
-            (6, "record 6 is yes: record 9 has e1, 2 seconds later, and every record from 6 to 7 has e0\n"),
+            (
+                6,
+                "record 6, position 3, is yes: record 9 has e1, 2 seconds later, and every record from 6 to 7 has e0\n",
+            ),
         ],
     );
     place.says("(not e1) until[0,9] (e1 or e2)", visited, &[(
@@ -249,13 +297,16 @@ fn random_reasons() {
         fs::write(place.path("log.klg"), log::encode_as(version, &records)).unwrap();
         let formula = r.below(rule.formulas());
         let all = reason::reasons(&rule, &log::positions(version, &records), formula);
-        for (text, record) in all.iter().zip(log::places(version, &records)) {
+        for ((position, text), record) in all.iter().enumerate().zip(log::places(version, &records)) {
+            let of = if rule.formulas() > 1 { format!(" under formula {formula}") } else { String::new() };
+            let place_of = if position == record { String::new() } else { format!(", position {position},") };
             let [record, formula] = [record, formula].map(|number| number.to_string());
             let words = ["why", "rule.krl", "log.klg", &record, "--formula", &formula];
             assert_eq!(place.ok(&words), *text);
             let said = place.ok(&[&words[..], &["--words"]].concat());
             let yes = reason::taken_apart(&rule, text).unwrap().yes;
-            assert!(said.starts_with(&format!("record {record} is {}", if yes { "yes" } else { "no" })), "{said}");
+            let yes = if yes { "yes" } else { "no" };
+            assert!(said.starts_with(&format!("record {record}{place_of} is {yes}{of}")), "{said}");
         }
     }
     let worked = cases::reasons().into_iter().filter(|case| !case.texts.is_empty());
