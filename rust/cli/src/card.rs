@@ -52,7 +52,8 @@ pub enum Fault {
     AlreadyThere,
     NotEmpty,
     InUse,
-    CardMissing,
+    /// The file of this name is not there.
+    Missing(&'static str),
     CardDamaged,
     /// There is no checkpoint, but a sheet with verdicts, which no `new` leaves that was cut.
     PointMissing {
@@ -78,7 +79,6 @@ pub enum Fault {
         has: u64,
     },
     SheetDamaged,
-    EveningsMissing,
     /// No row that is whole is that of the checkpoint.
     EveningsDamaged,
     LettersDamaged,
@@ -130,7 +130,7 @@ impl fmt::Display for Fault {
             Fault::AlreadyThere => write!(f, "a card is here already"),
             Fault::NotEmpty => write!(f, "this folder holds other files"),
             Fault::InUse => write!(f, "another command is at work on this card; try again when it has ended"),
-            Fault::CardMissing => write!(f, "the file `card.txt` is missing"),
+            Fault::Missing(name) => write!(f, "the file `{name}` is missing"),
             Fault::CardDamaged => write!(f, "the file `card.txt` is damaged: it does not hold the card's number"),
             Fault::PointMissing { has } => {
                 write!(f, "the file `point` is missing, but the sheet has {has} verdicts")
@@ -158,7 +158,6 @@ impl fmt::Display for Fault {
                 write!(f, "the file `sheet` has {has} verdicts, but {given} were given")
             }
             Fault::SheetDamaged => write!(f, "the file `sheet` is damaged: its checksum does not fit"),
-            Fault::EveningsMissing => write!(f, "the file `evenings` is missing"),
             Fault::EveningsDamaged => {
                 write!(f, "the file `evenings` is damaged, or not of this card: it lacks the evening of the point")
             }
@@ -464,10 +463,13 @@ impl<'a, D: Disk> Card<'a, D> {
         match has {
             (false, false) => return Err(Fault::NoCard),
             (true, false) => return Err(without_point(disk)?),
-            (false, true) => return Err(Fault::CardMissing),
+            (false, true) => return Err(Fault::Missing(CARD)),
             (true, true) => {}
         }
-        let mut read = |name, doing| disk.read(name).map_err(failed(doing));
+        let mut read = |name, doing| match disk.read(name) {
+            Err(fault) if fault.kind() == ErrorKind::NotFound => Err(Fault::Missing(name)),
+            read => read.map_err(failed(doing)),
+        };
         let card = read(CARD, "read the file `card.txt`")?;
         let Label { number, first } = Label::decode(&card).ok_or(Fault::CardDamaged)?;
         let saved = Saved::decode(&read(POINT, "read the file `point`")?).map_err(Fault::PointUnreadable)?;
@@ -502,7 +504,7 @@ impl<'a, D: Disk> Card<'a, D> {
         let fits = |row: &Row| (row.status, row.sheet, row.services) == (status, saved.sheet, saved.services);
         let row = all.as_ref().and_then(|all| last(&rows(all, bound), fits));
         match (row, &all, first) {
-            (None, None, Some(_)) => return Err(Fault::EveningsMissing),
+            (None, None, Some(_)) => return Err(Fault::Missing(EVENINGS)),
             (None, Some(_), Some(_)) => return Err(Fault::EveningsDamaged),
             _ => {}
         }

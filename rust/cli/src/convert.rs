@@ -3,9 +3,10 @@
 use crate::command::{Answer, Failure, Given};
 use crate::disk::{read_all, read_file};
 use crate::wrong::{self, numbered, Wrong};
-use crate::{card, file};
+use crate::{beside, card, file};
 use havdrims::{formulas, measure, parse, simulate, text, worst_log};
 use havdrims::{Log, Needs, Refusal, Settings, MOST_FORMULAS, MOST_RECORDS, MOST_RULE, MOST_WORDS};
+use std::io::ErrorKind;
 use std::path::Path;
 use std::str::FromStr;
 use std::{fs, io};
@@ -22,12 +23,27 @@ pub fn log(path: &str) -> io::Result<Vec<u8>> {
 /// What is wrong where a file could not be read.
 pub fn unread(path: &str, fault: io::Error) -> Failure {
     match fs::read_dir(path) {
+        Err(_) if fault.kind() == ErrorKind::NotFound => {
+            Failure::fault(path, format!("there is no such file{}", beside::or_file(path)))
+        }
         Err(_) => Failure::fault(path, fault),
         Ok(_) if Path::new(path).join(card::CARD).is_file() => {
             Failure::fault(path, "this is a card, and a file is wanted here")
         }
         Ok(_) => Failure::fault(path, "this is a folder, and a file is wanted here"),
     }
+}
+
+/// The text in a file, without the mark that some editors write before it.
+pub fn text_of(path: &str, bytes: Vec<u8>) -> Result<String, Failure> {
+    let says = match bytes.get(..3) {
+        Some(b"KLG") => "this is a log, and a text is wanted here",
+        Some(b"KRL") => "this is a rule, and a text is wanted here",
+        _ => "this is no text in UTF-8",
+    };
+    let text = String::from_utf8(bytes).ok().filter(|text| !text.contains('\0'));
+    let text = text.ok_or_else(|| Failure::fault(path, says))?;
+    Ok(text.strip_prefix('\u{feff}').unwrap_or(&text).to_string())
 }
 
 /// The bytes of a log, looked at once.
@@ -42,7 +58,55 @@ pub fn rule_said(words: &[&str]) -> Result<Vec<u8>, Failure> {
         true => read_file(word, MOST_RULE).map_err(|fault| unread(word, fault)),
         false => parsed(word),
     };
-    joined(words, words.iter().map(said).collect::<Result<_, _>>()?)
+    let rules: Result<Vec<Vec<u8>>, Failure> = words.iter().map(said).collect();
+    joined(words, rules.map_err(|fault| unquoted(words).unwrap_or(fault))?)
+}
+
+/// The same of a word that may also be the name of a card, which there is not.
+pub fn rule_of(word: &str) -> Result<Vec<u8>, Failure> {
+    let none = || format!("no card or .krl file `{word}` is here{}", beside::or_rule(word));
+    match refused(word).filter(|_| !Path::new(word).exists()) {
+        Some(_) if word.ends_with(".krl") => Err(Failure::Fault(none())),
+        Some(refusal) if is_name(word) => Err(Failure::Fault(numbered(&none(), refusal))),
+        _ => rule_said(&[word]),
+    }
+}
+
+/// Why this is no formula, if it is none.
+fn refused(text: &str) -> Option<Refusal> {
+    parse(text.as_bytes(), &mut vec![0; MOST_RULE]).err()
+}
+
+/// Whether this says a rule.
+pub fn is_formula(text: &str) -> bool {
+    refused(text).is_none()
+}
+
+/// Whether a word that is no formula looks like a name: of several words, or with brackets, it is a formula that is wrong.
+fn is_name(word: &str) -> bool {
+    !word.is_empty() && !word.contains([' ', '(', ')', '[', ']']) && refused(word) == Some(Refusal::UnknownWord)
+}
+
+/// What is wrong where the words of a formula stand alone, because nothing stands around them.
+fn unquoted(words: &[&str]) -> Option<Failure> {
+    let parts: Vec<&str> = words.iter().copied().filter(|word| !word.ends_with(".krl")).collect();
+    if parts.len() < 2 || parts.iter().any(|part| part.contains(' ')) {
+        return None;
+    }
+    let (refusal, typed) = (parts.iter().find_map(|part| refused(part))?, parts.join(" "));
+    match refused(&typed) {
+        None => Some(Failure::Fault(numbered(&between_quotes(&typed), refusal))),
+        // One of its words is a part of a formula, and no formula.
+        Some(whole) if refusal == Refusal::NotDerived => {
+            let says = wrong::named(whole, wrong::formula(&typed));
+            Some(Failure::Fault(format!("{says}\nPut the formula between quotes, when it is right")))
+        }
+        Some(_) => None,
+    }
+}
+
+pub fn between_quotes(formula: &str) -> String {
+    format!("put the formula between quotes: '{formula}'")
 }
 
 /// One rule of those that these words say.
@@ -87,19 +151,33 @@ fn measured(name: &str, rule: &[u8]) -> Result<Needs, Failure> {
 fn parsed(formula: &str) -> Result<Vec<u8>, Failure> {
     let mut bytes = vec![0; MOST_RULE];
     let size = parse(formula.as_bytes(), &mut bytes).map_err(|refusal| {
-        let says = wrong::named(refusal, wrong::formula(formula));
-        Failure::Fault(format!("{says}{}", or_a_file(formula)))
+        Failure::Fault(match taken_for(formula) {
+            Some(says) => numbered(&says, refusal),
+            None => wrong::named(refusal, wrong::formula(formula)),
+        })
     })?;
     bytes.truncate(size);
     Ok(bytes)
 }
 
-/// What to say where a file of this name is there, and may have been meant.
-fn or_a_file(formula: &str) -> &'static str {
-    match Path::new(formula).is_file() {
-        true if formula.ends_with(".krl") => "\nThere is a rule file of this name, but a formula is wanted here",
-        true => "\nThere is a file of this name, but that of a rule file ends in .krl",
-        false => "",
+/// What a word that is no formula names instead.
+fn taken_for(word: &str) -> Option<String> {
+    let is_file = |path: &str| Path::new(path).is_file();
+    if beside::is_card(word) {
+        let rule = format!("{}/{}", word.trim_end_matches('/'), card::RULE);
+        return Some(format!("`{word}` is a card; its rule is {rule}"));
+    }
+    if Path::new(word).is_dir() {
+        let holds = beside::first_card(word).map_or(String::new(), |card| format!("; it holds cards, as {card}"));
+        return Some(format!("`{word}` is a folder, and no card{holds}"));
+    }
+    match is_file(word) {
+        true if word.ends_with(".krl") => Some(format!("`{word}` is a rule file, and a formula is wanted here")),
+        true => Some(format!("`{word}` is a file, but no rule file: the name of one ends in .krl")),
+        false => {
+            let file = format!("{word}.krl");
+            (is_name(word) && is_file(&file)).then(|| format!("`{word}` is no formula; did you mean {file}?"))
+        }
     }
 }
 
@@ -114,7 +192,7 @@ pub fn described(name: &str, rule: &[u8]) -> Result<(Vec<String>, String), Failu
 pub fn to_log(path: &str, log: &str, force: bool) -> Answer {
     let (mut folder, name) = file::named_apart(log, path)?;
     let bytes = read_all(path).map_err(|fault| unread(path, fault))?;
-    let typed = String::from_utf8(bytes).map_err(|_| Failure::fault(path, "not a text"))?;
+    let typed = text_of(path, bytes)?;
     let bytes = text::log_from_text(&typed).map_err(|fault| Failure::Fault(format!("{path}, {fault}")))?;
     let made = opened(path, &bytes)?;
     file::put(&mut folder, &name, &bytes, force).map_err(|fault| Failure::fault(log, fault))?;
@@ -140,8 +218,8 @@ pub fn rule(formulas: &[&str], path: &str, force: bool) -> Answer {
         // It may be a formula, with the file's name forgotten.
         return Err(Failure::Use(format!("`{path}` is no name of a rule file: that ends in .krl")));
     }
-    let rules = formulas.iter().map(|formula| parsed(formula)).collect::<Result<_, _>>()?;
-    let bytes = joined(formulas, rules)?;
+    let rules: Result<Vec<Vec<u8>>, Failure> = formulas.iter().map(|formula| parsed(formula)).collect();
+    let bytes = joined(formulas, rules.map_err(|fault| unquoted(formulas).unwrap_or(fault))?)?;
     file::write(path, &bytes, force)?;
     let number = if formulas.len() == 1 { String::new() } else { format!("{} formulas, ", formulas.len()) };
     Ok(format!("{path}: {number}{} entries\n", (bytes.len() - 8) / 10))

@@ -40,6 +40,9 @@ pub trait Disk {
     /// What the file holds survives a cut, once its name does.
     fn sync(&mut self, name: &str) -> io::Result<()>;
 
+    /// The file has the mode of another, who may read and write it, and this survives a cut.
+    fn take_mode(&mut self, name: &str, of: &str) -> io::Result<()>;
+
     /// Another name for a file, in place of the file that has it.
     fn rename(&mut self, name: &str, to: &str) -> io::Result<()>;
 
@@ -122,6 +125,13 @@ impl Disk for Folder {
 
     fn sync(&mut self, name: &str) -> io::Result<()> {
         OpenOptions::new().write(true).open(self.path.join(name))?.sync_all()
+    }
+
+    fn take_mode(&mut self, name: &str, of: &str) -> io::Result<()> {
+        let mode = fs::metadata(self.path.join(of))?.permissions();
+        let file = File::open(self.path.join(name))?;
+        file.set_permissions(mode)?;
+        file.sync_all()
     }
 
     fn rename(&mut self, name: &str, to: &str) -> io::Result<()> {

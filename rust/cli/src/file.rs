@@ -40,7 +40,7 @@ impl fmt::Display for Fault {
                 write!(f, "until it is whole this file has the name of what it is made from; choose another name")
             }
             Fault::NoFolder => write!(f, "its folder is not there"),
-            Fault::Disk { doing, fault } => write!(f, "cannot {doing}: {fault}; there is no new file"),
+            Fault::Disk { doing, fault } => write!(f, "cannot {doing}: {fault}; nothing was changed"),
             Fault::Unsure { doing, fault } => write!(f, "cannot {doing}: {fault}; it may be as it was before"),
         }
     }
@@ -93,20 +93,38 @@ fn beside(name: &str) -> String {
     format!(".{name}.havdrims-new")
 }
 
+fn failed(doing: &'static str) -> impl Fn(io::Error) -> Fault {
+    move |fault| Fault::Disk { doing, fault }
+}
+
+/// Writes the file that is to be renamed, with the mode of the one that it replaces, if there is one.
+fn write_beside(disk: &mut impl Disk, new: &str, bytes: &[u8], replaced: Option<&str>) -> Result<(), Fault> {
+    disk.write(new, 0, bytes).map_err(failed("write it"))?;
+    disk.sync(new).map_err(failed("sync it"))?;
+    match replaced {
+        Some(name) => disk.take_mode(new, name).map_err(failed("give it the mode of the file that it replaces")),
+        None => Ok(()),
+    }
+}
+
 /// Writes a file of a folder that is no card, in place of one that is there only if so told. When this returns, it survives a cut.
 pub fn put(disk: &mut impl Disk, name: &str, bytes: &[u8], replace: bool) -> Result<(), Fault> {
-    let failed = |doing| move |fault| Fault::Disk { doing, fault };
     let unsure = |doing| move |fault| Fault::Unsure { doing, fault };
     let names = disk.names().map_err(failed("read its folder"))?.ok_or(Fault::NoFolder)?;
     if card::is_card(&names) {
         return Err(Fault::InCard);
     }
-    if !replace && names.iter().any(|there| there == name) {
+    let is_there = |name: &str| names.iter().any(|there| there == name);
+    let replaced = is_there(name).then_some(name);
+    if !replace && replaced.is_some() {
         return Err(Fault::There);
     }
     let new = beside(name);
-    let written = disk.write(&new, 0, bytes).map_err(failed("write it"));
-    let written = written.and_then(|()| disk.sync(&new).map_err(failed("sync it")));
+    if is_there(&new) {
+        // Left by a run that was cut; it may not be writable.
+        disk.remove(&new).map_err(failed("write it"))?;
+    }
+    let written = write_beside(disk, &new, bytes, replaced);
     if written.is_err() {
         let _ = disk.remove(&new);
         return written;

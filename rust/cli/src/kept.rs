@@ -50,6 +50,27 @@ impl Files {
         }
     }
 
+    /// What there is to say of the sheet: whether its verdicts are those that were given.
+    fn sheet(&self) -> Option<String> {
+        let has = self.sheet.as_ref()?.len() as u64;
+        let label = self.card.as_ref().and_then(|card| Label::decode(card));
+        let point = label.and_then(|label| self.of_point(label.number));
+        let Some(row) = point.or(self.rows().into_iter().flatten().next_back()) else {
+            return Some(format!("{has} verdicts, for which nothing vouches"));
+        };
+        let given = row.status.given;
+        Some(match self.vouched(&row) {
+            None if has < given => format!("damaged: it has {has} verdicts, and {given} were given"),
+            None => format!("damaged: the {given} verdicts in it are not those that were given"),
+            Some(_) if has == given => format!("{given} verdicts"),
+            // Only the point says whether those behind count.
+            Some(_) if point.is_some() => {
+                format!("{given} verdicts; what a run that was cut wrote behind does not count")
+            }
+            Some(_) => format!("{has} verdicts, and nothing vouches for those behind the first {given}"),
+        })
+    }
+
     /// What there is to say of the names of letters, if there are any.
     fn letters(&self) -> Option<String> {
         let read = |bytes: &[u8]| Letters::decode(bytes, bound_to(self.card.as_ref()?, self.rule.as_ref()?));
@@ -119,12 +140,15 @@ pub fn looked_at(disk: &mut impl Disk) -> Vec<(String, String)> {
         Ok(_) => "good".to_string(),
         Err(refusal) => crate::wrong::named(refusal, crate::wrong::rule(rule)),
     });
-    let sheet = files.sheet.as_ref().map(|sheet| format!("{} verdicts", sheet.len()));
+    let sheet = files.sheet();
     let rows = files.rows();
     let whole = rows.iter().flatten().count();
     let evenings = files.evenings.as_ref().map(|_| match whole {
         _ if whole == rows.len() => counted(whole, "row", "rows"),
-        whole => format!("{}, {} damaged, cut or of another card", counted(whole, "row", "rows"), rows.len() - whole),
+        whole => {
+            let (whole, others) = (counted(whole, "row", "rows"), rows.len() - whole);
+            format!("{whole}, and {others} damaged, cut, or not of this card and rule")
+        }
     });
     let point = files.point.as_ref().map(|point| match Saved::decode(point) {
         Ok(_) => "good".to_string(),

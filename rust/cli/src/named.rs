@@ -1,9 +1,10 @@
 //! What a rule and its letters are called: of a card, a rule file or a formula.
 
-use crate::card::{self, Card, First};
+use crate::beside::is_card;
+use crate::card::{Card, First};
 use crate::command::Failure;
 use crate::convert;
-use crate::disk::{read_all, Disk, Folder};
+use crate::disk::{read_all, Folder};
 use crate::letters::Letters;
 use crate::parts;
 use crate::words::in_words;
@@ -30,7 +31,7 @@ impl Named {
         if is_card(word) {
             return Named::of_card(word);
         }
-        let bytes = convert::rule_said(&[word])?;
+        let bytes = convert::rule_of(word)?;
         let rule = Rule::new(&bytes).map_err(|refusal| Failure::fault(word, refusal))?;
         Ok(Named { rule, letters: Letters::default() })
     }
@@ -56,16 +57,10 @@ impl Named {
     }
 }
 
-/// Whether this names the folder of a card.
-pub fn is_card(word: &str) -> bool {
-    let names = Folder::new(Path::new(word)).names();
-    names.ok().flatten().is_some_and(|names| card::is_card(&names))
-}
-
 /// The names in a file.
 pub fn read(path: &str) -> Result<Letters, Failure> {
-    let bytes = read_all(path).map_err(|fault| Failure::fault(path, fault))?;
-    let text = String::from_utf8(bytes).map_err(|_| Failure::fault(path, "not a text"))?;
+    let bytes = read_all(path).map_err(|fault| convert::unread(path, fault))?;
+    let text = convert::text_of(path, bytes)?;
     Letters::read(&text).map_err(|wrong| Failure::Fault(format!("{path}, {wrong}")))
 }
 

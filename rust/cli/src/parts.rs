@@ -90,6 +90,20 @@ pub fn entries(rule: &Rule, letters: &Letters) -> Vec<Entry> {
     all
 }
 
+/// Whether the formula that ends with this entry is `A or not A`, or the other way round, and so holds everywhere.
+pub fn holds_everywhere(all: &[Entry], at: usize) -> bool {
+    let Entry { kind: Kind::Or, operands, .. } = &all[at] else { return false };
+    let denies = |one: &Entry, other: &Entry| one.kind == Kind::Not && all[one.operands[0]].formula == other.formula;
+    let [left, right] = [0, 1].map(|side| &all[operands[side]]);
+    denies(left, right) || denies(right, left)
+}
+
+/// The letter of which this entry is the not, if it is that of a letter.
+pub fn denied(all: &[Entry], at: usize) -> Option<usize> {
+    let Entry { kind: Kind::Not, operands, .. } = &all[at] else { return None };
+    Some(operands[0]).filter(|&operand| all[operand].is_letter())
+}
+
 /// Each formula of a rule as a rule of its own: none of an empty rule.
 pub fn formulas(rule: &Rule) -> Vec<Rule> {
     let bytes: Vec<&[u8]> = entries_of(rule.as_bytes()).collect();
@@ -135,7 +149,7 @@ fn number(bytes: &[u8]) -> u32 {
 
 #[cfg(test)]
 mod tests {
-    use super::{entries, formulas, Kind};
+    use super::{entries, formulas, holds_everywhere, Kind};
     use crate::letters::Letters;
     use havdrims::Rule;
 
@@ -154,5 +168,19 @@ mod tests {
         assert_eq!(all[2].bracketed(), "(not e2)");
         assert_eq!(formulas(&rule), rules);
         assert_eq!(formulas(&Rule::new(b"KRL\x00\x01\x00\x00\x00").unwrap()), []);
+    }
+
+    #[test]
+    fn what_holds_everywhere() {
+        let holds = |formula: &str| {
+            let all = entries(&formula.parse().unwrap(), &Letters::default());
+            holds_everywhere(&all, all.len() - 1)
+        };
+        for formula in ["e0 or not e0", "not e0 or e0", "prev[0,1] e0 or not prev[0,1] e0", "not e0 or not not e0"] {
+            assert!(holds(formula), "{formula}");
+        }
+        for formula in ["e0", "not e0", "e0 or not e1", "e0 or e0", "not e0 or not e0", "not not e0 or e0"] {
+            assert!(!holds(formula), "{formula}");
+        }
     }
 }

@@ -1,7 +1,7 @@
 //! A reason in sentences, with the letters by their names.
 
 use crate::letters::Letters;
-use crate::parts::{entries, seconds, Entry, Kind};
+use crate::parts::{denied, entries, holds_everywhere, seconds, Entry, Kind};
 use havdrims::reason::{Cause, Line, Said};
 use havdrims::{Log, Reason, Refusal, Rule};
 use std::fmt::Write;
@@ -177,12 +177,16 @@ impl Teller {
         let own = leaf(inner.yes, why);
         match self.entries[inner.entry].kind {
             Kind::Letter(_) => own,
+            _ if denied(&self.entries, inner.entry).is_some() => own,
             _ => Tree { below: vec![inner], ..own },
         }
     }
 
     /// That the formula of an entry is yes or no at a position.
     fn stands(&self, entry: usize, position: u64, yes: bool) -> String {
+        if let Some(letter) = denied(&self.entries, entry) {
+            return self.stands(letter, position, !yes);
+        }
         let (e, record) = (&self.entries[entry], self.places.record(position));
         match (e.kind, yes) {
             (Kind::Letter(_), true) => format!("record {record} has {}", e.formula),
@@ -208,11 +212,15 @@ impl Teller {
             _ => return stands,
         };
         let gap = seconds(self.places.gap(at.min(i), at.max(i)));
-        let held = match self.entries[e.operands[0]].kind {
+        if holds_everywhere(&self.entries, e.operands[0]) {
+            return format!("{stands}, {gap} {when}");
+        }
+        let held = match (self.entries[e.operands[0]].kind, denied(&self.entries, e.operands[0])) {
             _ if from == to => self.stands(e.operands[0], from, true),
-            Kind::Letter(_) => {
+            (Kind::Letter(_), _) => {
                 format!("every record {} has {}", self.span(from, to), self.entries[e.operands[0]].formula)
             }
+            (_, Some(letter)) => format!("no record {} has {}", self.span(from, to), self.entries[letter].formula),
             _ => {
                 let left = self.entries[e.operands[0]].bracketed();
                 format!("{left} is yes at every record {}", self.span(from, to))
@@ -269,6 +277,10 @@ impl Teller {
             Some((only, last)) if only == last => self.stands(e.operands[1], only, false),
             Some((first, last)) if right.is_letter() => {
                 format!("no record {} has {}", self.span(first, last), right.formula)
+            }
+            Some((first, last)) if denied(&self.entries, e.operands[1]).is_some() => {
+                let letter = &self.entries[right.operands[0]];
+                format!("every record {} has {}", self.span(first, last), letter.formula)
             }
             Some((first, last)) => {
                 let span = self.span(first, last);

@@ -76,6 +76,12 @@ fn formula(rule: &Rule, typed: Option<&str>) -> Result<usize, Failure> {
 }
 
 fn refused(path: &str, log: &Log<'_>, refusal: Refusal) -> Failure {
+    if let Some(header) = wrong::Header::among(log, 0..log.len()).filter(|_| refusal == Refusal::TimeFalls) {
+        return Failure::fault(
+            path,
+            format!("{}\n{}", wrong::numbered(&header.says(), refusal), header.hint().trim_end()),
+        );
+    }
     let (says, hint) = match (refusal, wrong::fall(log, 0)) {
         (Refusal::RecordDropped, _) => (wrong::dropped(log), "as it was before it was trimmed."),
         (Refusal::TimeFalls, Some(fall)) => (fall.says(), "with no record overwritten."),

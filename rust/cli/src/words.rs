@@ -1,10 +1,10 @@
 //! A formula in words, for people who do not read formulas.
 //!
-//! Every formula has one reading, and no two have the same: what is not a letter stands in brackets wherever it could be taken
-//! apart in another way.
+//! Every formula has one reading, and no two have the same, but for what stands before an until or since and holds everywhere: what is
+//! not a letter stands in brackets wherever it could be taken apart in another way.
 
 use crate::letters::Letters;
-use crate::parts::{entries, seconds, Entry, Kind};
+use crate::parts::{entries, holds_everywhere, seconds, Entry, Kind};
 use havdrims::{text, Rule};
 
 /// A rule of one formula in words, without an end.
@@ -62,6 +62,9 @@ impl Reader<'_> {
             },
             Kind::Previous => format!("{} at the record before, {}", self.side(at, 0), ago(entry)),
             Kind::Next => format!("{} at the next record, {}", self.side(at, 0), later(entry)),
+            Kind::Since | Kind::Until if self.is_free(at) => {
+                format!("{} at some record, {}", self.side(at, 1), when(entry))
+            }
             Kind::Since => {
                 format!("{} at every record since {} came, {}", self.side(at, 0), self.side(at, 1), ago(entry))
             }
@@ -69,6 +72,22 @@ impl Reader<'_> {
                 format!("{} at every record until {} comes, {}", self.side(at, 0), self.side(at, 1), later(entry))
             }
         }
+    }
+
+    /// A since or until whose left side holds everywhere.
+    fn is_free(&self, at: usize) -> bool {
+        let timed = matches!(self.entry(at).kind, Kind::Since | Kind::Until);
+        timed && holds_everywhere(self.entries, self.operand(at, 0))
+    }
+
+    /// The not of such a one.
+    fn always_or_never(&self, at: usize) -> Option<String> {
+        let free = self.negated(at).filter(|&inner| self.is_free(inner))?;
+        let (right, when) = (self.operand(free, 1), when(self.entry(free)));
+        Some(match self.negated(right).filter(|_| self.both(right).is_none()) {
+            Some(kept) => format!("always {}, {when}", self.part(kept)),
+            None => format!("never {}, {when}", self.part(right)),
+        })
     }
 
     /// A formula as a part of another: a letter, that it is missing, or something in brackets.
@@ -91,6 +110,9 @@ impl Reader<'_> {
 
     /// A letter or a not.
     fn negation(&self, at: usize) -> String {
+        if let Some(said) = self.always_or_never(at) {
+            return said;
+        }
         match (self.negated(at), self.both(at)) {
             (None, _) => self.entry(at).formula.clone(),
             (_, Some(both)) => format!("both {}", self.parts(&both, " and ")),
@@ -138,6 +160,14 @@ fn later(entry: &Entry) -> String {
     bounded(entry, "later", "whenever that is")
 }
 
+/// How long before of a since, how long after of an until.
+fn when(entry: &Entry) -> String {
+    match entry.kind {
+        Kind::Since => ago(entry),
+        _ => later(entry),
+    }
+}
+
 fn bounded(entry: &Entry, direction: &str, endless: &str) -> String {
     match (entry.low, entry.high) {
         (0, None) => endless.to_string(),
@@ -152,6 +182,7 @@ fn bounded(entry: &Entry, direction: &str, endless: &str) -> String {
 mod tests {
     use super::{elsewhere, in_words};
     use crate::letters::Letters;
+    use crate::parts::{self, Kind};
     use evaluator::random::{self, Random, RuleShape};
     use evaluator::rule::{self, Entry};
     use havdrims::{text, Rule};
@@ -199,6 +230,30 @@ mod tests {
                 "not e2 or e0 until[0,90] e1 or e7",
                 "whenever \"customer asks\": (\"head warm\" at every record until \"print starts\" comes, 0 to 90 seconds later) or e7",
             ),
+            ("(e0 or not e0) until[0,40] e1", "\"print starts\" at some record, 0 to 40 seconds later"),
+            ("(not e7 or e7) since[0,inf] e1", "\"print starts\" at some record, however long ago"),
+            ("(e0 or not e0) until[5,40] not e1", "no \"print starts\" at some record, 5 to 40 seconds later"),
+            ("not ((e0 or not e0) until[0,40] e1)", "never \"print starts\", 0 to 40 seconds later"),
+            ("not ((e0 or not e0) until[0,40] not e1)", "always \"print starts\", 0 to 40 seconds later"),
+            ("not ((e0 or not e0) since[0,9] (e1 or e7))", "never (\"print starts\" or e7), 0 to 9 seconds earlier"),
+            ("not ((e0 or not e0) since[0,9] not (e1 or e7))", "always (\"print starts\" or e7), 0 to 9 seconds earlier"),
+            (
+                "not ((e0 or not e0) until[0,9] not (not e0 or not e1))",
+                "never (both \"head warm\" and \"print starts\"), 0 to 9 seconds later",
+            ),
+            (
+                "not e2 or (e0 or not e0) until[0,40] e1",
+                "whenever \"customer asks\": \"print starts\" at some record, 0 to 40 seconds later",
+            ),
+            (
+                "not e2 or not ((e0 or not e0) until[0,40] e1)",
+                "whenever \"customer asks\": never \"print starts\", 0 to 40 seconds later",
+            ),
+            (
+                "not ((e0 or not e0) until[0,9] e1) or e2",
+                "whenever (\"print starts\" at some record, 0 to 9 seconds later): \"customer asks\"",
+            ),
+            ("(e0 or not e1) until[0,9] e1", "(\"head warm\" or no \"print starts\") at every record until \"print starts\" comes, 0 to 9 seconds later"),
             ("not e1 or prev[0,inf] e0", "whenever \"print starts\": \"head warm\" at the record before, however long ago"),
         ];
         for (formula, words) in cases {
@@ -217,6 +272,18 @@ mod tests {
         assert_eq!((said("e0 or not e2"), said("not e2"), said("e0 until[0,9] e1")), (None, None, None));
     }
 
+    /// A formula with one sign for every left side that holds everywhere.
+    fn meant(all: &[parts::Entry], at: usize) -> String {
+        let parts::Entry { kind, low, high, operands, .. } = &all[at];
+        let free = matches!(kind, Kind::Since | Kind::Until) && parts::holds_everywhere(all, operands[0]);
+        let side = |(side, &operand): (usize, &usize)| match side {
+            0 if free => "anything".to_string(),
+            _ => meant(all, operand),
+        };
+        let sides: Vec<String> = operands.iter().enumerate().map(side).collect();
+        format!("{kind:?} {low} {high:?} ({})", sides.join(") ("))
+    }
+
     /// What the formulas met so far read like.
     #[derive(Default)]
     struct Met(HashMap<String, String>);
@@ -225,7 +292,8 @@ mod tests {
         fn meet(&mut self, entries: &[Entry]) {
             let rule = Rule::new(&rule::encode(entries)).unwrap();
             let words = in_words(&rule, &Letters::read(NAMES).unwrap());
-            let formula = rule.to_string();
+            let all = parts::entries(&rule, &Letters::default());
+            let formula = all.len().checked_sub(1).map_or(String::new(), |last| meant(&all, last));
             let other = self.0.entry(words.clone()).or_insert_with(|| formula.clone());
             assert_eq!(*other, formula, "both read: {words}");
         }
@@ -286,6 +354,35 @@ mod tests {
         let mut met = Met::default();
         for formula in (1..=9).flat_map(all) {
             met.meet(&formula);
+        }
+        assert!(met.0.len() > 5_000, "{}", met.0.len());
+    }
+
+    /// Left sides that hold everywhere, and that are nearly such.
+    #[test]
+    fn no_two_formulas_with_free_left_sides_read_alike() {
+        let postfix = |parts: &[&[Entry]], last: Entry| [&parts.concat()[..], &[last]].concat();
+        let [one, two] = [0, 1].map(|letter| vec![Entry::letter(letter)]);
+        let not = |of: &[Entry]| postfix(&[of], Entry::not());
+        let lefts = [[&one, &not(&one)], [&not(&two), &two], [&one, &not(&two)], [&one, &two]]
+            .map(|[left, right]| postfix(&[left, right], Entry::or()));
+        let timed = [Entry::timed(rule::UNTIL, 0, 1), Entry::timed(rule::UNTIL, 1, 1), Entry::timed(rule::SINCE, 0, 1)];
+        let small: Vec<Vec<Entry>> = (1..=3).flat_map(all).collect();
+        let mut inner = small.clone();
+        for right in small {
+            let free = lefts.iter().flat_map(|left| timed.map(|last| postfix(&[left, &right], last)));
+            inner.extend(free.flat_map(|free| [not(&not(&free)), not(&free), free]));
+        }
+        let mut met = Met::default();
+        for part in &inner {
+            met.meet(part);
+            met.meet(&postfix(&[&not(&one), part], Entry::or()));
+            met.meet(&postfix(&[part, &not(&one)], Entry::or()));
+            met.meet(&postfix(&[&not(part), &one], Entry::or()));
+            met.meet(&postfix(&[part, &one], timed[0]));
+            met.meet(&postfix(&[&lefts[0], part], timed[0]));
+            met.meet(&not(&postfix(&[&lefts[0], part], timed[0])));
+            met.meet(&postfix(&[part], Entry::timed(rule::NEXT, 0, 1)));
         }
         assert!(met.0.len() > 5_000, "{}", met.0.len());
     }

@@ -219,7 +219,15 @@ fn what_is_said_of_a_formula() {
     sign("e0 <= e1", "   ^", "`<` is not known");
     says("e0\te1", &["the character '\\t' is not known", "  e0?e1", "    ^", known]);
     says("e0 or é", &["the word `é` is not known", "  e0 or é", "        ^", known]);
-    says("e0 or “e1", &["the character '“' is not known", "  e0 or ?e1", "        ^", known]);
+    says(
+        "e0 or “e1",
+        &[
+            "the character “ is not known; quotes around a formula are straight ones, '",
+            "  e0 or ?e1",
+            "        ^",
+            known,
+        ],
+    );
     says("not E2", &["`E2` is written in small letters: e2", "  not E2", "      ^^"]);
     says("e32", &["`e32` is no letter", "  e32", "  ^^^", "there are the letters e0 to e31"]);
     let number = "a number has one to four digits, and no 0 before others";

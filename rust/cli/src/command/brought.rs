@@ -1,9 +1,11 @@
 //! A log that is brought to a card: reading it, and what to say where nothing came of it.
 
+use super::reading::quoted;
 use super::{of_card, Failure};
-use crate::card::{Fault, SoFar};
+use crate::card::{Fault, SoFar, RULE};
 use crate::convert;
-use crate::wrong::{self, numbered};
+use crate::parts::counted;
+use crate::wrong::{self, numbered, Header};
 use havdrims::{Log, Refusal};
 use std::io::{self, ErrorKind};
 use std::path::Path;
@@ -31,10 +33,8 @@ impl<'a> Brought<'a> {
         let of_log = |hint: &str| Failure::fault(self.path, format!("{fault}\n{hint}{UNCHANGED}"));
         match fault {
             Fault::Refused(refusal) => self.refused(*refusal, so_far),
-            Fault::LogBefore { .. } | Fault::LogShort { .. } => of_log("Is this the whole log? "),
-            Fault::OtherRecords { .. } => {
-                of_log("Is this the log of another kiosk, or was the card put back from an older copy? ")
-            }
+            Fault::LogBefore { .. } | Fault::LogShort { .. } => of_log(OLDER),
+            Fault::OtherRecords { .. } => of_log(OTHER),
             Fault::LogAltered => of_log(""),
             Fault::Unsure { .. } => Failure::fault(self.folder, fault),
             Fault::Disk { fault: cause, .. } if !Path::new(self.folder).is_file() => self.disk(fault, cause),
@@ -66,29 +66,35 @@ impl<'a> Brought<'a> {
             let says = wrong::named(refusal, wrong::log(&self.bytes));
             return Failure::fault(self.path, format!("{says}\n{}{UNCHANGED}", self.too_long()));
         };
-        let (has, seen) = (log.len(), so_far.first.record + so_far.status.seen);
+        let (has, seen) = (counted(log.len(), "record", "records"), so_far.first.record + so_far.status.seen);
         let (says, hint) = match refusal {
             Refusal::PointClosed => {
                 let says = numbered("the card is closed: it takes no further records", refusal);
-                let next = format!("`havdrims new NEW RULE.. --after {}` makes the next one. ", self.folder);
-                return Failure::fault(self.folder, format!("{says}\n{next}{UNCHANGED}"));
+                return Failure::fault(self.folder, format!("{says}\n{}{UNCHANGED}", self.next_card()));
             }
-            Refusal::FewerRecords => {
-                (format!("the log has {has} records, and the card has seen {seen}"), "Is this the whole log? ")
+            Refusal::FewerRecords => (format!("the log has {has}, and the card has seen {seen}"), OLDER.to_string()),
+            Refusal::MoreRecords => {
+                (format!("the log has {has}, and the card was closed with {seen}"), self.next_card())
             }
-            Refusal::MoreRecords => (format!("the log has {has} records, and the card was closed with {seen}"), ""),
-            Refusal::TimeFalls => (falls(&log, so_far), "Is this the log of another kiosk? "),
-            Refusal::OtherVersion => (other_version(&log), ANOTHER_CARD),
+            Refusal::TimeFalls => falls(&log, so_far),
+            Refusal::OtherVersion => (other_version(&log), ANOTHER_CARD.to_string()),
             Refusal::TrimVersion => {
-                ("a log of version 1 cannot be trimmed".to_string(), "Logs of version 2 and 3 can be. ")
+                ("a log of version 1 cannot be trimmed".to_string(), "Logs of version 2 and 3 can be. ".to_string())
             }
             Refusal::RecordDropped => {
                 let (dropped, wanted) = (wrong::dropped(&log), so_far.wanted());
-                (format!("{dropped}, and the card still wants record {wanted}"), TRIMMED)
+                (format!("{dropped}, and the card still wants record {wanted}"), TRIMMED.to_string())
             }
             _ => return Failure::fault(self.path, format!("{refusal}\n{UNCHANGED}")),
         };
         Failure::fault(self.path, format!("{}\n{hint}{UNCHANGED}", numbered(&says, refusal)))
+    }
+
+    /// How the card behind a closed one is made.
+    fn next_card(&self) -> String {
+        let folder = self.folder.trim_end_matches('/');
+        let (rule, old) = (quoted(&format!("{folder}/{RULE}")), quoted(folder));
+        format!("`havdrims new NEW {rule} --after {old}` makes the next card, with the same rule. ")
     }
 
     /// What can be done with a log that has more records than a log may have.
@@ -102,20 +108,28 @@ impl<'a> Brought<'a> {
     }
 }
 
+const OLDER: &str =
+    "Is it an older copy of the log, only a part of it, or another kiosk's? The whole log is wanted, old records too. ";
+const OTHER: &str = "\
+Is this the log of another kiosk? Were more records overwritten than the last evening named? Was the card put back from
+an older copy? ";
 const ANOTHER_CARD: &str =
     "A card keeps to the version of its first log, 2 and 3 counting as one; another needs a card of its own. ";
-const TRIMMED: &str = "Was it trimmed for another card? The log before it was trimmed can still be brought. ";
+const TRIMMED: &str = "\
+Was it trimmed for another card, or was this card put back from an older copy? The log before it was trimmed can still be
+brought. ";
 
-/// The first record that comes too early. Where all times in the log rise it is the first new one.
-fn falls(log: &Log<'_>, so_far: &SoFar) -> String {
+/// The first record that comes too early, and what may be the cause. Where all times in the log rise it is the first new one.
+fn falls(log: &Log<'_>, so_far: &SoFar) -> (String, String) {
     let from = so_far.released().max(so_far.first.record) as usize;
-    match wrong::fall(log, from) {
-        Some(fall) => fall.says(),
-        None => {
-            let new = so_far.first.record + so_far.status.seen;
-            format!("record {new}, the first new one, comes before the last one that the card has seen")
-        }
+    let fall = wrong::fall(log, from);
+    if let Some(header) = fall.and_then(|fall| Header::among(log, from..fall.record + 1)) {
+        return (header.says(), header.hint());
     }
+    let new = so_far.first.record + so_far.status.seen;
+    let early = || format!("record {new}, the first new one, comes before the last one that the card has seen");
+    let hint = "Is this the log of another kiosk, or did its clock begin anew? ";
+    (fall.map_or_else(early, |fall| fall.says()), hint.to_string())
 }
 
 fn other_version(log: &Log<'_>) -> String {

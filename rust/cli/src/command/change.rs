@@ -56,11 +56,21 @@ fn from_record(record: u64) -> Result<First, Failure> {
     Ok(First { record, position: record })
 }
 
+/// Why there is no card.
+fn unmade(folder: &str, fault: &card::Fault) -> Failure {
+    match Path::new(folder).parent().filter(|above| *above != Path::new("") && !above.exists()) {
+        Some(above) => Failure::fault(folder, format!("the folder {} is not there", above.display())),
+        None if matches!(fault, card::Fault::Disk { .. }) && !Path::new(folder).is_file() => of_card(folder, fault)
+            .and("No card was made. When the cause is gone, repeat the command with the same words."),
+        None => of_card(folder, fault),
+    }
+}
+
 fn make(folder: &str, rules: &[&str], begins: Begins, letters: &Letters) -> Answer {
     let bytes = convert::rule_said(rules)?;
     let (formulas, needs) = convert::described(rules[0], &bytes)?;
     card::new(&mut Folder::new(Path::new(folder)), card_number(), begins, &bytes, letters)
-        .map_err(|fault| of_card(folder, &fault))?;
+        .map_err(|fault| unmade(folder, &fault))?;
     let formulas = named::with_words(formulas, &bytes, letters);
     let made = match formulas.len() {
         1 => folder.to_string(),

@@ -1,8 +1,10 @@
 //! The words of a command line, read as the table of commands has them.
 
 use super::near::did_you_mean;
-use super::table::{Command, Opt};
+use super::table::{Command, Opt, COMMANDS};
 use super::{Failure, Paint};
+use crate::convert::{between_quotes, is_formula};
+use std::path::Path;
 use std::str::FromStr;
 
 /// What a command was given.
@@ -63,7 +65,7 @@ impl<'a> Given<'a> {
             return Err(format!("{} is missing", missing.trim_end_matches("..")));
         }
         if self.words.len() > command.words.len() && !many {
-            return Err(format!("`{}` is one word too many", self.words[command.words.len()]));
+            return Err(self.unquoted(command).unwrap_or_else(|| self.too_many(command)));
         }
         let fixed = command.words.iter().zip(&self.words).take_while(|(name, _)| !name.ends_with(".."));
         if let Some((name, _)) = fixed.into_iter().find(|(_, word)| word.is_empty()) {
@@ -79,6 +81,29 @@ impl<'a> Given<'a> {
             }
         }
         Ok(())
+    }
+
+    /// The word too many, which may be an option without its strokes.
+    fn too_many(&self, command: &Command) -> String {
+        let option = |word: &str| format!("--{}", word.trim_start_matches('-'));
+        let meant = |word: &&&str| command.options.iter().any(|known| known.name == option(word));
+        match self.words.iter().find(meant) {
+            Some(word) => format!("`{word}` is one word too many; did you mean {}?", option(word)),
+            None => format!("`{}` is one word too many", self.words[command.words.len()]),
+        }
+    }
+
+    /// Of too many words: which of them are one, a formula or the name of something that is there.
+    fn unquoted(&self, command: &Command) -> Option<String> {
+        let (words, extra) = (&self.words, self.words.len() - command.words.len());
+        let rule = command.words.iter().position(|&word| word == "RULE");
+        if let Some(formula) = rule.map(|at| words[at..=at + extra].join(" ")).filter(|typed| is_formula(typed)) {
+            return Some(between_quotes(&formula));
+        }
+        let ends = |from: usize| from + 1..words.len().min(from + extra + 1);
+        let mut names = (0..words.len()).flat_map(|from| ends(from).map(move |to| words[from..=to].join(" ")));
+        let name = names.find(|name| Path::new(name).exists())?;
+        Some(format!("put the name between quotes: '{name}'"))
     }
 
     /// The words that are no options, as many as the command has.
@@ -116,7 +141,18 @@ impl<'a> Given<'a> {
 }
 
 fn unknown(command: &Command, name: &str) -> String {
-    let hint = did_you_mean(name, command.options.iter().map(|option| option.name).chain(["--help"]));
+    let hint = match did_you_mean(name, command.options.iter().map(|option| option.name).chain(["--help"])) {
+        none if none.is_empty() => {
+            let others = COMMANDS.iter().filter(|other| other.options.iter().any(|option| option.name == name));
+            let others: Vec<String> = others.map(|other| format!("`havdrims {}`", other.name)).collect();
+            if others.is_empty() {
+                none
+            } else {
+                format!("; it is one of {}", others.join(", "))
+            }
+        }
+        hint => hint,
+    };
     format!("`{name}` is no option of `havdrims {}`{hint}", command.name)
 }
 
@@ -197,10 +233,19 @@ mod tests {
         wrong("evening card ", "LOG is empty");
         wrong("sheet card more", "`more` is one word too many");
         wrong("help sheet more", "`more` is one word too many");
+        wrong("sheet card -no", "`-no` is one word too many; did you mean --no?");
+        wrong("close card log final", "`final` is one word too many; did you mean --final?");
+        wrong("why not e2 or e0 log 5", "put the formula between quotes: 'not e2 or e0'");
+        wrong("why e0 log 5 --words more", "`more` is one word too many");
+        wrong("formula e0 until[0,9] e1", "put the formula between quotes: 'e0 until[0,9] e1'");
         wrong("sheet card --from", "--from wants N behind it");
         wrong("sheet card --csv --csv", "--csv is there twice");
         wrong("sheet card --csv=yes", "nothing stands behind --csv");
         wrong("sheet card --cvs", "`--cvs` is no option of `havdrims sheet`; did you mean --csv?");
+        wrong(
+            "page card log out --letters n",
+            "`--letters` is no option of `havdrims page`; it is one of `havdrims new`",
+        );
         wrong("sheet card --elephant", "`--elephant` is no option of `havdrims sheet`");
         wrong("new card e0 --from 4 --after old", "--after and --from exclude each other");
         wrong("simulate log --seconds 4", "--warm-up is missing");

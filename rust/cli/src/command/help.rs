@@ -22,7 +22,7 @@ pub fn asked(given: &Given) -> Answer {
 /// The command of this name.
 pub fn named(name: &str) -> Result<&'static Command, Failure> {
     COMMANDS.iter().find(|command| command.name == name).ok_or_else(|| {
-        let hint = did_you_mean(name, COMMANDS.iter().map(|command| command.name));
+        let hint = did_you_mean(name, COMMANDS.iter().map(|command| command.name).chain(["--help", "--version"]));
         Failure::Use(format!("`{name}` is no command{hint}\n`havdrims help` prints all commands."))
     })
 }
@@ -134,6 +134,10 @@ where there is no upper end; until always has one.
 not, prev and next bind tightest, then since and until, then or: `not e2 or e0 until[0,90] e1` reads as
 `(not e2) or (e0 until[0,90] e1)`. Of several since and until the right one comes first, of several or the left one.
 Brackets ( ) override. Spaces separate freely. There is no and: `not (not A or not B)` says it.
+
+What holds of every record, as `e0 or not e0`, stands before an until of which only the end counts. So `not ((e0 or not e0)
+until[0,60] e1)` says that letter 1 never comes for 60 seconds, and `not ((e0 or not e0) until[0,60] not e1)` that it always
+stands there; with since they speak of the time before. `havdrims formula` says a formula in words.
 
 A formula has at most 1024 characters, and 128 letters and operators. A checkpoint has at most 8192 words: until takes two
 for each second of HIGH, since takes one. `havdrims new` and `havdrims formula` print how many a rule takes.";

@@ -18,7 +18,7 @@ mod still_open;
 pub mod table;
 mod told;
 
-use crate::card;
+use crate::{beside, card};
 pub use given::Given;
 pub use paint::Paint;
 use std::fmt::Display;
@@ -53,9 +53,18 @@ impl Failure {
 
 /// What is wrong with a card.
 fn of_card(folder: &str, fault: &card::Fault) -> Failure {
-    match Path::new(folder).is_file() {
-        true => Failure::fault(folder, "this is a file, and a card is a folder"),
-        false => Failure::fault(folder, fault),
+    let path = Path::new(folder);
+    match fault {
+        _ if path.is_file() => Failure::fault(folder, "this is a file, and a card is a folder"),
+        card::Fault::NoCard if path.is_dir() => match beside::first_card(folder) {
+            Some(card) => Failure::fault(folder, format!("this folder is no card; it holds cards, as {card}")),
+            None => Failure::fault(folder, fault),
+        },
+        card::Fault::NoCard => match beside::or_card(folder) {
+            none if none.is_empty() => Failure::fault(folder, fault),
+            meant => Failure::fault(folder, format!("no card is here{meant}")),
+        },
+        _ => Failure::fault(folder, fault),
     }
 }
 

@@ -1,6 +1,7 @@
 //! The names of letters, and formulas that are shown with them.
 
 use super::{of_card, Answer, Given};
+use crate::beside::is_card;
 use crate::card::Card;
 use crate::disk::Folder;
 use crate::named::{self, Named};
@@ -24,7 +25,8 @@ pub fn letters(given: &Given) -> Answer {
 /// The words of `formula`.
 pub fn formula(given: &Given) -> Answer {
     let word = given.only();
-    if !named::is_card(word) {
+    let is_file = word == "-" || word.ends_with(".krl") || Path::new(word).exists();
+    if !is_card(word) && is_file {
         return convert::formula(word);
     }
     let Named { rule, letters } = Named::of(word)?;

@@ -140,7 +140,7 @@ fn advice(folder: &str, fault: &Fault, kept: Option<&Kept>) -> String {
 }
 
 /// A word as a shell takes it.
-fn quoted(word: &str) -> String {
+pub fn quoted(word: &str) -> String {
     let plain = |letter: char| letter.is_alphanumeric() || "/._-+,:@%".contains(letter);
     match word.chars().all(plain) {
         true => word.to_string(),

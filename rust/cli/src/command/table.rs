@@ -299,10 +299,10 @@ only with --force, and no file is put into a card.",
         group: Group::Files,
         words: &["RULE"],
         options: &[],
-        does: "print a rule file as a formula, its words and its reach",
+        does: "print the formula of a rule file or a card, its words and its reach",
         more: "\
-RULE is a .krl file, or a card. Each of several formulas has its line; of a card each has a second one, which says it in
-words, with the names of its letters.",
+RULE is a .krl file, a card, or a formula. Each of several formulas has its line; of a card, and of a formula that is typed,
+each has a second one, which says it in words, with the names of its letters.",
         example: "havdrims formula rule.krl",
         run: names::formula,
     },

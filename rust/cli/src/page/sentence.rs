@@ -3,7 +3,7 @@
 use super::html::{grouped, short};
 use super::known::Held;
 use super::reasons::Missing;
-use crate::parts::{seconds, Entry, Kind};
+use crate::parts::{denied, holds_everywhere, seconds, Entry, Kind};
 use havdrims::reason::{Cause, Line, Said};
 use havdrims::Reason;
 use std::slice;
@@ -136,17 +136,24 @@ impl Teller<'_> {
     /// A since or until that is yes by this position.
     fn found(&self, e: &Entry, position: u64, at: u64, (comes, direction, then): (&str, &str, &str)) -> Part {
         let [left, right] = self.operands(e);
+        let missing = denied(self.entries, e.operands[1]).map(|letter| &self.entries[letter].formula);
         if at == position {
-            return Part::same(true, format!("{right} is there"));
+            return Part::same(true, missing.map_or(format!("{right} is there"), |letter| format!("no {letter}")));
         }
-        let gap = seconds(self.place.gap(at, position));
-        let record = grouped(self.place.record(at));
-        let full = format!("{right} {comes} {gap} {direction} (record {record}), and {left} {then}");
-        Part::new(true, full, format!("{right} {comes}, and {left} {then}"))
+        let (gap, record) = (seconds(self.place.gap(at, position)), grouped(self.place.record(at)));
+        let when = format!("{gap} {direction} (record {record})");
+        let (full, kind) = match missing {
+            Some(letter) => (format!("{when} no {letter}"), format!("{direction} no {letter}")),
+            None => (format!("{right} {comes} {when}"), format!("{right} {comes}")),
+        };
+        match holds_everywhere(self.entries, e.operands[0]) {
+            true => Part::new(true, full, kind),
+            false => Part::new(true, format!("{full}, and {left} {then}"), format!("{kind}, and {left} {then}")),
+        }
     }
 
     fn not_until(&mut self, e: &Entry, position: u64, at: u64, cause: Cause) -> Part {
-        let [left, right] = self.operands(e);
+        let (left, right) = (self.fails(e.operands[0]), self.nowhere(e.operands[1]));
         let gap = self.place.gap(position, at);
         let record = grouped(self.place.record(at));
         if cause == Cause::Left {
@@ -157,15 +164,16 @@ impl Teller<'_> {
                 format!("{} later (record {record})", seconds(gap))
             };
             // The right one is told to be missing only where it could have counted.
-            let up_to_then = if e.low > gap { String::new() } else { format!(", and up to then no {right}") };
-            return Part::new(false, format!("{when} no {left}{up_to_then}"), format!("no {left}{up_to_then}"));
+            let up_to_then =
+                if e.low > gap { String::new() } else { format!(", and up to then{} {right}", far(e, "later")) };
+            return Part::new(false, format!("{when} {left}{up_to_then}"), format!("{left}{up_to_then}"));
         }
-        let kind = format!("no {right} {}", self.within(e, "later"));
+        let kind = format!("{right} {}", self.within(e, "later"));
         Part::new(false, format!("{kind} (record {record} is {} later)", seconds(gap)), kind)
     }
 
     fn not_since(&mut self, e: &Entry, position: u64, at: u64, cause: Cause) -> Part {
-        let [left, right] = self.operands(e);
+        let (left, right) = (self.fails(e.operands[0]), self.nowhere(e.operands[1]));
         let gap = self.place.gap(position, at);
         if cause == Cause::Left {
             self.failed_at.push(self.place.record(at));
@@ -175,10 +183,27 @@ impl Teller<'_> {
             } else {
                 format!("{} earlier (record {record})", seconds(gap))
             };
-            let from_then = if e.low > gap { String::new() } else { format!(", and from then on no {right}") };
-            return Part::new(false, format!("{when} no {left}{from_then}"), format!("no {left}{from_then}"));
+            let from_then =
+                if e.low > gap { String::new() } else { format!(", and from then on{} {right}", far(e, "earlier")) };
+            return Part::new(false, format!("{when} {left}{from_then}"), format!("{left}{from_then}"));
         }
-        Part::same(false, format!("no {right} {}", self.within(e, "earlier")))
+        Part::same(false, format!("{right} {}", self.within(e, "earlier")))
+    }
+
+    /// That an entry is no at a record.
+    fn fails(&self, entry: usize) -> String {
+        match denied(self.entries, entry) {
+            Some(letter) => present(&self.entries[letter], true),
+            None => format!("no {}", self.entries[entry].bracketed()),
+        }
+    }
+
+    /// That it is no at all of some records.
+    fn nowhere(&self, entry: usize) -> String {
+        match denied(self.entries, entry) {
+            Some(letter) => format!("always {}", self.entries[letter].formula),
+            None => format!("no {}", self.entries[entry].bracketed()),
+        }
     }
 
     /// The interval in which something was missing.
@@ -193,6 +218,14 @@ impl Teller<'_> {
 
     fn operands(&self, e: &Entry) -> [String; 2] {
         [0, 1].map(|side| self.entries[e.operands[side]].bracketed())
+    }
+}
+
+/// That nearer records do not count, where they do not.
+fn far(e: &Entry, direction: &str) -> String {
+    match e.low {
+        0 => String::new(),
+        low => format!(", at least {} {direction},", seconds(low)),
     }
 }
 
@@ -294,6 +327,21 @@ mod tests {
             "2 seconds earlier (record 1,001) no \"head warm\", and from then on no \"print starts\"",
             "no \"head warm\", and from then on no \"print starts\"",
         );
+        // what is nearer than the interval does not count, whatever it says
+        check(
+            "e0 until[5,90] e1",
+            "1 e0 e1\n10 none\n",
+            0,
+            "9 seconds later (record 1,001) no \"head warm\", and up to then, at least 5 seconds later, no \"print starts\"",
+            "no \"head warm\", and up to then, at least 5 seconds later, no \"print starts\"",
+        );
+        check(
+            "e0 since[3,inf] e1",
+            "1 none\n9 e0 e1\n",
+            1,
+            "8 seconds earlier (record 1,000) no \"head warm\", and from then on, at least 3 seconds earlier, no \"print starts\"",
+            "no \"head warm\", and from then on, at least 3 seconds earlier, no \"print starts\"",
+        );
         check("e0 since[9,20] e1", "1 e1\n2 none\n", 1, "at once no \"head warm\"", "no \"head warm\"");
         same("e0 since[0,inf] e1", "1 e0\n2 e0\n", 1, "no \"print starts\" here or earlier");
         same("e0 since[0,5] e1", "1 e1\n9 e0\n", 1, "no \"print starts\" in the 5 seconds before");
@@ -313,6 +361,37 @@ mod tests {
             "\"print starts\" came, and \"head warm\" since then",
         );
         same("not (e0 until[0,9] e1)", "1 e1\n", 0, "\"print starts\" is there");
+        check(
+            "not ((e0 or not e0) until[0,9] e1)",
+            "1 e0\n4 e1\n",
+            0,
+            "\"print starts\" comes 3 seconds later (record 1,001)",
+            "\"print starts\" comes",
+        );
+        // a letter that is missing, where that counts
+        check(
+            "not ((e0 or not e0) until[0,9] not e0)",
+            "1 e0\n4 e1\n",
+            0,
+            "3 seconds later (record 1,001) no \"head warm\"",
+            "later no \"head warm\"",
+        );
+        same("not (e1 since[0,9] not e0)", "1 e1\n", 0, "no \"head warm\"");
+        check(
+            "not e1 until[0,90] e2",
+            "1 none\n3 e1\n",
+            0,
+            "2 seconds later (record 1,001) \"print starts\" is there, and up to then no \"customer asks\"",
+            "\"print starts\" is there, and up to then no \"customer asks\"",
+        );
+        check(
+            "(e0 or e1) until[0,90] not e0",
+            "1 e0\n101 e0\n",
+            0,
+            "always \"head warm\" within 90 seconds (record 1,001 is 100 seconds later)",
+            "always \"head warm\" within 90 seconds",
+        );
+        same("(e0 or e1) since[0,5] not e0", "1 none\n9 e0\n", 1, "always \"head warm\" in the 5 seconds before");
     }
 
     #[test]

@@ -83,12 +83,16 @@ impl Source<'_> {
         if self.stretches.len() <= ROWS {
             return (self.number..end).map(|number| (number, number)).collect();
         }
-        let drawn: Vec<usize> = picture.iter().flat_map(|picture| picture.tags(few)).map(|tag| tag.last).collect();
+        let drawn = picture.iter().flat_map(|picture| picture.tags(few)).map(|tag| (tag.first, tag.last));
         let mut groups = Vec::new();
         let mut next = self.number;
-        // A stretch that goes on over night is listed once.
-        for last in drawn.into_iter().chain([end - 1]) {
-            if last >= next {
+        // A stretch that goes on over night is listed once. Those that are not drawn have a line of their own.
+        for (first, last) in drawn.chain([(end, end)]).filter(|&(_, last)| last >= self.number) {
+            if next < first {
+                groups.push((next, first - 1));
+                next = first;
+            }
+            if next <= last && last < end {
                 groups.push((next, last));
                 next = last + 1;
             }
@@ -173,12 +177,13 @@ impl Source<'_> {
         for (kind, of) in all.iter().take(KINDS) {
             let shown = &of[..of.len().min(most - listed)];
             listed += shown.len();
+            let named = if self.numbers.same { "record" } else { "position" };
+            // The word stands once where no time is known.
+            let lost = shown.len() > 1 && shown.iter().all(|stretch| stretch.times.0.is_none());
+            let word = if lost { String::new() } else { format!("{named}&nbsp;") };
             let time = |stretch: &&Stretch| {
                 let time = match (stretch.times.0, self.one_day(part)) {
-                    (None, _) => {
-                        let named = if self.numbers.same { "record" } else { "position" };
-                        format!("{named}&nbsp;{}", grouped(stretch.first + self.numbers.position))
-                    }
+                    (None, _) => format!("{word}{}", grouped(stretch.first + self.numbers.position)),
                     (Some(time), true) => self.clock.time(time),
                     (Some(time), false) => self.clock.short_moment(time).replace(' ', "&nbsp;"),
                 };
@@ -187,7 +192,11 @@ impl Source<'_> {
                 format!("{time}{count}")
             };
             let times = shown.iter().map(time).collect::<Vec<_>>().join(", ");
-            let between = if shown.is_empty() { "" } else { ": " };
+            let between = match shown.is_empty() {
+                true => String::new(),
+                false if lost => format!(": {named}s "),
+                false => ": ".to_string(),
+            };
             said.push(format!("{} × {}{between}{times}", grouped(of.len() as u64), text(kind)));
         }
         if listed < part.len() {

@@ -2,6 +2,7 @@
 
 use super::Wrong;
 use havdrims::{Log, MOST_RECORDS};
+use std::ops::Range;
 
 /// What is wrong with the bytes of a log; nothing if they are one. Times are not looked at.
 pub fn log(bytes: &[u8]) -> Option<Wrong> {
@@ -74,6 +75,40 @@ pub fn dropped(log: &Log<'_>) -> String {
     match log.dropped() {
         1 => "record 0 was dropped from the log".to_string(),
         dropped => format!("records 0 to {} were dropped from the log", dropped.saturating_sub(1)),
+    }
+}
+
+/// The header of a second log among the records, as where two files were put one behind the other.
+#[derive(Clone, Copy, Debug, PartialEq, Eq)]
+pub struct Header {
+    pub record: usize,
+    bytes: usize,
+}
+
+impl Header {
+    /// The first among these records.
+    pub fn among(log: &Log<'_>, records: Range<usize>) -> Option<Header> {
+        let bytes = log.record_bytes(records.start.max(log.dropped())..records.end)?;
+        let header = |(at, record): (usize, &[u8])| match record {
+            b"KLG\0\x01\0\0\0" | b"KLG\0\x02\0\0\0" => Some((at, 8)),
+            b"KLG\0\x03\0\0\0" => Some((at, 16)),
+            _ => None,
+        };
+        let (at, bytes) = bytes.chunks_exact(8).enumerate().find_map(header)?;
+        Some(Header { record: records.start.max(log.dropped()) + at, bytes })
+    }
+
+    pub fn says(&self) -> String {
+        format!("record {} looks like the header of a second log, put behind the first", self.record)
+    }
+
+    /// How its records are added.
+    pub fn hint(&self) -> String {
+        let first = self.bytes + 1;
+        format!(
+            "A log has one header: of a second one add the records alone, as `tail -c +{first} SECOND >> FIRST` does.\n\
+             If its clock began anew, it is a log of its own, for a card of its own. "
+        )
     }
 }
 

@@ -77,6 +77,9 @@ fn token(part: &str) -> Result<Token, (String, String)> {
         Some(first) if in_word(first) => word(part),
         Some(first) if first.is_alphanumeric() => Err(no_small_letters(part)),
         Some(' '..='~') | None => Err(not_known("sign", part)),
+        Some('‘' | '’' | '“' | '”' | '„' | '‚') => {
+            Err((format!("the character {part} is not known; quotes around a formula are straight ones, '"), known()))
+        }
         Some(first) => Err((format!("the character {first:?} is not known"), known())),
     }
 }
@@ -117,6 +120,7 @@ fn not_known(what: &str, found: &str) -> (String, String) {
     let hint = match found {
         "and" | "&" => "; there is no and: `not (not A or not B)` says it".to_string(),
         "|" => "; did you mean or?".to_string(),
+        "-" => "; between two ends stands a comma, as in [0,90]".to_string(),
         "!" | "~" => "; did you mean not?".to_string(),
         "previous" => "; did you mean prev?".to_string(),
         "if" | "then" | "implies" => "; `not A or B` says that B is so whenever A is".to_string(),

@@ -37,11 +37,16 @@ pub enum Trouble {
     Broken,
 }
 
+/// The mode of a file that is made, and of one that stood there before.
+pub const MADE: u32 = 0o644;
+pub const OWN: u32 = 0o440;
+
 /// The bytes of a file as programs see them, and as they survive a cut.
-#[derive(Clone, Default)]
+#[derive(Clone)]
 struct File {
     now: Vec<u8>,
     synced: Vec<u8>,
+    mode: u32,
 }
 
 type Names = BTreeMap<String, usize>;
@@ -106,7 +111,7 @@ impl Simulated {
     /// With a folder in which this file stands.
     pub fn with_file(seed: u64, name: &str, bytes: &[u8]) -> Simulated {
         let mut disk = Simulated { folder: true, folder_synced: true, ..Simulated::new(seed) };
-        disk.files.push(File { now: bytes.to_vec(), synced: bytes.to_vec() });
+        disk.files.push(File { now: bytes.to_vec(), synced: bytes.to_vec(), mode: OWN });
         disk.names.insert(name.to_string(), 0);
         disk.synced = disk.names.clone();
         disk
@@ -137,6 +142,10 @@ impl Simulated {
         self.names.iter().map(|(name, &file)| (name.clone(), self.files[file].now.clone())).collect()
     }
 
+    pub fn mode(&self, name: &str) -> Option<u32> {
+        self.names.get(name).map(|&file| self.files[file].mode)
+    }
+
     /// What is left after a cut; from here on another process may run.
     pub fn cut(&mut self, way: Way) {
         (self.dead, self.trouble) = (false, None);
@@ -156,7 +165,7 @@ impl Simulated {
         }
         for file in &mut self.files {
             let left = if part { mixed(&mut self.r, &file.synced, &file.now) } else { file.synced.clone() };
-            *file = File { now: left.clone(), synced: left };
+            *file = File { now: left.clone(), synced: left, mode: file.mode };
         }
         // What is on the disk now is there for good.
         self.folder_synced = self.folder;
@@ -242,12 +251,15 @@ impl Disk for Simulated {
         self.operation(true, |disk, all| {
             assert!(disk.folder);
             if disk.file(name).is_err() {
-                disk.files.push(File::default());
+                disk.files.push(File { now: Vec::new(), synced: Vec::new(), mode: MADE });
                 disk.note(Change::Made(name.to_string(), disk.files.len() - 1));
             }
             let written = if all { bytes.len() } else { disk.r.below(bytes.len() + 1) };
             let file = disk.file(name)?;
             let file = &mut disk.files[file];
+            if file.mode & 0o200 == 0 {
+                return Err(ErrorKind::PermissionDenied.into());
+            }
             let from = from as usize;
             assert!(from <= file.now.len(), "a hole in {name}");
             let end = from + written;
@@ -265,6 +277,14 @@ impl Disk for Simulated {
             let file = disk.file(name)?;
             let file = &mut disk.files[file];
             file.synced = file.now.clone();
+            Ok(())
+        })
+    }
+
+    fn take_mode(&mut self, name: &str, of: &str) -> io::Result<()> {
+        self.operation(false, |disk, _| {
+            let (file, other) = (disk.file(name)?, disk.file(of)?);
+            disk.files[file].mode = disk.files[other].mode;
             Ok(())
         })
     }

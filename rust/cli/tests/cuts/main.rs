@@ -683,14 +683,19 @@ fn what_a_card_knows_of_its_log() {
 }
 
 /// A file that is written in place of another, and one that is new, cut at every operation, and with each of them failing: it is the
-/// old one or the new one, and once this has ended well it survives a cut.
+/// old one or the new one, and once this has ended well it survives a cut. In place of another it has its mode at every moment, and one
+/// that may not be written is replaced all the same.
 #[test]
 fn a_cut_at_every_operation_of_a_file() {
     let (old, new) = (vec![1; 40], vec![2; 60]);
-    let left = |disk: &Simulated| disk.contents().get(LOG).cloned();
     let mut runs = 0;
     for there in [true, false] {
         let before = there.then(|| old.clone());
+        let left = |disk: &Simulated| {
+            let mode = if there { disk::OWN } else { disk::MADE };
+            assert!(disk.mode(LOG).is_none_or(|own| own == mode));
+            disk.contents().get(LOG).cloned()
+        };
         for work in [Work::Nothing, Work::Part, Work::All] {
             let troubles = [Trouble::Cut(work), Trouble::Full, Trouble::Late, Trouble::Broken];
             for (trouble, way, seed) in troubles.into_iter().flat_map(|trouble| {

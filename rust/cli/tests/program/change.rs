@@ -1,6 +1,6 @@
 //! A new rule in the middle of a week: a card that begins where another has come to, or at a given record.
 
-use crate::{contents, example, Place, CARRY_ON, RULE};
+use crate::{contents, example, Place, CARRY_ON, OLDER_LOG, OTHER_LOG, RULE};
 use evaluator::log::{self, Record};
 use std::fs;
 
@@ -72,15 +72,15 @@ fn what_the_old_card_has_seen() {
         assert_eq!(contents(&place.path("strict")), before);
     };
     let whole = fs::read(place.path("tuesday.klg")).unwrap();
-    let hint = "Is this the log of another kiosk, or was the card put back from an older copy? Nothing was changed.\n";
+    let hint = format!("{OTHER_LOG} Nothing was changed.\n");
     let others = format!("records 12 to 13 are not those that this card has seen\n{hint}");
     let mut other = whole.clone();
     other[8 + 8 * 13 + 7] ^= 1;
     refuses(&other, &others);
     other[8..8 + 8 * 18].fill(0);
     refuses(&other, &others);
-    let short = "the log has 13 records, and the card before this one has seen 14\nIs this the whole log? Nothing was changed.\n";
-    refuses(&whole[..8 + 8 * 13], short);
+    let short = "the log has 13 records, and the card before this one has seen 14\n";
+    refuses(&whole[..8 + 8 * 13], &format!("{short}{OLDER_LOG} Nothing was changed.\n"));
     place.ok(&["evening", "strict", "tuesday.klg"]);
     // from a damaged card too
     let point = place.path("card/point");
@@ -102,7 +102,7 @@ fn after_a_card_that_left_nothing_open() {
     place.ok(&["new", "third", "e1", "--after", "next"]);
     fs::write(place.path("card/point"), b"").unwrap();
     place.ok(&["new", "fourth", "e1", "--after", "card"]);
-    let hint = "Is this the log of another kiosk, or was the card put back from an older copy? Nothing was changed.\n";
+    let hint = format!("{OTHER_LOG} Nothing was changed.\n");
     let refused = |card: &str| {
         let text = format!("other.klg: record 2 is not the one that this card has seen\n{hint}");
         for command in CARRY_ON {
@@ -179,8 +179,8 @@ fn a_card_from_a_record() {
     let said = place.ok(&["new", "none", "e0", "--from", "0"]);
     assert!(said.ends_with("reach 0 seconds\n"), "{said}");
     place.ok(&["new", "late", "e0", "--from", "15"]);
-    let text = "day.klg: the log has 14 records, and this card begins at record 15\n\
-                Is this the whole log? Nothing was changed.\n";
+    let text = "day.klg: the log has 14 records, and this card begins at record 15\n";
+    let text = format!("{text}{OLDER_LOG} Nothing was changed.\n");
     for words in
         [&["evening", "late", "day.klg"][..], &["close", "late", "day.klg", "--final"], &["open", "late", "day.klg"]]
     {

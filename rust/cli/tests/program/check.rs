@@ -119,10 +119,35 @@ fn a_sheet_that_is_damaged() {
     assert_eq!(printed, "10 yes\n11 yes\n");
     assert!(said.contains("the first 12 verdicts"), "{said}");
     let (printed, _) = place.partly(&["check", "card"]);
+    let damaged = "sheet: damaged: the 18 verdicts in it are not those that were given\n";
+    assert!(printed.contains(damaged), "{printed}");
     assert!(printed.contains("the first 12 verdicts are vouched for"), "{printed}");
     assert!(printed.contains("a new card can go on at record 18: "), "{printed}");
     place.damage("point", |bytes| bytes.clear());
+    assert!(place.partly(&["check", "card"]).0.contains(damaged));
     assert!(place.ok(&["new", "next", RULE, "--after", "card"]).ends_with("begins at record 18\n"));
+}
+
+/// What `check` says of the sheet in its line.
+#[test]
+fn the_line_of_the_sheet() {
+    let said = |place: &Place| {
+        let (_, printed, _) = place.run(&["check", "card"]);
+        printed.lines().find_map(|line| line.strip_prefix("sheet: ").map(str::to_string)).unwrap()
+    };
+    let place = Place::with_card(2);
+    assert_eq!(said(&place), "18 verdicts");
+    place.damage("sheet", |bytes| bytes.extend([1, 0]));
+    assert_eq!(said(&place), "18 verdicts; what a run that was cut wrote behind does not count");
+    // without its point there is no telling
+    place.damage("point", |bytes| bytes[200] ^= 1);
+    assert_eq!(said(&place), "20 verdicts, and nothing vouches for those behind the first 18");
+    place.damage("sheet", |bytes| bytes.truncate(17));
+    assert_eq!(said(&place), "damaged: it has 17 verdicts, and 18 were given");
+    place.damage("evenings", |bytes| bytes.clear());
+    assert_eq!(said(&place), "17 verdicts, for which nothing vouches");
+    fs::remove_file(place.path("card/sheet")).unwrap();
+    assert_eq!(said(&place), "missing");
 }
 
 /// Without a point and without its row there is no telling what was overwritten since: no card goes on from there.

@@ -4,8 +4,8 @@ use crate::Place;
 use cli::command::table::COMMANDS;
 use cli::convert::SETTINGS;
 use evaluator::{cases, log, rule};
-use std::fs;
-use std::os::unix::fs::symlink;
+use std::fs::{self, Permissions};
+use std::os::unix::fs::{symlink, PermissionsExt};
 
 const P1: &str = "10 e0\n11 e0\n11 none\n12 e0\n13 e1\n20 e0\n";
 
@@ -22,7 +22,13 @@ fn logs_as_text() {
     assert_eq!(said, "bad.txt, line 2: second 0 comes after second 1\n");
     assert!(!place.path("bad.klg").exists());
     fs::write(place.path("bad.txt"), [0xff, 0xfe]).unwrap();
-    assert_eq!(place.fails(1, &["to-log", "bad.txt", "bad.klg"]), "bad.txt: not a text\n");
+    assert_eq!(place.fails(1, &["to-log", "bad.txt", "bad.klg"]), "bad.txt: this is no text in UTF-8\n");
+    let said = place.fails(1, &["to-log", "day.klg", "bad.klg"]);
+    assert_eq!(said, "day.klg: this is a log, and a text is wanted here\n");
+    // as some editors write it
+    fs::write(place.path("day.txt"), format!("\u{feff}{}", P1.replace('\n', "\r\n"))).unwrap();
+    place.ok(&["to-log", "day.txt", "again.klg"]);
+    assert_eq!(place.ok(&["to-text", "again.klg"]), P1);
     assert!(place.fails(1, &["to-text", "none.klg"]).starts_with("none.klg: "));
     let no_log = "this is no log: it does not begin with KLG; of a text `havdrims to-log` makes one (refused 12)";
     assert_eq!(place.fails(1, &["to-text", "day.txt"]), format!("day.txt: {no_log}\n"));
@@ -97,14 +103,22 @@ fn rules_as_formulas() {
     assert_eq!(said, format!("`e1` cannot stand here\n  e0 until e1\n           ^^\n{could}\n"));
     // a formula alone, not the name of a rule file
     let said = place.fails(1, &["rule", "typed.krl", "none.krl"]);
-    let file = "There is a file of this name, but that of a rule file ends in .krl\n";
-    assert!(said.starts_with("the word `typed` is not known\n  typed.krl\n  ^^^^^\n"), "{said}");
-    let wanted = " (refused 16)\nThere is a rule file of this name, but a formula is wanted here\n";
-    assert!(said.ends_with(wanted), "{said}");
+    assert_eq!(said, "`typed.krl` is a rule file, and a formula is wanted here (refused 16)\n");
+    let said = place.fails(1, &["new", "card", "typed"]);
+    assert_eq!(said, "`typed` is no formula; did you mean typed.krl? (refused 16)\n");
     let said = place.fails(1, &["new", "card", "day"]);
-    assert!(said.ends_with(" (refused 16)\n"), "{said}");
+    assert!(said.starts_with("the word `day` is not known\n") && said.ends_with(" (refused 16)\n"), "{said}");
     fs::write(place.path("day"), "e0").unwrap();
-    assert_eq!(place.fails(1, &["new", "card", "day"]), said + file);
+    for words in [&["new", "card", "day"][..], &["why", "day", "day.klg", "5"]] {
+        let file = "`day` is a file, but no rule file: the name of one ends in .krl (refused 16)\n";
+        assert_eq!(place.fails(1, words), file, "{words:?}");
+    }
+    // what a word processor makes of quotes, and a stroke for a comma
+    let said = place.fails(1, &["new", "card", "‘e0", "or", "e1’"]);
+    let quotes = "the character ‘ is not known; quotes around a formula are straight ones, '\n  ?e0\n  ^\n";
+    assert!(said.starts_with(quotes), "{said}");
+    let said = place.fails(1, &["new", "card", "e0 until[0-90] e1"]);
+    assert!(said.starts_with("the sign `-` is not known; between two ends stands a comma, as in [0,90]\n"), "{said}");
     assert!(!place.path("none.krl").exists());
     fs::write(place.path("long.krl"), [0; 100_000]).unwrap();
     assert_eq!(
@@ -235,8 +249,11 @@ fn where_files_go() {
         fs::write(place.path("out.krl"), b"kept").unwrap();
         fails(&line, "out.krl: a file is here already; --force replaces it\n");
         assert_eq!(fs::read(place.path("out.krl")).unwrap(), b"kept");
+        // who may read and write the old file may do so with the new one, and no others
+        fs::set_permissions(place.path("out.krl"), Permissions::from_mode(0o460)).unwrap();
         assert_eq!(place.ok(&[&words[..], &["--force"]].concat()), said, "{line}");
         assert_eq!(fs::read(place.path("out.krl")).unwrap(), made, "{line}");
+        assert_eq!(fs::metadata(place.path("out.krl")).unwrap().permissions().mode() & 0o777, 0o460, "{line}");
         fs::remove_file(place.path("out.krl")).unwrap();
         let twice = place.fails(2, &[&words[..], &["--force", "--force"]].concat());
         assert!(twice.starts_with("--force is there twice\nexpected: "), "{twice}");

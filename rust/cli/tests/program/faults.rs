@@ -1,6 +1,6 @@
 //! What can go wrong, each with its words, exit status 1, and the card unchanged.
 
-use crate::{contents, ended, Place, CARRY_ON, RULE};
+use crate::{contents, ended, Place, CARRY_ON, OLDER_LOG, OTHER_CLOCK, OTHER_LOG, RULE};
 use evaluator::log;
 use havdrims::save::{checksum, Saved};
 use std::fs::{self, File, Permissions};
@@ -33,11 +33,11 @@ fn logs_that_are_refused() {
     };
     // a log that shrank
     let fewer = "the log has 13 records, and the card has seen 14 (refused 13)";
-    evening(&whole[..whole.len() - 8], fewer, "Is this the whole log? ");
+    evening(&whole[..whole.len() - 8], fewer, &format!("{OLDER_LOG} "));
     // a new record whose time falls
     let falls = [whole.as_slice(), &[0, 0, 2, 0xd9, 0, 0, 0, 0]].concat();
     let times = "record 14, second 729, comes after record 13, second 730 (refused 14)";
-    evening(&falls, times, "Is this the log of another kiosk? ");
+    evening(&falls, times, &format!("{OTHER_CLOCK} "));
     // a log of the other version
     let mut second = whole.clone();
     second[4] = 2;
@@ -55,8 +55,50 @@ fn logs_that_are_refused() {
         "Its first 8000008 bytes end with the last record that a log may have: close the card with these, and begin\n\
                 a new log and a new card with what follows. ";
     evening(&long, "the log has more than 1000000 records (refused 12)", hint);
-    let none = "none.klg: No such file or directory (os error 2)\nNothing was changed.\n";
+    let none = "none.klg: there is no such file\nNothing was changed.\n";
     refuses(&place, &["evening", "card", "none.klg"], none);
+}
+
+/// Two logs put one behind the other, with `cat`: the second one's header is read as a record.
+#[test]
+fn the_header_of_a_second_log() {
+    let place = Place::with_card(0);
+    let day = fs::read(place.path("day.klg")).unwrap();
+    let hint = |bytes: usize| {
+        format!(
+            "A log has one header: of a second one add the records alone, as `tail -c +{bytes} SECOND >> FIRST` does.\n\
+             If its clock began anew, it is a log of its own, for a card of its own."
+        )
+    };
+    let says = "both.klg: record 14 looks like the header of a second log, put behind the first (refused 14)\n";
+    let later = log::encode(&[log::Record { time: 2_000_000_000, letters: 1 }]);
+    for (first, header, records) in [
+        (day.clone(), &day[..8], &day[8..]),
+        (day.clone(), b"KLG\0\x02\0\0\0", &day[8..]),
+        (day.clone(), b"KLG\0\x03\0\0\0\0\0\0\0\0\0\0\x09", &day[8..]),
+        // a clock whose seconds are more than those that the header would be
+        ([&day[..], &later[8..]].concat(), &day[..8], &later[8..]),
+    ] {
+        fs::write(place.path("both.klg"), [&first[..], header, records].concat()).unwrap();
+        let says = says.replace("14 l", &format!("{} l", first.len() / 8 - 1));
+        let hint = hint(header.len() + 1);
+        for words in [
+            &["evening", "card", "both.klg"][..],
+            &["close", "card", "both.klg", "--final"],
+            &["open", "card", "both.klg"],
+        ] {
+            refuses(&place, words, &format!("{says}{hint} Nothing was changed.\n"));
+        }
+        assert_eq!(place.fails(1, &["why", "card", "both.klg", "5"]), format!("{says}{hint}\n"));
+    }
+    // the way that is told
+    fs::copy(place.path("day.klg"), place.path("week.klg")).unwrap();
+    place.log("next.klg", "760 e0 e1\n900 e0 e2\n");
+    place.ok(&["evening", "card", "week.klg"]);
+    let mut add = Command::new("sh");
+    add.args(["-c", "tail -c +9 next.klg >> week.klg"]).current_dir(&place.0);
+    assert!(add.status().unwrap().success());
+    assert!(place.ok(&["evening", "card", "week.klg"]).starts_with("records 12 to 14: 3 yes, 0 no\n"));
 }
 
 /// The last record that the card has seen is not in the log: the library has its time.
@@ -68,12 +110,9 @@ fn a_first_new_record_that_comes_too_early() {
     place.ok(&["evening", "card", "log.klg"]);
     fs::write(place.path("left.klg"), log::encode_trimmed(3, &[log::Record { time: 11, letters: 1 }])).unwrap();
     let early = "record 3, the first new one, comes before the last one that the card has seen (refused 14)";
-    let text = format!("left.klg: {early}\nIs this the log of another kiosk? Nothing was changed.\n");
+    let text = format!("left.klg: {early}\n{OTHER_CLOCK} Nothing was changed.\n");
     refuses(&place, &["evening", "card", "left.klg"], &text);
 }
-
-const OTHER: &str =
-    "Is this the log of another kiosk, or was the card put back from an older copy? Nothing was changed.\n";
 
 /// Later times, more records, and the same version: only the records that are still wanted tell it.
 #[test]
@@ -85,7 +124,9 @@ fn the_log_of_another_kiosk() {
         change(&mut bytes);
         fs::write(place.path("other.klg"), bytes).unwrap();
     };
-    let others = format!("other.klg: records 12 to 13 are not those that this card has seen\n{OTHER}");
+    let others = format!(
+        "other.klg: records 12 to 13 are not those that this card has seen\n{OTHER_LOG} Nothing was changed.\n"
+    );
     let later = |bytes: &mut Vec<u8>| bytes[8..].chunks_exact_mut(8).for_each(|record| record[2] += 1);
     let changes: [fn(&mut Vec<u8>); 4] =
         [later, |bytes| bytes[8 + 8 * 12 + 3] ^= 1, |bytes| bytes[8 + 8 * 14 - 1] ^= 1, |bytes| bytes[8..].fill(0)];
@@ -103,7 +144,8 @@ fn the_log_of_another_kiosk() {
     brought(&|bytes| bytes[8..8 + 8 * 12].fill(0xff));
     place.ok(&["evening", "card", "other.klg"]);
     brought(&|bytes| bytes[8 + 8 * 18 + 7] ^= 1);
-    let one = format!("other.klg: record 18 is not the one that this card has seen\n{OTHER}");
+    let one =
+        format!("other.klg: record 18 is not the one that this card has seen\n{OTHER_LOG} Nothing was changed.\n");
     refuses(&place, &["evening", "card", "other.klg"], &one);
     // closed: nothing is wanted any more, but the last record is that of the log
     place.ok(&["close", "card", "tuesday.klg", "--final"]);
@@ -122,7 +164,7 @@ fn a_log_that_leaves_nothing_open() {
     log("log.klg", "10 e0\n11 e1\n12 e0\n");
     assert!(place.ok(&["evening", "card", "log.klg"]).ends_with("records 0 to 1 may be overwritten\n"));
     log("other.klg", "10 e0\n11 e1\n12 e1\n13 e0\n");
-    let one = format!("other.klg: record 2 is not the one that this card has seen\n{OTHER}");
+    let one = format!("other.klg: record 2 is not the one that this card has seen\n{OTHER_LOG} Nothing was changed.\n");
     for words in [&["evening", "card", "other.klg"][..], &["close", "card", "other.klg", "--final"]] {
         refuses(&place, words, &one);
     }
@@ -137,7 +179,7 @@ fn a_log_that_leaves_nothing_open() {
     // a closed card trims its own log alone
     assert!(place.ok(&["close", "card", "log.klg", "--final"]).ends_with("records 0 to 2 may be overwritten\n"));
     log("other.klg", "10 e0\n11 e1\n12 e0\n13 e1\n");
-    let one = format!("other.klg: record 3 is not the one that this card has seen\n{OTHER}");
+    let one = format!("other.klg: record 3 is not the one that this card has seen\n{OTHER_LOG} Nothing was changed.\n");
     refuses(&place, &["trim", "card", "other.klg", "out.klg"], &one);
     assert!(!place.path("out.klg").exists());
 }
@@ -157,7 +199,9 @@ fn a_card_that_was_put_back() {
     fs::write(place.path("tuesday.klg"), &log).unwrap();
     place.ok(&["evening", "card", "tuesday.klg"]);
     put_back();
-    let others = format!("tuesday.klg: records 12 to 13 are not those that this card has seen\n{OTHER}");
+    let others = format!(
+        "tuesday.klg: records 12 to 13 are not those that this card has seen\n{OTHER_LOG} Nothing was changed.\n"
+    );
     for command in CARRY_ON {
         refuses(&place, &[command, &["card", "tuesday.klg"]].concat(), &others);
     }
@@ -177,7 +221,8 @@ fn a_card_of_an_earlier_program() {
     let mut log = fs::read(place.path("tuesday.klg")).unwrap();
     log[8 + 8 * 18 + 7] ^= 1;
     fs::write(place.path("other.klg"), log).unwrap();
-    let one = format!("other.klg: record 18 is not the one that this card has seen\n{OTHER}");
+    let one =
+        format!("other.klg: record 18 is not the one that this card has seen\n{OTHER_LOG} Nothing was changed.\n");
     refuses(&place, &["evening", "card", "other.klg"], &one);
     // rows that are of no use are as none
     fs::write(place.path("card/evenings"), [7; 100]).unwrap();
@@ -206,16 +251,144 @@ fn a_closing_is_meant() {
 fn a_closed_card() {
     let place = Place::with_card(1);
     place.ok(&["close", "card", "day.klg", "--final"]);
-    let closed =
-        "card: the card is closed: it takes no further records (refused 20)\n`havdrims new NEW RULE.. --after card` \
-                  makes the next one. Nothing was changed.\n";
-    refuses(&place, &["evening", "card", "day.klg"], closed);
-    refuses(&place, &["evening", "card", "tuesday.klg"], closed);
+    let next =
+        "`havdrims new NEW card/rule.krl --after card` makes the next card, with the same rule. Nothing was changed.\n";
+    let closed = format!("card: the card is closed: it takes no further records (refused 20)\n{next}");
+    refuses(&place, &["evening", "card", "day.klg"], &closed);
+    refuses(&place, &["evening", "card", "tuesday.klg"], &closed);
     let more = "the log has 19 records, and the card was closed with 14 (refused 21)";
-    let more = format!("tuesday.klg: {more}\nNothing was changed.\n");
+    let more = format!("tuesday.klg: {more}\n{next}");
     refuses(&place, &["close", "card", "tuesday.klg", "--final"], &more);
     assert!(place.ok(&["close", "card", "day.klg", "--final"]).starts_with("no new verdict\n"));
     assert!(place.ok(&["summary", "card"]).ends_with("open: 0 of 14 records, and the card is closed\n"));
+    // as a shell takes it, and it does what it says
+    fs::rename(place.path("card"), place.path("station hall")).unwrap();
+    let said = place.fails(1, &["evening", "station hall/", "day.klg"]);
+    assert!(said.contains("`havdrims new NEW 'station hall/rule.krl' --after 'station hall'`"), "{said}");
+    place.ok(&["new", "NEW", "station hall/rule.krl", "--after", "station hall"]);
+    assert!(place.ok(&["evening", "NEW", "tuesday.klg"]).starts_with("records 14 to 17: "));
+}
+
+/// A card's name that is mistyped, wherever a card is wanted.
+#[test]
+fn names_that_are_nearly_those_of_cards() {
+    let place = Place::with_card(1);
+    fs::create_dir(place.path("shop")).unwrap();
+    fs::rename(place.path("card"), place.path("shop/hall")).unwrap();
+    fs::copy(place.path("day.klg"), place.path("shop/day.klg")).unwrap();
+    let folders: [(&str, &[&str]); 3] =
+        [("", &["hal", "hlal", "hall2"]), ("./", &["./hal"]), ("../shop/", &["../shop/hal"])];
+    let here = |words: &[&str]| {
+        let (status, out, err) = ended(place.program().args(words).current_dir(place.path("shop")).output().unwrap());
+        assert_eq!((status, out.as_str()), (1, ""), "{words:?}: {err}");
+        err
+    };
+    for (folder, names) in folders {
+        for name in names {
+            let none = format!("{name}: no card is here; did you mean {folder}hall?\n");
+            for words in [
+                &["summary", name][..],
+                &["sheet", name],
+                &["check", name],
+                &["letters", name],
+                &["open", name, "day.klg"],
+            ] {
+                let said = here(words);
+                assert_eq!(said, none, "{words:?}");
+            }
+            assert_eq!(here(&["new", "other", "e0", "--after", name]), none);
+            for words in [
+                &["evening", name, "day.klg"][..],
+                &["close", name, "day.klg", "--final"],
+                &["trim", name, "day.klg", "out.klg"],
+                &["page", name, "day.klg", "out.html"],
+            ] {
+                assert_eq!(here(words), format!("{none}Nothing was changed.\n"), "{words:?}");
+            }
+            let none = format!("no card or .krl file `{name}` is here; did you mean {folder}hall? (refused 16)\n");
+            for words in [&["why", name, "day.klg", "5"][..], &["formula", name]] {
+                assert_eq!(here(words), none, "{words:?}");
+            }
+        }
+    }
+    // a rule file, a log and letters
+    here(&["why", "hall", "day.klg", "99"]);
+    place.ok(&["rule", "e0", "shop/warm.krl"]);
+    let none = "no card or .krl file `wram.krl` is here; did you mean warm.krl?\n";
+    assert_eq!(here(&["why", "wram.krl", "day.klg", "5"]), none);
+    assert_eq!(
+        here(&["why", "warm", "day.klg", "5"]),
+        "no card or .krl file `warm` is here; did you mean warm.krl? (refused 16)\n"
+    );
+    assert_eq!(here(&["formula", "wram.krl"]), "wram.krl: there is no such file; did you mean warm.krl?\n");
+    let said = "dya.klg: there is no such file; did you mean day.klg?\n";
+    assert_eq!(here(&["to-text", "dya.klg"]), said);
+    assert_eq!(here(&["evening", "hall", "dya.klg"]), format!("{said}Nothing was changed.\n"));
+    assert_eq!(here(&["letters", "hall", "dya.klg"]), said);
+    // nothing is near
+    assert_eq!(here(&["summary", "mill"]), "mill: no card is here; `havdrims new` makes one\n");
+    assert_eq!(here(&["why", "mill", "day.klg", "5"]), "no card or .krl file `mill` is here (refused 16)\n");
+    // a card where a formula or a rule file is wanted
+    let card = "`hall` is a card; its rule is hall/rule.krl (refused 16)\n";
+    assert_eq!(here(&["new", "d", "hall"]), card);
+    assert_eq!(here(&["rule", "hall", "out.krl"]), card);
+    assert_eq!(here(&["summary", "hal/"]), "hal/: no card is here; did you mean hall?\n");
+    // a name with a line end in it is not shown
+    fs::rename(place.path("shop/warm.krl"), place.path("shop/wa\nm.krl")).unwrap();
+    assert_eq!(here(&["to-text", "warm.krl"]), "warm.krl: there is no such file\n");
+    // the folder of the cards
+    let folder = "`shop` is a folder, and no card; it holds cards, as shop/hall (refused 16)\n";
+    assert_eq!(place.fails(1, &["why", "shop", "day.klg", "5"]), folder);
+    assert_eq!(place.fails(1, &["new", "d", "shop"]), folder);
+    let holds = "this folder is no card; it holds cards, as shop/hall\n";
+    assert_eq!(place.fails(1, &["summary", "shop"]), format!("shop: {holds}"));
+    assert_eq!(place.fails(1, &["summary", "shop/"]), format!("shop/: {holds}"));
+}
+
+/// A formula of several words that the shell hands over one by one.
+#[test]
+fn formulas_without_quotes() {
+    let place = Place::with_card(0);
+    let words = |line: &str| line.split(' ').map(str::to_string).collect::<Vec<_>>();
+    let fails = |status: i32, line: &str, text: &str| {
+        let words = words(line);
+        let words: Vec<&str> = words.iter().map(String::as_str).collect();
+        assert_eq!(place.fails(status, &words), text, "{line}");
+    };
+    let put = "put the formula between quotes: 'not e2 or e0 until[0,90] e1'";
+    fails(1, "new other not e2 or e0 until[0,90] e1", &format!("{put} (refused 17)\n"));
+    fails(1, "rule not e2 or e0 until[0,90] e1 out.krl", &format!("{put} (refused 17)\n"));
+    let expected = "expected: havdrims why RULE LOG RECORD [--formula K] [--words]\n";
+    fails(2, "why not e2 or e0 until[0,90] e1 day.klg 5", &format!("{put}\n{expected}"));
+    fails(2, "formula not e2 or e0 until[0,90] e1", &format!("{put}\nexpected: havdrims formula RULE\n"));
+    fails(
+        1,
+        "new other not e2 or e0 untill[0,90] e1",
+        "the word `untill` is not known; did you mean until?\n  not e2 or e0 untill[0,90] e1\n               ^^^^^^\n\
+         there are the words not, or, prev, next, since, until, inf, the letters e0 to e31, numbers, and the signs ( ) [ ] , \
+         (refused 16)\nPut the formula between quotes, when it is right\n",
+    );
+    assert!(!place.path("other").exists() && !place.path("out.krl").exists());
+    // two formulas, one of which is wrong, stand between quotes already
+    let said = place.fails(1, &["new", "other", "e0 or", "e1"]);
+    assert!(said.starts_with("the formula breaks off here\n  e0 or\n"), "{said}");
+    // a name of two words
+    fs::rename(place.path("card"), place.path("station hall")).unwrap();
+    fails(
+        2,
+        "summary station hall",
+        "put the name between quotes: 'station hall'\nexpected: havdrims summary CARD [--json]\n",
+    );
+    fails(
+        2,
+        "evening station hall day.klg",
+        "put the name between quotes: 'station hall'\nexpected: havdrims evening CARD LOG [--json]\n",
+    );
+    fails(
+        2,
+        "evening station hall station hall.klg",
+        "put the name between quotes: 'station hall'\nexpected: havdrims evening CARD LOG [--json]\n",
+    );
 }
 
 #[test]
@@ -237,11 +410,13 @@ fn folders_that_are_no_card_and_cards_that_are_there() {
     let place = Place::with_card(1);
     refuses(&place, &["new", "card", RULE], "card: a card is here already\n");
     let none = "no card is here; `havdrims new` makes one\n";
-    for folder in ["none", "."] {
+    fs::create_dir(place.path("bare")).unwrap();
+    for folder in ["none", "bare"] {
         assert_eq!(place.fails(1, &["summary", folder]), format!("{folder}: {none}"));
         let said = place.fails(1, &["evening", folder, "day.klg"]);
         assert_eq!(said, format!("{folder}: {}\nNothing was changed.\n", none.trim_end()));
     }
+    assert_eq!(place.fails(1, &["summary", "."]), ".: this folder is no card; it holds cards, as ./card\n");
     assert_eq!(place.fails(1, &["new", ".", RULE]), ".: this folder holds other files\n");
     // a file for a card, and a card for a file
     let file = "day.klg: this is a file, and a card is a folder\n";
@@ -262,7 +437,7 @@ fn folders_that_are_no_card_and_cards_that_are_there() {
     for words in [&["formula", "folder.krl"][..], &["new", "other", "folder.krl"]] {
         assert_eq!(place.fails(1, words), folder, "{words:?}");
     }
-    assert!(place.fails(1, &["new", "none/card", RULE]).starts_with("none/card: cannot make the folder: "));
+    assert_eq!(place.fails(1, &["new", "none/card", RULE]), "none/card: the folder none is not there\n");
     // what a `new` that was cut leaves, and an empty folder, are made again
     place.ok(&["new", "cut", RULE]);
     fs::remove_file(place.path("cut/point")).unwrap();
@@ -309,6 +484,13 @@ fn files_that_are_missing() {
     fs::remove_file(place.path("card/evenings")).unwrap();
     missing("the file `evenings` is missing", false);
     fs::write(place.path("card/evenings"), rows).unwrap();
+    for file in ["rule.krl", "sheet"] {
+        let path = place.path("card").join(file);
+        let bytes = fs::read(&path).unwrap();
+        fs::remove_file(&path).unwrap();
+        missing(&format!("the file `{file}` is missing"), false);
+        fs::write(path, bytes).unwrap();
+    }
     fs::remove_file(place.path("card/card.txt")).unwrap();
     missing("the file `card.txt` is missing", false);
     refuses(&place, &["new", "card", RULE], "card: a card is here already\n");
@@ -595,7 +777,8 @@ fn a_folder_that_is_only_read() {
     assert_eq!((status, out.lines().count()), (0, 2));
     let (status, _, err) = run(&["new", "more", RULE]);
     assert_eq!(status, 1);
-    assert!(err.starts_with("more: cannot make the folder: Permission denied"), "{err}");
+    let again = "No card was made. When the cause is gone, repeat the command with the same words.\n";
+    assert_eq!(err, format!("more: cannot make the folder: Permission denied (os error 13)\n{again}"));
     modes(0o755, &["card", "."]);
     place.ok(&["evening", "card", "tuesday.klg"]);
 }

@@ -105,6 +105,7 @@ fn words_that_are_no_command() {
     let all = "\n`havdrims help` prints all commands.\n";
     assert_eq!(place.fails(2, &["evenings"]), format!("`evenings` is no command; did you mean evening?{all}"));
     assert_eq!(place.fails(2, &["sumary", "card"]), format!("`sumary` is no command; did you mean summary?{all}"));
+    assert_eq!(place.fails(2, &["version"]), format!("`version` is no command; did you mean --version?{all}"));
     assert_eq!(place.fails(2, &["elephant"]), format!("`elephant` is no command{all}"));
     assert_eq!(place.fails(2, &["-x"]), format!("`-x` is no command{all}"));
 }

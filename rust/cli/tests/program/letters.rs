@@ -106,7 +106,9 @@ fn names_that_are_wrong() {
     let long = "names.txt, line 1: the name has 81 characters; at most 80 are shown well\n";
     assert_eq!(place.fails(1, &["letters", "card", "names.txt"]), long);
     fs::write(place.path("names.txt"), [b'0', b' ', 0xFF]).unwrap();
-    assert_eq!(place.fails(1, &["letters", "card", "names.txt"]), "names.txt: not a text\n");
+    assert_eq!(place.fails(1, &["letters", "card", "names.txt"]), "names.txt: this is no text in UTF-8\n");
+    let said = place.fails(1, &["letters", "card", "card/rule.krl"]);
+    assert_eq!(said, "card/rule.krl: this is a rule, and a text is wanted here\n");
     assert!(place.fails(1, &["letters", "card", "none.txt"]).starts_with("none.txt: "));
     assert_eq!(place.card(), before);
     fs::write(place.path("names.txt"), "0 a\n").unwrap();

@@ -29,6 +29,14 @@ const RULE: &str = "not e2 or e0 until[0,90] e1";
 /// The words before card and log: an evening, and a closing.
 const CARRY_ON: [&[&str]; 2] = [&["evening"], &["close", "--final"]];
 
+/// What may be the cause where a log is not that of its card.
+const OTHER_LOG: &str = "\
+Is this the log of another kiosk? Were more records overwritten than the last evening named? Was the card put back from
+an older copy?";
+const OLDER_LOG: &str =
+    "Is it an older copy of the log, only a part of it, or another kiosk's? The whole log is wanted, old records too.";
+const OTHER_CLOCK: &str = "Is this the log of another kiosk, or did its clock begin anew?";
+
 /// A folder for one test, removed with it.
 struct Place(PathBuf);
 

@@ -1,6 +1,6 @@
 //! `open`: the records without a verdict, and what would settle them.
 
-use crate::{Place, RULE};
+use crate::{Place, OLDER_LOG, OTHER_LOG, RULE};
 use cli::waiting::{open, End, Timed};
 use evaluator::log::{self, Record};
 use evaluator::random::Random;
@@ -66,11 +66,8 @@ fn open_records_that_were_altered() {
     bytes[8..].fill(255);
     fs::write(place.path("log.klg"), bytes).unwrap();
     let said = place.fails(1, &["open", "card", "log.klg"]);
-    assert_eq!(
-        said,
-        "log.klg: records 0 to 1 are not those that this card has seen\n\
-         Is this the log of another kiosk, or was the card put back from an older copy? Nothing was changed.\n"
-    );
+    let altered = "log.klg: records 0 to 1 are not those that this card has seen\n";
+    assert_eq!(said, format!("{altered}{OTHER_LOG} Nothing was changed.\n"));
 }
 
 #[test]
@@ -140,7 +137,7 @@ fn of_other_rules_the_records_alone() {
     place.ok(&["new", "other", "e0 until[0,90] e1"]);
     place.ok(&["evening", "other", "day.klg"]);
     let said = place.fails(1, &["open", "other", "short.klg"]);
-    assert!(said.contains("Is this the whole log?"), "{said}");
+    assert!(said.contains(OLDER_LOG), "{said}");
     assert!(place.fails(2, &["open", "other"]).contains("expected: havdrims open CARD LOG"));
 }
 

@@ -1,6 +1,6 @@
 //! The page for Friday: its lines, what it says where records are lost, and that typed text does no harm in it.
 
-use crate::{example, Place, RULE};
+use crate::{example, Place, OLDER_LOG, OTHER_LOG, RULE};
 use evaluator::random::Random;
 use std::fs;
 
@@ -175,6 +175,27 @@ fn records_that_were_overwritten() {
     }
 }
 
+/// Where stretches share lines, those that are lost have one of their own, and the word for their numbers stands there once.
+#[test]
+fn many_stretches_that_are_lost() {
+    let place = Place::new();
+    let records = |from: usize, to: usize| {
+        (from..to).map(|at| format!("{} {}\n", 60 * at, if at % 2 == 0 { "e0" } else { "none" })).collect::<String>()
+    };
+    place.ok(&["new", "card", "e0"]);
+    place.log("log.klg", &records(0, 80));
+    place.ok(&["evening", "card", "log.klg"]);
+    place.log("log.klg", &records(0, 160));
+    place.ok(&["evening", "card", "log.klg"]);
+    place.overwrite("log.klg", 0..79);
+    let lines = place.lines("log.klg", &[]);
+    let numbers: Vec<String> = (0..39).map(|at| (2 * at + 1).to_string()).collect();
+    let lost = format!("39 × {LOST}: records {}", numbers.join(", "));
+    assert_eq!(lines[0], format!("1–39 | time not known | records 1 to 77 | 39 no in 39 stretches | {lost}"));
+    assert!(lines.len() > 1 && lines[1..].iter().all(|line| !line.contains("not known")), "{lines:?}");
+    assert!(lines[1].starts_with("40"), "{lines:?}");
+}
+
 /// Of a trimmed log only what is left is known, by the checksum of what was open.
 #[test]
 fn a_log_that_was_trimmed() {
@@ -303,14 +324,14 @@ fn pages_that_are_not_made() {
     );
     assert!(page(1, &["card", "none.klg", "new.html"]).starts_with("none.klg: "));
     // another kiosk's log, and one that is not whole
-    let other = format!("Is this the log of another kiosk, or was the card put back from an older copy? {unchanged}");
+    let other = format!("{OTHER_LOG} {unchanged}");
     place.overwrite("day.klg", 12..13);
     let said = page(1, &["card", "day.klg", "new.html"]);
     assert_eq!(said, format!("day.klg: records 12 to 13 are not those that this card has seen\n{other}"));
     let bytes = fs::read(example("day.klg")).unwrap();
     fs::write(place.path("day.klg"), &bytes[..bytes.len() - 8]).unwrap();
     let said = page(1, &["card", "day.klg", "new.html"]);
-    assert!(said.ends_with(&format!("Is this the whole log? {unchanged}")), "{said}");
+    assert!(said.ends_with(&format!("{OLDER_LOG} {unchanged}")), "{said}");
     fs::write(place.path("day.klg"), &bytes).unwrap();
     for start in ["monday", "2026-11-31", "2026-11-09T9"] {
         let said = page(2, &["card", "day.klg", "new.html", "--start", start]);

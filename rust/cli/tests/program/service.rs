@@ -1,6 +1,6 @@
 //! Service visits: records of a version 2 log that are no positions.
 
-use crate::{example, Place, CARRY_ON, RULE};
+use crate::{example, Place, CARRY_ON, OLDER_LOG, OTHER_CLOCK, OTHER_LOG, RULE};
 use havdrims::text::log_from_text;
 use std::fs;
 
@@ -165,16 +165,17 @@ fn service_records_are_records() {
     falls[8 + 8 * 2 + 3] = 11;
     fs::write(place.path("other.klg"), &falls).unwrap();
     let falls = "record 2, second 11, comes after record 1, second 12 (refused 14)";
-    let text = format!("other.klg: {falls}\nIs this the log of another kiosk? Nothing was changed.\n");
+    let text = format!("other.klg: {falls}\n{OTHER_CLOCK} Nothing was changed.\n");
     assert_eq!(place.fails(1, &["evening", "card", "other.klg"]), text);
     let shorter = place.log("other.klg", "10 e0\n");
-    let fewer = "the log has 1 records, and the card has seen 2 (refused 13)";
-    let text = format!("other.klg: {fewer}\nIs this the whole log? Nothing was changed.\n");
+    let fewer = "the log has 1 record, and the card has seen 2 (refused 13)";
+    let text = format!("other.klg: {fewer}\n{OLDER_LOG} Nothing was changed.\n");
     assert_eq!((shorter.len(), place.fails(1, &["evening", "card", "other.klg"])), (16, text));
     place.ok(&["close", "card", "day.klg", "--final"]);
     place.log("other.klg", "10 e0\n12 service\n12 service\n");
     let more = "the log has 3 records, and the card was closed with 2 (refused 21)";
-    let text = format!("other.klg: {more}\nNothing was changed.\n");
+    let next = "`havdrims new NEW card/rule.krl --after card` makes the next card, with the same rule.";
+    let text = format!("other.klg: {more}\n{next} Nothing was changed.\n");
     assert_eq!(place.fails(1, &["close", "card", "other.klg", "--final"]), text);
 }
 
@@ -195,8 +196,7 @@ fn service_records_that_were_altered() {
             assert_eq!(place.card(), before);
         }
     };
-    let hint = "Is this the log of another kiosk, or was the card put back from an older copy? ";
-    refuses(&format!("records 0 to 1 are not those that this card has seen\n{hint}"));
+    refuses(&format!("records 0 to 1 are not those that this card has seen\n{OTHER_LOG} "));
     place.make_old();
     refuses("service records that may not be overwritten yet were altered\n");
     // open as before, but with one position more than the card has counted

@@ -1,7 +1,7 @@
 //! Shorter logs: what a card no longer wants is dropped, and the log goes on from there.
 
 use crate::service::with_visits;
-use crate::{contents, Place, CARRY_ON, RULE};
+use crate::{contents, Place, CARRY_ON, OLDER_LOG, OTHER_CLOCK, OTHER_LOG, RULE};
 use evaluator::log::{self, Record};
 use evaluator::random::{self, LogShape, Random};
 use evaluator::{linear, rule};
@@ -127,8 +127,8 @@ fn a_trimmed_log_that_is_known() {
     let mut other = place.bytes("left.klg");
     other[16 + 7] ^= 1;
     fs::write(place.path("other.klg"), other).unwrap();
-    let hint = "Is this the log of another kiosk, or was the card put back from an older copy? ";
-    let text = format!("other.klg: record 1 is not the one that this card has seen\n{hint}Nothing was changed.\n");
+    let text =
+        format!("other.klg: record 1 is not the one that this card has seen\n{OTHER_LOG} Nothing was changed.\n");
     for words in [&["evening", "card", "other.klg"][..], &["trim", "card", "other.klg", "out.klg"]] {
         refuses(&place, words, &text);
     }
@@ -175,22 +175,24 @@ fn logs_that_are_not_trimmed() {
     trim("day.klg", "the log is of version 1, and the card's first one was of version 2 or 3 (refused 22)", other);
     fs::write(place.path("short.klg"), &whole[..8 + 8 * 3]).unwrap();
     let short = "the log has 3 records, and the card has seen 4 (refused 13)";
-    trim("short.klg", short, "Is this the whole log? ");
+    trim("short.klg", short, &format!("{OLDER_LOG} "));
     fs::write(place.path("none.klg"), &whole[..9]).unwrap();
     trim("none.klg", "the log ends inside record 0: 1 of its 8 bytes are there (refused 12)", "");
     let falls = [whole.as_slice(), &[0, 0, 0, 16, 0, 0, 0, 0]].concat();
     fs::write(place.path("falls.klg"), falls).unwrap();
     let falls = "record 4, second 16, comes after record 3, second 17 (refused 14)";
-    trim("falls.klg", falls, "Is this the log of another kiosk? ");
+    trim("falls.klg", falls, &format!("{OTHER_CLOCK} "));
     let mut other = whole.clone();
     other[8 + 8 * 3 + 3] = 18;
     fs::write(place.path("other.klg"), other).unwrap();
-    let hint = "Is this the log of another kiosk, or was the card put back from an older copy? ";
-    let text = format!("other.klg: records 2 to 3 are not those that this card has seen\n{hint}Nothing was changed.\n");
+    let text =
+        format!("other.klg: records 2 to 3 are not those that this card has seen\n{OTHER_LOG} Nothing was changed.\n");
     refuses(&place, &["trim", "card", "other.klg", "out.klg"], &text);
     let dropped = log::encode_trimmed(3, &[Record { time: 17, letters: log::SERVICE }]);
     fs::write(place.path("dropped.klg"), dropped).unwrap();
-    let hint = "Was it trimmed for another card? The log before it was trimmed can still be brought. ";
+    let hint =
+        "Was it trimmed for another card, or was this card put back from an older copy? The log before it was trimmed \
+                can still be\nbrought. ";
     let dropped = "records 0 to 2 were dropped from the log, and the card still wants record 2 (refused 24)";
     trim("dropped.klg", dropped, hint);
     for command in CARRY_ON {
@@ -199,7 +201,7 @@ fn logs_that_are_not_trimmed() {
     }
     let none = "none: no card is here; `havdrims new` makes one\nNothing was changed.\n";
     refuses(&place, &["trim", "none", "whole.klg", "out.klg"], none);
-    let none = "absent.klg: No such file or directory (os error 2)\nNothing was changed.\n";
+    let none = "absent.klg: there is no such file\nNothing was changed.\n";
     refuses(&place, &["trim", "card", "absent.klg", "out.klg"], none);
 }
 
@@ -291,9 +293,9 @@ fn logs_that_cannot_be_written() {
     let text = "what is here is no file, and is not replaced\n";
     refuses(&place, &["trim", "card", "day.klg", "folder.klg", "--force"], &format!("folder.klg: {text}"));
     fs::create_dir(place.path(".out.klg.havdrims-new")).unwrap();
-    let text = "cannot write it: Is a directory (os error 21); there is no new file\n";
+    let text = "cannot write it: Is a directory (os error 21); nothing was changed\n";
     refuses(&place, &["trim", "card", "day.klg", "out.klg"], &format!("out.klg: {text}"));
-    let text = "day.klg/out.klg: cannot read its folder: Not a directory (os error 20); there is no new file\n";
+    let text = "day.klg/out.klg: cannot read its folder: Not a directory (os error 20); nothing was changed\n";
     refuses(&place, &["trim", "card", "day.klg", "day.klg/out.klg"], text);
     // the card cannot be synced
     let point = place.bytes("card/point");
@@ -338,7 +340,7 @@ fn a_full_disk() {
     let words = ["-c", shell, env!("CARGO_BIN_EXE_havdrims"), "trim", "card", "long.klg", "long.klg", "--force"];
     let output = std::process::Command::new("sh").args(words).current_dir(&place.0).output().unwrap();
     let (status, out, err) = crate::ended(output);
-    let text = "long.klg: cannot write it: File too large (os error 27); there is no new file\n";
+    let text = "long.klg: cannot write it: File too large (os error 27); nothing was changed\n";
     assert_eq!((status, out.as_str(), err.as_str()), (1, "", text));
     assert_eq!(names(&place.0), ["card", "long.klg"]);
     assert_eq!(place.bytes("long.klg"), log::encode_as(2, &records));

@@ -72,7 +72,7 @@ fn records_without_a_reason() {
     assert!(why(2, &[RULE, "day.klg", "first"]).starts_with("`first` is no number"));
     assert!(why(2, &[RULE, "day.klg", "5", "--formula", "1"]).starts_with("--formula 1: the rule has one formula, 0\n"));
     assert!(why(1, &["e0 until e1", "day.klg", "5"]).starts_with("`e1` cannot stand here\n"));
-    assert!(why(1, &["none.krl", "day.klg", "5"]).starts_with("none.krl: "));
+    assert!(why(1, &["none.krl", "day.klg", "5"]).starts_with("no card or .krl file `none.krl` is here"));
     assert!(why(1, &[RULE, "none.klg", "5"]).starts_with("none.klg: "));
     assert_eq!(why(1, &[RULE, "rule.krl", "5"]), "rule.krl: this is a rule, not a log (refused 12)\n");
 
@@ -214,16 +214,8 @@ fn reasons_in_sentences() {
         "1 e0\n2 e0\n5 none\n7 e0\n",
         &[
             (0, "record 0 is no: record 1 is 1 second later, not at least 2 seconds\n"),
-            (
-                1,
-                "record 1 is yes: record 2 is 3 seconds later, and (not e0) is yes at record 2\n  \
-            not e0 is yes at record 2: record 2 does not have e0\n",
-            ),
-            (
-                2,
-                "record 2 is no: record 3 is 2 seconds later, and (not e0) is no at record 3\n  \
-            not e0 is no at record 3: record 3 has e0\n",
-            ),
+            (1, "record 1 is yes: record 2 is 3 seconds later, and record 2 does not have e0\n"),
+            (2, "record 2 is no: record 3 is 2 seconds later, and record 3 has e0\n"),
         ],
     );
     place.says(
@@ -278,9 +270,18 @@ fn reasons_in_sentences() {
     );
     place.says("(not e1) until[0,9] (e1 or e2)", visited, &[(
         0,
-        "record 0 is yes: (e1 or e2) is yes at record 9, 8 seconds later, and (not e1) is yes at every record from 0 to 7, \
-         service records aside\n",
+        "record 0 is yes: (e1 or e2) is yes at record 9, 8 seconds later, and no record from 0 to 7, service records aside, \
+         has e1\n",
     )]);
+    // a left side that holds everywhere says nothing, and a letter that is missing is said to be
+    let always = "not ((e0 or not e0) until[0,9] not e0)";
+    let cold = [
+        (0, "record 0 is no: record 2 does not have e0, 4 seconds later\n"),
+        (2, "record 2 is no: record 2 does not have e0\n"),
+    ];
+    place.says(always, "1 e0\n3 e0\n5 none\n30 e0\n", &cold);
+    let warm = "record 0 is yes: record 2 is 29 seconds later, more than 9, and every record from 0 to 1 has e0\n";
+    place.says(always, "1 e0\n3 e0\n30 e0\n", &[(0, warm)]);
 }
 
 /// The text is the evaluator's for random rules and logs, and there are sentences for it.
