@@ -1,6 +1,6 @@
 -- Words of answers: taken apart, put together, and combined bit by bit. Assumes nothing.
 use Prim.Native.Nat.{ℕ, zero, suc, _+_, _*_, _-_, _/_, _%_, _≤_, _<_, _^_}
-use native.Mathlib.Nat.{add-mul-div-right, add-mul-mod-self-right, div-eq-of-lt, eq-or-lt-of-le, mul-comm, pow-suc, zero-add}
+use native.Mathlib.Nat.{add-mul-div-right, add-mul-mod-self-right, div-eq-of-lt, eq-or-lt-of-le, lt-of-lt-of-le, mul-comm, pow-suc, zero-add}
 use native.Mathlib.Numerals.{add-one}
 use native.Mathlib.Omega.{arith}
 use mathlib.Core.Bool.{Bool, true, false, _&&_, _||_}
@@ -11,7 +11,7 @@ use borrow.Author.Tests.{eq-eqb, ne-eqb, leb-true, leb-false}
 use lib.Bits.{bitAnd, bitOr, and-high, and-shr, and-mod, or-shr, or-mod}
 use lib.Arith.{digits-lt}
 use lib.Dec.{eqb, leb}
-use lib.Pow.{field, mod-mod-pow, pow-add, pow-pos, shl-exact, shr-shr}
+use lib.Pow.{field, mod-mod-pow, pow-add, pow-mono, pow-pos, shl-exact, shr-shr}
 use Rattle.bits.specs.Packed.{bit, number, with-bit, Packed}
 
 -- the power of two as the code computes it
@@ -153,6 +153,14 @@ pushed-all f p i m v w few small more so-far = record {
         (le-or-lt i j);
   };
 }
+
+-- a group of m answers behind the i that are there, as the code puts it
+module _ (f : ℕ → Bool) (p i m v w : ℕ) (few : i + m ≤ 64) (group : (v < 2 ^ m) × Packed f (p + i) m v) (so-far : Pushed f p i w) where
+  pub grown : Pushed f p (i + m) (w + v * 2 ^ i % 2 ^ 64)
+  grown = rw (shl-exact m i 64 (group .0) (omega arith)) (pushed-all f p i m v w few (group .0) (group .1) so-far)
+
+  pub grown-fits : w + v * 2 ^ i % 2 ^ 64 < 2 ^ 64
+  grown-fits = lt-of-lt-of-le (grown .small) (pow-mono few)
 
 -- the bit that a mask of one bit leaves
 pub mask-bit : (w s : ℕ) → bitAnd w (2 ^ s) ≡ number (bit w s) * 2 ^ s

@@ -3,6 +3,8 @@ ghost use mathlib.Core.Path.{_≡_};
 ghost use Prim.Native.Nat.{ℕ, _+_, _-_, _/_, _%_, _≤_, _<_, _^_};
 ghost use Rattle.bits.specs.Packed.{bit, number, with-bit, zeros, last-zero, FilledDown, FilledUp, Prolonged};
 
+pub mod bytes;
+
 // 1 for true.
 pub fn flag(x: bool) -> u64
     ensures { λ r. ⌜ r ≡ number x ⌝ }

@@ -14,11 +14,11 @@ use Rattle.mtl.proofs.Bounded.{and-iff}
 use Rattle.bits.specs.Packed.{Packed}
 use Rattle.bits.proofs.Laws.{packed-same}
 use Rattle.trace.specs.Format.{record-count, time-at}
-use Rattle.trace.specs.View.{slice-first, skips, in-slice, Shows, Views}
-use Rattle.trace.specs.Window.{window-of, some-service, letter-at, Lettered, Opened, Passed}
-use Rattle.trace.specs.declared.window.Letters.{Letters}
-use Rattle.trace.specs.declared.window.Window.{Window}
-use Rattle.trace.proofs.Reading.{shown-inside, shown-letter, head-behind, window-time, window-end}
+use Rattle.window.specs.View.{slice-first, skips, in-slice, Shows, Views}
+use Rattle.window.specs.Window.{window-of, some-service, letter-at, Lettered, Opened, Passed}
+use Rattle.window.specs.declared.Letters.{Letters}
+use Rattle.window.specs.declared.Window.{Window}
+use Rattle.window.proofs.Reading.{shown-inside, shown-letter, head-behind, window-time, window-end}
 use Rattle.blocks.specs.Step.{Agrees}
 
 -- whatever the words hold: the window can be read, and the head behind it is a number and lies no earlier

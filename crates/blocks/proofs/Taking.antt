@@ -11,7 +11,7 @@ use Rattle.mtl.specs.Satisfaction.{sat}
 use Rattle.mtl.specs.Progress.{settled-to}
 use Rattle.bits.specs.Packed.{Packed}
 use Rattle.bits.proofs.Laws.{packed-first}
-use Rattle.trace.specs.View.{total}
+use Rattle.window.specs.View.{total}
 use Rattle.blocks.specs.Block.{taken, left-count, left-bits, right-count, right-bits, kind-of, high-of, cells-of, Onward, InRange, Own, Heads, Buffer, LeftBuffer, RightBuffer, Buffers, Ready, took-right, took-both}
 use Rattle.blocks.specs.Step.{Agrees, Moved, has-left}
 use Rattle.blocks.proofs.Words.{Store, put, stores-onward, available, later, fits}

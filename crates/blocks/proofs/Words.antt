@@ -14,7 +14,7 @@ use Rattle.mtl.specs.Satisfaction.{sat}
 use Rattle.mtl.specs.Progress.{settled-to}
 use Rattle.mtl.proofs.Closing.{settled-le-size}
 use Rattle.bits.proofs.Laws.{packed-none, packed-rest}
-use Rattle.trace.specs.View.{total}
+use Rattle.window.specs.View.{total}
 use Rattle.blocks.specs.Block.{word, taken, left-count, right-count, answered, head, Onward, Buffer}
 use Rattle.blocks.specs.Step.{empty, left-to-do}
 

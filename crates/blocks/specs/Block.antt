@@ -13,6 +13,7 @@ use Rattle.mtl.specs.Satisfaction.{sat}
 use Rattle.mtl.specs.Progress.{settled-to}
 use Rattle.bits.specs.Packed.{Packed}
 use Rattle.rule.specs.Words.{ring-words}
+use Rattle.rule.specs.Postfix.{root}
 use Rattle.blocks.specs.Ring.{Ring, Witnesses}
 
 abbrev pub word : List ℕ → ℕ → ℕ
@@ -59,42 +60,18 @@ head b = word b 11
 abbrev pub waiting-head : List ℕ → ℕ
 waiting-head b = word b 16
 
--- the numbers of the paper's table of kinds, and the fields that an entry of the formula's last operator has
+-- the fields that an entry of the formula's last operator has: the number of the paper's table of kinds, and the others
 abbrev pub kind-of : Formula → ℕ
-kind-of (letter k) = 0
-kind-of (not φ) = 1
-kind-of (or φ ψ) = 2
-kind-of (previous low high φ) = 3
-kind-of (next low high φ) = 4
-kind-of (since low high φ ψ) = 5
-kind-of (until low high φ ψ) = 6
+kind-of φ = root φ .kind
 
 abbrev pub letter-of : Formula → ℕ
-letter-of (letter k) = k
-letter-of (not φ) = 0
-letter-of (or φ ψ) = 0
-letter-of (previous low high φ) = 0
-letter-of (next low high φ) = 0
-letter-of (since low high φ ψ) = 0
-letter-of (until low high φ ψ) = 0
+letter-of φ = root φ .letter
 
 abbrev pub low-of : Formula → ℕ
-low-of (letter k) = 0
-low-of (not φ) = 0
-low-of (or φ ψ) = 0
-low-of (previous low high φ) = low
-low-of (next low high φ) = low
-low-of (since low high φ ψ) = low
-low-of (until low high φ ψ) = low
+low-of φ = root φ .low
 
 abbrev pub high-of : Formula → ℕ
-high-of (letter k) = 0
-high-of (not φ) = 0
-high-of (or φ ψ) = 0
-high-of (previous low high φ) = high
-high-of (next low high φ) = high
-high-of (since low high φ ψ) = high
-high-of (until low high φ ψ) = high
+high-of φ = root φ .high
 
 -- the block of an entry of this kind that has taken nothing yet
 pub record FreshBlock (kind : ℕ) (b : List ℕ) : Type 0 where

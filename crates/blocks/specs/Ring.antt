@@ -44,9 +44,9 @@ pub record Witnesses (low high : ℕ) (time : ℕ → ℕ) (left right : ℕ →
       (i : ℕ) × (i < length times) × Serves low high (getD times i 0) (time j)
 
 -- the times that are left at a position of time `at`: those at most high before it
-unfoldable pub dropped : (high at : ℕ) → List ℕ → List ℕ
-dropped high at [] = []
-dropped high at (q ∷ qs) = cond (ltb high (at - q)) (dropped high at qs) (q ∷ qs)
+unfoldable pub unexpired : (high at : ℕ) → List ℕ → List ℕ
+unexpired high at [] = []
+unexpired high at (q ∷ qs) = cond (ltb high (at - q)) (unexpired high at qs) (q ∷ qs)
 
 -- none of them where left fails
 abbrev pub kept : (left : Bool) → List ℕ → List ℕ
@@ -62,7 +62,7 @@ pushed cells right at qs = cond (right && (ltb (length qs) cells && negate (newe
 
 -- one position's turn
 abbrev pub turned : (cells high : ℕ) (left right : Bool) (at : ℕ) → List ℕ → List ℕ
-turned cells high left right at qs = pushed cells right at (kept left (dropped high at qs))
+turned cells high left right at qs = pushed cells right at (kept left (unexpired high at qs))
 
 -- the oldest lies at least low back
 abbrev pub reaches : (low at : ℕ) → List ℕ → Bool

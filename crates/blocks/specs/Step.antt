@@ -7,8 +7,9 @@ use Rattle.mtl.specs.Formula.{Formula}
 use Rattle.mtl.specs.Formula.Formula.{letter, not, or, previous, next, since, until}
 use Rattle.mtl.specs.Log.{Log, NeverFalls}
 use Rattle.mtl.specs.Progress.{settled-to}
-use Rattle.trace.specs.View.{slice-first, total, skips, closed, Shows}
-use Rattle.blocks.specs.Block.{taken, left-count, right-count, Onward, Buffer, Ready}
+use Rattle.window.specs.View.{slice-first, total, skips, closed, Shows}
+use Rattle.blocks.specs.Block.{taken, left-count, right-count, kind-of, Onward, Buffer, Ready}
+use Rattle.blocks.specs.Kinds.{takes-left, takes-right}
 use Rattle.blocks.specs.declared.Step.{Step}
 use Rattle.blocks.specs.declared.Step.the-variants.{Batch, Left, Right, Again, Open}
 
@@ -20,22 +21,10 @@ pub record Agrees (v s : List ℕ) (L : Log) (g : ℕ) : Type 0 where
 
 -- an operator's operands; a letter has none, and what stands here for a missing one is used by nothing
 abbrev pub has-left : Formula → Bool
-has-left (letter k) = false
-has-left (not φ) = false
-has-left (or φ ψ) = true
-has-left (previous low high φ) = false
-has-left (next low high φ) = false
-has-left (since low high φ ψ) = true
-has-left (until low high φ ψ) = true
+has-left φ = takes-left (kind-of φ)
 
 abbrev pub has-right : Formula → Bool
-has-right (letter k) = false
-has-right (not φ) = true
-has-right (or φ ψ) = true
-has-right (previous low high φ) = true
-has-right (next low high φ) = true
-has-right (since low high φ ψ) = true
-has-right (until low high φ ψ) = true
+has-right φ = takes-right (kind-of φ)
 
 abbrev pub left-of : Formula → Formula
 left-of (letter k) = letter k

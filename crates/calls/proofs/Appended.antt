@@ -19,7 +19,7 @@ use Rattle.trace.specs.Log.{log-of}
 use Rattle.trace.specs.Making.{record-bytes, records-bytes}
 use Rattle.trace.proofs.Laws.{Keeps}
 use Rattle.trace.proofs.Counting.{count-position, one-record, spot-holds}
-use Rattle.trace.proofs.Slices.{Part, time-part, letter-part}
+use Rattle.trace.proofs.Parts.{Part, time-part, letter-part}
 use Rattle.trace.proofs.Growing.{before-stays, grown-continues}
 use Rattle.trace.proofs.Making.{time-back, events-back}
 use Rattle.sooner.specs.Sooner.{Adds}

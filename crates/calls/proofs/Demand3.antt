@@ -20,21 +20,22 @@ use Rattle.rule.specs.Postfix.{most-formulas}
 use Rattle.rule.specs.Refusal.{first, or-else as numbered-before, refusal}
 use Rattle.rule.specs.Measure.{measured}
 use Rattle.rule.proofs.Headers.{before-none}
-use Rattle.trace.specs.Format.{record-count, time-at, skips-of, dropped, records-of, total-records}
+use Rattle.trace.specs.Format.{record-count, time-at, skips-of, dropped, records-of, total-records, records-from}
 use Rattle.trace.specs.Positions.{place, before}
 use Rattle.trace.specs.Log.{log-of}
 use Rattle.trace.specs.Order.{disordered, last-time}
-use Rattle.trace.specs.View.{records-from, view-of, Shows}
+use Rattle.window.specs.View.{view-of, Shows}
 use Rattle.trace.specs.Making.{trimmed}
 use Rattle.trace.proofs.Laws.{well-formed-iff, Keeps, ordered-iff, same-time, count-prefix}
 use Rattle.trace.proofs.Positions.{before-few, log-placed, positions-keep, wanted-place, wanted-counts}
-use Rattle.trace.proofs.Slices.{Part, Cut, prefix-part, time-part, keeps-part, before-cut, slice-shows, closing-shows, flag-told}
+use Rattle.trace.proofs.Parts.{Part, Cut, prefix-part, time-part, keeps-part, before-cut}
+use Rattle.window.proofs.Slices.{slice-shows, closing-shows, flag-told}
 use Rattle.trace.proofs.Growing.{before-stays, grown-continues}
 use Rattle.trace.proofs.Trimming.{trimmed-again, cut-behind}
 use Rattle.blocks.specs.Step.{Agrees}
 use Rattle.checkpoint.specs.Checkpoint.{seen, last, closed-with, log-kind, kind-of-log, first-wanted, stored-noes, need, foreign, words-outside}
-use Rattle.checkpoint.specs.Refusal.{open-refusal, resumes-closed, closes-more, other-version, version-refusal, records-refusal, words-refusal, resume-refusal, trim-refusal, summary-refusal}
-use Rattle.checkpoint.proofs.Sizes.{enough-words}
+use Rattle.checks.specs.Refusal.{open-refusal, resumes-closed, closes-more, other-version, version-refusal, records-refusal, words-refusal, resume-refusal, trim-refusal, summary-refusal}
+use Rattle.checks.proofs.Sizes.{enough-words}
 use Rattle.emit.specs.Verdicts.{formulas-of, columns, verdicts, first-records, wanted-after, answered-number, all-verdicts}
 use Rattle.monitor.specs.Stands.{Stands}
 use Rattle.monitor.specs.Open.{done, Opening, Opens}
@@ -562,7 +563,7 @@ module _ (rule log : List ℕ) (untouched : Untouched log) where
           within = brought .brings .within;
           reached = reached-alone (before .fine) closed n (d + c) p′ reached;
           bytes = bytes;
-          at-first = λ e. accepted-at;
+          at-first = λ e. rw e accepted-at;
           all = (
             λ e.
                 let lengths = ap length (sym bytes ∙ e) in

@@ -69,16 +69,18 @@ module _ (rule : List ℕ) (fine : refusal rule ≡ 0) (K : Log) (n d : ℕ) whe
         enough = enough;
         own = foreign-within (version rule) (decoded rule) (count rule) q p same ∙ stands .own;
         size = header 2 (omega arith) ∙ stands .size;
-        few = stands .few;
         placed = stands .placed;
-        fits = omega (arith, header 3 (omega arith), stands .fits);
         closed = header 5 (omega arith) ∙ stands .closed;
-        kind = rw (header 5 (omega arith), header 6 (omega arith)) (stands .kind);
         wanted = header 7 (omega arith) ∙ stands .wanted;
         top = subst (Top (header-words (version rule)) (formulas-of rule) K d) e (stands .top);
         noes = λ k l. ap₂ (λ c a. record { count = c; latest = latest-of a }) (counted k (omega (arith, few-columns rule fine))) (latest k (omega (arith, few-columns rule fine))) ∙ stands .noes k l;
-        unused = λ k lo hi. let (count, after) = stands .unused k lo hi in (counted k hi ∙ count, latest k hi ∙ after);
-        spare = λ j h. ⊎-map (λ last. last) (λ none. in-block j h ∙ none) (stands .spare j h);
+        in-range = record {
+          few = stands .in-range .few;
+          fits = omega (arith, header 3 (omega arith), stands .in-range .fits);
+          kind = rw (header 5 (omega arith), header 6 (omega arith)) (stands .in-range .kind);
+          unused = λ k lo hi. let (count, after) = stands .in-range .unused k lo hi in (counted k hi ∙ count, latest k hi ∙ after);
+          spare = λ j h. ⊎-map (λ last. last) (λ none. in-block j h ∙ none) (stands .in-range .spare j h);
+        };
       }
     where
       same : (i : ℕ) → i < need rule → word q i ≡ word p i

@@ -14,7 +14,6 @@ use Rattle.mtl.specs.Log.{Log, closing, NeverFalls}
 use Rattle.mtl.specs.Wanted.{wanted, wanted-record}
 use Rattle.mtl.proofs.Bounded.{le-or-lt}
 use Rattle.trace.specs.Log.{log-of}
-use Rattle.trace.specs.Window.{SameRecord}
 use Rattle.trace.proofs.Laws.{WellFormed, well-formed-iff, trimmed-long, long-enough, well-formed-records, Keeps}
 use Rattle.emit.specs.Verdicts.{formulas-of}
 use Rattle.emit.specs.Verdicts.{first-records, wanted-after}
@@ -22,7 +21,7 @@ use Rattle.calls.specs.Calls.{Call, given-by, brought-by}
 use Rattle.calls.specs.Calls.{Untouched, Brings, BringsAfter, OneCall, Calls}
 use Rattle.calls.specs.Calls.OneCall.{refused, accepted, trimming}
 use Rattle.calls.specs.Calls.Calls.{opened, and-then}
-use Rattle.trace.specs.Format.{record-count, time-at, word-at, version-of, skips-of, is-trimmed, dropped, records-of, total-records, wrong-header, malformed}
+use Rattle.trace.specs.Format.{record-count, time-at, word-at, version-of, skips-of, is-trimmed, dropped, records-of, total-records, wrong-header, malformed, SameRecord}
 
 -- a count that is there only in a version 3 log
 both-long : (b : Bool) (m n : ℕ) → m ≤ n → ltb m (cond b 16 8) ≡ false → b && leb 16 n ≡ b && leb 16 m
@@ -99,8 +98,7 @@ module _ (log more : List ℕ) (fine : malformed log ≡ false) where
           same-byte 0 (omega arith),
           same-byte 1 (omega arith),
           same-byte 2 (omega arith),
-          same-byte 3 (omega arith),
-          same-byte 4 (omega arith),
+          same-version,
           same-byte 5 (omega arith),
           same-byte 6 (omega arith),
           same-byte 7 (omega arith),

@@ -19,7 +19,7 @@ use Rattle.mtl.specs.Wanted.{wanted, wanted-record}
 use Rattle.mtl.proofs.Bounded.{true-and-false, false-iff, or-iff, le-or-lt}
 use Rattle.mtl.proofs.Closing.{settled-open}
 use Rattle.mtl.proofs.Joint.{joint-one, joint-grows, joint-le-size}
-use Rattle.sooner.specs.Sooner.{OneTimed, timed-low, timed-high, timed-letter, letter-in, Interval, last-of, settling-time, Adds, Told, BothWays}
+use Rattle.sooner.specs.Sooner.{OneTimed, timed-low, timed-high, timed-letter, letter-in, latest, Interval, last-of, settling-time, Adds, Told, BothWays}
 use Rattle.sooner.specs.Sooner.OneTimed.{one-next, one-until}
 use Rattle.sooner.proofs.Theorem.{both-ways}
 use Rattle.bits.specs.Packed.{number}
@@ -42,7 +42,7 @@ use Rattle.trace.specs.Making.{record-bytes}
 use Rattle.trace.proofs.Laws.{Keeps, never-falls, falls-never, count-prefix}
 use Rattle.trace.proofs.Counting.{count-few, count-position, count-grows, one-record, spot-holds}
 use Rattle.trace.proofs.Positions.{log-placed, positions-keep}
-use Rattle.trace.proofs.Slices.{prefix-part}
+use Rattle.trace.proofs.Parts.{prefix-part}
 use Rattle.trace.proofs.Growing.{before-stays, place-stays, grown-continues, prefix-continues}
 use Rattle.emit.specs.Verdicts.{formulas-of, verdict, verdicts}
 use Rattle.emit.specs.Verdicts.{first-records, answered-number, all-verdicts}
@@ -402,34 +402,29 @@ module _ {φ : Formula} (one : OneTimed φ) (rule log : List ℕ) (asked : Condi
 
 -- THE ROWS: P7's first log and P5's meet the conditions
 
-in-order : (log : List ℕ) → malformed log ≡ false → dropped log ≡ 0 → falls (records-of log) ≡ false → Untouched log
-in-order log well none order = record { well-formed = well; undropped = none; never-falls = positions-keep false (records-of log) (never-falls (records-of log) order) }
+-- what is computed of a rule and a log
+asked : {φ : Formula} (one : OneTimed φ) (rule log : List ℕ) → refusal rule ≡ 0 → formulas-of rule ≡ φ ∷ [] →
+    malformed log ≡ false → dropped log ≡ 0 → falls (records-of log) ≡ false → total-records log < 1000000 →
+    skips-of log && is-service (records-of log) (records log - 1) ≡ false → time-at (records-of log) (records log - 1) ≤ latest →
+    skips-of log && letter-in φ 31 ≡ false → Conditions one rule log
+asked one rule log taken is well undropped order few position time without-31 =
+    record {
+      accepted = taken;
+      rule-is = is;
+      untouched = record { well-formed = well; undropped = undropped; never-falls = positions-keep false (records-of log) (never-falls (records-of log) order) };
+      few = few;
+      last-position = position;
+      last-time = time;
+      no-letter-31 = without-31;
+    }
 
 asked-7 : Conditions until-1 (rule-of (until 0 2 (letter 0) (letter 1))) log-7
 unfolding event-set letter-in postfix body encoded first-entries offset push-kind read header-refusal entries-refusal any
-asked-7 =
-    record {
-      accepted = refl;
-      rule-is = refl;
-      untouched = in-order log-7 refl refl refl;
-      few = omega arith;
-      last-position = refl;
-      last-time = omega arith;
-      no-letter-31 = refl;
-    }
+asked-7 = asked until-1 (rule-of (until 0 2 (letter 0) (letter 1))) log-7 refl refl refl refl refl (omega arith) refl (omega arith) refl
 
 asked-5 : Conditions next-5 (rule-of (next 1 1 (letter 0))) log-5
 unfolding event-set letter-in postfix body encoded first-entries offset push-kind read header-refusal entries-refusal any
-asked-5 =
-    record {
-      accepted = refl;
-      rule-is = refl;
-      untouched = in-order log-5 refl refl refl;
-      few = omega arith;
-      last-position = refl;
-      last-time = omega arith;
-      no-letter-31 = refl;
-    }
+asked-5 = asked next-5 (rule-of (next 1 1 (letter 0))) log-5 refl refl refl refl refl (omega arith) refl (omega arith) refl
 
 pub told-7 : ToldSooner until-1 (rule-of (until 0 2 (letter 0) (letter 1))) log-7
 told-7 = told-sooner until-1 (rule-of (until 0 2 (letter 0) (letter 1))) log-7 asked-7

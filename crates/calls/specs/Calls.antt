@@ -11,8 +11,7 @@ use lib.Dec.{ltb}
 use Rattle.mtl.specs.Formula.{Formula}
 use Rattle.mtl.specs.Log.{Log, Stream, NeverFalls, StreamNeverFalls, Continues, Begins}
 use Rattle.mtl.specs.Reading.{HoldsIn, HoldsOn}
-use Rattle.trace.specs.Format.{record-count, skips-of, dropped, records-of, total-records, malformed}
-use Rattle.trace.specs.Window.{SameRecord}
+use Rattle.trace.specs.Format.{record-count, skips-of, dropped, records-of, total-records, malformed, SameRecord}
 use Rattle.trace.specs.Log.{log-of}
 use Rattle.verdicts.specs.Counts.{noes-in}
 use Rattle.rule.specs.Entries.{version, count, decoded}
@@ -26,7 +25,7 @@ use Rattle.monitor.specs.Trim.{Trims}
 use Rattle.monitor.specs.Trim.{Answer as TrimAnswer}
 use Rattle.monitor.specs.Summary.{counted, TellsNoes, Summarizes}
 use Rattle.monitor.specs.Summary.{Answer as SummaryAnswer}
-use Rattle.monitor.specs.Status.{Facts, known}
+use Rattle.monitor.specs.Status.{StatusFacts, known}
 use Rattle.monitor.specs.Status.{told as known-told, answer as standing-of}
 use Rattle.monitor.specs.declared.Standing.{Standing}
 
@@ -67,10 +66,10 @@ unfoldable pub closed-by : List Call → Bool
 closed-by [] = false
 closed-by (c ∷ older) = c .closing
 
--- the records that the first accepted closing brought, where there is one
+-- the records that the first accepted closing brought; 0 where there is none
 unfoldable pub closed-at : List Call → ℕ
 closed-at [] = 0
-closed-at (c ∷ older) = cond (closed-by older) (closed-at older) (c .records)
+closed-at (c ∷ older) = cond (closed-by older) (closed-at older) (cond (c .closing) (c .records) 0)
 
 -- the accepted calls before the first closing
 unfoldable pub before-closing : List Call → List Call
@@ -185,7 +184,7 @@ pub record Demand2 (rule log : List ℕ) (h : List Call) : Type 0 where
       ByteSays (λ φ. HoldsIn (first-records (closed-by h) log (brought-by h)) φ i) (formulas-of rule) (getD (laid h) i 0)
 
 -- what `status` tells after the accepted calls h
-abbrev pub facts-after : (rule log : List ℕ) → List Call → Facts
+abbrev pub facts-after : (rule log : List ℕ) → List Call → StatusFacts
 facts-after rule log h =
     record { given = given-by h; seen = brought-by h; wanted = wanted-after rule log (given-by h) (brought-by h); closed = closed-by h }
 

@@ -1,5 +1,5 @@
 -- Paper 14 worked by hand: P7's first log and P5's open position, each with the two records that settle it and the verdicts then; and logs of
--- which one condition of the paper is not met. Proved by computation.
+-- which one condition of the paper is not met; and words lent to a call. Proved by computation.
 use Prim.Native.Nat.{ℕ, zero, suc, _+_, _-_, _*_, _≤_, _<_, _^_}
 use mathlib.Core.Bool.{Bool, true, false, cond, _&&_, _||_}
 use mathlib.Core.Bool.{not as negate}
@@ -26,6 +26,7 @@ use Rattle.verdicts.specs.Bytes.{byte-of}
 use Rattle.emit.specs.Verdicts.{formulas-of, verdicts}
 use Rattle.emit.specs.Verdicts.{first-records, answered-number, all-verdicts}
 use Rattle.monitor.specs.Examples.{event-set, same}
+use Rattle.calls.specs.Calls.{Lends, point-after}
 use Rattle.calls.specs.Sooner.{records, settling-record}
 
 -- a record, and a log of any version
@@ -182,3 +183,12 @@ pub every-fault :
     (fails {φ = next 0 3 (letter 31)} one-next (log-of-version 2 (at 5 [])) (true ∷ true ∷ true ∷ true ∷ true ∷ false ∷ []) false true ≡ true)
 unfolding fails agree event-set same letter-in postfix body encoded passing spot positions first-entries offset push-kind read header-refusal entries-refusal any all sat run progress settled-to joint-progress byte-of verdicts
 every-fault = (refl, refl, refl)
+
+-- LENT WORDS
+
+-- a point of three words, lent with two behind it, which are not the point's: of what the call leaves the first three are the point; and
+-- lent without its third, which is what it was
+pub every-lending :
+    Lends (1 ∷ 2 ∷ 3 ∷ []) (1 ∷ 2 ∷ 3 ∷ 8 ∷ 9 ∷ []) × (point-after (1 ∷ 2 ∷ 3 ∷ []) (4 ∷ 5 ∷ 6 ∷ 8 ∷ 9 ∷ []) ≡ 4 ∷ 5 ∷ 6 ∷ []) ×
+    Lends (1 ∷ 2 ∷ 3 ∷ []) (1 ∷ 2 ∷ []) × (point-after (1 ∷ 2 ∷ 3 ∷ []) (4 ∷ 5 ∷ []) ≡ 4 ∷ 5 ∷ 3 ∷ [])
+every-lending = (refl, refl, refl, refl)

@@ -17,7 +17,7 @@ use Rattle.rule.specs.Words.{own, header-words, words}
 use Rattle.rule.proofs.Spans.{header-least, own-least, offset-mono}
 use Rattle.blocks.specs.Block.{word}
 use Rattle.checkpoint.specs.Checkpoint.{format, copy-start, block-at, copy-head, copy-ends, copy-differs, foreign}
-use Rattle.checkpoint.specs.Code.{Fresh, copies}
+use Rattle.checkpoint.specs.Fresh.{Fresh, copies}
 use Rattle.checkpoint.proofs.Offsets.{until-words, block-within, block-fits}
 
 -- an entry's copy, written into the block that begins at `at`

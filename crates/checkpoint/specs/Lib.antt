@@ -1,6 +1,3 @@
--- The words of a checkpoint and where a call stops. Read Checkpoint, then Refusal. Examples has rows worked by hand, Code the promises of
--- inner functions.
+-- The words of a checkpoint: what each means and its range. Read Checkpoint, then Fresh.
 pub mod Checkpoint
-pub mod Refusal
-pub mod Examples
-pub mod Code
+pub mod Fresh

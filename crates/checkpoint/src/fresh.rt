@@ -4,9 +4,9 @@ ghost use Prim.Native.Nat.{_+_, _≤_, _<_};
 ghost use lib.ListN.{length, replicate};
 ghost use Rattle.rule.specs.Words.{offset};
 ghost use Rattle.rule.specs.Words.{words as needed};
-ghost use Rattle.checkpoint.specs.Code.{Fresh, copies};
-use super::check;
+ghost use Rattle.checkpoint.specs.Fresh.{Fresh, copies};
 use super::header;
+use super::words;
 use blocks::word;
 use rule::Entry;
 
@@ -30,8 +30,8 @@ fn write_copies(base: usize, entries: [Entry; 128], count: usize, words: &mut [u
     let mut k: usize = 0;
     while k < count {
         let e = entries[k];
-        words[at + word::COPY_HEAD] = check::head_of(e);
-        words[at + word::COPY_ENDS] = check::ends_of(e);
+        words[at + word::COPY_HEAD] = words::head_of(e);
+        words[at + word::COPY_ENDS] = words::ends_of(e);
         at += rule::own_words(e) as usize;
         k += 1;
     }
@@ -42,10 +42,10 @@ pub fn write(version: usize, entries: [Entry; 128], count: usize, words: &mut [u
     requires { ⌜ (version ≤ 2) × (count ≤ 128) × (length (now words) ≡ needed version entries count) ⌝ }
     ensures { λ _. ⌜ Fresh version entries count (now (words .exit)) ⌝ }
 {
-    let start = check::copy_start(version, count);
+    let start = words::copy_start(version, count);
     let base = rule::header_words(version);
     clear(words);
-    words[header::FORMAT] = check::FORMAT;
+    words[header::FORMAT] = words::FORMAT;
     words[header::COPY_START] = start;
     write_copies(base, entries, count, words);
 }

@@ -1,12 +1,6 @@
-// The words of a checkpoint: their names, a fresh one, and the checks of a call on them.
-mod check;
+// The words of a checkpoint: their names, a fresh one, and what they must be.
 pub mod fresh;
 pub mod header;
+pub mod words;
 
-pub use check::Checked;
-pub use check::Sized;
-pub use check::check_own;
-pub use check::check_point;
-pub use check::check_trimming;
-pub use check::log_kind;
-pub use check::size_of;
+pub use words::log_kind;

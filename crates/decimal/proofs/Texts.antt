@@ -1,10 +1,10 @@
 -- Bytes written into a lent text one after the other. Assumes nothing.
 use Prim.Native.Nat.{ℕ, _+_, _≤_}
-use mathlib.Core.Path.{_≡_, refl, sym, _∙_, ap, ap₂}
+use mathlib.Core.Path.{_≡_, sym, _∙_, ap, ap₂}
 use mathlib.Core.List.{List, [], _++_, append-assoc, append-nil}
 use native.Mathlib.Omega.{arith}
 use lib.ListN.{length, take, drop, length-append, take-append-drop}
-use lib.Seq.{paste, take-all, length-take-le, take-at, drop-at, drop-drop}
+use lib.Seq.{length-take-le, take-at, drop-at, drop-drop}
 use Rattle.decimal.specs.Text.{Writes}
 
 -- nothing written
@@ -13,16 +13,6 @@ writes-none t from =
     record {
       ends = omega arith;
       content = sym (ap (λ s. s ++ drop from t) (append-nil (take from t)) ∙ take-append-drop from t);
-    }
-
--- all the bytes of a list, by a loop of stores
-pub writes-all : (t : List ℕ) (from : ℕ) (bytes : List ℕ) (n : ℕ) (t′ : List ℕ) → n ≡ length bytes → t′ ≡ paste t from bytes n →
-    Writes t from bytes (from + length bytes) t′
-writes-all t from bytes n t′ all e =
-    record {
-      ends = refl;
-      content = e ∙ ap (λ k. take from t ++ take k bytes ++ drop (from + k) t) all ∙
-          ap (λ s. take from t ++ s ++ drop (from + length bytes) t) (take-all (length bytes) bytes (omega arith));
     }
 
 module _ {t : List ℕ} {from : ℕ} {bytes : List ℕ} {to : ℕ} {t′ : List ℕ} (w : Writes t from bytes to t′) (room : to ≤ length t) where

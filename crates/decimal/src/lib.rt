@@ -8,11 +8,7 @@ pub fn put(bytes: &[u8], text: &mut [u8], at: usize) -> usize
     requires { ⌜ at + length (now bytes) ≤ length (now text) ⌝ }
     ensures { λ r. ⌜ Writes (now (text .entry)) at (now (bytes .entry)) r (now (text .exit)) ⌝ }
 {
-    let mut i: usize = 0;
-    while i < bytes.len() {
-        text[at + i] = bytes[i];
-        i += 1;
-    }
+    bits::bytes::copy(bytes, text, at);
     at + bytes.len()
 }
 

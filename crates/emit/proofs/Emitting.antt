@@ -16,13 +16,13 @@ use Rattle.rule.specs.declared.Entry.{Entry}
 use Rattle.trace.specs.Format.{record-count}
 use Rattle.trace.specs.Order.{last-time}
 use Rattle.trace.specs.Positions.{place, before}
-use Rattle.trace.specs.View.{total, view-of, ViewOf}
-use Rattle.trace.specs.View.{skips as view-skips}
-use Rattle.trace.specs.Window.{Found}
+use Rattle.window.specs.View.{total, view-of, ViewOf}
+use Rattle.window.specs.View.{skips as view-skips}
+use Rattle.window.specs.Window.{Found}
 use Rattle.trace.proofs.Laws.{last-time-bound}
-use Rattle.trace.proofs.Reading.{wanted-shown}
-use Rattle.trace.proofs.Slices.{served-before, served-shows, flag-told}
-use Rattle.trace.proofs.Marks.{first-told, total-told, skips-told, closed-told}
+use Rattle.window.proofs.Reading.{wanted-shown}
+use Rattle.window.proofs.Slices.{served-before, served-shows, flag-told}
+use Rattle.window.proofs.Marks.{first-told, total-told, skips-told, closed-told}
 use Rattle.blocks.specs.Block.{word}
 use Rattle.blocks.specs.Step.{Agrees}
 use Rattle.blocks.proofs.Words.{Store, put, after, word-stores}
@@ -30,14 +30,14 @@ use Rattle.engine.specs.Tops.{Tops, Ended}
 use Rattle.engine.proofs.Formulas.{rule-size}
 use Rattle.checkpoint.specs.Checkpoint.{given, seen, last, first-wanted, kind-of-log, stored-noes}
 use Rattle.emit.specs.Top.{part-of, Top}
-use Rattle.emit.specs.Code.{Fits, Gave, Viewed, noted, Notes, ReadyToEmit, Emits}
+use Rattle.emit.specs.Code.{plan, Fits, Gave, Viewed, noted, Notes, ReadyToEmit, Emits}
 use Rattle.emit.specs.declared.Emitted.{Emitted}
 use Rattle.emit.proofs.Places.{part-same}
 
 -- the formulas of the rule have all words behind the header
 pub fits-of : (t : List Entry) (n : ℕ) (ends : List ℕ) (number most base deep : ℕ) (s ws table tops : List ℕ) →
-    ReadyToEmit t n ends number most base deep s ws → (fs : List Formula) → Ended t n ends number fs → Tops table tops base number fs →
-    Fits table tops base number fs (length ws)
+    ReadyToEmit (record { entries = t; count = n; ends = ends; number = number; most = most; base = base; deep = deep }) s ws → (fs : List Formula) → Ended t n ends number fs → Tops table tops base number fs →
+    Fits (plan table tops number) base fs (length ws)
 fits-of t n ends number most base deep s ws table tops ready fs ended laid =
     record {
       laid = laid;
@@ -110,7 +110,7 @@ module _ (skips closed : Bool) (s : List ℕ) (n : ℕ) (ws : List ℕ) (room : 
 -- THE CALL
 
 pub emitted : {table tops : List ℕ} {base number most : ℕ} {fs : List Formula} (skips closed : Bool) (s ws sheet v : List ℕ) (out : Emitted) (ws₁ sheet₁ ws₂ : List ℕ) →
-    Fits table tops base number fs (length ws) → ((i : ℕ) → getD s i 0 < 256) → Viewed skips closed (deepest fs) s ws v →
+    Fits (plan table tops number) base fs (length ws) → ((i : ℕ) → getD s i 0 < 256) → Viewed skips closed (deepest fs) s ws v →
     Gave base most fs v s ws sheet out ws₁ sheet₁ → Notes skips (deepest fs) v s ws₁ ws₂ → Emits base most fs s skips closed ws sheet out ws₂ sheet₁
 emitted {base = base} {most = most} {fs = fs} skips closed s ws sheet v out ws₁ sheet₁ ws₂ fits byte made gave (n, found, is) =
     let header = fits .header in

@@ -29,7 +29,7 @@ use Rattle.engine.proofs.Uniform.{agrees-later}
 use Rattle.checkpoint.specs.Checkpoint.{given, stored-noes}
 use Rattle.emit.specs.Verdicts.{columns}
 use Rattle.emit.specs.Top.{top-count, part-of, Top}
-use Rattle.emit.specs.Code.{Fits, Held, Answered, taken-verdicts, CanTake, Giving, Frame, Gave}
+use Rattle.emit.specs.Code.{plan, Fits, Held, Answered, taken-verdicts, CanTake, Giving, Frame, Gave}
 use Rattle.emit.proofs.Meaning.{joint-least, all-bits, verdict-answers}
 use Rattle.emit.proofs.Places.{count-at, bits-at}
 use Rattle.emit.proofs.TakingOut.{its-row, length-all, now-given, now-header, now-spare, now-noes, now-onward, top-taken-out}
@@ -132,9 +132,9 @@ counted-so-far {done = done} {sheet′ = sheet′} going k h =
     omega (arith, ap (λ (x : Noes). x .count) (going .noes k h), count-le k sheet′ false done)
 
 module _ {table tops : List ℕ} {base number most : ℕ} {fs : List Formula} {v s ws sheet : List ℕ} {done : ℕ} {ws₁ sheet₁ : List ℕ} {r : ℕ} {ws₂ : List ℕ}
-    (fits : Fits table tops base number fs (length ws)) (counts : 8 + most + most ≤ base) (few : number ≤ most) (some : 1 ≤ most)
+    (fits : Fits (plan table tops number) base fs (length ws)) (counts : 8 + most + most ≤ base) (few : number ≤ most) (some : 1 ≤ most)
     (going : Going base most fs v s ws sheet done ws₁ sheet₁) (held : Held base fs v s ws₁ r ws₂) where
-  fits-now : Fits table tops base number fs (length ws₂)
+  fits-now : Fits (plan table tops number) base fs (length ws₂)
   fits-now = rw (held .words-length, going .words-length) fits
 
   most-columns : (k : ℕ) → k < columns fs → k < most

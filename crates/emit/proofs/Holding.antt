@@ -14,7 +14,7 @@ use Rattle.mtl.specs.Wanted.{wanted}
 use Rattle.mtl.proofs.Bounded.{le-or-lt}
 use Rattle.mtl.proofs.Joint.{joint-le-size}
 use Rattle.rule.specs.Postfix.{formula}
-use Rattle.trace.specs.View.{total}
+use Rattle.window.specs.View.{total}
 use Rattle.blocks.specs.Block.{word}
 use Rattle.blocks.specs.Step.{Agrees, Batched}
 use Rattle.blocks.proofs.Words.{empty-buffer}
@@ -28,7 +28,7 @@ use Rattle.engine.proofs.Beside.{before-grows}
 use Rattle.engine.proofs.Uniform.{agrees-later}
 use Rattle.checkpoint.specs.Checkpoint.{given}
 use Rattle.emit.specs.Top.{top-count, top-bits, part-of, Top}
-use Rattle.emit.specs.Code.{Fits, HeldOne, Held}
+use Rattle.emit.specs.Code.{plan, Fits, HeldOne, Held}
 use Rattle.emit.proofs.Kept.{kept-own}
 use Rattle.emit.proofs.Meaning.{joint-le, joint-least, reads-wanted}
 use Rattle.emit.proofs.Places.{Place, part-word, part-same, lent-part, place-in, held-inside, count-at, bits-at}
@@ -42,7 +42,7 @@ same-or-not j k =
 
 -- nothing to do where it holds something
 pub already : {table tops : List ℕ} {base number : ℕ} {fs : List Formula} (v s : List ℕ) (k : ℕ) (ws : List ℕ) (r : ℕ) →
-    Fits table tops base number fs (length ws) → k < length fs → r ≡ word ws (top-column 3 tops k) → 0 < r → HeldOne base fs v s k ws r ws
+    Fits (plan table tops number) base fs (length ws) → k < length fs → r ≡ word ws (top-column 3 tops k) → 0 < r → HeldOne base fs v s k ws r ws
 already {base = base} {fs = fs} v s k ws r fits h is some =
     record {
       words-length = refl;
@@ -74,7 +74,7 @@ module _ (from to : ℕ) (ys ws : List ℕ) (ordered : from ≤ to) (inside : to
 
 -- formula k of formulas that fit, with its own words replaced by ys
 module _ {table tops : List ℕ} {base number : ℕ} {fs : List Formula} (v s : List ℕ) (k : ℕ) (ws : List ℕ)
-    (fits : Fits table tops base number fs (length ws)) (h : k < length fs) (empty : word ws (top-column 3 tops k) ≡ 0) where
+    (fits : Fits (plan table tops number) base fs (length ws)) (h : k < length fs) (empty : word ws (top-column 3 tops k) ≡ 0) where
   abbrev φ : Formula
   φ = formula fs k
 
@@ -122,7 +122,7 @@ module _ {table tops : List ℕ} {base number : ℕ} {fs : List Formula} (v s : 
     asked-open r is goes means =
         let none : top-count φ ys ≡ 0 = kept-own φ (part-of base fs k ws) ys goes 12 (omega arith) (omega arith) ∙ count-at fits k h ws ∙ empty in
         let long = length-back from to ys ws ordered inside kept in
-        let same-fits : Fits table tops base number fs (length asked) = rw long fits in
+        let same-fits : Fits (plan table tops number) base fs (length asked) = rw long fits in
         record {
           words-length = long;
           count = is ∙ sym (count-at same-fits k h asked);
@@ -144,7 +144,7 @@ module _ {table tops : List ℕ} {base number : ℕ} {fs : List Formula} (v s : 
       length-filled : length filled ≡ length ws
       length-filled = simp length-set (length-back from to ys ws ordered inside kept)
 
-      filled-fits : Fits table tops base number fs (length filled)
+      filled-fits : Fits (plan table tops number) base fs (length filled)
       filled-fits = rw length-filled fits
 
       within : slot + 1 < length asked
@@ -222,7 +222,7 @@ module _ {table tops : List ℕ} {base number : ℕ} {fs : List Formula} (v s : 
       (λ L d never agrees state. means φ L d has never (agrees-later agrees (reads-wanted fs k d h)) (rw (lent-part fits k h ws) state)))
 
 pub asked-holds : {table tops : List ℕ} {base number : ℕ} {fs : List Formula} (v s : List ℕ) (k : ℕ) (ws : List ℕ) (b : Bool) (r : ℕ) (ws′ : List ℕ) →
-    Fits table tops base number fs (length ws) → k < length fs → word ws (top-column 3 tops k) ≡ 0 → r ≡ word ws′ (top-column 3 tops k) →
+    Fits (plan table tops number) base fs (length ws) → k < length fs → word ws (top-column 3 tops k) ≡ 0 → r ≡ word ws′ (top-column 3 tops k) →
     Asks table v s (top-column 0 tops k) (top-column 1 tops k) (top-column 2 tops k) (top-column 3 tops k) ws b ws′ → HeldOne base fs v s k ws r ws′
 asked-holds v s k ws b r ws′ fits h empty is asks = asked-by v s k ws fits h empty b r ws′ is asks
 

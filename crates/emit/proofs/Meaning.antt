@@ -7,7 +7,7 @@ use native.Mathlib.Nat.{div-eq-of-lt}
 use native.Mathlib.Omega.{arith}
 use lib.Pow.{pow-pos}
 use lib.ListN.{length, getD, take, length-map}
-use Rattle.mtl.specs.Formula.{Formula}
+use Rattle.mtl.specs.Formula.{Formula, largest}
 use Rattle.mtl.specs.Log.{Log, NeverFalls, Continues}
 use Rattle.mtl.specs.Satisfaction.{sat}
 use Rattle.mtl.specs.Progress.{settled-to, joint-progress}
@@ -37,7 +37,7 @@ joint-least (φ ∷ fs) L d h each =
     omega (arith, each 0 (omega arith), joint-least fs L d h (λ k l. each (suc k) (omega arith)))
 
 deepest-le : (fs : List Formula) (k : ℕ) → k < length fs → depth (formula fs k) ≤ deepest fs
-unfolding deepest
+unfolding largest
 deepest-le [] k h = absurd (omega arith)
 deepest-le (φ ∷ fs) zero h = omega arith
 deepest-le (φ ∷ fs) (suc k) h = omega (arith, deepest-le fs k (omega arith))

@@ -17,7 +17,7 @@ use Rattle.engine.specs.Tops.{top-column, TopRow}
 use Rattle.engine.proofs.Held.{own-block}
 use Rattle.engine.proofs.Beside.{before-grows, before-next}
 use Rattle.emit.specs.Top.{top-count, top-bits, part-of}
-use Rattle.emit.specs.Code.{Fits, Fitting}
+use Rattle.emit.specs.Code.{plan, Fits, Fitting}
 use Rattle.emit.proofs.Kept.{same-part}
 
 -- one formula's own block, its last entry's, among the words
@@ -47,7 +47,7 @@ pub part-same : (base : ℕ) (fs : List Formula) (k : ℕ) (ws ws′ : List ℕ)
 part-same base fs k ws ws′ long same =
     same-part (base + words-before fs k) (needed-words (formula fs k)) ws ws′ long (λ i l h. same i l (omega (arith, before-next fs k)))
 
-module _ {table tops : List ℕ} {base number : ℕ} {fs : List Formula} {size : ℕ} (fits : Fits table tops base number fs size) where
+module _ {table tops : List ℕ} {base number : ℕ} {fs : List Formula} {size : ℕ} (fits : Fits (plan table tops number) base fs size) where
   pub row-of : (k : ℕ) → k < number → TopRow table tops base fs k
   row-of k h = fits .laid .each k (omega (arith, fits .laid .number))
 
@@ -91,7 +91,7 @@ module _ {table tops : List ℕ} {base number : ℕ} {fs : List Formula} {size :
       omega (arith, r .held, r′ .held, p .next, p .block, before-grows fs (suc j) k l)
 
 -- what asking formula k needs of the words, whichever the formulas are
-pub may-ask : (table tops : List ℕ) (number k size : ℕ) → k < number → Fitting table tops number size →
+pub may-ask : (table tops : List ℕ) (number k size : ℕ) → k < number → Fitting (plan table tops number) size →
     (top-column 0 tops k < 128) × RowsOk table (top-column 0 tops k) × (top-column 1 tops k + column 7 table (top-column 0 tops k) ≡ top-column 2 tops k) ×
     (top-column 2 tops k ≤ size) × (top-column 3 tops k + 1 < size)
 may-ask table tops number k size h (base, fs, fits) =

@@ -21,7 +21,7 @@ use Rattle.engine.proofs.Held.{HeldWords, held-state, formula-held}
 use Rattle.engine.proofs.Beside.{before-grows}
 use Rattle.checkpoint.specs.Checkpoint.{given, stored-noes}
 use Rattle.emit.specs.Top.{top-count, top-bits, Waiting, part-of, Top}
-use Rattle.emit.specs.Code.{Fits, HeldApart, taken-answers, taken-out, taken-verdicts, CanTake}
+use Rattle.emit.specs.Code.{plan, Fits, HeldApart, taken-answers, taken-out, taken-verdicts, CanTake}
 use Rattle.emit.proofs.Places.{part-word, place-in, held-inside, count-at, bits-at, apart}
 
 -- formula k's counts and answers, which stand at four places one behind the other
@@ -190,7 +190,7 @@ may-take tops number most n ws able k h held ws₁ at is =
 -- THE WORDS OF FORMULAS THAT FIT
 
 module _ {table tops : List ℕ} {base number : ℕ} {fs : List Formula} (most n : ℕ) (ws : List ℕ)
-    (fits : Fits table tops base number fs (length ws)) (counts : 8 + most + most ≤ base) (few : number ≤ most) where
+    (fits : Fits (plan table tops number) base fs (length ws)) (counts : 8 + most + most ≤ base) (few : number ≤ most) where
   abbrev held-at : ℕ → ℕ
   held-at = top-column 3 tops
 

@@ -9,7 +9,7 @@ use Rattle.mtl.specs.Formula.{Formula}
 use Rattle.verdicts.proofs.Written.{written}
 use Rattle.engine.specs.Tops.{top-column}
 use Rattle.emit.specs.Verdicts.{columns}
-use Rattle.emit.specs.Code.{Fits, Fitting, Held, Holds, Answered, taken-verdicts, CanTake, GivesVerdicts, Countable}
+use Rattle.emit.specs.Code.{plan, Fits, Fitting, Held, HoldsAll, Answered, taken-verdicts, CanTake, GivesVerdicts, Countable}
 use Rattle.emit.proofs.Places.{held-inside}
 use Rattle.emit.proofs.Giving.{Going, going-none, portion-more, takeable, gave}
 
@@ -18,7 +18,7 @@ pub record Underway (table tops : List ℕ) (number most : ℕ) (v s ws sheet : 
   pub words-length : length ws₁ ≡ length ws
   pub sheet-length : length sheet₁ ≡ length sheet
   pub room : done ≤ length sheet
-  pub going : (base : ℕ) (fs : List Formula) → Fits table tops base number fs (length ws) → 8 + most + most ≤ base →
+  pub going : (base : ℕ) (fs : List Formula) → Fits (plan table tops number) base fs (length ws) → 8 + most + most ≤ base →
       Going base most fs v s ws sheet done ws₁ sheet₁
 
 pub underway-none : (table tops : List ℕ) (number most : ℕ) (v s ws sheet : List ℕ) → Underway table tops number most v s ws sheet 0 ws sheet
@@ -26,15 +26,15 @@ underway-none table tops number most v s ws sheet =
     record { words-length = refl; sheet-length = refl; room = zero-le; going = λ base fs fits counts. going-none base most fs v s ws sheet }
 
 module _ {table tops : List ℕ} {number most : ℕ} {v s ws sheet : List ℕ} {done : ℕ} {ws₁ sheet₁ : List ℕ}
-    (able : Countable table tops number most ws) (under : Underway table tops number most v s ws sheet done ws₁ sheet₁) where
-  pub fitting : Fitting table tops number (length ws₁)
+    (able : Countable (plan table tops number) most ws) (under : Underway table tops number most v s ws sheet done ws₁ sheet₁) where
+  pub fitting : Fitting (plan table tops number) (length ws₁)
   fitting = let f = able .fits in (f .0, f .1, rw (under .words-length) (f .2))
 
-  module _ {r : ℕ} {ws₂ : List ℕ} (holds : Holds table tops v s number ws₁ r ws₂) where
-    held : (base : ℕ) (fs : List Formula) → Fits table tops base number fs (length ws) → Held base fs v s ws₁ r ws₂
+  module _ {r : ℕ} {ws₂ : List ℕ} (holds : HoldsAll (plan table tops number) v s ws₁ r ws₂) where
+    held : (base : ℕ) (fs : List Formula) → Fits (plan table tops number) base fs (length ws) → Held base fs v s ws₁ r ws₂
     held base fs fits = holds base fs (rw (under .words-length) fits)
 
-    pub ended : (0 < r → length sheet ≤ done) → GivesVerdicts table tops v s number most ws sheet (record { count = done; more = ltb 0 r }) ws₂ sheet₁
+    pub ended : (0 < r → length sheet ≤ done) → GivesVerdicts (plan table tops number) most v s ws sheet (record { count = done; more = ltb 0 r }) ws₂ sheet₁
     ended full base fs fits counts =
         gave fits counts (able .formulas) (able .small .0) (under .going base fs fits counts) (held base fs fits) full
 
@@ -72,7 +72,7 @@ module _ {table tops : List ℕ} {number most : ℕ} {v s ws sheet : List ℕ} {
           ws₃ ≡ taken-verdicts tops most n number ws₂ → sheet₂ ≡ written done n (take c answers) sheet₁ →
           Underway table tops number most v s ws sheet (done + n) ws₃ sheet₂
       turned answers c is-columns answered ws₃ sheet₂ taken-out wrote =
-          let next : (base : ℕ) (fs : List Formula) → Fits table tops base number fs (length ws) → 8 + most + most ≤ base →
+          let next : (base : ℕ) (fs : List Formula) → Fits (plan table tops number) base fs (length ws) → 8 + most + most ≤ base →
           Going base most fs v s ws sheet (done + n) ws₃ sheet₂ =
           λ base fs fits counts.
           let same : c ≡ columns fs = is-columns ∙ ap (max 1) (fits .laid .number) in

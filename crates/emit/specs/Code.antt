@@ -1,4 +1,5 @@
--- What the functions promise. `base` is the number of the checkpoint's own words, and `most` of a version's formulas.
+-- What the functions promise. `base` is the number of the checkpoint's own words, and `most` of a version's formulas; v is the view, s the
+-- records, ws the checkpoint's words.
 use Prim.Native.Nat.{ℕ, zero, suc, _+_, _-_, _/_, _≤_, _<_, _^_, min}
 use mathlib.Core.Bool.{Bool, cond}
 use mathlib.Core.Path.{_≡_}
@@ -17,10 +18,10 @@ use Rattle.rule.specs.Postfix.{formula}
 use Rattle.rule.specs.Accepted.{WellFormed}
 use Rattle.trace.specs.Format.{record-count}
 use Rattle.trace.specs.Order.{last-time}
-use Rattle.trace.specs.View.{total, view-of, ViewOf}
-use Rattle.trace.specs.View.{skips as view-skips}
-use Rattle.trace.specs.View.{closed as view-closed}
-use Rattle.trace.specs.Window.{Found}
+use Rattle.window.specs.View.{total, view-of, ViewOf}
+use Rattle.window.specs.View.{skips as view-skips}
+use Rattle.window.specs.View.{closed as view-closed}
+use Rattle.window.specs.Window.{Found}
 use Rattle.blocks.specs.Block.{word}
 use Rattle.blocks.specs.Step.{Agrees}
 use Rattle.engine.specs.State.{words-before, OnwardFormula}
@@ -30,15 +31,24 @@ use Rattle.emit.specs.Verdicts.{columns, verdict}
 use Rattle.emit.specs.Top.{top-count, Waiting, part-of, Top}
 use Rattle.emit.specs.declared.Emitted.{Emitted}
 
+-- what is made of the rule before it is asked: the rows of its entries, the places of its formulas, and how many there are
+pub record Plan : Type 0 where
+  pub table : List ℕ
+  pub tops : List ℕ
+  pub number : ℕ
+
+abbrev pub plan : (table tops : List ℕ) (number : ℕ) → Plan
+plan table tops number = record { table = table; tops = tops; number = number }
+
 -- the formulas' places in so many words: all of them behind the header
-pub record Fits (table tops : List ℕ) (base number : ℕ) (fs : List Formula) (size : ℕ) : Type 0 where
-  pub laid : Tops table tops base number fs
+pub record Fits (rule : Plan) (base : ℕ) (fs : List Formula) (size : ℕ) : Type 0 where
+  pub laid : Tops (rule .table) (rule .tops) base (rule .number) fs
   pub header : 16 ≤ base
   pub all : base + words-before fs (length fs) ≡ size
 
 -- that there are such formulas
-abbrev pub Fitting : (table tops : List ℕ) (number size : ℕ) → Type 0
-Fitting table tops number size = (base : ℕ) × (fs : List Formula) × Fits table tops base number fs size
+abbrev pub Fitting : (rule : Plan) (size : ℕ) → Type 0
+Fitting rule size = (base : ℕ) × (fs : List Formula) × Fits rule base fs size
 
 -- asking formula k, where it holds nothing: r is how many answers it holds then
 pub record HeldOne (base : ℕ) (fs : List Formula) (v s : List ℕ) (k : ℕ) (ws : List ℕ) (r : ℕ) (ws′ : List ℕ) : Type 0 where
@@ -50,9 +60,9 @@ pub record HeldOne (base : ℕ) (fs : List Formula) (v s : List ℕ) (k : ℕ) (
       Waiting (formula fs k) L d (part-of base fs k ws′) × (r ≡ 0 → settled-to (formula fs k) L ≡ d)
 
 -- what is promised of formula k by its place, whatever the formulas
-abbrev pub HoldsOne : (table tops v s : List ℕ) (number k : ℕ) (ws : List ℕ) (r : ℕ) (ws′ : List ℕ) → Type 0
-HoldsOne table tops v s number k ws r ws′ =
-    (base : ℕ) (fs : List Formula) → Fits table tops base number fs (length ws) → k < length fs → HeldOne base fs v s k ws r ws′
+abbrev pub HoldsOne : (rule : Plan) (v s : List ℕ) (k : ℕ) (ws : List ℕ) (r : ℕ) (ws′ : List ℕ) → Type 0
+HoldsOne rule v s k ws r ws′ =
+    (base : ℕ) (fs : List Formula) → Fits rule base fs (length ws) → k < length fs → HeldOne base fs v s k ws r ws′
 
 -- asking all formulas: r is the least number of answers held then, as far as one word goes
 pub record Held (base : ℕ) (fs : List Formula) (v s ws : List ℕ) (r : ℕ) (ws′ : List ℕ) : Type 0 where
@@ -64,9 +74,9 @@ pub record Held (base : ℕ) (fs : List Formula) (v s ws : List ℕ) (r : ℕ) (
   pub meaning : (L : Log) (d : ℕ) → NeverFalls L → Agrees v s L (wanted fs d) → Top base fs L d ws →
       Top base fs L d ws′ × (d + r ≤ L .size) × (r ≡ 0 → joint-progress fs L ≡ d)
 
-abbrev pub Holds : (table tops v s : List ℕ) (number : ℕ) (ws : List ℕ) (r : ℕ) (ws′ : List ℕ) → Type 0
-Holds table tops v s number ws r ws′ =
-    (base : ℕ) (fs : List Formula) → Fits table tops base number fs (length ws) → Held base fs v s ws r ws′
+abbrev pub HoldsAll : (rule : Plan) (v s ws : List ℕ) (r : ℕ) (ws′ : List ℕ) → Type 0
+HoldsAll rule v s ws r ws′ =
+    (base : ℕ) (fs : List Formula) → Fits rule base fs (length ws) → Held base fs v s ws r ws′
 
 -- the words of answers that the formulas hold; of an empty rule one word of yes
 pub record Answered (tops : List ℕ) (number : ℕ) (ws answers : List ℕ) : Type 0 where
@@ -133,14 +143,14 @@ pub record Gave (base most : ℕ) (fs : List Formula) (v s ws sheet : List ℕ) 
       Giving base fs L d (r .count) ws′ sheet′ × (r .count ≡ min (joint-progress fs L - d) (length sheet)) ×
       (r .more ≡ ltb (d + r .count) (joint-progress fs L))
 
-abbrev pub GivesVerdicts : (table tops v s : List ℕ) (number most : ℕ) (ws sheet : List ℕ) (r : Emitted) (ws′ sheet′ : List ℕ) → Type 0
-GivesVerdicts table tops v s number most ws sheet r ws′ sheet′ =
-    (base : ℕ) (fs : List Formula) → Fits table tops base number fs (length ws) → 8 + most + most ≤ base → Gave base most fs v s ws sheet r ws′ sheet′
+abbrev pub GivesVerdicts : (rule : Plan) (most : ℕ) (v s ws sheet : List ℕ) (r : Emitted) (ws′ sheet′ : List ℕ) → Type 0
+GivesVerdicts rule most v s ws sheet r ws′ sheet′ =
+    (base : ℕ) (fs : List Formula) → Fits rule base fs (length ws) → 8 + most + most ≤ base → Gave base most fs v s ws sheet r ws′ sheet′
 
 -- a call's verdicts begin with at most 1,000,000 given and as many counted, so that no count can wrap
-pub record Countable (table tops : List ℕ) (number most : ℕ) (ws : List ℕ) : Type 0 where
-  pub fits : (base : ℕ) × (fs : List Formula) × Fits table tops base number fs (length ws) × (8 + most + most ≤ base)
-  pub formulas : number ≤ most
+pub record Countable (rule : Plan) (most : ℕ) (ws : List ℕ) : Type 0 where
+  pub fits : (base : ℕ) × (fs : List Formula) × Fits rule base fs (length ws) × (8 + most + most ≤ base)
+  pub formulas : rule .number ≤ most
   pub small : (1 ≤ most) × (most ≤ 8)
   pub given : given ws ≤ 1000000
   pub noes : (k : ℕ) → k < most → word ws (8 + k) ≤ 1000000
@@ -190,22 +200,34 @@ pub record Emits (base most : ℕ) (fs : List Formula) (s : List ℕ) (skips clo
       Giving base fs L d (r .count) ws′ sheet′ × (r .count ≡ min (joint-progress fs L - d) (length sheet)) ×
       (r .more ≡ ltb (d + r .count) (joint-progress fs L)) × (first-wanted ws′ ≡ wanted-record L (seen ws′) (wanted fs (d + r .count)))
 
--- the decoded entries of an accepted rule, where its formulas end, and the words that they need
-pub record ReadyToEmit (t : List Entry) (n : ℕ) (ends : List ℕ) (number most base deep : ℕ) (s ws : List ℕ) : Type 0 where
-  pub few : n ≤ 128
-  pub well-formed : WellFormed t n
+-- an accepted rule, as a call decodes it: its entries and how many they are, where each formula ends and how many there are, the most that
+-- its version has, the number of the checkpoint's own words, and the paper's k of document 02, paper 2
+pub record DecodedRule : Type 0 where
+  pub entries : List Entry
+  pub count : ℕ
+  pub ends : List ℕ
+  pub number : ℕ
+  pub most : ℕ
+  pub base : ℕ
+  pub deep : ℕ
+
+-- and the words that it needs
+pub record ReadyToEmit (rule : DecodedRule) (s ws : List ℕ) : Type 0 where
+  pub few : rule .count ≤ 128
+  pub well-formed : WellFormed (rule .entries) (rule .count)
   pub the-formulas : List Formula
-  pub ended : Ended t n ends number the-formulas
-  pub formulas : number ≤ most
-  pub small : (1 ≤ most) × (most ≤ 8)
-  pub header : (16 ≤ base) × (base ≤ 24) × (8 + most + most ≤ base)
-  pub size : length ws ≡ base + offset t n
+  pub ended : Ended (rule .entries) (rule .count) (rule .ends) (rule .number) the-formulas
+  pub formulas : rule .number ≤ rule .most
+  pub small : (1 ≤ rule .most) × (rule .most ≤ 8)
+  pub header : (16 ≤ rule .base) × (rule .base ≤ 24) × (8 + rule .most + rule .most ≤ rule .base)
+  pub size : length ws ≡ rule .base + offset (rule .entries) (rule .count)
   pub given : given ws ≤ 1000000
-  pub noes : (k : ℕ) → k < most → word ws (8 + k) ≤ 1000000
-  pub depth : deep ≡ deepest the-formulas
+  pub noes : (k : ℕ) → k < rule .most → word ws (8 + k) ≤ 1000000
+  pub depth : rule .deep ≡ deepest the-formulas
   pub wanted : first-wanted ws ≤ 1000000
   pub records : record-count s ≤ 1000000
 
-abbrev pub Emission : (skips closed : Bool) (t : List Entry) (n : ℕ) (ends : List ℕ) (number most base deep : ℕ) (s ws sheet : List ℕ) → Emitted → (ws′ sheet′ : List ℕ) → Type 0
-Emission skips closed t n ends number most base deep s ws sheet r ws′ sheet′ =
-    (fs : List Formula) → Ended t n ends number fs → deep ≡ deepest fs → Emits base most fs s skips closed ws sheet r ws′ sheet′
+abbrev pub Emission : (rule : DecodedRule) (skips closed : Bool) (s ws sheet : List ℕ) → Emitted → (ws′ sheet′ : List ℕ) → Type 0
+Emission rule skips closed s ws sheet r ws′ sheet′ =
+    (fs : List Formula) → Ended (rule .entries) (rule .count) (rule .ends) (rule .number) fs → rule .deep ≡ deepest fs →
+    Emits (rule .base) (rule .most) fs s skips closed ws sheet r ws′ sheet′

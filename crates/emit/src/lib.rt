@@ -5,15 +5,15 @@ ghost use mathlib.Core.Bool.{cond};
 ghost use Prim.Native.Nat.{ℕ, suc, _+_, _-_, _≤_, _<_, _^_, min, max};
 ghost use lib.ListN.{length};
 ghost use Rattle.blocks.specs.Block.{word};
-ghost use Rattle.trace.specs.View.{Views};
+ghost use Rattle.window.specs.View.{Views};
 ghost use Rattle.engine.specs.Tops.{top-column};
 ghost use Rattle.verdicts.specs.Counts.{later-end};
 ghost use Rattle.checkpoint.specs.Checkpoint.{given, first-wanted};
-ghost use Rattle.emit.specs.Code.{Fitting, HoldsOne, Holds, Answered, taken-answers, taken-verdicts, CanTake, GivesVerdicts, Countable, Viewed, Notes, ReadyToEmit, Emission};
+ghost use Rattle.emit.specs.Code.{plan, Fitting, HoldsOne, HoldsAll, Answered, taken-answers, taken-verdicts, CanTake, GivesVerdicts, Countable, Viewed, Notes, ReadyToEmit, Emission};
 use checkpoint::header;
 use engine::tops;
 use rule::Entry;
-use trace::view;
+use window::view;
 
 // How many verdicts a call gave, and whether more are settled.
 pub struct Emitted {
@@ -49,8 +49,8 @@ fn hold_one(
     waiting: &mut [u8; 520],
     words: &mut [u64],
 ) -> u64
-    requires { ⌜ (k < number) × Fitting (now table) (now tops) number (length (now words)) × (length (now copy) ≡ 520) × (length (now waiting) ≡ 520) × Views (now view) (now records) ⌝ }
-    ensures { λ r. ⌜ HoldsOne (now (table .entry)) (now (tops .entry)) (now (view .entry)) (now (records .entry)) number k (now (words .entry)) r (now (words .exit)) ⌝ }
+    requires { ⌜ (k < number) × Fitting (plan (now table) (now tops) number) (length (now words)) × (length (now copy) ≡ 520) × (length (now waiting) ≡ 520) × Views (now view) (now records) ⌝ }
+    ensures { λ r. ⌜ HoldsOne (plan (now (table .entry)) (now (tops .entry)) number) (now (view .entry)) (now (records .entry)) k (now (words .entry)) r (now (words .exit)) ⌝ }
     ensures { λ _. ⌜ (length (now (copy .exit)) ≡ 520) × (length (now (waiting .exit)) ≡ 520) ⌝ }
 {
     let held = tops::place(tops, k, tops::HELD);
@@ -88,8 +88,8 @@ fn hold(
     waiting: &mut [u8; 520],
     words: &mut [u64],
 ) -> u64
-    requires { ⌜ Fitting (now table) (now tops) number (length (now words)) × (length (now copy) ≡ 520) × (length (now waiting) ≡ 520) × Views (now view) (now records) ⌝ }
-    ensures { λ r. ⌜ Holds (now (table .entry)) (now (tops .entry)) (now (view .entry)) (now (records .entry)) number (now (words .entry)) r (now (words .exit)) ⌝ }
+    requires { ⌜ Fitting (plan (now table) (now tops) number) (length (now words)) × (length (now copy) ≡ 520) × (length (now waiting) ≡ 520) × Views (now view) (now records) ⌝ }
+    ensures { λ r. ⌜ HoldsAll (plan (now (table .entry)) (now (tops .entry)) number) (now (view .entry)) (now (records .entry)) (now (words .entry)) r (now (words .exit)) ⌝ }
     ensures { λ _. ⌜ (length (now (copy .exit)) ≡ 520) × (length (now (waiting .exit)) ≡ 520) ⌝ }
 {
     let mut least = not_given(words[header::GIVEN], view[view::TOTAL]);
@@ -186,8 +186,8 @@ fn give_many(
     words: &mut [u64],
     sheet: &mut [u8],
 ) -> Emitted
-    requires { ⌜ Countable (now table) (now tops) number most (now words) × (length (now copy) ≡ 520) × (length (now waiting) ≡ 520) × Views (now view) (now records) ⌝ }
-    ensures { λ r. ⌜ GivesVerdicts (now (table .entry)) (now (tops .entry)) (now (view .entry)) (now (records .entry)) number most (now (words .entry)) (now (sheet .entry)) r (now (words .exit)) (now (sheet .exit)) ⌝ }
+    requires { ⌜ Countable (plan (now table) (now tops) number) most (now words) × (length (now copy) ≡ 520) × (length (now waiting) ≡ 520) × Views (now view) (now records) ⌝ }
+    ensures { λ r. ⌜ GivesVerdicts (plan (now (table .entry)) (now (tops .entry)) number) most (now (view .entry)) (now (records .entry)) (now (words .entry)) (now (sheet .entry)) r (now (words .exit)) (now (sheet .exit)) ⌝ }
 {
     let columns = columns_of(number);
     let mut answers = [0u64; 8];
@@ -220,8 +220,8 @@ fn give_one(
     words: &mut [u64],
     sheet: &mut [u8],
 ) -> Emitted
-    requires { ⌜ Countable (now table) (now tops) 1 most (now words) × (length (now copy) ≡ 520) × (length (now waiting) ≡ 520) × Views (now view) (now records) ⌝ }
-    ensures { λ r. ⌜ GivesVerdicts (now (table .entry)) (now (tops .entry)) (now (view .entry)) (now (records .entry)) 1 most (now (words .entry)) (now (sheet .entry)) r (now (words .exit)) (now (sheet .exit)) ⌝ }
+    requires { ⌜ Countable (plan (now table) (now tops) 1) most (now words) × (length (now copy) ≡ 520) × (length (now waiting) ≡ 520) × Views (now view) (now records) ⌝ }
+    ensures { λ r. ⌜ GivesVerdicts (plan (now (table .entry)) (now (tops .entry)) 1) most (now (view .entry)) (now (records .entry)) (now (words .entry)) (now (sheet .entry)) r (now (words .exit)) (now (sheet .exit)) ⌝ }
 {
     let mut answers = [0u64; 8];
     let mut done: usize = 0;
@@ -254,8 +254,8 @@ fn give(
     words: &mut [u64],
     sheet: &mut [u8],
 ) -> Emitted
-    requires { ⌜ Countable (now table) (now tops) number most (now words) × (length (now copy) ≡ 520) × (length (now waiting) ≡ 520) × Views (now view) (now records) ⌝ }
-    ensures { λ r. ⌜ GivesVerdicts (now (table .entry)) (now (tops .entry)) (now (view .entry)) (now (records .entry)) number most (now (words .entry)) (now (sheet .entry)) r (now (words .exit)) (now (sheet .exit)) ⌝ }
+    requires { ⌜ Countable (plan (now table) (now tops) number) most (now words) × (length (now copy) ≡ 520) × (length (now waiting) ≡ 520) × Views (now view) (now records) ⌝ }
+    ensures { λ r. ⌜ GivesVerdicts (plan (now (table .entry)) (now (tops .entry)) number) most (now (view .entry)) (now (records .entry)) (now (words .entry)) (now (sheet .entry)) r (now (words .exit)) (now (sheet .exit)) ⌝ }
 {
     if number == 1 {
         return give_one(
@@ -330,7 +330,7 @@ fn note(records: &[u8], view: &[u64; 66], skips: bool, depth: u64, words: &mut [
     words[header::SEEN] = total;
     words[header::CLOSED_WITH] = closed_with(view[view::CLOSED] == 1, total);
     words[header::LOG_KIND] = checkpoint::log_kind(skips);
-    words[header::WANTED] = first + trace::window::find(records, view[view::SKIPS] == 1, left);
+    words[header::WANTED] = first + window::find(records, view[view::SKIPS] == 1, left);
 }
 
 // Gives the verdicts that are settled, as far as the sheet goes, and notes what was seen of the log. The records are those from the first
@@ -349,8 +349,8 @@ pub fn emit(
     words: &mut [u64],
     sheet: &mut [u8],
 ) -> Emitted
-    requires { ⌜ ReadyToEmit entries count ends number most base depth (now records) (now words) ⌝ }
-    ensures { λ r. ⌜ Emission skips closed entries count ends number most base depth (now (records .entry)) (now (words .entry)) (now (sheet .entry)) r (now (words .exit)) (now (sheet .exit)) ⌝ }
+    requires { ⌜ ReadyToEmit (record { entries = entries; count = count; ends = ends; number = number; most = most; base = base; deep = depth }) (now records) (now words) ⌝ }
+    ensures { λ r. ⌜ Emission (record { entries = entries; count = count; ends = ends; number = number; most = most; base = base; deep = depth }) skips closed (now (records .entry)) (now (words .entry)) (now (sheet .entry)) r (now (words .exit)) (now (sheet .exit)) ⌝ }
 {
     let mut table = [0u32; 1024];
     engine::layout::lay_out(entries, count, &mut table);

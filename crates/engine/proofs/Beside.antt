@@ -1,7 +1,7 @@
 -- Something is done to the words of one formula of a rule: those of the others stay. The words of the formulas begin at `base`.
-use Prim.Native.Nat.{ℕ, zero, suc, _+_, _-_, _≤_, _<_}
+use Prim.Native.Nat.{ℕ, suc, _+_, _-_, _≤_, _<_}
 use mathlib.Core.Logic.{_⊎_, inl, inr, ⊎-elim}
-use mathlib.Core.Path.{_≡_, refl, sym, _∙_, ap, subst}
+use mathlib.Core.Path.{_≡_, refl, sym, _∙_, ap}
 use mathlib.Core.List.{List}
 use native.Mathlib.Omega.{arith}
 use lib.ListN.{length, take, drop, length-take, length-drop}
@@ -9,6 +9,7 @@ use lib.Seq.{drop-drop, ext-getD}
 use Rattle.mtl.specs.Formula.{Formula}
 use Rattle.mtl.proofs.Bounded.{le-or-lt}
 use Rattle.rule.specs.Postfix.{formula}
+use Rattle.rule.proofs.Laws.{grows}
 use Rattle.engine.specs.State.{needed-words, words-before, formula-words, own-at}
 use Rattle.engine.specs.Ask.{part, back}
 use Rattle.engine.proofs.Parts.{put-back, back-from, part-back, part-before, drop-back}
@@ -16,17 +17,10 @@ use Rattle.engine.proofs.Held.{HeldWords, own-block, held-part, part-be
 
 -- WHERE A FORMULA'S WORDS STAND
 
-before-more : (fs : List Formula) (k j : ℕ) → words-before fs k ≤ words-before fs (k + j)
-unfolding words-before
-before-more fs k zero = let e : k + 0 ≡ k = omega arith in rw e (omega arith)
-before-more fs k (suc j) =
-    let e : k + suc j ≡ suc (k + j) = omega arith in
-    let h = before-more fs k j in
-    rw e (omega arith)
-
 -- a later formula's words begin no earlier
 pub before-grows : (fs : List Formula) (k m : ℕ) → k ≤ m → words-before fs k ≤ words-before fs m
-before-grows fs k m h = let e : k + (m - k) ≡ m = omega arith in subst (λ i. words-before fs k ≤ words-before fs i) e (before-more fs k (m - k))
+unfolding words-before
+before-grows fs = grows (words-before fs) (λ k. omega arith)
 
 pub before-next : (fs : List Formula) (k : ℕ) → words-before fs (suc k) ≡ words-before fs k + needed-words (formula fs k)
 unfolding words-before

@@ -12,7 +12,7 @@ use Rattle.mtl.specs.Formula.{Formula}
 use Rattle.mtl.specs.Log.{Log, NeverFalls}
 use Rattle.mtl.specs.Progress.{settled-to}
 use Rattle.mtl.proofs.Bounded.{true-and-false}
-use Rattle.trace.specs.View.{total}
+use Rattle.window.specs.View.{total}
 use Rattle.rule.specs.Words.{own-words}
 use Rattle.rule.proofs.Spans.{own-least}
 use Rattle.blocks.specs.Block.{word, taken, Onward, Ready}

@@ -3,7 +3,7 @@ ghost use mathlib.Core.Path.{_≡_};
 ghost use mathlib.Core.Bool.{true, false};
 ghost use Prim.Native.Nat.{_+_, _≤_, _<_};
 ghost use lib.ListN.{length};
-ghost use Rattle.trace.specs.View.{Views};
+ghost use Rattle.window.specs.View.{Views};
 ghost use Rattle.engine.specs.Answer.{Answers};
 ghost use Rattle.engine.specs.Ask.{Advances, Asks, stored};
 ghost use Rattle.engine.specs.Table.{RowsOk, column};

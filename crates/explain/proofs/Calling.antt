@@ -1,29 +1,27 @@
 -- The whole call: what it lends to the search, check 27, and the refusals before it. Assumes nothing.
-use Prim.Native.Nat.{ℕ, zero, suc, _+_, _-_, _≤_, _<_, _^_}
-use mathlib.Core.Bool.{Bool, true, false, cond, _||_}
+use Prim.Native.Nat.{ℕ, suc, _+_, _-_, _≤_, _<_}
+use mathlib.Core.Bool.{Bool, true, false, cond}
 use mathlib.Core.Logic.{_⊎_, inl, inr, ⊎-elim}
 use mathlib.Core.Path.{_≡_, refl, sym, _∙_, ap}
-use mathlib.Core.List.{List, [], _∷_, _++_}
+use mathlib.Core.List.{List, _++_}
 use native.Mathlib.Omega.{arith}
-use lib.Dec.{leb, ltb, eqb}
+use lib.Dec.{leb, ltb}
 use lib.ListN.{length, getD, take, drop}
-use borrow.Author.Tests.{le-leb, lt-leb, lt-ltb, le-ltb, eq-eqb, ne-eqb, eqb-true}
+use borrow.Author.Tests.{le-leb, lt-leb, lt-ltb, le-ltb, eq-eqb, ne-eqb}
 use Rattle.mtl.specs.Formula.{Formula}
 use Rattle.mtl.specs.Log.{Log}
 use Rattle.mtl.specs.Progress.{joint-progress}
-use Rattle.mtl.proofs.Bounded.{true-or-false, or-iff, true-and-false}
+use Rattle.mtl.proofs.Bounded.{or-iff}
 use Rattle.rule.specs.declared.Entry.{Entry}
-use Rattle.rule.specs.Entries.{entry}
 use Rattle.rule.specs.Postfix.{size, formula, start}
 use Rattle.rule.specs.Refusal.{first, or-else, refusal}
-use Rattle.rule.proofs.Order.{start-grows}
+use Rattle.rule.proofs.Order.{some-size, start-grows}
 use Rattle.trace.specs.Format.{record-count, records-of, dropped, malformed}
 use Rattle.trace.specs.Order.{falls, disordered}
 use Rattle.trace.specs.Log.{log-of}
-use Rattle.trace.specs.View.{Views, total}
+use Rattle.window.specs.View.{Views}
 use Rattle.trace.proofs.Laws.{never-falls, neither, well-formed-records}
-use Rattle.trace.proofs.Positions.{positions-keep, before-few}
-use Rattle.engine.specs.Table.{RowsOk, column}
+use Rattle.trace.proofs.Positions.{positions-keep}
 use Rattle.engine.specs.Tops.{Ended}
 use Rattle.engine.proofs.Rows.{row-ok}
 use Rattle.emit.specs.Verdicts.{formulas-of, columns}
@@ -31,11 +29,14 @@ use Rattle.decimal.specs.Text.{Writes}
 use Rattle.reasons.specs.Text.{text}
 use Rattle.reasons.specs.OfRule.{log-in, reason-in}
 use Rattle.search.proofs.Records.{WholeView, whole-log, whole-agrees}
+use Rattle.explain.specs.declared.Reason.{Reason}
+use Rattle.explain.specs.declared.Reason.the-variants.{Ends, Missing}
 use Rattle.explain.specs.declared.Explained.{Explained}
 use Rattle.explain.specs.declared.Explained.the-variants.{Written, Refused}
 use Rattle.explain.specs.Explain.{whole-log-refusal, unexplained-in, explain-refusal, answer, Explains}
-use Rattle.explain.specs.Code.{Lows, Ruled, Prepared, Told-of, Wrote, Copies}
-use Rattle.explain.proofs.Formulas.{size-some}
+use Rattle.sentences.specs.Said.{Ruled}
+use Rattle.telling.specs.Lines.{Wrote}
+use Rattle.explain.specs.Code.{Prepared, Told-of, Reasoned, EndsInside, Copies}
 
 -- WHAT IS LENT
 
@@ -65,7 +66,7 @@ module _ (e : List Entry) (n : ℕ) (ends : List ℕ) (number : ℕ) (fs : List 
           let at = ended .at k (omega arith) in
           let grows = start-grows fs (suc k) (length fs) (omega arith) in
           let all = ended .whole .all in
-          let one = size-some (formula fs k) in
+          let one = some-size (formula fs k) in
           (omega arith, omega arith)
 
   pub told-of : (skips : Bool) (s v : List ℕ) → WholeView skips s v → falls s ≡ false → Told-of t v s ends number fs (log-of skips s)
@@ -78,6 +79,19 @@ module _ (e : List Entry) (n : ℕ) (ends : List ℕ) (number : ℕ) (fs : List 
         ended = ended;
         shown = record { whole = whole-log skips s v made keeps; falls = positions-keep skips s keeps; agrees = whole-agrees skips s v made; unclosed = refl };
       }
+
+-- WHAT A REASON THAT IS MISSING OR ENDS SAYS, for any text that was lent
+
+module _ (fs : List Formula) (L : Log) (k i : ℕ) (text₀ : List ℕ) (r : Reason) (text′ : List ℕ) where
+  pub reasoned-missing : r ≡ Missing → Reasoned fs L k i text₀ r text′ → (columns fs ≤ k) ⊎ (joint-progress fs L ≤ i)
+  reasoned-missing is reasoned = rw is at reasoned
+
+  pub reasoned-ends : (end : ℕ) → r ≡ Ends end → Reasoned fs L k i text₀ r text′ →
+      (k < columns fs) × (i < joint-progress fs L) × Wrote text₀ 0 (text (reason-in fs k L i)) end text′
+  reasoned-ends end is reasoned = rw is at reasoned
+
+pub ends-inside : (text₀ : List ℕ) (r : Reason) (end : ℕ) → r ≡ Ends end → EndsInside text₀ r → end ≤ length text₀
+ends-inside text₀ r end is inside = rw is at inside
 
 -- CHECK 27
 

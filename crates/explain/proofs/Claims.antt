@@ -14,12 +14,12 @@ use Rattle.trace.specs.Order.{disordered}
 use Rattle.trace.proofs.Laws.{neither}
 use Rattle.emit.specs.Verdicts.{formulas-of, columns}
 use Rattle.reasons.specs.Text.{text}
-use Rattle.reasons.specs.OfRule.{log-in, reason-of, Explained}
+use Rattle.reasons.specs.OfRule.{log-in, reason-of, Claims}
 use Rattle.reasons.proofs.OfRule.{explained}
 use Rattle.explain.specs.Explain.{whole-log-refusal, unexplained, explain-refusal}
 
 -- THEOREM: every fact of the text holds, together they force the verdict, and no other reason of the rule has this text.
-pub accepted-explained : (rule log : List ℕ) (k i room : ℕ) → explain-refusal rule log k i room ≡ 0 → Explained rule log k i
+pub accepted-explained : (rule log : List ℕ) (k i room : ℕ) → explain-refusal rule log k i room ≡ 0 → Claims rule log k i
 accepted-explained rule log k i room none =
     let rule-fine = before-none (refusal rule) _ none in
     let log-fine = before-none (whole-log-refusal log) _ (rule-fine .1) in

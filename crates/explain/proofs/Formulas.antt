@@ -1,5 +1,5 @@
 -- The formulas of a rule, each at its last entry, and how far all have answered. Assumes nothing.
-use Prim.Native.Nat.{ℕ, zero, suc, _+_, _-_, _≤_, _<_, min, max}
+use Prim.Native.Nat.{ℕ, suc, _+_, _-_, _≤_, _<_, min, max}
 use mathlib.Core.Bool.{Bool, true, false}
 use mathlib.Core.Logic.{_⊎_, inl, inr, ⊎-elim}
 use mathlib.Core.Path.{_≡_, refl, sym, _∙_, ap, subst}
@@ -15,32 +15,23 @@ use Rattle.mtl.specs.Progress.{settled-to, joint-progress}
 use Rattle.mtl.proofs.Joint.{joint-le-size}
 use Rattle.rule.specs.Postfix.{size, formula, start}
 use Rattle.rule.specs.Operands.{FormulaAt}
-use Rattle.rule.proofs.Order.{within-whole}
-use Rattle.engine.specs.Table.{Has, column}
+use Rattle.rule.proofs.Order.{some-size, within-whole}
 use Rattle.engine.proofs.Rows.{has-at, column-is-part}
 use Rattle.emit.specs.Verdicts.{columns}
 use Rattle.emit.proofs.Meaning.{joint-le, joint-least}
 use Rattle.decimal.specs.Text.{ascii, Writes}
 use Rattle.reasons.specs.Reason.{reason}
-use Rattle.reasons.specs.Text.{text, joined}
+use Rattle.reasons.specs.Text.{text, spaced-line}
 use Rattle.reasons.specs.OfRule.{last-entry, reason-in}
 use Rattle.search.specs.declared.Scan.{Scan}
-use Rattle.search.specs.Scan.{Scanned, Starts, Scans}
+use Rattle.search.specs.Scan.{Scanned, Scans}
 use Rattle.search.proofs.Zeros.{zero-state}
-use Rattle.trace.specs.View.{total}
-use Rattle.explain.specs.declared.telling.Told.{Told}
-use Rattle.explain.specs.Code.{Told-of, Answering, AllAnswered, Wrote, Tells}
-use Rattle.explain.proofs.Writing.{wrote-line}
-
-pub size-some : (φ : Formula) → 1 ≤ size φ
-unfolding size
-size-some (Formula.letter c) = omega arith
-size-some (Formula.not φ) = omega arith
-size-some (Formula.or φ ψ) = omega arith
-size-some (Formula.previous low high φ) = omega arith
-size-some (Formula.next low high φ) = omega arith
-size-some (Formula.since low high φ ψ) = omega arith
-size-some (Formula.until low high φ ψ) = omega arith
+use Rattle.window.specs.View.{total}
+use Rattle.telling.specs.declared.Told.{Told}
+use Rattle.sentences.specs.Said.{Answering}
+use Rattle.telling.specs.Lines.{Wrote, Tells}
+use Rattle.explain.specs.Code.{Told-of, AllAnswered}
+use Rattle.telling.proofs.Writing.{wrote-line}
 
 module _ (t v s ends : List ℕ) (number : ℕ) (fs : List Formula) (L : Log) (told : Told-of t v s ends number fs L) (k : ℕ) (h : k < number) where
   known : k < length fs
@@ -52,7 +43,7 @@ module _ (t v s ends : List ℕ) (number : ℕ) (fs : List Formula) (L : Log) (t
   last-is = ap (λ (n : ℕ). n - 1) (told .ended .at k known)
 
   last-below : last-entry fs k < told .count
-  last-below = let w = within-whole (told .entries) (told .count) fs (told .ended .whole) k known in let s = size-some (formula fs k) in omega arith
+  last-below = let w = within-whole (told .entries) (told .count) fs (told .ended .whole) k known in let s = some-size (formula fs k) in omega arith
 
   last-formula : FormulaAt (told .entries) (last-entry fs k) (formula fs k)
   last-formula = told .ended .whole .each k known .at-last
@@ -119,7 +110,7 @@ module _ (t v s ends : List ℕ) (number i : ℕ) where
 
 -- an empty rule's
 empty-text : (fs : List Formula) (k : ℕ) (L : Log) (i : ℕ) → length fs ≡ 0 → text (reason-in fs k L i) ≡ ascii "empty\n"
-unfolding text joined ascii
+unfolding text spaced-line ascii
 empty-text [] k L i none = refl
 empty-text (φ ∷ fs) k L i none = absurd (omega arith)
 

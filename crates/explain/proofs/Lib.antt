@@ -1,12 +1,3 @@
-pub mod Writing
-pub mod Lines
-pub mod Shapes
-pub mod SinceFound
-pub mod UntilFound
-pub mod Operands
-pub mod Searched
-pub mod Sayings
-pub mod Following
 pub mod Formulas
 pub mod Calling
 pub mod Claims

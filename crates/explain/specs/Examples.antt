@@ -15,7 +15,7 @@ use Rattle.trace.specs.Positions.{passing, spot, positions}
 use Rattle.decimal.specs.Text.{ascii, decimal-in}
 use Rattle.reasons.specs.Search.{after-last}
 use Rattle.reasons.specs.Reason.{reason}
-use Rattle.reasons.specs.Text.{joined, text}
+use Rattle.reasons.specs.Text.{spaced-line, text}
 use Rattle.explain.specs.Explain.{explain-refusal, reason-text}
 
 -- an entry of ten bytes whose numbers are below 256
@@ -94,6 +94,6 @@ pub calls-worked :
     Stops rule-1 (dropping 0 records-1) 0 3 100 0 ×
     -- 14 before 27, 12 before 14, and the rule's refusals before all
     Stops rule-1 falling 9 0 0 14 × Stops rule-1 (take 60 falling) 9 0 0 12 × Stops (take 7 rule-1) (take 60 falling) 9 0 0 1
-unfolding ascii decimal-in joined text reason after-last size start first-entries offset push-kind read header-refusal entries-refusal any all sat run progress settled-to joint-progress passing spot positions
+unfolding ascii decimal-in spaced-line text reason after-last size start first-entries offset push-kind read header-refusal entries-refusal any all sat run progress settled-to joint-progress passing spot positions
 calls-worked =
     ((refl, refl, refl), (refl, refl, refl), (refl, refl, refl), (refl, refl, refl), (refl, refl, refl), refl, refl, refl, refl, refl, refl, refl, refl, refl, refl, refl)

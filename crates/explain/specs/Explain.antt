@@ -51,8 +51,8 @@ module _ (rule log : List ℕ) (k i room : ℕ) where
   abbrev pub if-written : {A : Type 0} → A → A → A
   if-written x y = cond (eqb (explain-refusal rule log k i room) 0) x y
 
-  abbrev pub answered : Answer
-  answered =
+  abbrev pub the-answer : Answer
+  the-answer =
       if-written (record { number = 0; length = length (reason-text rule log k i) }) (record { number = explain-refusal rule log k i room; length = 0 })
 
 -- the lent bytes afterwards: "In every lent buffer the bytes behind what a call writes are kept"; a refused call writes nothing
@@ -61,5 +61,5 @@ text-after rule log k i lent =
     if-written rule log k i (length lent) (reason-text rule log k i ++ drop (length (reason-text rule log k i)) lent) lent
 
 pub record Explains (rule log : List ℕ) (k i : ℕ) (lent : List ℕ) (r : Explained) (lent′ : List ℕ) : Type 0 where
-  pub answer : answer r ≡ answered rule log k i (length lent)
+  pub answer : answer r ≡ the-answer rule log k i (length lent)
   pub bytes : lent′ ≡ text-after rule log k i lent

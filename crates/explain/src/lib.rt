@@ -1,22 +1,15 @@
 // The reason for a verdict, as text: document 02, paper 13.
 ghost use mathlib.Core.Path.{_≡_};
-ghost use mathlib.Core.Bool.{Bool};
-ghost use Prim.Native.Nat.{ℕ, _+_, _≤_, _<_};
+ghost use Prim.Native.Nat.{_+_, _≤_, _<_};
 ghost use mathlib.Core.List.{List};
 ghost use lib.ListN.{length};
 ghost use Rattle.mtl.specs.Formula.{Formula};
-ghost use Rattle.mtl.specs.Log.{Log};
 ghost use Rattle.rule.specs.Accepted.{WellFormed};
 ghost use Rattle.trace.specs.Format.{record-count};
-ghost use Rattle.trace.specs.View.{total};
+ghost use Rattle.window.specs.View.{total};
 ghost use Rattle.engine.specs.Tops.{Ended};
 ghost use Rattle.explain.specs.Explain.{whole-log-refusal, answer, Explains};
 ghost use Rattle.explain.specs.Code.{Prepared, AllAnswered, Reasons, ReasonsOf, CopiesOf};
-
-mod saying;
-mod sentence;
-mod telling;
-
 use rule::Entry;
 use rule::Measured;
 
@@ -114,7 +107,7 @@ fn write_reason(
 {
     let mut copy = [0u8; 520];
     let mut waiting = [0u8; 520];
-    if (emit::columns_of(number) as u64 <= formula) | (view[trace::view::TOTAL] <= position) {
+    if (emit::columns_of(number) as u64 <= formula) | (view[window::view::TOTAL] <= position) {
         return Reason::Missing;
     }
     let answered = all_answered(
@@ -167,7 +160,7 @@ fn reason_of(
     let mut table = [0u32; 1024];
     engine::layout::lay_out(entries, count, &mut table);
     let mut view = [0u64; 66];
-    trace::view::write_view(records, 0, 0, skips, false, &mut view);
+    window::view::write_view(records, 0, 0, skips, false, &mut view);
     let mut words = [0u64; 8192];
     write_reason(
         &table,

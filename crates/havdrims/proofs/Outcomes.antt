@@ -19,7 +19,7 @@ use Rattle.rule.specs.Measure.{Answer as Measure, answer as measure-of}
 use Rattle.rule.proofs.Outcome.{stops-with}
 use Rattle.checkpoint.specs.Checkpoint.{stored-noes}
 use Rattle.trace.specs.Making.{put}
-use Rattle.checkpoint.specs.Refusal.{resume-refusal, trim-refusal, summary-refusal}
+use Rattle.checks.specs.Refusal.{resume-refusal, trim-refusal, summary-refusal}
 use Rattle.verdicts.specs.Tally.{Tallies}
 use Rattle.verdicts.specs.Tally.{Answer as TallyAnswer}
 use Rattle.emit.specs.Verdicts.{formulas-of, columns}
@@ -43,7 +43,7 @@ use Rattle.monitor.specs.Formulas.{Answer as FormulasAnswer, answer as formulas
 use Rattle.monitor.specs.declared.Standing.{Standing}
 use Rattle.monitor.specs.declared.Standing.the-variants.{Known}
 use Rattle.monitor.specs.declared.Standing.the-variants.{Refused as Unknown}
-use Rattle.monitor.specs.Status.{Facts, stored-facts, known}
+use Rattle.monitor.specs.Status.{StatusFacts, stored-facts, known}
 use Rattle.monitor.specs.Status.{Answer as Status, answer as standing-of, told as known-told, refused-with as known-refused}
 use Rattle.text.specs.declared.Parsed.{Parsed}
 use Rattle.text.specs.declared.Parsed.the-variants.{Written}
@@ -54,10 +54,10 @@ use Rattle.text.proofs.Accepted.{refused-not-zero}
 use Rattle.worst.specs.declared.Made.{Made}
 use Rattle.worst.specs.declared.Made.the-variants.{Length}
 use Rattle.worst.specs.declared.Made.the-variants.{Refused as Unmade}
-use Rattle.worst.specs.Call.{answered, WritesWorst}
+use Rattle.worst.specs.Call.{the-answer, WritesWorst}
 use Rattle.worst.specs.Call.{Answer as Making, answer as made-of}
 use Rattle.worst.proofs.Outcome.{not-zero}
-use Rattle.explain.specs.Explain.{reason-text, explain-refusal, answered as explained-as, Explains}
+use Rattle.explain.specs.Explain.{reason-text, explain-refusal, the-answer as explained-as, Explains}
 use Rattle.explain.specs.Explain.{Answer as Explanation, answer as explained-of}
 use Rattle.explain.specs.declared.Explained.{Explained}
 use Rattle.explain.specs.declared.Explained.the-variants.{Written as Explaining}
@@ -231,7 +231,7 @@ module _ (s : List ℕ) (old : ℕ) (o : FormulaCount) (e : formulas-answer o �
       record { number = ap (λ (a : FormulasAnswer). a .number) q; formulas = ap (λ (a : FormulasAnswer). a .formulas) q }
 
 -- a refused status has another number than 0
-not-known-by : (b : Bool) (k n : ℕ) (facts : Facts) → eqb k 0 ≡ b → known-refused n ≡ cond b (known-told facts) (known-refused k) → n ≡ 0 → ⊥
+not-known-by : (b : Bool) (k n : ℕ) (facts : StatusFacts) → eqb k 0 ≡ b → known-refused n ≡ cond b (known-told facts) (known-refused k) → n ≡ 0 → ⊥
 not-known-by true k n facts t e z = true≢false (ap (λ (a : Status). a .refused) e)
 not-known-by false k n facts t e z = omega (arith, ap (λ (a : Status). a .number) e, eqb-false k 0 t)
 
@@ -277,18 +277,18 @@ module _ (text rule : List ℕ) (old : ℕ) (o : Parsed) (rule′ : List ℕ) (h
         written = sym (ap (λ (p : Parsed). parse-of p .written) is);
       }
 
-module _ (low high n : ℕ) (log : List ℕ) (written : ℕ) (o : Made) (log′ : List ℕ) (h : WritesWorst low high n log o log′) where
-  pub not-made : (k : ℕ) → o ≡ Unmade k → (r : ℕ) → r ≡ made-of o .number → WorstLogCall low high n log written r log′ written
-  not-made k is r number =
+module _ {low high n : ℕ} {log : List ℕ} {written : ℕ} {o : Made} {log′ : List ℕ} (h : WritesWorst low high n log o log′) where
+  pub not-made : {k : ℕ} → o ≡ Unmade k → {r : ℕ} → r ≡ made-of o .number → WorstLogCall low high n log written r log′ written
+  not-made {k} is {r} number =
       let q : WritesWorst low high n log (Unmade k) log′ = subst (λ (m : Made). WritesWorst low high n log m log′) is h in
       let same : r ≡ k = number ∙ ap (λ (m : Made). made-of m .number) is in
       record {
         number = same ∙ ap (λ (a : Making). a .number) (q .answer);
-        written = kept r written (answered low high n (length log) .length) (λ f. not-zero low high n log k log′ q (sym same ∙ f));
+        written = kept r written (the-answer low high n (length log) .length) (λ f. not-zero low high n log k log′ q (sym same ∙ f));
         bytes = h .bytes;
       }
 
-  pub is-made : (l : ℕ) → o ≡ Length l → WorstLogCall low high n log written 0 log′ l
-  is-made l is =
-      let q : made-of (Length l) ≡ answered low high n (length log) = ap made-of (sym is) ∙ h .answer in
+  pub is-made : {l : ℕ} → o ≡ Length l → WorstLogCall low high n log written 0 log′ l
+  is-made {l} is =
+      let q : made-of (Length l) ≡ the-answer low high n (length log) = ap made-of (sym is) ∙ h .answer in
       record { number = ap (λ (a : Making). a .number) q; written = ap (λ (a : Making). a .length) q; bytes = h .bytes }

@@ -11,7 +11,7 @@ use Rattle.mtl.specs.Log.{Log}
 use Rattle.emit.specs.Verdicts.{formulas-of}
 use Rattle.rule.specs.Postfix.{formula}
 use Rattle.reasons.specs.Reason.{Line, reason}
-use Rattle.reasons.specs.Text.{joined, parts, text}
+use Rattle.reasons.specs.Text.{spaced-line, parts, text}
 use Rattle.reasons.specs.OfRule.{log-in, last-entry, reason-in}
 use Rattle.explain.specs.Explain.{reason-text}
 
@@ -24,15 +24,15 @@ behind-some : (xs ys : List ℕ) → 0 < length xs → 0 < length (xs ++ ys)
 behind-some [] ys h = absurd (omega (arith, h))
 behind-some (x ∷ xs) ys h = omega arith
 
-joined-some : (ps : List (List ℕ)) → 0 < length (joined ps)
-unfolding joined
+joined-some : (ps : List (List ℕ)) → 0 < length (spaced-line ps)
+unfolding spaced-line
 joined-some [] = omega arith
 joined-some (p ∷ []) = before-some p (10 ∷ []) (omega arith)
-joined-some (p ∷ (q ∷ ps)) = before-some p (32 ∷ joined (q ∷ ps)) (omega arith)
+joined-some (p ∷ (q ∷ ps)) = before-some p (32 ∷ spaced-line (q ∷ ps)) (omega arith)
 
 text-some : (l : Line) (ls : List Line) → 0 < length (text (l ∷ ls))
 unfolding text
-text-some l ls = behind-some (joined (parts l)) (text ls) (joined-some (parts l))
+text-some l ls = behind-some (spaced-line (parts l)) (text ls) (joined-some (parts l))
 
 -- the text of a list of lines that is not empty, by cases
 either-some : (b : Bool) (l l′ : Line) (ls ls′ : List Line) → 0 < length (text (cond b (l ∷ ls) (l′ ∷ ls′)))

@@ -14,7 +14,7 @@ use Rattle.verdicts.specs.Counts.{counts}
 use Rattle.verdicts.specs.Tally.{tally-refusal, first-or-kept}
 use Rattle.checkpoint.specs.Checkpoint.{stored-noes}
 use Rattle.trace.specs.Making.{put}
-use Rattle.checkpoint.specs.Refusal.{open-refusal, resume-refusal, trim-refusal, summary-refusal}
+use Rattle.checks.specs.Refusal.{open-refusal, resume-refusal, trim-refusal, summary-refusal}
 use Rattle.emit.specs.Verdicts.{formulas-of, columns}
 use Rattle.monitor.specs.Open.{Opening}
 use Rattle.monitor.specs.Resume.{Resumes}
@@ -25,7 +25,7 @@ use Rattle.monitor.specs.Formulas.{formula-count}
 use Rattle.monitor.specs.Status.{known}
 use Rattle.text.specs.declared.Parsed.{Parsed}
 use Rattle.text.specs.Parse.{answer, Parses}
-use Rattle.worst.specs.Call.{answered, buffer-after}
+use Rattle.worst.specs.Call.{the-answer, buffer-after}
 use Rattle.simulation.specs.Simulate.{simulated, log-after}
 use Rattle.simulation.specs.declared.Settings.{Settings}
 use Rattle.explain.specs.Explain.{reason-text, explain-refusal, text-after}
@@ -102,8 +102,8 @@ pub record ParseCall (text rule : List ℕ) (n r : ℕ) (rule′ : List ℕ) (n�
   pub written : n′ ≡ or-kept r n (answer outcome .written)
 
 pub record WorstLogCall (low high n : ℕ) (log : List ℕ) (w r : ℕ) (log′ : List ℕ) (w′ : ℕ) : Type 0 where
-  pub number : r ≡ answered low high n (length log) .number
-  pub written : w′ ≡ or-kept r w (answered low high n (length log) .length)
+  pub number : r ≡ the-answer low high n (length log) .number
+  pub written : w′ ≡ or-kept r w (the-answer low high n (length log) .length)
   pub bytes : log′ ≡ buffer-after low high n log
 
 abbrev pub settings : (warm-up print-time switch-off mean-gap : ℕ) → Settings

@@ -7,7 +7,7 @@ use native.Mathlib.Omega.{arith}
 use borrow.Author.Tests.{ltb-true, eqb-true, eqb-false}
 use lib.Dec.{eqb}
 use lib.ListN.{length}
-use Rattle.checkpoint.specs.Refusal.{open-refusal, resume-refusal}
+use Rattle.checks.specs.Refusal.{open-refusal, resume-refusal}
 use Rattle.monitor.specs.Open.{done, Opens}
 use Rattle.monitor.specs.Open.{Answer as Opening, refused-with as not-opened}
 use Rattle.monitor.specs.Resume.{Answer, gave, refused-with, Resumes}

@@ -17,7 +17,7 @@ use Rattle.rule.specs.Postfix.{most-formulas, formulas, formulas-or, formula, s
 use Rattle.rule.specs.Refusal.{refusal}
 use Rattle.rule.specs.Words.{offset}
 use Rattle.rule.specs.Accepted.{WellFormed, Whole}
-use Rattle.rule.specs.Code.{EndsOf}
+use Rattle.rule.specs.Contract.{EndsOf}
 use Rattle.rule.proofs.Acceptance.{accepted}
 use Rattle.blocks.specs.Block.{word}
 use Rattle.engine.specs.State.{needed-words, words-before, own-at, formula-words}

@@ -130,7 +130,7 @@ module _ (rule : List ℕ) (K : Log) (n d : ℕ) (p : List ℕ) (fine : refusal 
       let b = stands .top .each k l .buffer in
       omega (arith, b .packed .few, b .within, settled-le-size φ K, count-is))
       (λ (none : word p (block-at base t j + 12) ≡ 0). omega (arith, own-within .0))
-      (stands .spare j h)
+      (stands .in-range .spare j h)
 
   in-range : (j : ℕ) → j < count rule → block-outside base (decoded rule) p j ≡ false
   in-range j h =
@@ -168,7 +168,7 @@ module _ (rule : List ℕ) (K : Log) (n d : ℕ) (p : List ℕ) (fine : refusal 
       let fs = formulas-of rule in
       ⊎-elim
       (λ (none : columns fs ≤ k).
-      let z = stands .unused k none h in
+      let z = stands .in-range .unused k none h in
       rw (z .0, z .1, le-leb 0 (given p) (omega arith)))
       (λ (some : k < columns fs).
       let fits : noes-in-range (given p) (no-count p k) (after-latest m p k) ≡ true =
@@ -182,17 +182,17 @@ module _ (rule : List ℕ) (K : Log) (n d : ℕ) (p : List ℕ) (fine : refusal 
 
   -- its version is noted where a record was seen or a closing accepted
   own-kind : kind-in-range (log-kind p) (seen p) (closed-with p) ≡ true
-  own-kind = rw (stands .size) (stands .kind)
+  own-kind = rw (stands .size) (stands .in-range .kind)
 
   -- refusal 11 is not met
   pub not-outside : words-outside (version rule) (decoded rule) (count rule) p ≡ false
   not-outside =
-      let few = stands .few in
+      let few = stands .in-range .few in
       let size = stands .size in
       rw (
         le-leb (seen p) 1000000 (omega arith),
         le-leb (given p) (seen p) (omega (arith, own-given, own-within)),
-        lt-ltb (last p) (2 ^ 32) (stands .fits),
+        lt-ltb (last p) (2 ^ 32) (stands .in-range .fits),
         own-closed,
         own-kind,
         le-leb (first-wanted p) (seen p) (omega (arith, stands .wanted, wanted-within K n (stands .placed) (wanted (formulas-of rule) d))),

@@ -21,14 +21,15 @@ use Rattle.rule.specs.Entries.{version, count, decoded}
 use Rattle.rule.specs.Postfix.{most-formulas, formulas, formulas-or, formula, start}
 use Rattle.rule.specs.Refusal.{refusal}
 use Rattle.rule.specs.Words.{header-words, offset}
-use Rattle.rule.specs.Code.{EndsOf}
+use Rattle.rule.specs.Contract.{EndsOf}
 use Rattle.rule.proofs.Headers.{Decoded}
 use Rattle.rule.proofs.Acceptance.{accepted}
 use Rattle.rule.proofs.Spans.{header-least, header-most}
-use Rattle.trace.specs.Format.{record-count, time-at, skips-of, dropped, records-of, total-records}
+use Rattle.trace.specs.Format.{record-count, time-at, skips-of, dropped, records-of, total-records, from-record}
 use Rattle.trace.specs.Order.{last-time}
-use Rattle.trace.specs.View.{from-record, view-of}
-use Rattle.trace.proofs.Slices.{Cut, cut-from, time-part, flag-told}
+use Rattle.window.specs.View.{view-of}
+use Rattle.trace.proofs.Parts.{Cut, cut-from, time-part}
+use Rattle.window.proofs.Slices.{flag-told}
 use Rattle.blocks.specs.Block.{word, Onward}
 use Rattle.blocks.specs.Step.{Agrees}
 use Rattle.blocks.proofs.Onward.{onward-same}
@@ -38,13 +39,13 @@ use Rattle.engine.proofs.Formulas.{last-next, rule-onward, rule-others}
 use Rattle.engine.proofs.Longer.{buffer-longer, state-longer}
 use Rattle.engine.proofs.Parts.{put-back}
 use Rattle.checkpoint.specs.Checkpoint.{given, seen, last, closed-with, log-kind, kind-of-log, first-wanted, stored-noes, need, block-at, foreign, kind-in-range}
-use Rattle.checkpoint.specs.Refusal.{point-refusal}
-use Rattle.checkpoint.specs.Code.{sized-of}
-use Rattle.checkpoint.specs.declared.check.Sized.the-variants.{Words}
-use Rattle.checkpoint.proofs.Checks.{Met, passes}
+use Rattle.checks.specs.Refusal.{point-refusal}
+use Rattle.checks.specs.Contract.{sized-of}
+use Rattle.checks.specs.declared.Sized.the-variants.{Words}
+use Rattle.checks.proofs.Checks.{Met, passes}
 use Rattle.checkpoint.proofs.Copies.{foreign-same}
 use Rattle.checkpoint.proofs.Offsets.{in-block, block-fits, noes-within}
-use Rattle.checkpoint.proofs.Sizes.{enough}
+use Rattle.checks.proofs.Sizes.{enough}
 use Rattle.emit.specs.Verdicts.{formulas-of, columns, verdicts}
 use Rattle.emit.specs.Top.{top-count, top-bits, part-of, Waiting, Top}
 use Rattle.emit.specs.Code.{Giving, Brought, Emits, Emission, ReadyToEmit}
@@ -308,19 +309,21 @@ module _ (closing : Bool) (rule log p sheet : List ℕ) (ok : refusal rule ≡ 0
           enough = omega (arith, length-now);
           own = foreign-now ∙ stands .own;
           size = seen-now;
-          few = passes closing rule log p none .records;
           placed = placed;
-          fits = rw (now 3 three) (done .fits (rw (was 3 three) (stands .fits)));
           closed = closed-now ∙ ap (λ (b : Bool). cond b (suc size-now) 0) (sym (agrees .ends ∙ flag-told closing));
-          kind = rw kind-now (kind-noted (skips-of log) size-now (closed-with after));
           wanted = now 7 (own-header 7 (omega arith)) ∙ first ∙ ap (λ (k : ℕ). wanted-record L k (wanted fs (d + r .count))) seen-is;
           top = rw (take-at ws′ (drop (need rule) p) (need rule) size) (giving .top);
           noes = λ k h.
               noes-now k h ∙
               ap₂ (λ (x : Noes) (m : ℕ). laid-behind x m (noes-in k sheet′ (r .count))) (stands .noes k h ∙ stay k) at-d ∙
               noes-more fs L k d (r .count) sheet′ (giving .bytes);
-          unused = λ k h l. (unused-now k h l .0 ∙ stands .unused k h l .0, unused-now k h l .1 ∙ stands .unused k h l .1);
-          spare = λ j h. ⊎-elim (λ is. inl is) (λ none-held. spare-now j h none-held) (stands .spare j h);
+          in-range = record {
+            few = passes closing rule log p none .records;
+            fits = rw (now 3 three) (done .fits (rw (was 3 three) (stands .in-range .fits)));
+            kind = rw kind-now (kind-noted (skips-of log) size-now (closed-with after));
+            unused = λ k h l. let none-before = stands .in-range .unused k h l in (unused-now k h l .0 ∙ none-before .0, unused-now k h l .1 ∙ none-before .1);
+            spare = λ j h. ⊎-elim (λ is. inl is) (λ none-held. spare-now j h none-held) (stands .in-range .spare j h);
+          };
         }
 
     gives-now : Gives rule L size-now d sheet (r .count) (r .more) after sheet′
@@ -364,7 +367,7 @@ module _ (closing : Bool) (rule log p : List ℕ) (v : ℕ) (t : List Entry) (n 
 
   -- the accepted rule is ready
   pub ready-of : (deep : ℕ) → deep ≡ deepest (formulas-or (formulas v t n)) → (records : List ℕ) → records ≡ wanted-records log p →
-      ReadyToEmit t n (ends .at) (ends .number) (most-formulas v) (header-words v) deep records (part 0 w p)
+      ReadyToEmit (record { entries = t; count = n; ends = ends .at; number = ends .number; most = most-formulas v; base = header-words v; deep = deep }) records (part 0 w p)
   ready-of deep deep-is records handed =
       let e = enough rule (length p) w sized in
       let a = accepted rule (e .accepted) in
@@ -395,7 +398,7 @@ module _ (closing : Bool) (rule log p : List ℕ) (v : ℕ) (t : List Entry) (n 
   -- the words as they came back
   pub resume-given : (deep : ℕ) → deep ≡ deepest (formulas-or (formulas v t n)) → (sheet records : List ℕ) (skips : Bool) (r : Emitted) (ws′ sheet′ : List ℕ) →
       records ≡ wanted-records log p → skips ≡ skips-of log →
-      Emission skips closing t n (ends .at) (ends .number) (most-formulas v) (header-words v) deep records (part 0 w p) sheet r ws′ sheet′ →
+      Emission (record { entries = t; count = n; ends = ends .at; number = ends .number; most = most-formulas v; base = header-words v; deep = deep }) skips closing records (part 0 w p) sheet r ws′ sheet′ →
       Resumes closing rule log p sheet (gave (r .count) (r .more)) (put-back 0 w ws′ p) sheet′
   resume-given deep deep-is sheet records skips r ws′ sheet′ handed kind done =
       let e = enough rule (length p) w sized in

@@ -23,12 +23,13 @@ use Rattle.blocks.proofs.Words.{empty-buffer}
 use Rattle.engine.specs.State.{State}
 use Rattle.engine.proofs.Formulas.{last-entry, last-below, fresh-rule}
 use Rattle.checkpoint.specs.Checkpoint.{last, log-kind, need, block-at}
-use Rattle.checkpoint.specs.Code.{Fresh, sized-of, sized-number}
-use Rattle.checkpoint.specs.Refusal.{open-refusal}
-use Rattle.checkpoint.specs.declared.check.Sized.the-variants.{Words}
+use Rattle.checkpoint.specs.Fresh.{Fresh}
+use Rattle.checks.specs.Contract.{sized-number, sized-of}
+use Rattle.checks.specs.Refusal.{open-refusal}
+use Rattle.checks.specs.declared.Sized.the-variants.{Words}
 use Rattle.checkpoint.proofs.Offsets.{in-block, block-fits, noes-within}
 use Rattle.checkpoint.proofs.Copies.{fresh-own, foreign-within}
-use Rattle.checkpoint.proofs.Sizes.{enough, sized-refusal}
+use Rattle.checks.proofs.Sizes.{enough, sized-refusal}
 use Rattle.emit.specs.Verdicts.{formulas-of}
 use Rattle.emit.specs.Top.{top-count, top-bits, part-of, Waiting, Top}
 use Rattle.monitor.specs.Open.{done, refused-with, Opens}
@@ -102,20 +103,22 @@ module _ (rule p : List ℕ) (ok : refusal rule ≡ 0) (room : need rule ≤ len
         enough = room;
         own = foreign-within v t n p (take (need rule) p) own-word ∙ fresh-own v t n (take (need rule) p) f;
         size = clear 2 (omega arith) (omega arith) (omega arith);
-        few = omega arith;
         placed = record { rising = λ i j h l. absurd (omega arith); below = λ i h. absurd (omega arith) };
-        fits = omega (arith, fresh-header .0);
         closed = closed-is ∙ rw is-open;
-        kind = rw (fresh-header .1, closed-is);
         wanted = rw (le-ltb (wanted (formulas-of rule) 0) (L .size) (omega arith)) (clear 7 (omega arith) (omega arith) (omega arith));
         top = fresh-top rule (take (need rule) p) ok (length-take-le (need rule) p room) f L;
         noes = λ k h.
             let in-most : k < most-formulas v = omega (arith, few-columns rule ok) in
             rw (no-counted k in-most, no-latest k in-most);
-        unused = λ k h l. (no-counted k l, no-latest k l);
-        spare = λ j h.
-            let inside = block-fits (header-words v) t n j h in
-            inr (own-word (block-at (header-words v) t j + 12) (omega arith) ∙ f .blocks j h 12 (omega arith));
+        in-range = record {
+          few = omega arith;
+          fits = omega (arith, fresh-header .0);
+          kind = rw (fresh-header .1, closed-is);
+          unused = λ k h l. (no-counted k l, no-latest k l);
+          spare = λ j h.
+              let inside = block-fits (header-words v) t n j h in
+              inr (own-word (block-at (header-words v) t j + 12) (omega arith) ∙ f .blocks j h 12 (omega arith));
+        };
       }
 
 -- `open`, where a refusal is met

@@ -13,11 +13,11 @@ use Rattle.rule.specs.declared.measuring.Ends.{Ends}
 use Rattle.rule.specs.Entries.{version}
 use Rattle.rule.specs.Postfix.{most-formulas}
 use Rattle.rule.specs.Refusal.{refusal}
-use Rattle.rule.specs.Code.{EndsOf}
+use Rattle.rule.specs.Contract.{EndsOf}
 use Rattle.rule.proofs.Headers.{Decoded}
 use Rattle.checkpoint.specs.Checkpoint.{given, seen, closed-with, first-wanted, stored-noes}
-use Rattle.checkpoint.specs.Refusal.{summary-refusal}
-use Rattle.checkpoint.proofs.Checks.{is-accepted, has-room}
+use Rattle.checks.specs.Refusal.{summary-refusal}
+use Rattle.checks.proofs.Checks.{is-accepted, has-room}
 use Rattle.checkpoint.proofs.Offsets.{noes-within}
 use Rattle.emit.specs.Verdicts.{formulas-of, columns}
 use Rattle.monitor.specs.Summary.{position-or, no-position, counts-of, latest-words, TellsNoes, counted, refused-with, Summarizes}

@@ -6,13 +6,13 @@ use native.Mathlib.Omega.{arith}
 use borrow.Author.Tests.{eq-eqb, ne-eqb}
 use lib.ListN.{length}
 use Rattle.rule.specs.Entries.{version, count, decoded}
-use Rattle.trace.specs.View.{records-from}
+use Rattle.trace.specs.Format.{records-from}
 use Rattle.trace.specs.Making.{trimmed-bytes, put}
 use Rattle.checkpoint.specs.Checkpoint.{first-wanted}
-use Rattle.checkpoint.specs.Refusal.{words-refusal, trimming-refusal, trim-refusal}
-use Rattle.checkpoint.specs.Code.{sized-of}
-use Rattle.checkpoint.specs.declared.check.Sized.the-variants.{Words}
-use Rattle.checkpoint.proofs.Checks.{Met, not-stopped}
+use Rattle.checks.specs.Refusal.{words-refusal, trimming-refusal, trim-refusal}
+use Rattle.checks.specs.Contract.{sized-of}
+use Rattle.checks.specs.declared.Sized.the-variants.{Words}
+use Rattle.checks.proofs.Checks.{Met, not-stopped}
 use Rattle.monitor.specs.Trim.{wrote, refused-with, trimmed-log, Trims}
 
 module _ (rule log p out : List ℕ) where

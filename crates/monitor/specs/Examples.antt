@@ -8,7 +8,7 @@ use mathlib.Core.Option.{Option, none, some}
 use mathlib.Core.Path.{_≡_, refl}
 use lib.Dec.{eqb, ltb}
 use lib.ListN.{length, take, drop, replicate}
-use Rattle.mtl.specs.Formula.{has-next, reach}
+use Rattle.mtl.specs.Formula.{has-next, reach, largest}
 use Rattle.mtl.specs.Satisfaction.{any, all, sat}
 use Rattle.mtl.specs.Progress.{run, progress, settled-to, joint-progress}
 use Rattle.mtl.specs.Wanted.{depth, deepest}
@@ -19,11 +19,10 @@ use Rattle.rule.specs.Words.{own, offset, header-words}
 use Rattle.rule.specs.Postfix.{push-kind, read}
 use Rattle.rule.specs.Refusal.{header-refusal, entries-refusal}
 use Rattle.rule.specs.Measure.{farthest, measured}
-use Rattle.trace.specs.Format.{record-count, skips-of, dropped, records-of, total-records}
+use Rattle.trace.specs.Format.{record-count, skips-of, dropped, records-of, total-records, records-from}
 use Rattle.trace.specs.Positions.{passing, spot, positions}
 use Rattle.trace.specs.Order.{last-time}
-use Rattle.trace.specs.View.{records-from}
-use Rattle.checkpoint.specs.Refusal.{resume-refusal}
+use Rattle.checks.specs.Refusal.{resume-refusal}
 use Rattle.checkpoint.specs.Checkpoint.{format, copy-start, kind-of-log, copy-head, copy-ends, stored-noes}
 use Rattle.verdicts.specs.Bytes.{byte-of}
 use Rattle.verdicts.specs.Counts.{count-of, latest-no, Noes, noes-in, laid-behind, listed}
@@ -601,7 +600,7 @@ rows =
 
 -- every row computes; an edit of the definitions that breaks a row has its number in an error
 pub every-row : Right 1 rows
-unfolding Right wrong rows passing spot positions computes computes-refusal brings-untouched computes-verdicts same blocks event-set first-entries offset push-kind read header-refusal entries-refusal has-next reach any all sat run progress settled-to farthest depth deepest joint-progress byte-of verdicts
+unfolding Right wrong rows passing spot positions computes computes-refusal brings-untouched computes-verdicts same blocks event-set first-entries offset push-kind read header-refusal entries-refusal has-next reach any all sat run progress settled-to largest depth joint-progress byte-of verdicts
 every-row = (refl, (refl, (refl, (refl, (refl, (refl, (refl, (refl, (refl, (refl, (refl, (refl, (refl, (refl, (refl, (refl, (refl, (refl, (refl, (refl, (refl, (refl, (refl, (refl, (refl, (refl, (refl, (refl, (refl, (refl, (refl, (refl, (refl, (refl, (refl, (refl, (refl, (refl, (refl, (refl, (refl, (refl, (refl, (refl, (refl, (refl, (refl, (refl, (refl, (refl, (refl, (refl, (refl, (refl, (refl, (refl, (refl, (refl, (refl, (refl, (refl, (refl, (refl, (refl, (refl, (refl, (refl, (refl, (refl, (refl, tt))))))))))))))))))))))))))))))))))))))))))))))))))))))))))))))))))))))
 
 -- CLOSINGS: document 02, paper 9
@@ -679,7 +678,7 @@ closing-rows =
     ∷ []
 
 pub every-closing : AllClose 1 closing-rows
-unfolding AllClose closing-rows passing spot positions computes computes-refusal brings-untouched computes-verdicts same blocks event-set first-entries offset push-kind read header-refusal entries-refusal has-next reach any all sat run progress settled-to farthest depth deepest joint-progress byte-of verdicts
+unfolding AllClose closing-rows passing spot positions computes computes-refusal brings-untouched computes-verdicts same blocks event-set first-entries offset push-kind read header-refusal entries-refusal has-next reach any all sat run progress settled-to largest depth joint-progress byte-of verdicts
 every-closing = (refl, (refl, (refl, (refl, (refl, (refl, (refl, (refl, (refl, (refl, (refl, (refl, (refl, (refl, (refl, (refl, (refl, tt)))))))))))))))))
 
 -- TRIMMINGS: document 02, paper 11
@@ -749,7 +748,7 @@ trim-rows =
     ∷ []
 
 pub every-trim : AllTrim 1 trim-rows
-unfolding AllTrim trim-rows passing spot positions computes-trim brings-untouched same blocks event-set first-entries offset push-kind read header-refusal entries-refusal has-next reach any depth deepest
+unfolding AllTrim trim-rows passing spot positions computes-trim brings-untouched same blocks event-set first-entries offset push-kind read header-refusal entries-refusal has-next reach any depth largest
 every-trim = (refl, (refl, (refl, (refl, (refl, (refl, (refl, (refl, (refl, (refl, (refl, (refl, (refl, tt)))))))))))))
 
 -- THE COUNTS OF NO
@@ -869,13 +868,13 @@ status-rows =
     ∷ []
 
 pub every-status : AllKnown status-rows
-unfolding AllKnown status-rows first-entries offset push-kind read header-refusal entries-refusal has-next reach any depth deepest
+unfolding AllKnown status-rows first-entries offset push-kind read header-refusal entries-refusal has-next reach any depth largest
 every-status = (refl, (refl, (refl, (refl, (refl, (refl, (refl, (refl, (refl, (refl, (refl, (refl, (refl, (refl, (refl, (refl, (refl, (refl, tt))))))))))))))))))
 
 -- 20 "after 11": a resume on P1's point, closed, is 20, and 11 where more was given than seen besides
 pub closed-and-damaged :
     (resume-refusal false rule-1 (log records-7) (point-1 6 6 7 1 6) ≡ 20) × (resume-refusal false rule-1 (log records-7) (point-1 7 6 7 1 6) ≡ 11)
-unfolding first-entries offset push-kind read header-refusal entries-refusal has-next reach any depth deepest event-set
+unfolding first-entries offset push-kind read header-refusal entries-refusal has-next reach any depth largest event-set
 closed-and-damaged = (refl, refl)
 
 -- what `summary` writes of the two formulas after 28, and of a fresh point

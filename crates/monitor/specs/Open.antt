@@ -7,7 +7,7 @@ use lib.Dec.{ltb}
 use lib.ListN.{length, drop}
 use Rattle.mtl.specs.Log.{Log}
 use Rattle.checkpoint.specs.Checkpoint.{last, log-kind, need}
-use Rattle.checkpoint.specs.Refusal.{open-refusal}
+use Rattle.checks.specs.Refusal.{open-refusal}
 use Rattle.monitor.specs.Stands.{Stands}
 use Rattle.monitor.specs.declared.Opened.{Opened}
 use Rattle.monitor.specs.declared.Opened.the-variants.{Done, Refused}

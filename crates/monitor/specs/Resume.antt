@@ -8,9 +8,9 @@ use lib.Dec.{ltb, eqb}
 use Rattle.mtl.specs.Log.{Log, Placed, NeverFalls, Continues}
 use Rattle.mtl.specs.Progress.{joint-progress}
 use Rattle.mtl.specs.Wanted.{wanted}
-use Rattle.trace.specs.Format.{skips-of, dropped, records-of, total-records}
+use Rattle.trace.specs.Format.{skips-of, dropped, records-of, total-records, records-from}
 use Rattle.trace.specs.Order.{last-time}
-use Rattle.trace.specs.View.{records-from, view-of}
+use Rattle.window.specs.View.{view-of}
 use Rattle.blocks.specs.Block.{Forward}
 use Rattle.blocks.specs.Step.{Agrees}
 use Rattle.verdicts.specs.Counts.{noes-in, laid-behind}
@@ -19,7 +19,7 @@ use Rattle.rule.specs.Entries.{count as entry-count}
 use Rattle.rule.specs.Postfix.{most-formulas}
 use Rattle.rule.specs.Words.{header-words}
 use Rattle.checkpoint.specs.Checkpoint.{given, seen, last, closed-with, log-kind, kind-of-log, first-wanted, no-count, after-latest, stored-noes, need, block-at, foreign}
-use Rattle.checkpoint.specs.Refusal.{resume-refusal}
+use Rattle.checks.specs.Refusal.{resume-refusal}
 use Rattle.emit.specs.Verdicts.{formulas-of, columns, verdict}
 use Rattle.monitor.specs.Stands.{Stands}
 use Rattle.monitor.specs.declared.Resumed.{Resumed}

@@ -17,21 +17,11 @@ use Rattle.checkpoint.specs.Checkpoint.{seen, last, closed-with, log-kind, firs
 use Rattle.emit.specs.Verdicts.{formulas-of, columns, verdicts}
 use Rattle.emit.specs.Top.{Top}
 
--- the checkpoint's words stand for the rule, which they have a copy of, the n records that were seen, the log that they are, closed or
--- open, and d verdicts given
-pub record Stands (rule : List ℕ) (L : Log) (n d : ℕ) (p : List ℕ) : Type 0 where
-  pub enough : need rule ≤ length p
-  pub own : foreign (version rule) (decoded rule) (count rule) p ≡ false
-  pub size : seen p ≡ n
+-- what no verdict needs and refusal 11 alone looks at: of n records seen, the words that a call has left are in range
+pub record WordsInRange (rule : List ℕ) (n : ℕ) (p : List ℕ) : Type 0 where
   pub few : n ≤ 1000000
-  pub placed : Placed L n
   pub fits : last p < 2 ^ 32
-  pub closed : closed-with p ≡ cond (L .closed) (suc n) 0
   pub kind : kind-in-range (log-kind p) n (closed-with p) ≡ true
-  pub wanted : first-wanted p ≡ wanted-record L n (wanted (formulas-of rule) d)
-  pub top : Top (header-words (version rule)) (formulas-of rule) L d (take (need rule) p)
-  -- of the verdicts given, for each formula
-  pub noes : (k : ℕ) → k < columns (formulas-of rule) → stored-noes (most-formulas (version rule)) p k ≡ noes-in k (verdicts (formulas-of rule) L d) d
   -- where the rule has no formula k, both words of its counts are 0
   pub unused : (k : ℕ) → columns (formulas-of rule) ≤ k → k < most-formulas (version rule) →
       (no-count p k ≡ 0) × (after-latest (most-formulas (version rule)) p k ≡ 0)
@@ -39,3 +29,17 @@ pub record Stands (rule : List ℕ) (L : Log) (n d : ℕ) (p : List ℕ) : Type 
   pub spare : (j : ℕ) → j < count rule →
       ((k : ℕ) × (k < length (formulas-of rule)) × (suc j ≡ start (formulas-of rule) (suc k))) ⊎
       (word p (block-at (header-words (version rule)) (decoded rule) j + 12) ≡ 0)
+
+-- the checkpoint's words stand for the rule, which they have a copy of, the n records that were seen, the log that they are, closed or
+-- open, and d verdicts given
+pub record Stands (rule : List ℕ) (L : Log) (n d : ℕ) (p : List ℕ) : Type 0 where
+  pub enough : need rule ≤ length p
+  pub own : foreign (version rule) (decoded rule) (count rule) p ≡ false
+  pub size : seen p ≡ n
+  pub placed : Placed L n
+  pub closed : closed-with p ≡ cond (L .closed) (suc n) 0
+  pub wanted : first-wanted p ≡ wanted-record L n (wanted (formulas-of rule) d)
+  pub top : Top (header-words (version rule)) (formulas-of rule) L d (take (need rule) p)
+  -- of the verdicts given, for each formula
+  pub noes : (k : ℕ) → k < columns (formulas-of rule) → stored-noes (most-formulas (version rule)) p k ≡ noes-in k (verdicts (formulas-of rule) L d) d
+  pub in-range : WordsInRange rule n p

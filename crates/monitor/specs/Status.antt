@@ -4,28 +4,28 @@ use mathlib.Core.Bool.{Bool, true, false, cond}
 use mathlib.Core.List.{List}
 use lib.Dec.{eqb, ltb}
 use Rattle.checkpoint.specs.Checkpoint.{given, seen, closed-with, first-wanted}
-use Rattle.checkpoint.specs.Refusal.{summary-refusal}
+use Rattle.checks.specs.Refusal.{summary-refusal}
 use Rattle.monitor.specs.declared.Standing.{Standing}
 use Rattle.monitor.specs.declared.Standing.the-variants.{Known, Refused}
 
 -- the verdicts given, the records seen, the first record still wanted, and whether a closing was accepted
-pub record Facts : Type 0 where
+pub record StatusFacts : Type 0 where
   pub given : ℕ
   pub seen : ℕ
   pub wanted : ℕ
   pub closed : Bool
 
 -- as the checkpoint has them
-abbrev pub stored-facts : (point : List ℕ) → Facts
+abbrev pub stored-facts : (point : List ℕ) → StatusFacts
 stored-facts p = record { given = given p; seen = seen p; wanted = first-wanted p; closed = ltb 0 (closed-with p) }
 
 -- the number and the values for each case; `refused` tells the cases apart
 pub record Answer : Type 0 where
   pub refused : Bool
   pub number : ℕ
-  pub facts : Facts
+  pub facts : StatusFacts
 
-abbrev pub told : Facts → Answer
+abbrev pub told : StatusFacts → Answer
 told f = record { refused = false; number = 0; facts = f }
 
 abbrev pub refused-with : ℕ → Answer

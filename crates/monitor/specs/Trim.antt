@@ -8,7 +8,7 @@ use lib.ListN.{length}
 use lib.Dec.{eqb}
 use Rattle.trace.specs.Making.{trimmed, put}
 use Rattle.checkpoint.specs.Checkpoint.{first-wanted}
-use Rattle.checkpoint.specs.Refusal.{trim-refusal}
+use Rattle.checks.specs.Refusal.{trim-refusal}
 use Rattle.monitor.specs.declared.Trimmed.{Trimmed}
 use Rattle.monitor.specs.declared.Trimmed.the-variants.{Written, Refused}
 

@@ -18,9 +18,9 @@ ghost use Rattle.monitor.specs.Summary.{answer as summarized-of};
 ghost use Rattle.monitor.specs.Formulas.{answer, formula-count};
 ghost use Rattle.monitor.specs.Status.{known};
 ghost use Rattle.monitor.specs.Status.{answer as standing-of};
-use checkpoint::Checked;
-use checkpoint::Sized;
 use checkpoint::header;
+use checks::Checked;
+use checks::Sized;
 use rule::Measured;
 
 // The lent word of a latest position where there is none.
@@ -164,7 +164,7 @@ pub fn open(rule: &[u8], point: &mut [u64]) -> Opened
     let version = header.version();
     let count = header.count();
     let entries = rule::decode(rule, count);
-    let sized = checkpoint::size_of(rule::measure_decoded(header, entries), point.len());
+    let sized = checks::size_of(rule::measure_decoded(header, entries), point.len());
     let Sized::Words(words) = sized else {
         return Opened::Refused(sized.number());
     };
@@ -186,11 +186,11 @@ fn resume_or_close(
     let version = header.version();
     let count = header.count();
     let entries = rule::decode(rule, count);
-    let sized = checkpoint::size_of(rule::measure_decoded(header, entries), point.len());
+    let sized = checks::size_of(rule::measure_decoded(header, entries), point.len());
     let Sized::Words(words) = sized else {
         return Resumed::Refused(sized.number());
     };
-    let checked = checkpoint::check_point(version, entries, count, log, closing, point);
+    let checked = checks::check_point(version, entries, count, log, closing, point);
     let Checked::Passed = checked else {
         return Resumed::Refused(checked.number());
     };
@@ -238,11 +238,11 @@ pub fn trim(rule: &[u8], log: &[u8], point: &[u64], out: &mut [u8]) -> Trimmed
     let version = header.version();
     let count = header.count();
     let entries = rule::decode(rule, count);
-    let sized = checkpoint::size_of(rule::measure_decoded(header, entries), point.len());
+    let sized = checks::size_of(rule::measure_decoded(header, entries), point.len());
     let Sized::Words(_) = sized else {
         return Trimmed::Refused(sized.number());
     };
-    let checked = checkpoint::check_trimming(version, entries, count, log, out.len(), point);
+    let checked = checks::check_trimming(version, entries, count, log, out.len(), point);
     let Checked::Passed = checked else {
         return Trimmed::Refused(checked.number());
     };
@@ -285,7 +285,7 @@ pub fn summary(rule: &[u8], point: &[u64], no: &mut [u64; 8], latest: &mut [u64;
     let count = header.count();
     let entries = rule::decode(rule, count);
     let measured = rule::measure_decoded(header, entries);
-    let checked = checkpoint::check_own(measured, version, entries, count, point);
+    let checked = checks::check_own(measured, version, entries, count, point);
     let Checked::Passed = checked else {
         return Summarized::Refused(checked.number());
     };
@@ -306,7 +306,7 @@ pub fn status(rule: &[u8], point: &[u64]) -> Standing
     let count = header.count();
     let entries = rule::decode(rule, count);
     let measured = rule::measure_decoded(header, entries);
-    let checked = checkpoint::check_own(measured, version, entries, count, point);
+    let checked = checks::check_own(measured, version, entries, count, point);
     let Checked::Passed = checked else {
         return Standing::Refused(checked.number());
     };

@@ -5,7 +5,7 @@ use mathlib.Core.List.{List, [], _∷_}
 use mathlib.Core.Path.{_≡_, refl}
 use lib.Dec.{eqb}
 use lib.ListN.{length, getD}
-use Rattle.mtl.specs.Formula.{Formula, unbounded}
+use Rattle.mtl.specs.Formula.{Formula, unbounded, largest}
 use Rattle.mtl.specs.Formula.Formula.{letter, not, or, previous, next, since, until}
 use Rattle.mtl.specs.Log.{Log, closing}
 use Rattle.mtl.specs.Satisfaction.{any, all, sat}
@@ -156,7 +156,7 @@ pub every-wanted :
     wanted-of (or (until 0 9 a (previous 0 9 (previous 0 9 b))) (previous 0 9 c)) ∷
     wanted-of (next 0 9 a) ∷ [] ≡
     (0 ∷ 0 ∷ 0 ∷ 1 ∷ []) ∷ (0 ∷ 0 ∷ 1 ∷ 2 ∷ []) ∷ (1 ∷ 2 ∷ 3 ∷ 4 ∷ []) ∷ []
-unfolding depth deepest
+unfolding depth largest
 every-wanted = refl
 
 -- three positions, in records 1, 2 and 4 of six: the record that holds the first, that of the third, and, of a fourth that is not there, the

@@ -2,6 +2,7 @@
 use Prim.Native.Nat.{ℕ, _+_, max}
 use mathlib.Core.Bool.{Bool, true, false, _&&_, _||_}
 use mathlib.Core.Bool.{not as negate}
+use mathlib.Core.List.{List, [], _∷_}
 use lib.Dec.{eqb}
 
 -- "High 4,294,967,295 means no upper end"
@@ -45,3 +46,8 @@ reach (previous low high φ) = reach φ
 reach (next low high φ) = reach φ
 reach (since low high φ ψ) = max (reach φ) (reach ψ)
 reach (until low high φ ψ) = high + max (reach φ) (reach ψ)
+
+-- the largest over a rule's formulas, and 0 where there is none
+unfoldable pub largest : (Formula → ℕ) → List Formula → ℕ
+largest f [] = 0
+largest f (φ ∷ fs) = max (f φ) (largest f fs)

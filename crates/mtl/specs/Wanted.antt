@@ -2,9 +2,9 @@
 -- entries on a path from the last entry to a letter"; and the first record still wanted: those before it may hold any bytes.
 use Prim.Native.Nat.{ℕ, suc, _-_, max}
 use mathlib.Core.Bool.{cond}
-use mathlib.Core.List.{List, [], _∷_}
+use mathlib.Core.List.{List}
 use lib.Dec.{ltb}
-use Rattle.mtl.specs.Formula.{Formula}
+use Rattle.mtl.specs.Formula.{Formula, largest}
 use Rattle.mtl.specs.Formula.Formula.{letter, not, or, previous, next, since, until}
 use Rattle.mtl.specs.Log.{Log}
 
@@ -19,9 +19,8 @@ depth (since low high φ ψ) = max (depth φ) (depth ψ)
 depth (until low high φ ψ) = max (depth φ) (depth ψ)
 
 -- of a rule's formulas the largest, "paper 2's k, are the largest over the formulas" (paper 8); of none 0
-unfoldable pub deepest : List Formula → ℕ
-deepest [] = 0
-deepest (φ ∷ fs) = max (depth φ) (deepest fs)
+abbrev pub deepest : List Formula → ℕ
+deepest fs = largest depth fs
 
 -- "d less k (0 when d is below k)"
 abbrev pub wanted : List Formula → (given : ℕ) → ℕ

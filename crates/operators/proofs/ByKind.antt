@@ -10,8 +10,8 @@ use Rattle.mtl.specs.Formula.Formula.{letter, not, or, previous, next, since, u
 use Rattle.rule.specs.Words.{ring-words, own-words}
 use Rattle.rule.proofs.Spans.{own-least}
 use Rattle.blocks.specs.Block.{kind-of, letter-of, low-of, high-of}
-use Rattle.blocks.specs.Step.{left-of, right-of, Steps}
-use Rattle.blocks.specs.Kinds.{Fields}
+use Rattle.blocks.specs.Step.{left-of, right-of, Ends, Steps}
+use Rattle.blocks.specs.Kinds.{Fields, takes-left, takes-right}
 use Rattle.blocks.specs.declared.Step.{Step}
 
 -- the formula that an entry's fields and its operands make
@@ -32,11 +32,18 @@ rebuilt (since low high φ ψ) = refl
 rebuilt (until low high φ ψ) = refl
 
 -- what the operator of kind n promises, it promises of every formula that an entry of this kind stands for
-pub steps-of : (φ : Formula) {k c l h : ℕ} (n : ℕ) (v s b : List ℕ) (r : Step) (b′ : List ℕ) → k ≡ n → Fields φ k c l h →
+steps-of : (φ : Formula) {k c l h : ℕ} (n : ℕ) (v s b : List ℕ) (r : Step) (b′ : List ℕ) → k ≡ n → Fields φ k c l h →
     Steps (formula n c l h (left-of φ) (right-of φ)) v s b r b′ → Steps φ v s b r b′
 steps-of φ {c = c} {l = l} {h = h} n v s b r b′ e f steps =
     let same : formula n c l h (left-of φ) (right-of φ) ≡ φ = rw (← e, f .kind, f .letter, f .low, f .high) (rebuilt φ) in
     subst (λ (χ : Formula). Steps χ v s b r b′) same steps
+
+-- what `advance` promises of an entry of kind k, from what the step of the operator of kind n ensures
+pub promised : {k c l h : ℕ} (n : ℕ) {v s b : List ℕ} (r : Step) (b′ : List ℕ) {Kept : Type 0} → k ≡ n →
+    Ends (takes-left n) (takes-right n) v b r b′ → ((φ ψ : Formula) → Steps (formula n c l h φ ψ) v s b r b′) → Kept →
+    Ends (takes-left k) (takes-right k) v b r b′ × (((φ : Formula) → Fields φ k c l h → Steps φ v s b r b′) × Kept)
+promised n {v} {s} {b} r b′ e ends steps kept =
+    (rw e ends, (λ φ f. steps-of φ n v s b r b′ e f (steps (left-of φ) (right-of φ)), kept))
 
 -- an entry's block has 16 words at least, a since's its ring besides, and an until's that of its other head
 pub room-of : (k h n : ℕ) → own-words k h ≤ n → 16 ≤ n

@@ -29,10 +29,10 @@ use Rattle.mtl.proofs.Closing.{
 use Rattle.bits.specs.Packed.{Packed}
 use Rattle.bits.proofs.Laws.{packed-none, packed-push, packed-same, packed-not, packed-or, packed-and}
 use Rattle.trace.specs.Format.{time-at}
-use Rattle.trace.specs.View.{slice-first, total, skips, in-slice}
-use Rattle.trace.specs.Window.{window-of, Lettered, Opened, Passed}
-use Rattle.trace.specs.declared.window.Letters.{Letters}
-use Rattle.trace.specs.declared.window.Window.{Window}
+use Rattle.window.specs.View.{slice-first, total, skips, in-slice}
+use Rattle.window.specs.Window.{window-of, Lettered, Opened, Passed}
+use Rattle.window.specs.declared.Letters.{Letters}
+use Rattle.window.specs.declared.Window.{Window}
 use Rattle.trace.proofs.Laws.{neither}
 use Rattle.blocks.specs.Block.{taken, left-count, left-bits, right-count, right-bits, answered, head, Onward, Core, Own, Heads, RightBuffer, Buffers, Ready, took-right, took-both}
 use Rattle.blocks.specs.Near.{near-after}

@@ -8,7 +8,7 @@ ghost use Rattle.mtl.specs.Formula.Formula.{not as not-formula, or as or-formul
 ghost use Rattle.blocks.specs.Step.{Steps, Ends};
 use blocks::Step;
 use blocks::word;
-use trace::view;
+use window::view;
 
 // Turns every answer of the operand.
 pub fn step_not(view: &[u64; 66], block: &mut [u64]) -> Step

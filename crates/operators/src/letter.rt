@@ -3,12 +3,11 @@ ghost use mathlib.Core.Bool.{false};
 ghost use Prim.Native.Nat.{_≤_, _<_};
 ghost use lib.ListN.{length};
 ghost use Rattle.mtl.specs.Formula.Formula.{letter as letter-formula};
-ghost use Rattle.trace.specs.View.{Views};
+ghost use Rattle.window.specs.View.{Views};
 ghost use Rattle.blocks.specs.Step.{Steps, Ends};
 use blocks::Step;
 use blocks::word;
-use trace::view;
-use trace::window;
+use window::view;
 
 // Up to 64 positions from the head on.
 pub fn step_letter(letter: u64, records: &[u8], view: &[u64; 66], block: &mut [u64]) -> Step

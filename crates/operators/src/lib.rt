@@ -4,7 +4,7 @@ ghost use Prim.Native.Nat.{_≤_, _<_, _^_};
 ghost use lib.ListN.{length};
 ghost use Rattle.mtl.specs.Formula.{Formula};
 ghost use Rattle.rule.specs.Words.{own-words};
-ghost use Rattle.trace.specs.View.{Views};
+ghost use Rattle.window.specs.View.{Views};
 ghost use Rattle.blocks.specs.Step.{Steps, Ends};
 ghost use Rattle.blocks.specs.Kinds.{Fields, takes-left, takes-right};
 

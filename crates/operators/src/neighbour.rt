@@ -7,8 +7,8 @@ ghost use Rattle.mtl.specs.Formula.{Formula};
 ghost use Rattle.mtl.specs.Formula.Formula.{previous, next};
 ghost use Rattle.bits.specs.Packed.{Packed};
 ghost use Rattle.trace.specs.Format.{record-count, time-at};
-ghost use Rattle.trace.specs.View.{Views};
-ghost use Rattle.trace.specs.Window.{window-of};
+ghost use Rattle.window.specs.View.{Views};
+ghost use Rattle.window.specs.Window.{window-of};
 ghost use Rattle.blocks.specs.Block.{taken, right-count};
 ghost use Rattle.blocks.specs.Near.{near-after};
 ghost use Rattle.blocks.specs.Step.{Steps, Ends};
@@ -16,9 +16,8 @@ ghost use Rattle.operators.specs.Neighbour.{TookNear};
 use blocks::Step;
 use blocks::time;
 use blocks::word;
-use trace::Window;
-use trace::view;
-use trace::window;
+use window::Window;
+use window::view;
 
 // Behind which of the window's first n positions the next one lies in the interval, as a word of answers.
 fn read_near<'a>(

@@ -15,7 +15,7 @@ use Rattle.reasons.specs.Reason.Cause.{by-left, by-time}
 use Rattle.reasons.specs.Reason.Says.{stands, not, or, prev, next, prev-none, since, until, since-no, until-no}
 use Rattle.reasons.specs.Reason.Line.{empty, sentence}
 use Rattle.decimal.specs.Text.{ascii, decimal-in, decimal}
-use Rattle.reasons.specs.Text.{joined, cause-text, said-words, parts, text}
+use Rattle.reasons.specs.Text.{spaced-line, cause-text, said-words, parts, text}
 
 -- READING THE PARTS BACK
 
@@ -49,13 +49,13 @@ read-part (b ∷ p) plain part line rest =
 
 -- a line, and what follows it
 read-line : (p : List ℕ) (ps : List (List ℕ)) → Plains (p ∷ ps) → (line : List (List ℕ)) (rest : List ℕ) →
-    read [] line (joined (p ∷ ps) ++ rest) ≡ (line ++ (p ∷ ps)) ∷ read [] [] rest
-unfolding Plains joined read
+    read [] line (spaced-line (p ∷ ps) ++ rest) ≡ (line ++ (p ∷ ps)) ∷ read [] [] rest
+unfolding Plains spaced-line read
 read-line p [] plain line rest =
     ap (read [] line) (append-assoc p (10 ∷ []) rest) ∙ read-part p (plain .0) [] line (10 ∷ rest)
 read-line p (q ∷ ps) plain line rest =
-    ap (read [] line) (append-assoc p (32 ∷ joined (q ∷ ps)) rest) ∙
-    read-part p (plain .0) [] line (32 ∷ (joined (q ∷ ps) ++ rest)) ∙
+    ap (read [] line) (append-assoc p (32 ∷ spaced-line (q ∷ ps)) rest) ∙
+    read-part p (plain .0) [] line (32 ∷ (spaced-line (q ∷ ps) ++ rest)) ∙
     read-line q ps (plain .1) (line ++ (p ∷ [])) rest ∙
     ap (λ l. l ∷ read [] [] rest) (append-assoc line (p ∷ []) (q ∷ ps))
 
@@ -194,7 +194,7 @@ plain-words (since-no p c) = (plain-by (ascii "since") refl, (plain-number p, (p
 plain-words (until-no p c) = (plain-by (ascii "until") refl, (plain-number p, (plain-cause c, tt)))
 
 -- a line of a text, and what follows it
-line-read : (l : Line) (rest : List ℕ) → read [] [] (joined (parts l) ++ rest) ≡ parts l ∷ read [] [] rest
+line-read : (l : Line) (rest : List ℕ) → read [] [] (spaced-line (parts l) ++ rest) ≡ parts l ∷ read [] [] rest
 unfolding ascii plain-test Plains
 line-read empty rest = read-line (ascii "empty") [] (plain-by (ascii "empty") refl, tt) [] rest
 line-read (sentence k i s) rest =

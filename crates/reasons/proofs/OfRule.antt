@@ -1,5 +1,5 @@
 -- THE THEOREM of paper 13: its claims hold of every formula of every accepted rule, over the log that the bytes are. Assumes nothing.
-use Prim.Native.Nat.{ℕ, zero, suc, _-_, _≤_, _<_}
+use Prim.Native.Nat.{ℕ, suc, _-_, _≤_, _<_}
 use mathlib.Core.Bool.{Bool, true, false, cond}
 use mathlib.Core.Logic.{⊎-elim}
 use mathlib.Core.Path.{_≡_, refl, sym, _∙_, ap, ap₂, subst}
@@ -20,7 +20,7 @@ use Rattle.rule.specs.Accepted.{Whole}
 use Rattle.rule.specs.Refusal.{refusal}
 use Rattle.rule.proofs.Acceptance.{accepted}
 use Rattle.rule.proofs.Decoded.{length-decoded}
-use Rattle.rule.proofs.Order.{some-size}
+use Rattle.rule.proofs.Order.{some-size, start-grows}
 use Rattle.rule.proofs.Stacks.{left-over}
 use Rattle.trace.specs.Format.{records-of, skips-of}
 use Rattle.trace.proofs.Laws.{ordered-iff}
@@ -32,7 +32,7 @@ use Rattle.reasons.specs.Reason.{Says, Line, reason}
 use Rattle.reasons.specs.Reason.Line.{empty, sentence}
 use Rattle.reasons.specs.Facts.{Facts, formula-at}
 use Rattle.reasons.specs.Text.{text}
-use Rattle.reasons.specs.OfRule.{log-in, last-entry, reason-in, reason-of, FactsOf, answer-of, Asked, Alike, Explained}
+use Rattle.reasons.specs.OfRule.{log-in, last-entry, reason-in, reason-of, FactsOf, answer-of, Asked, Alike, Claims}
 use Rattle.reasons.proofs.Theorem.{LaidAt, facts-hold, facts-force}
 use Rattle.reasons.proofs.Laid.{laid-at}
 use Rattle.reasons.proofs.Apart.{same-text}
@@ -66,15 +66,6 @@ about (Formula.since low high φ ψ) k L i = (refl, refl)
 about (Formula.until low high φ ψ) k L i = (refl, refl)
 
 -- no two formulas have one last entry
-start-grows : (fs : List Formula) (k n : ℕ) → k ≤ n → start fs k ≤ start fs n
-unfolding start
-start-grows fs k zero h = let e : k ≡ 0 = omega arith in rw e (omega arith)
-start-grows fs k (suc n) h =
-    ⊎-elim
-    (λ (e : k ≡ suc n). rw e (omega arith))
-    (λ (l : k < suc n). omega (arith, start-grows fs k n (omega arith)))
-    (eq-or-lt-of-le {n = k} {m = suc n} h)
-
 last-rises : (fs : List Formula) (k k′ : ℕ) → k < k′ → last-entry fs k < last-entry fs k′
 unfolding start
 last-rises fs k k′ h = omega (arith, start-grows fs (suc k) k′ h, some-size (formula fs k), some-size (formula fs k′))
@@ -168,7 +159,7 @@ alike rule log log′ k k′ i i′ asked asked′ e =
     }
 
 -- THE THEOREM
-pub explained : (rule log : List ℕ) (k i : ℕ) → Asked rule log k i → Explained rule log k i
+pub explained : (rule log : List ℕ) (k i : ℕ) → Asked rule log k i → Claims rule log k i
 explained rule log k i asked =
     record {
       hold = holds rule log k i asked;

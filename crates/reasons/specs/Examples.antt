@@ -19,7 +19,7 @@ use Rattle.emit.specs.Verdicts.{formulas-of}
 use Rattle.decimal.specs.Text.{ascii, decimal-in}
 use Rattle.reasons.specs.Search.{after-last}
 use Rattle.reasons.specs.Reason.{reason}
-use Rattle.reasons.specs.Text.{joined, text}
+use Rattle.reasons.specs.Text.{spaced-line, text}
 use Rattle.reasons.specs.OfRule.{log-in, reason-of}
 
 -- THE TABLE
@@ -185,7 +185,7 @@ rows =
 
 -- every row computes; an edit of the definitions that breaks a row has its number in the error
 pub every-row : Right 1 rows
-unfolding Right wrong rows computes up-to same same-texts any all sat run progress size after-last reason ascii decimal-in joined text
+unfolding Right wrong rows computes up-to same same-texts any all sat run progress size after-last reason ascii decimal-in spaced-line text
 every-row = (refl, (refl, (refl, (refl, (refl, (refl, (refl, (refl, (refl, (refl, (refl, (refl, (refl, (refl, (refl, (refl, (refl, (refl, (refl, (refl, (refl, tt)))))))))))))))))))))
 
 -- FROM THE BYTES
@@ -236,5 +236,5 @@ pub every-rule :
     map ascii ("6 0 not\n5 0 until 2 left\n" ∷ "6 1 not\n5 1 until 2 left\n" ∷ "6 2 not\n5 2 until 2 left\n" ∷ "6 3 not\n5 3 until 4\n" ∷ "6 4 not\n5 4 until 4\n" ∷ [])) ×
     (texts-of two serviced 0 ≡ map ascii first-texts) ×
     (texts-of none log 0 ≡ map ascii ("empty\n" ∷ "empty\n" ∷ "empty\n" ∷ "empty\n" ∷ "empty\n" ∷ "empty\n" ∷ []))
-unfolding up-to passing spot positions first-entries push-kind read size start any all sat run progress settled-to joint-progress after-last reason ascii decimal-in joined text
+unfolding up-to passing spot positions first-entries push-kind read size start any all sat run progress settled-to joint-progress after-last reason ascii decimal-in spaced-line text
 every-rule = (refl, refl, refl, refl)

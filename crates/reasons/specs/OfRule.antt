@@ -33,6 +33,7 @@ abbrev pub reason-in : List Formula → (k : ℕ) → Log → (i : ℕ) → List
 reason-in [] k L i = empty ∷ []
 reason-in (φ ∷ fs) k L i = reason (formula (φ ∷ fs) k) (last-entry (φ ∷ fs) k) L i
 
+-- from the bytes of rule and log
 abbrev pub reason-of : (rule log : List ℕ) (k i : ℕ) → List Line
 reason-of rule log k i = reason-in (formulas-of rule) k (log-in log) i
 
@@ -62,7 +63,7 @@ pub record Alike (rule log log′ : List ℕ) (k k′ i i′ : ℕ) : Type 0 whe
   pub verdict : answer-of rule k (log-in log) i ≡ answer-of rule k′ (log-in log′) i′
 
 -- WHAT THE PAPER CLAIMS, of every formula of every accepted rule and every answered position
-pub record Explained (rule log : List ℕ) (k i : ℕ) : Type 0 where
+pub record Claims (rule log : List ℕ) (k i : ℕ) : Type 0 where
   -- "Every fact written holds in the plain reading"
   pub hold : FactsOf rule (log-in log) (reason-of rule log k i)
   -- "and together they force the verdict on any log in which they hold and no time falls."

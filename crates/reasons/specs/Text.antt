@@ -9,10 +9,10 @@ use Rattle.reasons.specs.Reason.Says.{stands, not, or, prev, next, prev-
 use Rattle.reasons.specs.Reason.Line.{empty, sentence}
 
 -- "A sentence is a line, one space between its parts, then byte 10"
-unfoldable pub joined : List (List ℕ) → List ℕ
-joined [] = 10 ∷ []
-joined (p ∷ []) = p ++ (10 ∷ [])
-joined (p ∷ (q ∷ ps)) = p ++ (32 ∷ joined (q ∷ ps))
+unfoldable pub spaced-line : List (List ℕ) → List ℕ
+spaced-line [] = 10 ∷ []
+spaced-line (p ∷ []) = p ++ (10 ∷ [])
+spaced-line (p ∷ (q ∷ ps)) = p ++ (32 ∷ spaced-line (q ∷ ps))
 
 -- "the line then ends with left or time"
 abbrev pub cause-text : Cause → List ℕ
@@ -38,6 +38,7 @@ abbrev pub parts : Line → List (List ℕ)
 parts empty = ascii "empty" ∷ []
 parts (sentence k i says) = decimal k ∷ decimal i ∷ said-words says
 
+-- the lines, one behind the other
 unfoldable pub text : List Line → List ℕ
 text [] = []
-text (l ∷ ls) = joined (parts l) ++ text ls
+text (l ∷ ls) = spaced-line (parts l) ++ text ls

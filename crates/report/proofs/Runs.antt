@@ -20,13 +20,14 @@ use Rattle.rule.proofs.Acceptance.{accepted}
 use Rattle.trace.specs.Format.{record-count, skips-of, is-trimmed, dropped, records-of, total-records, malformed}
 use Rattle.trace.specs.Log.{log-of}
 use Rattle.trace.specs.Order.{disordered}
-use Rattle.trace.specs.View.{view-of, Shows}
+use Rattle.window.specs.View.{view-of, Shows}
 use Rattle.trace.proofs.Laws.{well-formed-records, ordered-iff}
 use Rattle.trace.proofs.Positions.{before-few, log-placed, positions-keep}
-use Rattle.trace.proofs.Slices.{Cut, cut-from, before-cut, slice-shows, flag-told}
+use Rattle.trace.proofs.Parts.{Cut, cut-from, before-cut}
+use Rattle.window.proofs.Slices.{slice-shows, flag-told}
 use Rattle.blocks.specs.Step.{Agrees}
 use Rattle.checkpoint.specs.Checkpoint.{first-wanted, need}
-use Rattle.checkpoint.specs.Refusal.{open-refusal, resume-refusal}
+use Rattle.checks.specs.Refusal.{open-refusal, resume-refusal}
 use Rattle.emit.specs.Verdicts.{formulas-of, columns, verdicts, first-records, all-verdicts}
 use Rattle.monitor.specs.Stands.{Stands}
 use Rattle.monitor.specs.Open.{done, Opens}

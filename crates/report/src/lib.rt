@@ -80,7 +80,7 @@ fn put_lines(verdicts: &[u8], columns: usize, text: &mut [u8], from: usize) -> u
 }
 
 // How many words a line of an accepted rule has; of a refused rule no line is printed.
-fn columns_of(rule: &[u8]) -> usize
+fn words_in_line(rule: &[u8]) -> usize
     ensures { λ r. ⌜ (refusal (now (rule .entry)) ≡ 0 → r ≡ columns (formulas-of (now (rule .entry)))) ⌝ }
 {
     let FormulaCount::Formulas(columns) = monitor::formulas(rule) else {
@@ -107,7 +107,7 @@ pub fn report(rule: &[u8], log: &[u8], text: &mut [u8; 303089]) -> usize
     let Resumed::Given { count, more: _ } = resumed else {
         return put_refused(resumed.number(), text);
     };
-    let columns = columns_of(rule);
+    let columns = words_in_line(rule);
     let at = put_counts(count, trace::count(trace::records(log)), text);
     put_lines(&sheet[..count], columns, text, at)
 }

@@ -7,7 +7,7 @@ use mathlib.Core.Bool.{Bool, true, false, cond}
 use mathlib.Core.List.{List}
 use mathlib.Core.Option.{Option, none, some}
 use lib.ListN.{length}
-use Rattle.mtl.specs.Formula.{Formula, unbounded}
+use Rattle.mtl.specs.Formula.{Formula, unbounded, largest}
 use Rattle.mtl.specs.Satisfaction.{any}
 use Rattle.rule.specs.declared.Entry.{Entry}
 use Rattle.rule.specs.declared.measuring.Reading.the-variants.{Found, Faulty}
@@ -17,8 +17,8 @@ use Rattle.rule.specs.Words.{header-words, words, limit}
 use Rattle.rule.specs.Postfix.{formulas}
 use Rattle.rule.specs.Refusal.{misshapen-at, misplaced-at, lacking, over-limit, entries-refusal}
 use Rattle.rule.specs.Measure.{Answer, refused, some-next, reach-of}
-use Rattle.rule.specs.Code.{totals, is-next, measured-entries, largest, reading}
-use Rattle.rule.proofs.Order.{farthest-largest}
+use Rattle.rule.specs.Contract.{measured-entries}
+use Rattle.rule.specs.Code.{quantity, totals, is-next, reading}
 use Rattle.rule.proofs.Nexts.{next-is}
 
 none-of : (o : Option (List Formula)) → reading Reach o ≡ Faulty → lacking o ≡ true
@@ -34,8 +34,8 @@ far-of : (o : Option (List Formula)) (most : ℕ) (next : Bool) → ((fs : List 
     → reading Reach o ≡ Found most → reach-of o ≡ cond next unbounded most
 far-of none most next h e = cc
 far-of (some fs) most next h e =
-    let r : largest Reach fs ≡ most = cc in
-    ap₂ (λ (b : Bool) (m : ℕ). cond b unbounded m) (h fs refl) (farthest-largest fs ∙ r)
+    let r : largest (quantity Reach) fs ≡ most = cc in
+    ap₂ (λ (b : Bool) (m : ℕ). cond b unbounded m) (h fs refl) r
 
 module _ (version : ℕ) (t : List Entry) (n : ℕ) (sums : Totals) (s : sums ≡ totals t n) where
   shape-is : (b : Bool) → sums .misshapen ≡ b → any n (misshapen-at t) ≡ b

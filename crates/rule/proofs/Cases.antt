@@ -3,7 +3,7 @@ use Prim.Native.Nat.{ℕ}
 use mathlib.Core.Path.{_≡_, refl}
 use mathlib.Core.List.{List, [], _∷_, _++_}
 use lib.ListN.{length, set, replicate}
-use Rattle.mtl.specs.Formula.{Formula, unbounded, reach, has-next}
+use Rattle.mtl.specs.Formula.{Formula, unbounded, reach, has-next, largest}
 use Rattle.mtl.specs.Formula.Formula.{letter, not, next, since, until}
 use Rattle.mtl.specs.Satisfaction.{any}
 use Rattle.rule.specs.Entries.{first-entries}
@@ -61,6 +61,6 @@ pub rows :
     × Weighs (rules-of (letter 0 ∷ kept 870 ∷ [])) 8 0 0
     × Weighs (rules-of (P1 ∷ next 1 unbounded (letter 0) ∷ [])) 0 110 unbounded
     × Weighs (encoded (postfixes (letters 2))) 7 0 0
-unfolding encoded body postfix postfixes header-refusal entries-refusal first-entries any offset read push-kind reach has-next farthest
+unfolding encoded body postfix postfixes header-refusal entries-refusal first-entries any offset read push-kind reach has-next largest
 rows =
     (refl, refl, refl, refl, refl, refl, refl, refl, refl, refl, refl, refl, refl, refl, refl, refl, refl, refl, refl, refl, refl)

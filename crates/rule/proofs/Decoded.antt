@@ -10,7 +10,7 @@ use lib.Seq.{getD-set-same, getD-set-other}
 use Rattle.mtl.proofs.Bounded.{le-or-lt}
 use Rattle.rule.specs.Bytes.{byte}
 use Rattle.rule.specs.Entries.{entry-of, first-entries, decoded, blank, entry}
-use Rattle.rule.specs.Code.{filled}
+use Rattle.rule.specs.Contract.{filled}
 use Rattle.rule.proofs.Laws.{grown-length, grown-at}
 
 pub length-decoded : (s : List ℕ) → length (decoded s) ≡ 128

@@ -17,7 +17,7 @@ use Rattle.rule.specs.Bytes.{byte}
 use Rattle.rule.specs.Entries.{version, count, decoded}
 use Rattle.rule.specs.Refusal.{first, or-else, unmarked, unknown-version, wrong-size, header-refusal}
 use Rattle.rule.specs.Measure.{measured}
-use Rattle.rule.specs.Code.{measured-entries, header, header-count, header-version, filled, measured-by}
+use Rattle.rule.specs.Contract.{measured-entries, header-count, header-version, filled, measured-by, header}
 use Rattle.rule.proofs.Decoded.{decoded-filled}
 
 -- no refusal: neither this one nor a later one

@@ -1,7 +1,8 @@
 -- Small laws on lists and sums that several proofs use.
-use Prim.Native.Nat.{ℕ, zero, suc, _+_, _<_, max}
+use Prim.Native.Nat.{ℕ, zero, suc, _+_, _≤_, _<_, max}
 use native.Mathlib.Nat.{not-suc-le-zero, le-of-suc-le-suc, eq-or-lt-of-le}
 use native.Mathlib.Numerals.{add-one}
+use native.Mathlib.Omega.{arith}
 use mathlib.Core.Path.{_≡_, refl, sym, ap, _∙_}
 use mathlib.Core.Logic.{⊎-elim}
 use mathlib.Core.List.{List, [], _∷_, _++_}
@@ -12,6 +13,15 @@ use Rattle.rule.specs.declared.Entry.{Entry}
 use Rattle.rule.specs.Entries.{entry}
 use Rattle.rule.specs.Words.{offset}
 use Rattle.rule.specs.Code.{totals, with-entry, greatest}
+
+-- what does not fall from one number to the next is no less at any later one
+pub grows : (f : ℕ → ℕ) → ((k : ℕ) → f k ≤ f (suc k)) → (k m : ℕ) → k ≤ m → f k ≤ f m
+grows f step k zero h = let e : k ≡ 0 = omega arith in rw e (omega arith)
+grows f step k (suc m) h =
+    ⊎-elim
+    (λ (e : k ≡ suc m). rw e (omega arith))
+    (λ (l : k < suc m). omega (arith, grows f step k m (omega arith), step m))
+    (eq-or-lt-of-le {n = k} {m = suc m} h)
 
 -- within a list the default does not count
 pub getD-default : (l : List ℕ) (i d d′ : ℕ) → i < length l → getD l i d ≡ getD l i d′

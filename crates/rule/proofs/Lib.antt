@@ -5,6 +5,7 @@ pub mod Order
 pub mod Run
 pub mod Marks
 pub mod Nexts
+pub mod Depths
 pub mod Answers
 pub mod Decoded
 pub mod Headers

@@ -18,7 +18,7 @@ use Rattle.rule.specs.declared.measuring.Ends.{Ends}
 use Rattle.rule.specs.Entries.{entry}
 use Rattle.rule.specs.Postfix.{unary, binary, push-kind, push, read, stack-after, left-by, formulas, start}
 use Rattle.rule.specs.Operands.{operands}
-use Rattle.rule.specs.Code.{EndsOf}
+use Rattle.rule.specs.Contract.{EndsOf}
 use Rattle.rule.proofs.Stacks.{stack-more, stays-none, Left, left-over, no-stack}
 use Rattle.rule.proofs.Order.{start-below, start-drop, counted}
 use Rattle.rule.proofs.Run.{short}

@@ -10,7 +10,7 @@ use mathlib.Core.List.{List, [], _∷_, _++_, reverse, reverse-cons}
 use mathlib.Core.Option.{some}
 use lib.ListN.{length, drop, length-reverse, List·getD-append}
 use lib.Seq.{getD-at}
-use Rattle.mtl.specs.Formula.{Formula, reach}
+use Rattle.mtl.specs.Formula.{Formula, reach, largest}
 use Rattle.mtl.specs.Formula.{has-next}
 use Rattle.mtl.specs.Formula.Formula.{letter, not, or, previous, next, since, until}
 use Rattle.rule.specs.declared.Entry.{Entry}
@@ -20,8 +20,9 @@ use Rattle.rule.specs.Entries.{entry}
 use Rattle.rule.specs.Postfix.{unary, binary, push-kind, stack-after, size, formula, start}
 use Rattle.rule.specs.Operands.{span, FormulaAt}
 use Rattle.rule.specs.Accepted.{Stretch, Whole}
-use Rattle.rule.specs.Measure.{some-next, farthest}
-use Rattle.rule.specs.Code.{largest}
+use Rattle.rule.specs.Measure.{some-next}
+use Rattle.rule.specs.Code.{quantity}
+use Rattle.rule.proofs.Laws.{grows}
 use Rattle.rule.proofs.Stacks.{Each, along}
 use Rattle.rule.proofs.Subformulas.{span-fits, span-size, Stacked}
 
@@ -64,17 +65,10 @@ some-size (next low high φ) = omega arith
 some-size (since low high φ ψ) = omega arith
 some-size (until low high φ ψ) = omega arith
 
-start-more : (fs : List Formula) (k j : ℕ) → start fs k ≤ start fs (k + j)
-unfolding start
-start-more fs k zero = let e : k + 0 ≡ k = omega arith in rw e (omega arith)
-start-more fs k (suc j) =
-    let e : k + suc j ≡ suc (k + j) = omega arith in
-    let h = start-more fs k j in
-    rw e (omega arith)
-
 -- a later formula's entries begin no earlier
 pub start-grows : (fs : List Formula) (k m : ℕ) → k ≤ m → start fs k ≤ start fs m
-start-grows fs k m h = let e : k + (m - k) ≡ m = omega arith in subst (λ (i : ℕ). start fs k ≤ start fs i) e (start-more fs k (m - k))
+unfolding start
+start-grows fs = grows (start fs) (λ k. omega arith)
 
 -- each formula's entries are among the n
 pub within-whole : (t : List Entry) (n : ℕ) (fs : List Formula) → Whole t n fs → (k : ℕ) → k < length fs → start fs k + size (formula fs k) ≤ n
@@ -165,16 +159,16 @@ counted t k fs h e =
     along Counted t k h refl (λ i gs l q. pushed (entry t i .kind) (entry t i) i gs q) k (omega arith) fs e
 
 -- what is taken over all formulas does not ask for their order
-largest-append : (of : Quantity) (gs hs : List Formula) → largest of (gs ++ hs) ≡ max (largest of gs) (largest of hs)
+largest-append : (of : Quantity) (gs hs : List Formula) → largest (quantity of) (gs ++ hs) ≡ max (largest (quantity of) gs) (largest (quantity of) hs)
 unfolding largest
 largest-append of [] hs = omega arith
 largest-append of (φ ∷ gs) hs = omega (arith, largest-append of gs hs)
 
-pub largest-reverse : (of : Quantity) (fs : List Formula) → largest of (reverse fs) ≡ largest of fs
+pub largest-reverse : (of : Quantity) (fs : List Formula) → largest (quantity of) (reverse fs) ≡ largest (quantity of) fs
 unfolding largest
 largest-reverse of [] = refl
 largest-reverse of (φ ∷ fs) =
-    ap (largest of) (reverse-cons φ fs) ∙ omega (arith, largest-append of (reverse fs) (φ ∷ []), largest-reverse of fs)
+    ap (largest (quantity of)) (reverse-cons φ fs) ∙ omega (arith, largest-append of (reverse fs) (φ ∷ []), largest-reverse of fs)
 
 next-append : (gs hs : List Formula) → some-next (gs ++ hs) ≡ some-next gs || some-next hs
 next-append [] hs = refl
@@ -197,8 +191,3 @@ next-reverse (φ ∷ fs) =
     turn true false = refl
     turn false true = refl
     turn false false = refl
-
-pub farthest-largest : (fs : List Formula) → farthest fs ≡ largest Reach fs
-unfolding farthest largest
-farthest-largest [] = refl
-farthest-largest (φ ∷ fs) = ap (max (reach φ)) (farthest-largest fs)

@@ -10,7 +10,7 @@ use lib.ListN.{length}
 use mathlib.Core.Path.{_≡_, refl, ap, _∙_}
 use lib.Dec.{eqb}
 use borrow.Author.Tests.{ne-eqb}
-use Rattle.mtl.specs.Formula.{Formula, unbounded, has-next, untils-end, reach}
+use Rattle.mtl.specs.Formula.{Formula, unbounded, has-next, untils-end, reach, largest}
 use Rattle.mtl.specs.Formula.Formula.{letter, not, or, previous, next, since, until}
 use Rattle.mtl.specs.Log.{Log, NeverFalls}
 use Rattle.mtl.specs.Progress.{joint-progress}
@@ -64,7 +64,7 @@ untils-all t n fs ok w k h =
 -- of any number of formulas
 all-answered : (fs : List Formula) → ((k : ℕ) → k < length fs → untils-end (formula fs k) ≡ true) → some-next fs ≡ false
     → (L : Log) → NeverFalls L → (i : ℕ) → i < L .size → L .time i + farthest fs < L .time (L .size - 1) → i < joint-progress fs L
-unfolding farthest joint-progress
+unfolding largest joint-progress
 all-answered [] ends free L falls i h far = h
 all-answered (φ ∷ fs) ends free L falls i h far =
     let own = reach-answered φ L (or-left (has-next φ) (some-next fs) free) (ends 0 (omega arith)) falls i h (omega arith) in

@@ -10,7 +10,7 @@ use mathlib.Core.Option.{Option, none, some}
 use lib.Dec.{leb}
 use lib.ListN.{length, getD, drop, set, replicate, length-set, length-map}
 use lib.Seq.{getD-set-same, getD-set-other}
-use Rattle.mtl.specs.Formula.{Formula, reach}
+use Rattle.mtl.specs.Formula.{Formula, reach, largest}
 use Rattle.mtl.specs.Formula.Formula.{letter, not, or, previous, next, since, until}
 use Rattle.mtl.specs.Wanted.{depth, deepest}
 use Rattle.rule.specs.declared.Entry.{Entry}
@@ -20,7 +20,7 @@ use Rattle.rule.specs.declared.measuring.Quantity.the-variants.{Reach, D
 use Rattle.rule.specs.Entries.{entry}
 use Rattle.rule.specs.Postfix.{unary, binary, push-kind, push, read, stack-after, fewest-formulas, most-formulas, left-by, formulas, formulas-or}
 use Rattle.rule.specs.Operands.{operands}
-use Rattle.rule.specs.Code.{quantity, joined-by, greatest, largest, reading}
+use Rattle.rule.specs.Code.{quantity, joined-by, greatest, reading}
 use Rattle.rule.proofs.Stacks.{stack-more, stays-none}
 use Rattle.rule.proofs.Order.{largest-reverse}
 
@@ -201,8 +201,8 @@ lacks-operand of version t a d k n r h m l =
     let o : stack-after t (suc k) ≡ none = stack-more t k h ∙ ap (push e₀) (r .stack-is) ∙ s in
     ap (λ (o : Option (List Formula)). reading of (left-by version o)) (stays-none t (suc k) n m o)
 
--- the largest of the stack's quantities
-greatest-held : (of : Quantity) (fs : List Formula) (a : List ℕ) (d : ℕ) → map (quantity of) fs ≡ held a d → largest of fs ≡ greatest a d
+-- the largest (quantity of) the stack's quantities
+greatest-held : (of : Quantity) (fs : List Formula) (a : List ℕ) (d : ℕ) → map (quantity of) fs ≡ held a d → largest (quantity of) fs ≡ greatest a d
 unfolding largest greatest
 greatest-held of [] a zero e = refl
 greatest-held of [] a (suc d) e = absurd (nil≢cons e)
@@ -226,16 +226,11 @@ other-number of version t a d n r e =
     ∙ simp (height-is of t a d n r, e)
 
 -- the largest depth, where the entries are formulas, and 0 where not
-largest-depth : (fs : List Formula) → largest Depth fs ≡ deepest fs
-unfolding largest deepest
-largest-depth [] = refl
-largest-depth (φ ∷ fs) = ap (max (depth φ)) (largest-depth fs)
-
 pub depth-found : (o : Option (List Formula)) (most-formulas : ℕ) → reading Depth o ≡ Found most-formulas → most-formulas ≡ deepest (formulas-or o)
 depth-found none most-formulas e = absurd (let z : _≡_ {A = ℕ} 0 1 = cc in omega arith)
-depth-found (some fs) most-formulas e = let found : most-formulas ≡ largest Depth fs = cc in found ∙ largest-depth fs
+depth-found (some fs) most-formulas e = cc
 
 pub depth-faulty : (o : Option (List Formula)) → reading Depth o ≡ Faulty → 0 ≡ deepest (formulas-or o)
-unfolding deepest
+unfolding largest
 depth-faulty none e = refl
 depth-faulty (some fs) e = absurd (let z : _≡_ {A = ℕ} 0 1 = cc in omega arith)

@@ -1,8 +1,8 @@
 -- The spans of subformulas, and the words that go with them, from those of the operands.
-use Prim.Native.Nat.{ℕ, zero, suc, _+_, _*_, _-_, _≤_, _<_}
+use Prim.Native.Nat.{ℕ, suc, _+_, _*_, _-_, _≤_, _<_}
 use native.Mathlib.Omega.{arith}
 use mathlib.Core.Bool.{Bool, true, false, cond}
-use mathlib.Core.Path.{_≡_, refl, sym, ap, subst, _∙_}
+use mathlib.Core.Path.{_≡_, refl, sym, ap, _∙_}
 use mathlib.Core.List.{List}
 use lib.Dec.{eqb}
 use lib.ListN.{getD}
@@ -10,7 +10,7 @@ use Rattle.rule.specs.declared.Entry.{Entry}
 use Rattle.rule.specs.Entries.{entry}
 use Rattle.rule.specs.Words.{ring-words, own-words, own, offset, header-words}
 use Rattle.rule.specs.Operands.{operands, next-span, spans, span, left, Leaf, Unary, Binary}
-use Rattle.rule.proofs.Laws.{grown-at}
+use Rattle.rule.proofs.Laws.{grows, grown-at}
 
 spans-have : (t : List Entry) (n k : ℕ) → k < n → getD (spans t n) k 0 ≡ next-span (operands (entry t k .kind)) (spans t k) k
 unfolding spans
@@ -67,16 +67,9 @@ header-most version = most (eqb version 1)
     most false = omega arith
 
 -- the words of more entries are no fewer
-offset-grows : (t : List Entry) (i j : ℕ) → offset t i ≤ offset t (i + j)
-unfolding offset
-offset-grows t i zero = let e : i + 0 ≡ i = omega arith in rw e (omega arith)
-offset-grows t i (suc j) =
-    let e : i + suc j ≡ suc (i + j) = omega arith in
-    let h = offset-grows t i j in
-    rw e (omega arith)
-
 pub offset-mono : (t : List Entry) (i j : ℕ) → i ≤ j → offset t i ≤ offset t j
-offset-mono t i j h = let e : i + (j - i) ≡ j = omega arith in subst (λ (m : ℕ). offset t i ≤ offset t m) e (offset-grows t i (j - i))
+unfolding offset
+offset-mono t = grows (offset t) (λ k. omega arith)
 
 offset-suc : (t : List Entry) (k : ℕ) → offset t (suc k) ≡ offset t k + own (entry t k)
 unfolding offset

@@ -7,20 +7,24 @@ use Rattle.rule.specs.declared.Entry.{Entry}
 use Rattle.rule.specs.Postfix.{postfix}
 
 -- "Numbers wider than a byte are big-endian and unsigned": the four bytes of a 32-bit number
-abbrev pub bytes-of : ℕ → List ℕ
-bytes-of n = n / 16777216 ∷ n / 65536 % 256 ∷ n / 256 % 256 ∷ n % 256 ∷ []
+abbrev pub number-bytes : ℕ → List ℕ
+number-bytes n = n / 16777216 ∷ n / 65536 % 256 ∷ n / 256 % 256 ∷ n % 256 ∷ []
 
 -- "kind (8 bits), letter (8 bits), low (32 bits), high (32 bits)"
 abbrev pub entry-bytes : Entry → List ℕ
-entry-bytes e = e .kind ∷ e .letter ∷ bytes-of (e .low) ++ bytes-of (e .high)
+entry-bytes e = e .kind ∷ e .letter ∷ number-bytes (e .low) ++ number-bytes (e .high)
 
 unfoldable pub body : List Entry → List ℕ
 body [] = []
 body (e ∷ es) = entry-bytes e ++ body es
 
--- the rule that has these entries: "KRL (hexadecimal 4B 52 4C), then a 16-bit version, 1, an 8-bit entry count and two zero bytes"
+-- "KRL (hexadecimal 4B 52 4C), then a 16-bit version, 1, an 8-bit entry count and two zero bytes"
+abbrev pub rule-header : (count : ℕ) → List ℕ
+rule-header n = 0x4B ∷ 0x52 ∷ 0x4C ∷ 0 ∷ 1 ∷ n ∷ 0 ∷ 0 ∷ []
+
+-- the rule that has these entries
 unfoldable pub encoded : List Entry → List ℕ
-encoded es = 0x4B ∷ 0x52 ∷ 0x4C ∷ 0 ∷ 1 ∷ length es ∷ 0 ∷ 0 ∷ body es
+encoded es = rule-header (length es) ++ body es
 
 -- the rule of a formula
 abbrev pub rule-of : Formula → List ℕ

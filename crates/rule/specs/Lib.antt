@@ -1,5 +1,5 @@
 -- The rule format of document 01 and what weighing a rule gives. Read Bytes, Entries, Words, Postfix, Encoding, Refusal, Measure; then
--- Operands and Accepted, on which the layers above rely. Code has what the private functions answer.
+-- Contract, Operands and Accepted, on which the layers above rely. Code has what the private functions answer.
 pub mod Bytes
 pub mod Entries
 pub mod Words
@@ -7,6 +7,7 @@ pub mod Postfix
 pub mod Encoding
 pub mod Refusal
 pub mod Measure
+pub mod Contract
 pub mod Code
 pub mod Operands
 pub mod Accepted

@@ -4,7 +4,7 @@ use mathlib.Core.Bool.{Bool, false, cond, _||_}
 use mathlib.Core.List.{List, [], _∷_}
 use mathlib.Core.Option.{Option, none, some}
 use lib.Dec.{eqb}
-use Rattle.mtl.specs.Formula.{Formula, unbounded, has-next}
+use Rattle.mtl.specs.Formula.{Formula, unbounded, has-next, largest}
 use Rattle.mtl.specs.Formula.{reach as formula-reach}
 use Rattle.rule.specs.declared.Entry.{Entry}
 use Rattle.rule.specs.declared.Measured.{Measured}
@@ -31,9 +31,8 @@ some-next [] = false
 some-next (φ ∷ fs) = has-next φ || some-next fs
 
 -- "The reach .. the largest over the formulas", and 0 where there is none
-unfoldable pub farthest : List Formula → ℕ
-farthest [] = 0
-farthest (φ ∷ fs) = max (formula-reach φ) (farthest fs)
+abbrev pub farthest : List Formula → ℕ
+farthest fs = largest formula-reach fs
 
 -- "A rule with next has reach 4,294,967,295, meaning none."
 abbrev pub reach-of : Option (List Formula) → ℕ

@@ -2,7 +2,7 @@
 ghost use mathlib.Core.Path.{_≡_};
 ghost use Prim.Native.Nat.{_≤_, _<_};
 ghost use Rattle.rule.specs.Entries.{version, count, entry-of};
-ghost use Rattle.rule.specs.Code.{filled};
+ghost use Rattle.rule.specs.Contract.{filled};
 use super::Entry;
 use super::bytes;
 

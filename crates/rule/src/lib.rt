@@ -19,6 +19,7 @@ pub use measuring::own_words;
 pub use refusals::Header;
 pub use refusals::check_header;
 pub use refusals::is_misplaced;
+pub use refusals::refuse;
 
 // "kind (8 bits), letter (8 bits), low (32 bits), high (32 bits)"
 pub struct Entry {

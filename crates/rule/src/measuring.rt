@@ -2,11 +2,13 @@
 // refusals 5 to 8.
 ghost use mathlib.Core.Path.{_≡_};
 ghost use Prim.Native.Nat.{_+_, _≤_, _<_, min, max};
+ghost use Rattle.mtl.specs.Satisfaction.{any};
 ghost use Rattle.mtl.specs.Wanted.{deepest};
 ghost use Rattle.rule.specs.Words.{own, header-words};
 ghost use Rattle.rule.specs.Postfix.{fewest-formulas, most-formulas, formulas, formulas-or};
 ghost use Rattle.rule.specs.Measure.{answer};
-ghost use Rattle.rule.specs.Code.{added-by, joined-by, totals, with-entry, greatest, reading, measured-entries, header-count, measured-by, EndsOf};
+ghost use Rattle.rule.specs.Contract.{measured-entries, header-count, measured-by, EndsOf};
+ghost use Rattle.rule.specs.Code.{added-by, joined-by, is-previous, totals, with-entry, greatest, reading};
 ghost use Rattle.rule.specs.Operands.{operands};
 use super::Entry;
 use super::Measured;
@@ -222,11 +224,28 @@ pub fn ends_of(table: [Entry; 128], count: usize) -> Ends
     Ends { number: depth, at }
 }
 
-// The depth of the entries' formulas; 0 where they are none.
+// Whether some entry is a previous.
+fn has_previous(table: [Entry; 128], count: usize) -> bool
+    requires { ⌜ count ≤ 128 ⌝ }
+    ensures { λ r. ⌜ r ≡ any count (is-previous table) ⌝ }
+{
+    let mut found = false;
+    let mut k: usize = 0;
+    while k < count {
+        found = found | (table[k].kind == 3);
+        k += 1;
+    }
+    found
+}
+
+// The depth of the entries' formulas; 0 where they are none. Few rules have a previous, and without one no stack is needed.
 pub fn depth(version: usize, table: [Entry; 128], count: usize) -> u64
     requires { ⌜ count ≤ 128 ⌝ }
     ensures { λ r. ⌜ r ≡ deepest (formulas-or (formulas version table count)) ⌝ }
 {
+    if !has_previous(table, count) {
+        return 0;
+    }
     let Reading::Found(most) = read(Quantity::Depth, version, table, count) else {
         return 0;
     };

@@ -1,7 +1,7 @@
 // Refusals 1 to 6, of a rule's header and of one entry (document 01, "Where a call stops").
 ghost use mathlib.Core.Path.{_≡_};
 ghost use Rattle.rule.specs.Refusal.{first, misshapen, misplaced, header-refusal};
-ghost use Rattle.rule.specs.Code.{header, header-number, header-count, header-version};
+ghost use Rattle.rule.specs.Contract.{header-number, header-count, header-version, header};
 use super::Entry;
 use super::bytes;
 use super::entries;
@@ -16,7 +16,7 @@ pub enum Header {
 const LONGEST: u32 = 3600;
 
 // The reason where its condition holds, else what comes after it.
-fn refuse(reason: u32, bad: bool, other: u32) -> u32
+pub fn refuse(reason: u32, bad: bool, other: u32) -> u32
     ensures { λ r. ⌜ r ≡ first reason bad other ⌝ }
 {
     if bad { reason } else { other }

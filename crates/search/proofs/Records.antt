@@ -10,13 +10,14 @@ use lib.ListN.{getD}
 use Rattle.mtl.proofs.Bounded.{le-or-lt}
 use Rattle.trace.specs.Format.{record-count}
 use Rattle.trace.specs.Positions.{place, positions, before}
-use Rattle.trace.specs.View.{total, skips, served, ViewOf}
+use Rattle.window.specs.View.{total, skips, served, ViewOf}
 use Rattle.trace.specs.Log.{log-of}
 use Rattle.trace.proofs.Laws.{Keeps}
 use Rattle.trace.proofs.Counting.{count-position, count-grows, spot-holds}
 use Rattle.trace.proofs.Positions.{log-placed, wanted-counts}
-use Rattle.trace.proofs.Slices.{Cut, served-before, served-place, served-shows, slice-shows}
-use Rattle.trace.proofs.Marks.{first-told, total-told, skips-told, closed-told}
+use Rattle.trace.proofs.Parts.{Cut}
+use Rattle.window.proofs.Slices.{served-before, served-place, served-shows, slice-shows}
+use Rattle.window.proofs.Marks.{first-told, total-told, skips-told, closed-told}
 use Rattle.blocks.specs.Step.{Agrees}
 use Rattle.search.specs.Times.{WholeLog}
 

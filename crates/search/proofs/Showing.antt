@@ -11,8 +11,8 @@ use Rattle.mtl.specs.Log.{Log}
 use Rattle.mtl.proofs.Bounded.{le-or-lt, leb-iff, true-and-false}
 use Rattle.trace.specs.Format.{record-count, time-at}
 use Rattle.trace.specs.Positions.{place, before}
-use Rattle.trace.specs.View.{total, skips}
-use Rattle.trace.specs.Window.{Found}
+use Rattle.window.specs.View.{total, skips}
+use Rattle.window.specs.Window.{Found}
 use Rattle.search.specs.Times.{WholeLog, first-record, first-time}
 use Rattle.search.proofs.Finding.{first-most, none-before, first-holds, first-unique}
 

@@ -1,20 +1,20 @@
 -- The records and the times of positions, of a log that is shown whole.
-use Prim.Native.Nat.{ℕ, _+_, _*_, _-_, _≤_, _<_}
-use mathlib.Core.Bool.{Bool, true, false}
+use Prim.Native.Nat.{ℕ, _-_, _≤_, _<_}
 use mathlib.Core.Path.{_≡_}
 use mathlib.Core.List.{List}
-use mathlib.Core.Logic.{_⊎_}
 use lib.Dec.{leb}
-use Rattle.mtl.specs.Log.{Log, NeverFalls}
+use Rattle.mtl.specs.Log.{Log}
 use Rattle.trace.specs.Format.{record-count, time-at, has-letter}
 use Rattle.trace.specs.Positions.{place, before}
-use Rattle.trace.specs.View.{total, skips}
+use Rattle.window.specs.View.{total, skips}
 use Rattle.reasons.specs.Search.{first-where}
 
 -- the view v and the records s are the whole log L
 pub record WholeLog (v s : List ℕ) (L : Log) : Type 0 where
+  -- the view counts the positions, and so do the records
   pub size : total v ≡ L .size
   pub all : before (skips v) s (record-count s) ≡ L .size
+  -- which record each position is, its time and its letters
   pub place : (i : ℕ) → i < L .size → place (skips v) s 0 i ≡ L .place i
   pub inside : (i : ℕ) → i < L .size → L .place i < record-count s
   pub time : (i : ℕ) → i < L .size → time-at s (L .place i) ≡ L .time i
@@ -22,6 +22,7 @@ pub record WholeLog (v s : List ℕ) (L : Log) : Type 0 where
   -- a position stands before record r exactly where it is one of those counted before it
   pub counted : (r i : ℕ) → r ≤ record-count s → i < before (skips v) s r → (i < L .size) × (L .place i < r)
   pub beyond : (r i : ℕ) → r ≤ record-count s → before (skips v) s r ≤ i → i < L .size → r ≤ L .place i
+  -- no record's time falls
   pub keeps : (i j : ℕ) → i ≤ j → j < record-count s → time-at s i ≤ time-at s j
 
 -- the first record whose time is not below a bound

@@ -6,7 +6,7 @@ ghost use Prim.Native.Nat.{ℕ, _+_, _≤_, _<_, _^_};
 ghost use lib.ListN.{length, getD};
 ghost use lib.Dec.{leb};
 ghost use Rattle.bits.specs.Packed.{bit, Packed};
-ghost use Rattle.trace.specs.View.{Views};
+ghost use Rattle.window.specs.View.{Views};
 ghost use Rattle.engine.specs.Table.{RowsOk, column};
 ghost use Rattle.reasons.specs.Search.{first-where, after-last};
 ghost use Rattle.search.specs.Scan.{is, sought, sought-bit, Scans, Bounded};

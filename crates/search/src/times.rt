@@ -4,14 +4,14 @@ ghost use Prim.Native.Nat.{_≤_, _<_};
 ghost use Rattle.mtl.specs.Log.{Log};
 ghost use Rattle.trace.specs.Format.{record-count, time-at, has-letter as Format·has-letter};
 ghost use Rattle.search.specs.Times.{WholeLog, first-record, first-time};
-use trace::view;
+use window::view;
 
 // The record that holds position i; the end of the records or one of them where there is no such position.
 fn record_of(records: &[u8], view: &[u64; 66], i: u64) -> usize
     ensures { λ r. ⌜ ((L : Log) → WholeLog (now (view .entry)) (now (records .entry)) L → i < L .size → (r ≡ L .place i) × (r < record-count (now (records .entry)))) ⌝ }
 {
     let behind = blocks::time::gap(i, view[view::TOTAL]);
-    trace::window::find(records, view[view::SKIPS] == 1, behind) as usize
+    window::find(records, view[view::SKIPS] == 1, behind) as usize
 }
 
 // The time of position i; 0 where there is no such position.
@@ -59,5 +59,5 @@ pub fn first_at(records: &[u8], view: &[u64; 66], bound: u64) -> u64
     ensures { λ r. ⌜ (r ≤ record-count (now (records .entry))) × ((L : Log) → WholeLog (now (view .entry)) (now (records .entry)) L → r ≡ first-time L bound) ⌝ }
 {
     let end = first_record(records, bound) * 8;
-    trace::window::positions(&records[..end], view[view::SKIPS] == 1)
+    window::positions(&records[..end], view[view::SKIPS] == 1)
 }

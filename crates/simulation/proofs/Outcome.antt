@@ -8,11 +8,11 @@ use lib.Dec.{ltb, eqb}
 use lib.ListN.{length}
 use borrow.Author.Tests.{ltb-false, eqb-false}
 use Rattle.bits.specs.Packed.{number}
-use Rattle.trace.specs.Making.{log-header, records-bytes, put}
+use Rattle.trace.specs.Making.{log-header, records-bytes, put, log-length}
 use Rattle.trace.proofs.Laws.{neither}
 use Rattle.trace.proofs.Making.{put-log}
 use Rattle.simulation.specs.Kiosk.{is-printing, kiosk-after}
-use Rattle.simulation.specs.Simulate.{outside, wrong-settings, log-length, out-of-range, time-of, events-in, simulation-answer, answer, Answer, simulated, Simulates}
+use Rattle.simulation.specs.Simulate.{outside, wrong-settings, out-of-range, time-of, events-in, simulation-answer, answer, Answer, simulated, Simulates}
 use Rattle.simulation.specs.declared.Settings.{Settings}
 use Rattle.simulation.specs.declared.Simulated.the-variants.{Refused, Done}
 use Rattle.simulation.specs.declared.kiosk.Kiosk.{Kiosk}

@@ -6,7 +6,7 @@ use mathlib.Core.Path.{_≡_}
 use lib.Dec.{ltb, eqb}
 use lib.ListN.{length, drop}
 use Rattle.bits.specs.Packed.{number}
-use Rattle.trace.specs.Making.{log-bytes}
+use Rattle.trace.specs.Making.{log-length, log-bytes}
 use Rattle.simulation.specs.Kiosk.{is-printing, events-of, kiosk-after}
 use Rattle.simulation.specs.declared.Settings.{Settings}
 use Rattle.simulation.specs.declared.Simulated.{Simulated}
@@ -20,10 +20,6 @@ abbrev pub wrong-settings : Settings → Bool
 wrong-settings s =
     outside 1 600 (s .warmup)
     || (outside 1 600 (s .print) || (outside 1 3600 (s .switchoff) || outside 1 3600 (s .gap)))
-
--- the bytes of a log of n records
-abbrev pub log-length : ℕ → ℕ
-log-length n = 8 + n * 8
 
 -- "26 when a setting, the seconds or the seed is outside its range or the lent log buffer is short": "0 to 3,600 seconds"; "a
 -- non-zero 32-bit seed"

@@ -2,9 +2,9 @@
 ghost use mathlib.Core.Path.{_≡_};
 ghost use Prim.Native.Nat.{_≤_, _<_};
 ghost use lib.ListN.{length};
-ghost use Rattle.trace.specs.Making.{records-bytes, put};
+ghost use Rattle.trace.specs.Making.{records-bytes, put, log-length};
 ghost use Rattle.simulation.specs.Kiosk.{kiosk-after};
-ghost use Rattle.simulation.specs.Simulate.{outside, wrong-settings, out-of-range, log-length, time-of, events-in, answer, Simulates};
+ghost use Rattle.simulation.specs.Simulate.{outside, wrong-settings, out-of-range, time-of, events-in, answer, Simulates};
 use kiosk::Kiosk;
 
 mod generator;

@@ -1,20 +1,20 @@
 -- The ring as a list: what each of its operations makes of the times in its cells.
-use Prim.Native.Nat.{ℕ, suc, _+_, _-_, _≤_, _<_}
+use Prim.Native.Nat.{ℕ, zero, suc, _+_, _-_, _≤_, _<_}
 use mathlib.Core.Bool.{Bool, true, false, _&&_}
 use mathlib.Core.Bool.{not as negate}
 use mathlib.Core.Logic.{_⊎_, inl, inr, ⊎-elim}
 use mathlib.Core.Path.{_≡_, refl, sym, _∙_, ap}
 use mathlib.Core.List.{List, [], _∷_, _++_}
 use native.Mathlib.Omega.{arith}
-use native.Mathlib.Nat.{eq-or-lt-of-le}
-use lib.Dec.{leb, ltb}
+use native.Mathlib.Nat.{add-zero, eq-or-lt-of-le}
+use lib.Dec.{eqb, leb, ltb}
 use lib.ListN.{length, getD, set, length-append, length-set, List·getD-append}
 use lib.Seq.{getD-append-seam, getD-set-same, getD-set-other}
-use borrow.Author.Tests.{lt-ltb, le-ltb, eq-eqb, ne-eqb}
+use borrow.Author.Tests.{lt-ltb, le-ltb, eq-eqb, ne-eqb, eqb-true, eqb-false}
 use Rattle.mtl.proofs.Bounded.{le-or-lt}
 use Rattle.bits.specs.Packed.{bit, number}
 use Rattle.bits.proofs.Laws.{number-lt}
-use Rattle.blocks.specs.Ring.{Ring, Rings, wrap, dropped, kept, newest-is, pushed, reaches, newest-of, oldest-of, one, pushes}
+use Rattle.blocks.specs.Ring.{Ring, Rings, wrap, unexpired, kept, newest-is, pushed, reaches, newest-of, oldest-of, one, pushes}
 
 -- places in the ring
 
@@ -119,7 +119,7 @@ module _ (cells : ℕ) (b : List ℕ) (room : 16 + cells ≤ length b) (start co
 module _ (cells high at : ℕ) (b : List ℕ) where
   abbrev pub Remains : (start count : ℕ) → Type 0
   Remains start count =
-      (qs : List ℕ) → Ring cells b qs → (rs : List ℕ) × Held cells b start count rs × (dropped high at rs ≡ dropped high at qs)
+      (qs : List ℕ) → Ring cells b qs → (rs : List ℕ) × Held cells b start count rs × (unexpired high at rs ≡ unexpired high at qs)
 
   pub remains-all : (start count : ℕ) → (getD b 9 0 < cells → start ≡ getD b 9 0) → (getD b 10 0 ≤ cells → count ≡ getD b 10 0) → Remains start count
   remains-all start count s n qs r =
@@ -130,11 +130,11 @@ module _ (cells high at : ℕ) (b : List ℕ) where
   -- the first is too old
   pub remains-less : (start count cell next : ℕ) → start < cells → 0 < count → cell ≡ 16 + wrap cells start → next ≡ 16 + wrap cells (start + 1) →
       high < at - getD b cell 0 → Remains start count → Remains (next - 16) (count - 1)
-  unfolding dropped
+  unfolding unexpired
   remains-less start count cell next l some e e′ old m qs r = step (m qs r)
     where
-      step : (rs : List ℕ) × Held cells b start count rs × (dropped high at rs ≡ dropped high at qs) →
-          (rs : List ℕ) × Held cells b (next - 16) (count - 1) rs × (dropped high at rs ≡ dropped high at qs)
+      step : (rs : List ℕ) × Held cells b start count rs × (unexpired high at rs ≡ unexpired high at qs) →
+          (rs : List ℕ) × Held cells b (next - 16) (count - 1) rs × (unexpired high at rs ≡ unexpired high at qs)
       step ([], h, d) = absurd (let n = h .counted in omega arith)
       step (q ∷ rs, h, d) =
           let p : next - 16 ≡ wrap cells (start + 1) = omega arith in
@@ -147,15 +147,15 @@ module _ (cells high at : ℕ) (b : List ℕ) where
   Stopped start count = (count ≡ 0) ⊎ ((cell : ℕ) × (cell ≡ 16 + wrap cells start) × (at - getD b cell 0 ≤ high))
 
   pub remains-done : (room : 16 + cells ≤ length b) (start count : ℕ) → start < cells →
-      Stopped start count → Remains start count → Rings cells (dropped high at) b (begun cells b room start count)
-  unfolding dropped
+      Stopped start count → Remains start count → Rings cells (unexpired high at) b (begun cells b room start count)
+  unfolding unexpired
   remains-done room start count l stop m =
       record {
         others = λ i k n9 n10. begun-other cells b room start count i n9 n10;
         ring = λ qs r. let (rs, h, d) = m qs r in rw (sym d ∙ all rs h stop) (begun-ring cells b room start count l rs h);
       }
     where
-      all : (rs : List ℕ) → Held cells b start count rs → Stopped start count → dropped high at rs ≡ rs
+      all : (rs : List ℕ) → Held cells b start count rs → Stopped start count → unexpired high at rs ≡ rs
       all [] h s = refl
       all (q ∷ rs) h (inl e) = absurd (let n = h .counted in omega arith)
       all (q ∷ rs) h (inr (cell, e, near)) =
@@ -412,19 +412,156 @@ followed {f} p q =
       ring = λ qs r. q .ring (f qs) (p .ring qs r);
     }
 
--- the times of some positions, one after the other
-module _ (cells : ℕ) (at : ℕ → ℕ) (right from : ℕ) where
-  pub pushing-none : (b : List ℕ) → Rings cells (pushes cells at right from (from - from)) b b
-  unfolding pushes
-  pushing-none b =
-      let none : from - from ≡ 0 = omega arith in
-      rw none (record { others = λ i k n9 n10. refl; ring = λ qs r. r })
+-- a time written behind those that are held: it is one of them now, unless it was the newest already
+module _ (cells start : ℕ) (b : List ℕ) (count newest at : ℕ) (first-cell : start < cells) (free : count < cells) (room : 16 + cells ≤ length b) (small : at < 4294967296) where
+  abbrev pub written : List ℕ
+  written = set b (16 + wrap cells (start + count)) at
 
-  pub pushing-next : (i : ℕ) (b d e : List ℕ) → from ≤ i → Rings cells (pushes cells at right from (i - from)) b d →
-      Rings cells (pushed cells (bit right i) (at i)) d e → Rings cells (pushes cells at right from (i + 1 - from)) b e
+  place : 16 + wrap cells (start + count) < length b
+  place = let w = wrap-less cells (start + count) (omega arith) in omega arith
+
+  module _ (times : List ℕ) (h : Held cells b start count times) (is : newest ≡ newest-of 4294967296 times) where
+    still : (i : ℕ) → i < length times → getD written (16 + wrap cells (start + i)) 0 ≡ getD times i 0
+    still i l =
+        let c = h .counted in
+        let apart = wrap-apart cells start i count first-cell (omega arith) free in
+        getD-set-other b (16 + wrap cells (start + count)) (16 + wrap cells (start + i)) at 0 (λ p. apart (omega arith)) ∙ h .at i l
+
+    some-newest-is : 0 < length times → newest ≡ getD times (length times - 1) 0
+    some-newest-is some = is ∙ rw (lt-ltb 0 (length times) some) refl
+
+    already : at ≡ newest → newest-is at times ≡ true
+    already same =
+        ⊎-elim
+        (λ none. let e : newest ≡ 4294967296 = is ∙ rw (le-ltb 0 (length times) none) refl in absurd (omega arith))
+        (λ some. rw (lt-ltb 0 (length times) some, eq-eqb (getD times (length times - 1) 0) at (sym (same ∙ some-newest-is some))) refl)
+        (le-or-lt (length times) 0)
+
+    another : (at ≡ newest → ⊥) → newest-is at times ≡ false
+    another other =
+        ⊎-elim
+        (λ none. rw (le-ltb 0 (length times) none) refl)
+        (λ some. rw (lt-ltb 0 (length times) some, ne-eqb (getD times (length times - 1) 0) at (λ e. other (sym (some-newest-is some ∙ e)))) refl)
+        (le-or-lt (length times) 0)
+
+    one-more : Held cells written start (count + 1) (times ++ (at ∷ []))
+    one-more =
+        let c = h .counted in
+        let m : length (times ++ (at ∷ [])) ≡ length times + 1 = length-append times (at ∷ []) in
+        record {
+          counted = omega arith;
+          fits = omega arith;
+          at = λ i l.
+              ⊎-elim
+              (λ q.
+              ap (λ (k : ℕ). getD written (16 + wrap cells (start + k)) 0) (q ∙ sym c)
+              ∙ getD-set-same b (16 + wrap cells (start + count)) at 0 place
+              ∙ sym (ap (λ (k : ℕ). getD (times ++ (at ∷ [])) k 0) q ∙ getD-append-seam times at [] 0))
+              (λ before. still i before ∙ sym (List·getD-append times (at ∷ []) 0 i before))
+              (eq-or-lt-of-le {n = i} {m = length times} (omega arith));
+        }
+
+    newest-now : at ≡ newest-of 4294967296 (times ++ (at ∷ []))
+    newest-now =
+        let m : length (times ++ (at ∷ [])) ≡ length times + 1 = length-append times (at ∷ []) in
+        let e : length (times ++ (at ∷ [])) - 1 ≡ length times = omega arith in
+        rw (lt-ltb 0 (length (times ++ (at ∷ []))) (omega arith), e) (sym (getD-append-seam times at [] 0))
+
+    pub adds : Held cells written start (count + number (negate (eqb at newest))) (pushed cells true at times) × (at ≡ newest-of 4294967296 (pushed cells true at times))
+    adds = by (eqb at newest) refl
+      where
+        by : (same : Bool) → eqb at newest ≡ same →
+            Held cells written start (count + number (negate same)) (pushed cells true at times) × (at ≡ newest-of 4294967296 (pushed cells true at times))
+        by true e =
+            let same = eqb-true at newest e in
+            let stays : pushed cells true at times ≡ times = rw (no-push true (ltb (length times) cells) (newest-is at times) (inr (already same))) refl in
+            let c = h .counted in
+            rw stays (record { counted = omega arith; fits = h .fits; at = still }, same ∙ is)
+        by false e =
+            let c = h .counted in
+            let grows : pushed cells true at times ≡ times ++ (at ∷ []) =
+            rw (one-push true (ltb (length times) cells) (newest-is at times) (lt-ltb (length times) cells (omega arith)) (another (eqb-false at newest e))) refl in
+            rw grows (one-more, newest-now)
+
+-- the times of some positions, one after the other, with their number and the newest beside the block
+module _ (cells : ℕ) (at : ℕ → ℕ) (right from : ℕ) (b : List ℕ) (start : ℕ) where
+  pub record Pushing (i : ℕ) (d : List ℕ) (count newest : ℕ) : Type 0 where
+    pub others : (k : ℕ) → k < 16 → getD d k 0 ≡ getD b k 0
+    pub held : (qs : List ℕ) → Ring cells b qs → Held cells d start count (pushes cells at right from (i - from) qs)
+    pub last : (qs : List ℕ) → Ring cells b qs → newest ≡ newest-of 4294967296 (pushes cells at right from (i - from) qs)
+
+  none-yet : (qs : List ℕ) → pushes cells at right from (from - from) qs ≡ qs
   unfolding pushes
-  pushing-next i b d e h p q =
-      let more : i + 1 - from ≡ suc (i - from) = omega arith in
-      let here : from + (i - from) ≡ i = omega arith in
-      let both = followed p q in
-      record { others = both .others; ring = λ qs r. rw more (rw here (both .ring qs r)) }
+  none-yet qs = let none : from - from ≡ 0 = omega arith in rw none refl
+
+  pub pushing-none : (count newest : ℕ) → (getD b 9 0 < cells → start ≡ getD b 9 0) → (getD b 10 0 ≤ cells → count ≡ getD b 10 0) →
+      ((qs : List ℕ) → Ring cells b qs → newest ≡ newest-of 4294967296 qs) → Pushing from b count newest
+  pushing-none count newest begun counted is = record {
+    others = λ k h. refl;
+    held = λ qs r.
+        let f = r .fits in
+        let e = r .count in
+        rw (none-yet qs, begun (r .start), counted (omega arith)) (held cells b qs r);
+    last = λ qs r. rw (none-yet qs) (is qs r);
+  }
+
+  module _ (i : ℕ) (d : List ℕ) (count newest : ℕ) (h : from ≤ i) (so-far : Pushing i d count newest) where
+    next-is : (qs : List ℕ) → pushes cells at right from (i + 1 - from) qs ≡ pushed cells (bit right i) (at i) (pushes cells at right from (i - from) qs)
+    unfolding pushes
+    next-is qs =
+        let more : i + 1 - from ≡ suc (i - from) = omega arith in
+        let here : from + (i - from) ≡ i = omega arith in
+        rw more (ap (λ (k : ℕ). pushed cells (bit right k) (at k) (pushes cells at right from (i - from) qs)) here)
+
+    pub pushing-skip : bit right i && ltb count cells ≡ false → Pushing (i + 1) d count newest
+    pushing-skip e =
+        let same : (qs : List ℕ) → Ring cells b qs → pushes cells at right from (i + 1 - from) qs ≡ pushes cells at right from (i - from) qs =
+        λ qs r.
+        next-is qs ∙
+        rw (no-push (bit right i) (ltb (length (pushes cells at right from (i - from) qs)) cells) (newest-is (at i) (pushes cells at right from (i - from) qs))
+        (inl (rw (so-far .held qs r .counted) at e))) refl in
+        record {
+          others = so-far .others;
+          held = λ qs r. rw (same qs r) (so-far .held qs r);
+          last = λ qs r. rw (same qs r) (so-far .last qs r);
+        }
+
+    module _ (first-cell : start < cells) (free : count < cells) (room : 16 + cells ≤ length d) (small : at i < 4294967296) (yes : bit right i ≡ true) where
+      pub pushing-next : Pushing (i + 1) (written cells start d count newest (at i) first-cell free room small) (count + number (negate (eqb (at i) newest))) (at i)
+      pushing-next =
+          let grows : (qs : List ℕ) → pushes cells at right from (i + 1 - from) qs ≡ pushed cells true (at i) (pushes cells at right from (i - from) qs) =
+          λ qs. next-is qs ∙ ap (λ (x : Bool). pushed cells x (at i) (pushes cells at right from (i - from) qs)) yes in
+          record {
+            others = λ k l. getD-set-other d (16 + wrap cells (start + count)) k (at i) 0 (omega arith) ∙ so-far .others k l;
+            held = λ qs r. rw (grows qs) (adds cells start d count newest (at i) first-cell free room small (pushes cells at right from (i - from) qs) (so-far .held qs r) (so-far .last qs r) .0);
+            last = λ qs r. rw (grows qs) (adds cells start d count newest (at i) first-cell free room small (pushes cells at right from (i - from) qs) (so-far .held qs r) (so-far .last qs r) .1);
+          }
+
+  -- right does not hold any more
+  pub pushing-rest : (i k : ℕ) (d : List ℕ) (count newest : ℕ) → from ≤ i → ((j : ℕ) → i ≤ j → j < i + k → bit right j ≡ false) → Pushing i d count newest →
+      Pushing (i + k) d count newest
+  pushing-rest i zero d count newest h none so-far = rw (add-zero i) so-far
+  pushing-rest i (suc k) d count newest h none so-far =
+      let e : i + suc k ≡ i + k + 1 = omega arith in
+      rw e
+      (pushing-skip (i + k) d count newest (omega arith) (pushing-rest i k d count newest h (λ j a b. none j a (omega arith)) so-far)
+      (rw (none (i + k) (omega arith) (omega arith)) refl))
+
+  pub pushing-done : (n : ℕ) (d : List ℕ) (count newest : ℕ) → (getD b 9 0 < cells → start ≡ getD b 9 0) → 16 + cells ≤ length d → Pushing n d count newest →
+      Rings cells (pushes cells at right from (n - from)) b (set d 10 count)
+  pushing-done n d count newest begun room all = record {
+    others = λ k l n9 n10. getD-set-other d 10 k count 0 n10 ∙ all .others k l;
+    ring = λ qs r.
+        let h = all .held qs r in
+        let s = begun (r .start) in
+        let low = r .start in
+        let e = length-set d 10 count in
+        let nine : getD (set d 10 count) 9 0 ≡ start = getD-set-other d 10 9 count 0 (omega arith) ∙ all .others 9 (omega arith) ∙ sym s in
+        record {
+          room = omega arith;
+          start = omega arith;
+          count = getD-set-same d 10 count 0 (omega arith) ∙ h .counted;
+          fits = h .fits;
+          at = λ i l. rw nine (getD-set-other d 10 (16 + wrap cells (start + i)) count 0 (omega arith) ∙ h .at i l);
+        };
+  }

@@ -21,7 +21,7 @@ use Rattle.bits.proofs.Laws.{number-lt, bit-not, bit-or, bit-and}
 use Rattle.rule.specs.Words.{ring-words}
 use Rattle.blocks.specs.Ring.{Ring, Rings, Witness, Witnesses, newest-of, one, newest-at, in-reach, Rises, Shown, Takes}
 use Rattle.since.proofs.Witnesses.{longer, shorter, no-later}
-use Rattle.since.proofs.Shown.{next, falls-here, time-small, shown-rises}
+use Rattle.since.proofs.Shown.{next, before-next, was-near, falls-here, time-small, shown-rises}
 
 module _ (high : ℕ) (time : ℕ → ℕ) (left right : ℕ → Bool) where
   -- behind position p - 1: whether there is a witness, one at time t then, and no later one that is still in reach
@@ -29,6 +29,10 @@ module _ (high : ℕ) (time : ℕ → ℕ) (left right : ℕ → Bool) where
     pub there : some ≡ true → (j : ℕ) × Witness left right p j × (time j ≡ t)
     pub newest : some ≡ true → (j : ℕ) → Witness left right p j → time (p - 1) - time j ≤ high → (time j ≤ t) ⊎ (high ≡ unbounded)
     pub none : some ≡ false → (j : ℕ) → Witness left right p j → time (p - 1) - time j ≤ high → ⊥
+
+  -- none is in reach
+  nobody : (p t : ℕ) → ((j : ℕ) → Witness left right p j → time (p - 1) - time j ≤ high → ⊥) → Stand p false t
+  nobody p t gone = record { there = λ z. absurd (true≢false (sym z)); newest = λ z. absurd (true≢false (sym z)); none = λ z. gone }
 
   -- what a ring says
   pub begins : (p other : ℕ) (times : List ℕ) → Witnesses 0 high time left right p times → Stand p (ltb 0 (length times)) (newest-of other times)
@@ -50,20 +54,10 @@ module _ (high : ℕ) (time : ℕ → ℕ) (left right : ℕ → Bool) where
           }
       at false e =
           let h = ltb-false 0 (length times) e in
-          record {
-            there = λ z. absurd (true≢false (sym z));
-            newest = λ z. absurd (true≢false (sym z));
-            none = λ z j v near. let (i, l, s) = w .complete j v near in omega arith;
-          }
+          nobody p other (λ j v near. let (i, l, s) = w .complete j v near in omega arith)
 
   -- one position more
   module _ (p : ℕ) (falls : (i j : ℕ) → i ≤ j → j ≤ p → time i ≤ time j) where
-    last : p + 1 - 1 ≡ p
-    last = omega arith
-
-    was-near : (j : ℕ) → time (p + 1 - 1) - time j ≤ high → time (p - 1) - time j ≤ high
-    was-near j h = let f = falls (p - 1) p (omega arith) (omega arith) in let e = ap time last in omega arith
-
     not-here : (j : ℕ) → right p ≡ false → Witness left right (p + 1) j → j < p
     not-here j r w = ⊎-elim (λ e. absurd (true-and-false (w .held) (ap right e ∙ r))) (λ l. l) (eq-or-lt-of-le {n = j} {m = p} (let h = w .before in omega arith))
 
@@ -77,15 +71,10 @@ module _ (high : ℕ) (time : ℕ → ℕ) (left right : ℕ → Bool) where
     step false true some t er el s =
         record {
           there = λ z. let (j, v, e) = s .there z in (j, longer left right p j el v, e);
-          newest = λ z j v near. s .newest z j (shorter left right p j (not-here j er v) v) (was-near j near);
-          none = λ z j v near. s .none z j (shorter left right p j (not-here j er v) v) (was-near j near);
+          newest = λ z j v near. s .newest z j (shorter left right p j (not-here j er v) v) (was-near high time p falls j near);
+          none = λ z j v near. s .none z j (shorter left right p j (not-here j er v) v) (was-near high time p falls j near);
         }
-    step false false some t er el s =
-        record {
-          there = λ z. absurd (true≢false (sym z));
-          newest = λ z. absurd (true≢false (sym z));
-          none = λ z j v near. true-and-false (v .since p (not-here j er v) (omega arith)) el;
-        }
+    step false false some t er el s = nobody (p + 1) t (λ j v near. true-and-false (v .since p (not-here j er v) (omega arith)) el)
 
     -- what since answers there, and the ring that is enough from there on
     module _ (small : time p ≤ unbounded) {some : Bool} {t : ℕ} (s : Stand (p + 1) some t) where
@@ -98,7 +87,7 @@ module _ (high : ℕ) (time : ℕ → ℕ) (left right : ℕ → Bool) where
                 let (j, h, (within, r, held)) = iff .0 e in
                 let v : Witness left right (p + 1) j = record { before = omega arith; held = r; since = λ k a c. held k a (omega arith) } in
                 let near = at-most-small high (time j) (time p) small (within .1) in
-                let near′ : time (p + 1 - 1) - time j ≤ high = rw last near in
+                let near′ : time (p + 1 - 1) - time j ≤ high = rw (before-next p) near in
                 ⊎-elim
                 (λ y. both .1 (y, le-leb (time p - t) high (⊎-elim (λ q. omega arith) (λ q. omega arith) (s .newest y j v near′))))
                 (λ n. absurd (s .none n j v near′))
@@ -118,7 +107,7 @@ module _ (high : ℕ) (time : ℕ → ℕ) (left right : ℕ → Bool) where
           let near = leb-true (time p - t) high n in
           record {
             rising = λ i k h l. absurd (omega arith);
-            sound = λ i h. let z : i ≡ 0 = omega arith in rw (z, last) (j, v, at, near);
+            sound = λ i h. let z : i ≡ 0 = omega arith in rw (z, before-next p) (j, v, at, near);
             complete = λ k w near′.
                 (0, omega arith, ⊎-elim (λ q. inr (inr (refl, q))) (λ u. ⊎-elim (λ q. inr (inr (refl, q))) (λ q. inr (inl (u, omega arith))) (le-or-lt (time k) t)) (s .newest y k w near′));
           }
@@ -127,7 +116,7 @@ module _ (high : ℕ) (time : ℕ → ℕ) (left right : ℕ → Bool) where
             rising = λ i k h l. absurd (omega arith);
             sound = λ i h. absurd (omega arith);
             complete = λ k w near.
-                let near′ : time p - time k ≤ high = rw last at near in
+                let near′ : time p - time k ≤ high = rw (before-next p) at near in
                 ⊎-elim
                 (λ y.
                 absurd (true-and-false

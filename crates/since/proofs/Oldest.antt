@@ -18,10 +18,12 @@ use Rattle.bits.specs.Packed.{bit, number, last-zero, Packed, FilledUp}
 use Rattle.bits.proofs.Laws.{bit-rest, bit-not, bit-or, bit-and, bit-mod}
 use Rattle.bits.proofs.Zeros.{last-is-zero, one-behind-last}
 use Rattle.rule.specs.Words.{ring-words}
-use Rattle.blocks.specs.Ring.{Ring, Rings, Witness, Witnesses, dropped, kept, pushed, turned, turns, oldest-of, newest-at, in-reach, pushes, word-turned, Rises, Shown, Takes}
+use Rattle.blocks.specs.Ring.{Ring, Rings, Witness, Witnesses, unexpired, kept, pushed, turned, turns, oldest-of, newest-at, pushes, word-turned, Rises, Shown, Takes}
+use Rattle.since.specs.Old.{old-enough}
 use Rattle.since.proofs.Witnesses.{longer, shorter, no-later, turn-keeps}
-use Rattle.since.proofs.Shown.{next, falls-here, time-small, shown-rises}
+use Rattle.since.proofs.Shown.{next, before-next, was-near, falls-here, time-small, shown-rises}
 use Rattle.since.proofs.Turn.{after-turns, keeps, keep}
+use Rattle.since.proofs.Runs.{zero-within}
 use Rattle.since.proofs.Newest.{alive-at, alive-is, begin-first, begin-later, not-before}
 
 module _ (low high : ℕ) (positive : 0 < low) (time : ℕ → ℕ) (left right : ℕ → Bool) where
@@ -56,12 +58,6 @@ module _ (low high : ℕ) (positive : 0 < low) (time : ℕ → ℕ) (left right 
 
   -- one position more
   module _ (p : ℕ) (falls : (i j : ℕ) → i ≤ j → j ≤ p → time i ≤ time j) where
-    last : p + 1 - 1 ≡ p
-    last = omega arith
-
-    was-near : (j : ℕ) → time (p + 1 - 1) - time j ≤ high → time (p - 1) - time j ≤ high
-    was-near j h = let f = falls (p - 1) p (omega arith) (omega arith) in let e = ap time last in omega arith
-
     here-or-before : (j : ℕ) → Witness left right (p + 1) j → (j ≡ p) ⊎ (j < p)
     here-or-before j w = eq-or-lt-of-le {n = j} {m = p} (let h = w .before in omega arith)
 
@@ -74,6 +70,10 @@ module _ (low high : ℕ) (positive : 0 < low) (time : ℕ → ℕ) (left right 
           none = λ z j v near. ⊎-elim (λ e. true-and-false (v .held) (ap right e ∙ (er ∙ z))) (λ l. gone j l v near) (here-or-before j v);
         }
 
+    or-false : (r : Bool) → r || false ≡ r
+    or-false true = refl
+    or-false false = refl
+
     step : (r l some : Bool) (t : ℕ) → right p ≡ r → left p ≡ l → Eldest p some t → Eldest (p + 1) (r || (l && some)) (cond (l && some) t (time p))
     step r true true t er el s =
         rw (or-true r)
@@ -82,7 +82,7 @@ module _ (low high : ℕ) (positive : 0 < low) (time : ℕ → ℕ) (left right 
           oldest = λ z j v near.
               ⊎-elim
               (λ e. let (k, u, f) = s .there refl in let b = u .before in let m = falls k p (omega arith) (omega arith) in let q = ap time e in omega arith)
-              (λ b. s .oldest refl j (shorter left right p j b v) (was-near j near))
+              (λ b. s .oldest refl j (shorter left right p j b v) (was-near high time p falls j near))
               (here-or-before j v);
           none = λ z. absurd (true≢false z);
         })
@@ -91,17 +91,9 @@ module _ (low high : ℕ) (positive : 0 < low) (time : ℕ → ℕ) (left right 
         or-true true = refl
         or-true false = refl
     step r true false t er el s =
-        rw (or-false r) (fresh r t er (λ j b v near. s .none refl j (shorter left right p j b v) (was-near j near)))
-      where
-        or-false : (r : Bool) → r || false ≡ r
-        or-false true = refl
-        or-false false = refl
+        rw (or-false r) (fresh r t er (λ j b v near. s .none refl j (shorter left right p j b v) (was-near high time p falls j near)))
     step r false some t er el s =
         rw (or-false r) (fresh r t er (λ j b v near. true-and-false (v .since p b (omega arith)) el))
-      where
-        or-false : (r : Bool) → r || false ≡ r
-        or-false true = refl
-        or-false false = refl
 
     -- what since answers there, where the oldest is in reach
     answers-old : time p ≤ unbounded → {some : Bool} {t : ℕ} → Eldest (p + 1) some t → time p - t ≤ high →
@@ -115,7 +107,7 @@ module _ (low high : ℕ) (positive : 0 < low) (time : ℕ → ℕ) (left right 
               let (j, h, (within, r, held)) = iff .0 e in
               let v : Witness left right (p + 1) j = record { before = omega arith; held = r; since = λ k a c. held k a (omega arith) } in
               let near = at-most-small high (time j) (time p) small (within .1) in
-              let near′ : time (p + 1 - 1) - time j ≤ high = rw last near in
+              let near′ : time (p + 1 - 1) - time j ≤ high = rw (before-next p) near in
               let far = within .0 in
               ⊎-elim
               (λ y. let m = s .oldest y j v near′ in both .1 (y, old .1 (le-leb low (time p - t) (omega arith), le-leb (time p - t) high inside)))
@@ -165,15 +157,6 @@ module _ (left right : ℕ) (some : Bool) (word : ℕ) (filled : FilledUp left (
       bit-not 64 (bitAnd left before-each) i fits h
       ∙ ap negate (bit-and left before-each i ∙ ap (λ (x : Bool). bit left i && x) (alive-before i h))
 
-zero-within : (n w : ℕ) → last-zero n w ≤ n
-unfolding last-zero
-zero-within zero w = omega arith
-zero-within (suc n) w = by (bit w n) (zero-within n w)
-  where
-    by : (x : Bool) → last-zero n w ≤ n → cond x (last-zero n w) (suc n) ≤ suc n
-    by true h = omega arith
-    by false h = omega arith
-
 -- THEOREM: n positions with low above 0 that all lie within high of the oldest witness, or of the first of them where there is none. The
 -- word tells where a witness is alive and old enough, and the ring is turned once.
 module _ {low high : ℕ} {at : ℕ → ℕ} {left right n : ℕ} {b : List ℕ} (first alive old marks : ℕ) (some : Bool) {d : List ℕ}
@@ -181,7 +164,8 @@ module _ {low high : ℕ} {at : ℕ → ℕ} {left right n : ℕ} {b : List ℕ}
     (begun : (qs : List ℕ) → Ring (ring-words high) b qs → some ≡ ltb 0 (length qs))
     (filled : FilledUp left (bitOr right (bitAnd left (number some))) alive)
     (marking : (i : ℕ) → i < 64 → bit marks i ≡ negate (bit left i && alive-at left right some i))
-    (found : Packed (in-reach low high at marks first) 0 n old)
+    (few : n ≤ 64)
+    (found : Rises at n first → Packed (old-enough low at marks first) 0 n old)
     (inside : at (n - 1) - first ≤ high)
     (rings : Rings (ring-words high) (word-turned (ring-words high) at left right n) b d)
     (begun-at : (qs : List ℕ) → Ring (ring-words high) b qs → first ≡ oldest-of (at 0) qs) where
@@ -201,7 +185,6 @@ module _ {low high : ℕ} {at : ℕ → ℕ} {left right n : ℕ} {b : List ℕ}
     unfolding alive-at newest-at
     stand zero h = rw (add-zero g, begun times ring, begun-at times ring) (begins low high positive time lefts rights g (at 0) times w)
     stand (suc i) h =
-        let few = found .few in
         rw (mark-more i (omega arith), next g i, ← shown .same i h)
         (step low high positive time lefts rights (g + i) (falls-here shown i h) (bit right i) (bit left i) (alive-at left right some i) (newest-at at marks first i)
         (shown .right-word .same i h) (shown .left-word .same i h) (stand i (omega arith)))
@@ -225,15 +208,19 @@ module _ {low high : ℕ} {at : ℕ → ℕ} {left right n : ℕ} {b : List ℕ}
 
     answered : (i : ℕ) → i < n → since-at low high time lefts rights (g + i) ≡ bit (bitAnd alive old) i
     answered i h =
-        let few = found .few in
         let e : 0 + i ≡ i = omega arith in
         let near = in-high i (newest-at at marks first (suc i)) h (not-before marks rises (suc i) h) in
         answers-old low high positive time lefts rights (g + i) (falls-here shown i h) (time-small shown i h) (rw (next g i) at (stand (suc i) h)) (rw (shown .same i h) near)
         ∙ ap₂ (λ (x : Bool) (t : ℕ). x && (leb low (t - newest-at at marks first (suc i)) && leb (t - newest-at at marks first (suc i)) high))
         (sym (alive-is left right some alive filled i (omega arith)))
         (shown .same i h)
-        ∙ ap (λ (x : Bool). bit alive i && x) (rw e at (found .same i h))
+        ∙ ap (λ (x : Bool). bit alive i && (old-enough low at marks first i && x)) (le-leb (at i - newest-at at marks first (suc i)) high near)
+        ∙ ap (λ (x : Bool). bit alive i && x) (by (old-enough low at marks first i) ∙ rw e at (found rises .same i h))
         ∙ sym (bit-and alive old i)
+      where
+        by : (x : Bool) → x && true ≡ x
+        by true = refl
+        by false = refl
 
     -- no time is dropped
     serves-first : (i j : ℕ) → i < n → Witness lefts rights (g + i) j → time (g + i - 1) - time j ≤ high → at i - time j ≤ high
@@ -259,8 +246,8 @@ module _ {low high : ℕ} {at : ℕ → ℕ} {left right n : ℕ} {b : List ℕ}
         s)
         (le-or-lt g j)
 
-    none-dropped : (i : ℕ) → i < n → (qs : List ℕ) → Witnesses low high time lefts rights (g + i) qs → dropped high (at i) qs ≡ qs
-    unfolding dropped
+    none-dropped : (i : ℕ) → i < n → (qs : List ℕ) → Witnesses low high time lefts rights (g + i) qs → unexpired high (at i) qs ≡ qs
+    unfolding unexpired
     none-dropped i h [] v = refl
     none-dropped i h (q ∷ qs) v =
         let (j, is, t, near) = v .sound 0 (omega arith) in
@@ -313,6 +300,6 @@ module _ {low high : ℕ} {at : ℕ → ℕ} {left right n : ℕ} {b : List ℕ}
     others = rings .others;
     takes = λ time lefts rights g times shown ring w. (
       (word-turned (ring-words high) at left right n times, rings .ring times ring, kept-word shown ring w (last-zero n left) refl (zero-within n left)),
-      record { few = found .few; same = answered shown ring w },
+      record { few = few; same = answered shown ring w },
     );
   }

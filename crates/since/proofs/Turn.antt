@@ -18,10 +18,10 @@ use Rattle.bits.specs.Packed.{bit, with-bit, Packed}
 use Rattle.bits.proofs.Laws.{with-bit-lt, packed-none, packed-push, packed-same}
 use Rattle.rule.specs.Words.{ring-words}
 use Rattle.trace.specs.Format.{time-at}
-use Rattle.trace.specs.View.{slice-first, total, skips, in-slice}
-use Rattle.trace.specs.Window.{window-of, Opened}
-use Rattle.trace.specs.declared.window.Window.{Window}
-use Rattle.trace.proofs.Reading.{shown-time-bound}
+use Rattle.window.specs.View.{slice-first, total, skips, in-slice}
+use Rattle.window.specs.Window.{window-of, Opened}
+use Rattle.window.specs.declared.Window.{Window}
+use Rattle.window.proofs.Reading.{shown-time-bound}
 use Rattle.blocks.specs.Block.{word, taken, left-count, left-bits, right-count, right-bits, head, Onward, Ready, took-both}
 use Rattle.blocks.specs.Ring.{Ring, Rings, Witnesses, Turns, turned, turns, reaches, reached, Shown, Takes}
 use Rattle.blocks.specs.Step.{Agrees, Stepped, Steps}

@@ -15,17 +15,17 @@ use Rattle.mtl.specs.Satisfaction.{since-at}
 use Rattle.mtl.specs.Formula.{unbounded}
 use Rattle.mtl.proofs.Bounded.{true-and-false, same-test, and-iff, at-most-small, since-at-iff}
 use Rattle.rule.specs.Words.{ring-words}
-use Rattle.blocks.specs.Ring.{Witness, Serves, Witnesses, dropped, kept, newest-is, turned, reaches}
+use Rattle.blocks.specs.Ring.{Witness, Serves, Witnesses, unexpired, kept, newest-is, turned, reaches}
 
 -- dropped: the first k, each more than high before `at`; the next one is not
 record Drops (high at : ℕ) (qs : List ℕ) (k : ℕ) : Type 0 where
   inside : k ≤ length qs
-  is : dropped high at qs ≡ drop k qs
+  is : unexpired high at qs ≡ drop k qs
   old : (i : ℕ) → i < k → high < at - getD qs i 0
   next : k < length qs → at - getD qs k 0 ≤ high
 
 drops : (high at : ℕ) (qs : List ℕ) → (k : ℕ) × Drops high at qs k
-unfolding dropped
+unfolding unexpired
 drops high at [] = (0, record { inside = omega arith; is = refl; old = λ i h. absurd (omega arith); next = λ h. absurd (omega arith) })
 drops high at (q ∷ qs) = step (drops high at qs) (ltb high (at - q)) refl
   where
@@ -90,7 +90,7 @@ module _ (low high : ℕ) (time : ℕ → ℕ) where
       complete : (j : ℕ) → j < g → Witness left right (g + 1) j → time g - time j ≤ high → Stands times j
 
     -- what is left of them at g, where left holds there
-    earlier : (times : List ℕ) (l : Bool) → left g ≡ l → Witnesses low high time left right g times → Earlier (kept l (dropped high (time g) times))
+    earlier : (times : List ℕ) (l : Bool) → left g ≡ l → Witnesses low high time left right g times → Earlier (kept l (unexpired high (time g) times))
     earlier times false e w =
         record {
           rising = λ i j h h′. absurd (omega arith);
@@ -207,7 +207,7 @@ module _ (low high : ℕ) (time : ℕ → ℕ) where
     pub turn-keeps : (times : List ℕ) → Witnesses low high time left right g times →
         Witnesses low high time left right (g + 1) (turned (ring-words high) high (left g) (right g) (time g) times)
     turn-keeps times w =
-        let es = kept (left g) (dropped high (time g) times) in
+        let es = kept (left g) (unexpired high (time g) times) in
         push es (earlier times (left g) refl w) (right g) (ltb (length es) (ring-words high)) (newest-is (time g) es) refl refl refl
 
     pub oldest-decides : (times : List ℕ) → Witnesses low high time left right (g + 1) times →

@@ -7,13 +7,14 @@ ghost use lib.Bits.{bitAnd, bitOr};
 ghost use lib.ListN.{length};
 ghost use Rattle.mtl.specs.Formula.{Formula};
 ghost use Rattle.mtl.specs.Formula.Formula.{since};
-ghost use Rattle.trace.specs.Format.{record-count, time-at};
-ghost use Rattle.trace.specs.View.{Views};
-ghost use Rattle.trace.specs.Window.{window-of};
+ghost use Rattle.trace.specs.Format.{record-count, time-at, times-from};
+ghost use Rattle.window.specs.View.{Views};
+ghost use Rattle.window.specs.Window.{window-of};
 ghost use Rattle.blocks.specs.Block.{left-bits, right-bits};
 ghost use Rattle.blocks.specs.Step.{Steps, Ends};
 ghost use Rattle.rule.specs.Words.{ring-words};
 ghost use Rattle.blocks.specs.Ring.{Ring, Rings, Turns, newest-at, oldest-of, in-reach, word-turned, Rises, Takes};
+ghost use Rattle.since.specs.Old.{old-enough, FirstOld, OnesBetween};
 ghost use Rattle.bits.specs.Packed.{bit, Packed, FilledUp};
 
 mod ring;
@@ -21,9 +22,13 @@ mod ring;
 use blocks::Step;
 use blocks::time;
 use blocks::word;
-use trace::Window;
-use trace::view;
-use trace::window;
+use window::Window;
+use window::view;
+
+const ALL_ONES: u64 = 18446744073709551615;
+
+// Up to so many runs are gone through one by one.
+const FEW_RUNS: u64 = 6;
 
 // a where it is told so, else b.
 fn choose(yes: bool, a: u64, b: u64) -> u64
@@ -59,45 +64,118 @@ fn turn_all(
     answers
 }
 
-// Which of n positions lie at least low and at most high after the last that is marked, or after `first` where none is.
-fn find_within(low: u64, high: u64, window: &[u8], n: usize, marks: u64, first: u64) -> u64
+// The time of the last of n positions that is marked, or `first` where none is.
+fn newest_marked(window: &[u8], n: usize, marks: u64, first: u64) -> u64
     requires { ⌜ (n ≤ record-count (now window)) × (n ≤ 64) ⌝ }
-    ensures { λ r. ⌜ Packed (in-reach low high (time-at (now (window .entry))) marks first) 0 n r ⌝ }
+    ensures { λ r. ⌜ (r ≡ newest-at (time-at (now (window .entry))) marks first n) × (first ≤ 4294967296 → r ≤ 4294967296) ⌝ }
 {
-    let mut last = first;
+    let behind = bits::find_last_zero(!marks, n as u64);
+    if behind == 0 {
+        return first;
+    }
+    trace::time(window, behind as usize - 1)
+}
+
+// Which of up to eight positions from `from` on lie at least low after the last of them that is marked, or after `last` where none is.
+fn find_group(low: u64, window: &[u8], from: usize, n: usize, marks: u64, last: u64) -> u64
+    requires { ⌜ (0 < low) × (low ≤ 4294967296) × (last ≤ 4294967296) × (from + n ≤ record-count (now window)) × (n ≤ 8) ⌝ }
+    ensures { λ r. ⌜ (r < 2 ^ n) × Packed (old-enough low (times-from (now (window .entry)) from) marks last) 0 n r ⌝ }
+{
+    let mut due = last + low;
     let mut answers: u64 = 0;
     let mut i: usize = 0;
     while i < n {
-        let now = trace::time(window, i);
-        last = choose(bits::test(marks, i as u64), now, last);
-        let gap = time::gap(last, now);
-        answers = bits::push(answers, i as u64, (low <= gap) & (gap <= high));
+        let now = trace::time(window, from + i);
+        due = choose(bits::test(marks, i as u64), now + low, due);
+        answers = bits::push(answers, i as u64, due <= now);
         i += 1;
     }
     answers
 }
 
+// Which of n positions lie at least low after the last that is marked, or after `first` where none is. Eight at a time, since a group of known
+// size is compiled without a loop.
+fn find_by_groups(low: u64, window: &[u8], n: usize, marks: u64, first: u64) -> u64
+    requires { ⌜ (0 < low) × (low ≤ 4294967296) × (first ≤ 4294967296) × (n ≤ record-count (now window)) × (n ≤ 64) ⌝ }
+    ensures { λ r. ⌜ Packed (old-enough low (time-at (now (window .entry))) marks first) 0 n r ⌝ }
+{
+    let mut answers: u64 = 0;
+    let mut i: usize = 0;
+    while i + 8 <= n {
+        let last = newest_marked(window, i, marks, first);
+        answers = answers + (find_group(low, window, i, 8, marks >> i as u64, last) << i as u64);
+        i += 8;
+    }
+    if i < n {
+        let last = newest_marked(window, i, marks, first);
+        answers = answers
+            + (find_group(low, window, i, n - i, marks >> i as u64, last) << i as u64);
+    }
+    answers
+}
+
+// The first of the positions from `from` to `end` that lies at least low after `last`; `end` where none does.
+fn find_old(low: u64, window: &[u8], from: usize, end: usize, last: u64) -> usize
+    requires { ⌜ (from ≤ end) × (end ≤ record-count (now window)) ⌝ }
+    ensures { λ r. ⌜ FirstOld low last (time-at (now (window .entry))) from end r ⌝ }
+{
+    let mut i = from;
+    while i < end {
+        if low <= time::gap(last, trace::time(window, i)) {
+            break;
+        }
+        i += 1;
+    }
+    i
+}
+
+// The word whose bits from `from` to `end` are 1.
+fn ones_between(from: usize, end: usize) -> u64
+    requires { ⌜ (from ≤ 64) × (end ≤ 64) ⌝ }
+    ensures { λ r. ⌜ OnesBetween from end r ⌝ }
+{
+    !bits::rest(ALL_ONES, 64 - from as u64) & bits::rest(ALL_ONES, 64 - end as u64)
+}
+
+// As find_by_groups, from one run of positions without a mark to the one before it. Times never fall, so that those of a run that are old
+// enough are its last.
+fn find_by_runs(low: u64, window: &[u8], n: usize, marks: u64, first: u64) -> u64
+    requires { ⌜ (0 < low) × (n ≤ record-count (now window)) × (n ≤ 64) ⌝ }
+    ensures { λ r. ⌜ (Rises (time-at (now (window .entry))) n first → Packed (old-enough low (time-at (now (window .entry))) marks first) 0 n r) ⌝ }
+{
+    let mut answers: u64 = 0;
+    let mut end = bits::find_last_zero(marks, n as u64);
+    while 0 < end {
+        let from = bits::find_last_zero(!marks, end);
+        let last = newest_marked(window, end as usize, marks, first);
+        let old = find_old(low, window, from as usize, end as usize, last);
+        answers = answers | ones_between(old, end as usize);
+        end = bits::find_last_zero(marks, from);
+    }
+    answers
+}
+
+// As find_by_groups, by runs where there are few of them, or where low and a time might not add up.
+fn find_late(low: u64, window: &[u8], n: usize, marks: u64, first: u64) -> u64
+    requires { ⌜ (0 < low) × (n ≤ record-count (now window)) × (n ≤ 64) ⌝ }
+    ensures { λ r. ⌜ (Rises (time-at (now (window .entry))) n first → Packed (old-enough low (time-at (now (window .entry))) marks first) 0 n r) ⌝ }
+{
+    let runs = bits::count_zeros(marks | !(marks << 1), n as u64);
+    if (FEW_RUNS < runs) & (low <= ring::NO_TIME) & (first <= ring::NO_TIME) {
+        return find_by_groups(low, window, n, marks, first);
+    }
+    find_by_runs(low, window, n, marks, first)
+}
+
 // Those that `alive` has and that lie at most high after the last right; all that it has where the last lies at most high after `first`.
 fn keep_reached(high: u64, window: &[u8], n: usize, right: u64, first: u64, alive: u64) -> u64
-    requires { ⌜ (0 < n) × (n ≤ record-count (now window)) × (n ≤ 64) ⌝ }
+    requires { ⌜ (high < 2 ^ 32) × (0 < n) × (n ≤ record-count (now window)) × (n ≤ 64) ⌝ }
     ensures { λ r. ⌜ (Rises (time-at (now (window .entry))) n first → Packed (λ i. bit alive i && in-reach 0 high (time-at (now (window .entry))) right first i) 0 n r) ⌝ }
 {
     if time::gap(first, trace::time(window, n - 1)) <= high {
         return alive;
     }
-    alive & find_within(0, high, window, n, right, first)
-}
-
-// The time of the last right, or `first` where there is none.
-fn newest_right(window: &[u8], n: usize, right: u64, first: u64) -> u64
-    requires { ⌜ (n ≤ record-count (now window)) × (n ≤ 64) ⌝ }
-    ensures { λ r. ⌜ r ≡ newest-at (time-at (now (window .entry))) right first n ⌝ }
-{
-    let behind = bits::find_last_zero(!right, n as u64);
-    if behind == 0 {
-        return first;
-    }
-    trace::time(window, behind as usize - 1)
+    alive & !find_late(high + 1, window, n, right, first)
 }
 
 // Behind which positions a witness is alive, where `begun` is 1 if one was before them.
@@ -117,7 +195,7 @@ fn take_word(high: u64, window: &[u8], n: usize, left: u64, right: u64, block: &
     let alive = find_alive(left, right, begun);
     let answers = keep_reached(high, window, n, right, first, alive);
     let last = bits::test(answers, n as u64 - 1);
-    ring::put_one(last, newest_right(window, n, right, first), block);
+    ring::put_one(last, newest_marked(window, n, right, first), block);
     answers
 }
 
@@ -150,7 +228,7 @@ fn take_inside(
     let begun = bits::flag(ring::has_some(block));
     let alive = find_alive(left, right, begun);
     let marks = !(left & ((alive << 1) | begun));
-    let old = find_within(low, high, window, n, marks, first);
+    let old = find_late(low, window, n, marks, first);
     turn_word(high, window, n, left, right, block);
     alive & old
 }

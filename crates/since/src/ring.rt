@@ -3,15 +3,20 @@
 ghost use mathlib.Core.Path.{_≡_};
 ghost use mathlib.Core.List.{List};
 ghost use Prim.Native.Nat.{ℕ, _+_, _-_, _≤_, _<_, _^_};
-ghost use lib.Dec.{ltb};
-ghost use lib.ListN.{length};
+ghost use mathlib.Core.Bool.{not as negate};
+ghost use lib.Dec.{eqb, ltb};
+ghost use lib.ListN.{length, set};
+ghost use Rattle.bits.specs.Packed.{number};
 ghost use Rattle.rule.specs.Words.{ring-words};
 ghost use Rattle.trace.specs.Format.{record-count, time-at};
-ghost use Rattle.blocks.specs.Ring.{Ring, Rings, wrap, dropped, kept, pushed, reaches, turned, newest-of, oldest-of, one, pushes};
+ghost use Rattle.blocks.specs.Ring.{Ring, Rings, wrap, unexpired, kept, pushed, reaches, turned, newest-of, oldest-of, one, pushes};
 use blocks::time;
 use blocks::word;
 
 const FIRST_CELL: usize = 16;
+
+// Later than all times.
+pub const NO_TIME: u64 = 4294967296;
 
 // The number of cells that a since with this high has.
 pub fn cells_for(high: u64) -> u64
@@ -43,7 +48,7 @@ fn at_most(x: u64, most: u64) -> u64
 // Drops the times that lie more than high before `at`.
 fn drop_old(cells: u64, high: u64, at: u64, block: &mut [u64])
     requires { ⌜ (0 < cells) × (cells < 2 ^ 32) × (16 + cells ≤ length (now block)) ⌝ }
-    ensures { λ _. ⌜ Rings cells (dropped high at) (now (block .entry)) (now (block .exit)) ⌝ }
+    ensures { λ _. ⌜ Rings cells (unexpired high at) (now (block .entry)) (now (block .exit)) ⌝ }
 {
     let mut start = at_most(block[word::RING_START], cells - 1);
     let mut count = at_most(block[word::RING_COUNT], cells);
@@ -147,17 +152,34 @@ pub fn oldest(cells: u64, none: u64, block: &[u64]) -> u64
     block[cell(cells, start)]
 }
 
+// Writes `at` behind the last of count times. Gives how many they are then: as many as before where `at` is the newest of them already.
+fn add(cells: u64, start: u64, count: u64, newest: u64, at: u64, block: &mut [u64]) -> u64
+    requires { ⌜ (start < cells) × (count < cells) × (cells < 2 ^ 32) × (16 + cells ≤ length (now block)) ⌝ }
+    ensures { λ r. ⌜ (r ≡ count + number (negate (eqb at newest))) × (r ≤ cells) × (now (block .exit) ≡ set (now (block .entry)) (16 + wrap cells (start + count)) at) ⌝ }
+{
+    block[cell(cells, start + count)] = at;
+    count + bits::flag(at != newest)
+}
+
 // Adds the times of the positions from `from` to n at which right holds.
 pub fn push_all(cells: u64, window: &[u8], from: usize, n: usize, right: u64, block: &mut [u64])
     requires { ⌜ (0 < cells) × (cells < 2 ^ 32) × (16 + cells ≤ length (now block)) × (from ≤ n) × (n ≤ 64) × (n ≤ record-count (now window)) ⌝ }
     ensures { λ _. ⌜ Rings cells (pushes cells (time-at (now (window .entry))) right from (n - from)) (now (block .entry)) (now (block .exit)) ⌝ }
 {
+    let end = bits::find_last_zero(!right, n as u64) as usize;
+    let start = at_most(block[word::RING_START], cells - 1);
+    let mut count = at_most(block[word::RING_COUNT], cells);
+    let mut newest = newest(cells, NO_TIME, block);
     let mut i = from;
-    while i < n {
-        let now = trace::time(window, i);
-        push_if(cells, bits::test(right, i as u64), now, block);
+    while i < end {
+        if bits::test(right, i as u64) & (count < cells) {
+            let now = trace::time(window, i);
+            count = add(cells, start, count, newest, now, block);
+            newest = now;
+        }
         i += 1;
     }
+    block[word::RING_COUNT] = count;
 }
 
 // One time alone, or none.

@@ -145,6 +145,20 @@ module _ (low high k l : ℕ) (iv : Interval low high) (L : Log) (falls : NeverF
           (a, rw (old i a, old j (omega arith)) at w, adds .same j (omega arith) c .letters l ∙ r, λ m d e. adds .same m (omega arith) (omega arith) .letters k ∙ held′ m d e),
         )
 
+  -- a position that is settled is told as it is settled
+  told : (b : Bool) (K : Log) → Adds L t l b K →
+      UntilSettledYes low high (letter k) (letter l) K i ⊎ UntilSettledNo low high (letter k) (letter l) K i →
+      (NeverFalls K → i < answered-operands (letter k) (letter l) K → sat (until low high (letter k) (letter l)) K i ≡ b) → Told (until low high (letter k) (letter l)) K i b
+  told b K adds settled says =
+      let m = all-answered K in
+      let size = adds .size in
+      let grow = grown b K adds in
+      record {
+        in-order = grow;
+        answered = until-answered low high (letter k) (letter l) K grow i .1 (omega arith, settled);
+        says = says grow (omega arith);
+      }
+
   module _ (K : Log) (adds : Adds L t l true K) where
     met : UntilSettledYes low high (letter k) (letter l) K i
     met = (
@@ -154,15 +168,7 @@ module _ (low high k l : ℕ) (iv : Interval low high) (L : Log) (falls : NeverF
     )
 
     told-yes : Told (until low high (letter k) (letter l)) K i true
-    told-yes =
-        let m = all-answered K in
-        let size = adds .size in
-        let grow = grown true K adds in
-        record {
-          in-order = grow;
-          answered = until-answered low high (letter k) (letter l) K grow i .1 (omega arith, inl met);
-          says = until-yes low high (letter k) (letter l) K grow i (omega arith) met;
-        }
+    told-yes = told true K adds (inl met) (λ grow h. until-yes low high (letter k) (letter l) K grow i h met)
 
   module _ (K : Log) (adds : Adds L t l false K) where
     unmet-after : UntilSettledYes low high (letter k) (letter l) K i → ⊥
@@ -182,15 +188,7 @@ module _ (low high k l : ℕ) (iv : Interval low high) (L : Log) (falls : NeverF
     ended-no = (unmet-after, inl (L .size, omega arith, omega (arith, all-answered K, adds .size), left-fails))
 
     told-no : Told (until low high (letter k) (letter l)) K i false
-    told-no =
-        let m = all-answered K in
-        let size = adds .size in
-        let grow = grown false K adds in
-        record {
-          in-order = grow;
-          answered = until-answered low high (letter k) (letter l) K grow i .1 (omega arith, inr ended-no);
-          says = until-no low high (letter k) (letter l) K grow i (omega arith) ended-no;
-        }
+    told-no = told false K adds (inr ended-no) (λ grow h. until-no low high (letter k) (letter l) K grow i h ended-no)
 
   until-told : (b : Bool) (K : Log) → Adds L t l b K → Told (until low high (letter k) (letter l)) K i b
   until-told true K adds = told-yes K adds

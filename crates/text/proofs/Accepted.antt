@@ -20,7 +20,7 @@ use Rattle.rule.proofs.Headers.{first-zero}
 use Rattle.rule.proofs.Encoded.{weighed}
 use Rattle.text.specs.Tokens.{tokens, unreadable}
 use Rattle.text.specs.Grammar.{Level, Derives, Derived}
-use Rattle.text.specs.Parse.{Answer, entries-refusal, text-refusal, bytes, parsed, rule-buffer-after, Parses}
+use Rattle.text.specs.Parse.{Answer, parsed-refusal, text-refusal, bytes, parsed, rule-buffer-after, Parses}
 use Rattle.text.specs.declared.Parsed.the-variants.{Written, Refused}
 use Rattle.text.proofs.Cases.{by}
 use Rattle.text.proofs.Small.{none-misshapen}
@@ -44,9 +44,9 @@ accepted text o room n e =
     let c : parsed text o room ≡ record { number = text-refusal text o room; written = 0 } = simp p in
     absurd (eqb-false (text-refusal text o room) 0 p (sym (ap (λ (a : Answer). a .number) (e ∙ c)))))
 
-weigh : (text rule rule′ : List ℕ) (n : ℕ) (φ : Formula) → Derives Level.ors (tokens text) φ → entries-refusal (postfix φ) (length rule) ≡ 0 → n ≡ length (rule-of φ)
+weigh : (text rule rule′ : List ℕ) (n : ℕ) (φ : Formula) → Derives Level.ors (tokens text) φ → parsed-refusal (postfix φ) (length rule) ≡ 0 → n ≡ length (rule-of φ)
     → rule′ ≡ rule-of φ ++ drop (length (rule-of φ)) rule → Weighed text rule′ n
-unfolding entries-refusal
+unfolding parsed-refusal
 weigh text rule rule′ n φ d z l is =
     let es = postfix φ in
     let a = first-zero 3 (ltb 128 (length es)) _ z in
@@ -64,15 +64,15 @@ accepted-by-measure text rule rule′ n p =
   where
     go : (o : Option Formula) → Derived (tokens text) o → text-refusal text o (length rule) ≡ 0 → n ≡ length (bytes o) → rule′ ≡ rule-buffer-after text o rule
         → Weighed text rule′ n
-    go none d z l is = let a = first-zero 15 (unreadable text) (first 17 true (entries-refusal [] (length rule))) z in let b = first-zero 16 true (entries-refusal [] (length rule)) (a .1) in absurd (let w : _≡_ {A = ℕ} 0 1 = cc in omega arith)
-    go (some φ) d z l is = weigh text rule rule′ n φ d (first-zero 16 false (entries-refusal (postfix φ) (length rule)) (first-zero 15 (unreadable text) (first 17 false (entries-refusal (postfix φ) (length rule))) z .1) .1) l (is ∙ simp (eq-eqb (text-refusal text (some φ) (length rule)) 0 z))
+    go none d z l is = let a = first-zero 15 (unreadable text) (first 17 true (parsed-refusal [] (length rule))) z in let b = first-zero 16 true (parsed-refusal [] (length rule)) (a .1) in absurd (let w : _≡_ {A = ℕ} 0 1 = cc in omega arith)
+    go (some φ) d z l is = weigh text rule rule′ n φ d (first-zero 16 false (parsed-refusal (postfix φ) (length rule)) (first-zero 15 (unreadable text) (first 17 false (parsed-refusal (postfix φ) (length rule))) z .1) .1) l (is ∙ simp (eq-eqb (text-refusal text (some φ) (length rule)) 0 z))
 
 -- no refusal has the number 0: a text that is accepted has a rule's bytes
 some-bytes : (text : List ℕ) (o : Option Formula) (room : ℕ) → text-refusal text o room ≡ 0 → 0 ≡ length (bytes o) → ⊥
 unfolding encoded
 some-bytes text none room a l =
-    let b = first-zero 15 (unreadable text) (first 17 true (entries-refusal [] room)) a in
-    let c = first-zero 16 true (entries-refusal [] room) (b .1) in
+    let b = first-zero 15 (unreadable text) (first 17 true (parsed-refusal [] room)) a in
+    let c = first-zero 16 true (parsed-refusal [] room) (b .1) in
     let w : _≡_ {A = ℕ} 0 1 = cc in
     omega arith
 some-bytes text (some φ) room a l = omega arith

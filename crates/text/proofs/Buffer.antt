@@ -12,8 +12,8 @@ use lib.Dec.{ltb}
 use lib.ListN.{length, take, drop, getD, set, length-append}
 use lib.Seq.{sets-eq, take-at, length-take-le, drop-cons, set-at, append-snoc, take-suc}
 use Rattle.rule.specs.declared.Entry.{Entry}
-use Rattle.rule.specs.Encoding.{entry-bytes, body}
-use Rattle.text.specs.Reader.{start, Contains, Puts}
+use Rattle.rule.specs.Encoding.{entry-bytes, body, rule-header}
+use Rattle.text.specs.Reader.{Contains, Puts}
 
 -- ten stores one behind the other
 pub ten : (l : List ℕ) (i a b c d e f g h j k : ℕ) → i + 10 ≤ length l
@@ -71,17 +71,17 @@ holds-put out out′ n r e es p h =
     many : 128 ≤ n → cond (ltb n 128) (n + 1) 129 ≡ min (length (es ++ (e ∷ []))) 129
     many l = simp (le-ltb n 128 l) (omega (arith, longer, h .counts))
 
-    written : n < 128 → length es ≤ 128 → take (8 + r * 10) out′ ≡ start ++ body (es ++ (e ∷ []))
+    written : n < 128 → length es ≤ 128 → take (8 + r * 10) out′ ≡ rule-header 0 ++ body (es ++ (e ∷ []))
     written l m =
         let c : cond (ltb n 128) (n + 1) 129 ≡ n + 1 = simp (lt-ltb n 128 l) in
         let k : 8 + r * 10 ≡ 8 + n * 10 + 10 = omega (arith, p .counts ∙ c) in
         ap (λ (i : ℕ). take i out′) k
         ∙ p .bytes l (omega (arith, h .long))
         ∙ ap (λ (s : List ℕ). s ++ entry-bytes e) (h .bytes m)
-        ∙ append-assoc start (body es) (entry-bytes e)
-        ∙ ap (λ (s : List ℕ). start ++ s) (sym (body-last es e))
+        ∙ append-assoc (rule-header 0) (body es) (entry-bytes e)
+        ∙ ap (λ (s : List ℕ). rule-header 0 ++ s) (sym (body-last es e))
 
 -- at first it holds nothing
-pub holds-none : (out : List ℕ) → length out ≡ 1288 → take 8 out ≡ start → Contains out 0 []
+pub holds-none : (out : List ℕ) → length out ≡ 1288 → take 8 out ≡ rule-header 0 → Contains out 0 []
 unfolding body
 holds-none out l e = record { long = l; counts = refl; bytes = λ h. e }

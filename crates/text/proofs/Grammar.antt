@@ -12,51 +12,17 @@ use lib.Dec.{eqb}
 use Rattle.mtl.proofs.Bounded.{and-iff, or-iff, true-and-false}
 use Rattle.text.specs.Tokens.{Token}
 use Rattle.text.proofs.Cases.{by, nothing, same}
+use Rattle.text.proofs.TokenNumbers.{decode, numbered}
 use Rattle.text.specs.Grammar.{Level, Prefix, Infix, Tree, end-token, interval, spell-prefix, spell-infix, spell}
 use Rattle.text.specs.Grammar.Level.{ors, timed, prefixed, atom}
 use Rattle.text.specs.Grammar.Tree.{letter, brackets, tight, one, untimed, two, or}
 use Rattle.text.specs.Reader.{kind, letter-value, number-value, first-token, first-letter, first-number, tail, Timing, end-of, bounded, timing, prefix-of, infix-of, before-operand, between-operands, Phrase, then, joined, bracketed, phrase}
 
--- a token from its number and its values
-abbrev decode : ℕ → ℕ → ℕ → Token
-decode k l n =
-    cond (eqb k 0) (Token.letter l)
-    (cond (eqb k 1) Token.not
-    (cond (eqb k 2) Token.or
-    (cond (eqb k 3) Token.prev
-    (cond (eqb k 4) Token.next
-    (cond (eqb k 5) Token.since
-    (cond (eqb k 6) Token.until
-    (cond (eqb k 7) (Token.number n)
-    (cond (eqb k 8) Token.inf
-    (cond (eqb k 9) Token.opening
-    (cond (eqb k 10) Token.closing
-    (cond (eqb k 11) Token.from
-    (cond (eqb k 12) Token.to
-    (cond (eqb k 13) Token.comma Token.unknown)))))))))))))
-
-decoded : (t : Token) → decode (kind t) (letter-value t) (number-value t) ≡ t
-decoded (Token.letter k) = refl
-decoded (Token.number n) = refl
-decoded Token.not = refl
-decoded Token.or = refl
-decoded Token.prev = refl
-decoded Token.next = refl
-decoded Token.since = refl
-decoded Token.until = refl
-decoded Token.inf = refl
-decoded Token.opening = refl
-decoded Token.closing = refl
-decoded Token.from = refl
-decoded Token.to = refl
-decoded Token.comma = refl
-decoded Token.unknown = refl
-
 -- the first token, once its number is known
 front : (k : ℕ) (ts : List Token) → (k ≡ 15 → ⊥) → first-token ts ≡ k → ts ≡ decode k (first-letter ts) (first-number ts) ∷ tail ts
 front k [] n e = absurd (n (sym e))
 front k (t ∷ ts) n e =
-    ap (λ (x : Token). x ∷ ts) (sym (decoded t) ∙ ap (λ (j : ℕ). decode j (letter-value t) (number-value t)) e)
+    ap (λ (x : Token). x ∷ ts) (sym (numbered t .token) ∙ ap (λ (j : ℕ). decode j (letter-value t) (number-value t)) e)
 
 front-by : (k : ℕ) (ts : List Token) → (k ≡ 15 → ⊥) → eqb (first-token ts) k ≡ true → ts ≡ decode k (first-letter ts) (first-number ts) ∷ tail ts
 front-by k ts n e = front k ts n (eqb-true (first-token ts) k e)

@@ -17,7 +17,7 @@ use Rattle.text.specs.Tokens.{Token, tokens}
 use Rattle.text.specs.Grammar.{End, Prefix, Infix, Tree, meaning, bound, prefix-meaning, infix-meaning}
 use Rattle.text.specs.Grammar.Level.{ors, timed, prefixed, atom}
 use Rattle.text.specs.Grammar.End.{at}
-use Rattle.text.specs.Reader.{first-token, first-letter, first-number, tail, Lexed, Timing, end-of, bounded, timing, Timed, prefix-of, infix-of, before-operand, between-operands, Phrase, then, joined, bracketed, phrase, size, Contains, Puts, or-entry, Joins, written, is-given, ReadsPhrase, ReadsLevel}
+use Rattle.text.specs.Reader.{first-token, first-letter, first-number, tail, Lexed, Timing, end-of, bounded, timing, Timed, prefix-of, infix-of, before-operand, between-operands, Phrase, then, joined, bracketed, phrase, remaining, Contains, Puts, or-entry, Joins, written, is-given, ReadsPhrase, ReadsLevel}
 use Rattle.text.specs.declared.token.Lexeme.{Lexeme}
 use Rattle.text.specs.declared.level.Ends.the-variants.{Interval, Missing}
 use Rattle.text.specs.declared.level.Read.{Read}
@@ -149,7 +149,7 @@ module _ (text : List ℕ) (place : ℕ) (x : Lexeme) (l : Lexed text place x) w
         moves = l .forward;
         finds = λ f h.
             fuel (λ (m : ℕ). phrase m atom none (tokens (drop place text)) ≡ some (record { tree = Tree.letter (first-letter (tokens (drop place text))); rest = tokens (drop (x .next) text) }))
-            (size atom text place) f h
+            (remaining atom text place) f h
             (λ g k.
             simp (eq-eqb (first-token (tokens (drop place text))) 0 (sym (l .kind-is) ∙ e))
             (ap (λ (us : List Token). some (record { tree = Tree.letter (first-letter (tokens (drop place text))); rest = us })) (sym (l .rest-is))));
@@ -161,7 +161,7 @@ module _ (text : List ℕ) (place : ℕ) (x : Lexeme) (l : Lexed text place x) w
   pub atom-neither : (out out′ : List ℕ) (n : ℕ) → (x .kind ≡ 0 → ⊥) → (x .kind ≡ 9 → ⊥) → ReadsLevel atom none text out place n Fault out′
   unfolding phrase
   atom-neither out out′ n a b f h =
-      fuel (λ (m : ℕ). phrase m atom none (tokens (drop place text)) ≡ none) (size atom text place) f h
+      fuel (λ (m : ℕ). phrase m atom none (tokens (drop place text)) ≡ none) (remaining atom text place) f h
       (λ g k.
       simp (ne-eqb (first-token (tokens (drop place text))) 0 (λ e. a (l .kind-is ∙ e)), ne-eqb (first-token (tokens (drop place text))) 9 (λ e. b (l .kind-is ∙ e))))
 
@@ -172,22 +172,22 @@ module _ (text : List ℕ) (place : ℕ) (x : Lexeme) (l : Lexed text place x) w
         simp (ne-eqb (first-token (tokens (drop place text))) 0 (λ e. omega (arith, l .kind-is)), eq-eqb (first-token (tokens (drop place text))) 9 (sym (l .kind-is) ∙ opens))
         (ap (λ (us : List Token). then (phrase g ors none us) bracketed) (sym (l .rest-is)))
 
-    pub less-inside : size ors text (x .next) < size atom text place
+    pub less-inside : remaining ors text (x .next) < remaining atom text place
     less-inside = omega (arith, l .moves (λ e. omega arith))
 
     pub atom-empty : (out out′ : List ℕ) (n : ℕ) → ReadsLevel ors none text out (x .next) n Fault out′ → ReadsLevel atom none text out place n Fault out′
     atom-empty out out′ n bad f h =
-        fuel (λ (m : ℕ). phrase m atom none (tokens (drop place text)) ≡ none) (size atom text place) f h
+        fuel (λ (m : ℕ). phrase m atom none (tokens (drop place text)) ≡ none) (remaining atom text place) f h
         (λ g k. inside g ∙ ap (λ (o : Option (Phrase ors)). then o bracketed) (bad g (omega (arith, less-inside))))
 
     module _ (out out′ : List ℕ) (n p m : ℕ) (ok : ReadsPhrase ors none text out (x .next) n p m out′) (y : Lexeme) (ly : Lexed text p y) where
-      around : (g : ℕ) → size atom text place ≤ g
+      around : (g : ℕ) → remaining atom text place ≤ g
           → phrase (suc g) atom none (tokens (drop place text)) ≡ bracketed (record { tree = ok .tree; rest = tokens (drop p text) })
       around g k = inside g ∙ ap (λ (o : Option (Phrase ors)). then o bracketed) (ok .finds g (omega (arith, less-inside)))
 
       pub atom-unclosed : (y .kind ≡ 10 → ⊥) → ReadsLevel atom none text out place n Fault out′
       atom-unclosed c f h =
-          fuel (λ (m : ℕ). phrase m atom none (tokens (drop place text)) ≡ none) (size atom text place) f h
+          fuel (λ (m : ℕ). phrase m atom none (tokens (drop place text)) ≡ none) (remaining atom text place) f h
           (λ g k. around g k ∙ simp (ne-eqb (first-token (tokens (drop p text))) 10 (λ e. c (ly .kind-is ∙ e))))
 
       pub atom-brackets : y .kind ≡ 10 → ReadsLevel atom none text out place n (Phrased (y .next) m) out′
@@ -198,7 +198,7 @@ module _ (text : List ℕ) (place : ℕ) (x : Lexeme) (l : Lexed text place x) w
             moves = omega (arith, l .forward, ok .moves, ly .forward);
             finds = λ f h.
                 fuel (λ (j : ℕ). phrase j atom none (tokens (drop place text)) ≡ some (record { tree = Tree.brackets (ok .tree); rest = tokens (drop (y .next) text) }))
-                (size atom text place) f h
+                (remaining atom text place) f h
                 (λ g k.
                 around g k
                 ∙ simp (eq-eqb (first-token (tokens (drop p text))) 10 (sym (ly .kind-is) ∙ c))
@@ -220,14 +220,14 @@ module _ (text : List ℕ) (place : ℕ) (x : Lexeme) (l : Lexed text place x) w
         moves = ok .moves;
         finds = λ f h.
             fuel (λ (j : ℕ). phrase j prefixed none (tokens (drop place text)) ≡ some (record { tree = Tree.tight (ok .tree); rest = tokens (drop p text) }))
-            (size prefixed text place) f h
+            (remaining prefixed text place) f h
             (λ g k.
             simp (tested before-operand false b)
             (ap (λ (o : Option (Phrase atom)). then o (λ (q : Phrase atom). some (record { tree = Tree.tight (q .tree); rest = q .rest }))) (ok .finds g (omega arith))));
         holds = ok .holds;
       }
   prefixed-atom out out′ n Fault b bad = λ f h.
-      fuel (λ (j : ℕ). phrase j prefixed none (tokens (drop place text)) ≡ none) (size prefixed text place) f h
+      fuel (λ (j : ℕ). phrase j prefixed none (tokens (drop place text)) ≡ none) (remaining prefixed text place) f h
       (λ g k.
       simp (tested before-operand false b)
       (ap (λ (o : Option (Phrase atom)). then o (λ (q : Phrase atom). some (record { tree = Tree.tight (q .tree); rest = q .rest }))) (bad g (omega arith))))
@@ -249,7 +249,7 @@ module _ (text : List ℕ) (place : ℕ) (x : Lexeme) (l : Lexed text place x) w
 
     pub prefixed-missing : (out out′ : List ℕ) (n : ℕ) → Timed (x .kind) text (x .next) Missing → ReadsLevel prefixed none text out place n Fault out′
     prefixed-missing out out′ n t f h =
-        fuel (λ (j : ℕ). phrase j prefixed none (tokens (drop place text)) ≡ none) (size prefixed text place) f h
+        fuel (λ (j : ℕ). phrase j prefixed none (tokens (drop place text)) ≡ none) (remaining prefixed text place) f h
         (λ g k.
         operator g
         ∙ ap (λ (o : Option Timing).
@@ -260,7 +260,7 @@ module _ (text : List ℕ) (place : ℕ) (x : Lexeme) (l : Lexed text place x) w
       abbrev w₀ : Timing
       w₀ = record { low = low; high = t .0; rest = tokens (drop next text) }
 
-      pub less-behind : size prefixed text next < size prefixed text place
+      pub less-behind : remaining prefixed text next < remaining prefixed text place
       less-behind = omega (arith, l .moves not-end, t .3)
 
       operand : (g : ℕ) → phrase (suc g) prefixed none (tokens (drop place text))
@@ -273,7 +273,7 @@ module _ (text : List ℕ) (place : ℕ) (x : Lexeme) (l : Lexed text place x) w
 
       pub prefixed-fault : (out out′ : List ℕ) (n : ℕ) → ReadsLevel prefixed none text out next n Fault out′ → ReadsLevel prefixed none text out place n Fault out′
       prefixed-fault out out′ n bad f h =
-          fuel (λ (j : ℕ). phrase j prefixed none (tokens (drop place text)) ≡ none) (size prefixed text place) f h
+          fuel (λ (j : ℕ). phrase j prefixed none (tokens (drop place text)) ≡ none) (remaining prefixed text place) f h
           (λ g k.
           operand g
           ∙ ap (λ (o : Option (Phrase prefixed)). then o (λ (q : Phrase prefixed). some (record { tree = Tree.one (prefix-of (x .kind) w₀) (q .tree); rest = q .rest })))
@@ -289,7 +289,7 @@ module _ (text : List ℕ) (place : ℕ) (x : Lexeme) (l : Lexed text place x) w
             moves = omega (arith, l .forward, t .3, ok .moves);
             finds = λ f h.
                 fuel (λ (j : ℕ). phrase j prefixed none (tokens (drop place text)) ≡ some (record { tree = Tree.one (prefix-of (x .kind) w₀) (ok .tree); rest = tokens (drop p text) }))
-                (size prefixed text place) f h
+                (remaining prefixed text place) f h
                 (λ g k.
                 operand g
                 ∙ ap (λ (o : Option (Phrase prefixed)). then o (λ (q : Phrase prefixed). some (record { tree = Tree.one (prefix-of (x .kind) w₀) (q .tree); rest = q .rest })))
@@ -320,7 +320,7 @@ timed-rest g p =
 pub timed-none : (text out out′ : List ℕ) (place n : ℕ) → ReadsLevel prefixed none text out place n Fault out′ → ReadsLevel timed none text out place n Fault out′
 unfolding phrase
 timed-none text out out′ place n bad f h =
-    fuel (λ (j : ℕ). phrase j timed none (tokens (drop place text)) ≡ none) (size timed text place) f h
+    fuel (λ (j : ℕ). phrase j timed none (tokens (drop place text)) ≡ none) (remaining timed text place) f h
     (λ g k. ap (λ (o : Option (Phrase prefixed)). then o (timed-rest g)) (bad g (omega arith)))
 
 module _
@@ -330,7 +330,7 @@ module _
     (x : Lexeme)
     (l : Lexed text p x)
   where
-    rest-of : (g : ℕ) → size timed text place ≤ g
+    rest-of : (g : ℕ) → remaining timed text place ≤ g
         → phrase (suc g) timed none (tokens (drop place text)) ≡ timed-rest g (record { tree = ok .tree; rest = tokens (drop p text) })
     unfolding phrase
     rest-of g k = ap (λ (o : Option (Phrase prefixed)). then o (timed-rest g)) (ok .finds g (omega arith))
@@ -343,13 +343,13 @@ module _
           moves = ok .moves;
           finds = λ f h.
               fuel (λ (j : ℕ). phrase j timed none (tokens (drop place text)) ≡ some (record { tree = Tree.untimed (ok .tree); rest = tokens (drop p text) }))
-              (size timed text place) f h
+              (remaining timed text place) f h
               (λ g k. rest-of g k ∙ simp (tested text p x l between-operands false b));
           holds = ok .holds;
         }
 
     module _ (b : between-operands (x .kind) ≡ true) where
-      between : (g : ℕ) → size timed text place ≤ g → phrase (suc g) timed none (tokens (drop place text))
+      between : (g : ℕ) → remaining timed text place ≤ g → phrase (suc g) timed none (tokens (drop place text))
           ≡ then (timing (x .kind) (tokens (drop (x .next) text)))
           (λ (w : Timing). then (phrase g timed none (w .rest)) (λ (q : Phrase timed). some (record { tree = Tree.two (ok .tree) (infix-of (x .kind) w) (q .tree); rest = q .rest })))
       between g k =
@@ -362,7 +362,7 @@ module _
 
       pub timed-missing : (out″ : List ℕ) → Timed (x .kind) text (x .next) Missing → ReadsLevel timed none text out place n Fault out″
       timed-missing out″ t f h =
-          fuel (λ (j : ℕ). phrase j timed none (tokens (drop place text)) ≡ none) (size timed text place) f h
+          fuel (λ (j : ℕ). phrase j timed none (tokens (drop place text)) ≡ none) (remaining timed text place) f h
           (λ g k.
           between g k
           ∙ ap (λ (o : Option Timing).
@@ -376,10 +376,10 @@ module _
         abbrev w₁ : Timing
         w₁ = record { low = low; high = t .0; rest = tokens (drop next text) }
 
-        pub less-right : size timed text next < size timed text place
+        pub less-right : remaining timed text next < remaining timed text place
         less-right = omega (arith, l .moves not-last, t .3, ok .moves)
 
-        right : (g : ℕ) → size timed text place ≤ g → phrase (suc g) timed none (tokens (drop place text))
+        right : (g : ℕ) → remaining timed text place ≤ g → phrase (suc g) timed none (tokens (drop place text))
             ≡ then (phrase g timed none (tokens (drop next text))) (λ (q : Phrase timed). some (record { tree = Tree.two (ok .tree) (infix-of (x .kind) w₁) (q .tree); rest = q .rest }))
         right g k =
             between g k
@@ -389,7 +389,7 @@ module _
 
         pub timed-fault : (out″ : List ℕ) → ReadsLevel timed none text out′ next m Fault out″ → ReadsLevel timed none text out place n Fault out″
         timed-fault out″ bad f h =
-            fuel (λ (j : ℕ). phrase j timed none (tokens (drop place text)) ≡ none) (size timed text place) f h
+            fuel (λ (j : ℕ). phrase j timed none (tokens (drop place text)) ≡ none) (remaining timed text place) f h
             (λ g k.
             right g k
             ∙ ap (λ (o : Option (Phrase timed)). then o (λ (q : Phrase timed). some (record { tree = Tree.two (ok .tree) (infix-of (x .kind) w₁) (q .tree); rest = q .rest })))
@@ -405,7 +405,7 @@ module _
               moves = omega (arith, ok .moves, l .forward, t .3, ok′ .moves);
               finds = λ f h.
                   fuel (λ (j : ℕ). phrase j timed none (tokens (drop place text)) ≡ some (record { tree = Tree.two (ok .tree) (infix-of (x .kind) w₁) (ok′ .tree); rest = tokens (drop p′ text) }))
-                  (size timed text place) f h
+                  (remaining timed text place) f h
                   (λ g k.
                   right g k
                   ∙ ap (λ (o : Option (Phrase timed)). then o (λ (q : Phrase timed). some (record { tree = Tree.two (ok .tree) (infix-of (x .kind) w₁) (q .tree); rest = q .rest })))
@@ -430,7 +430,7 @@ pub ors-none : (before : Option (Tree ors)) (text out out′ : List ℕ) (place 
     → ReadsLevel ors before text out place n Fault out′
 unfolding phrase
 ors-none before text out out′ place n bad f h =
-    fuel (λ (j : ℕ). phrase j ors before (tokens (drop place text)) ≡ none) (size ors text place) f h
+    fuel (λ (j : ℕ). phrase j ors before (tokens (drop place text)) ≡ none) (remaining ors text place) f h
     (λ g k. ap (λ (o : Option (Phrase timed)). then o (ors-rest g before)) (bad g (omega arith)))
 
 joined-holds : (before : Option (Tree ors)) (later : Bool) (u : Tree timed) (out out′ out″ : List ℕ) (n m r : ℕ) → later ≡ is-given before → Joins later out′ m r out″
@@ -457,7 +457,7 @@ module _
     (x : Lexeme)
     (l : Lexed text p x)
   where
-    term : (g : ℕ) → size ors text place ≤ g
+    term : (g : ℕ) → remaining ors text place ≤ g
         → phrase (suc g) ors before (tokens (drop place text)) ≡ ors-rest g before (record { tree = ok .tree; rest = tokens (drop p text) })
     unfolding phrase
     term g k = ap (λ (o : Option (Phrase timed)). then o (ors-rest g before)) (ok .finds g (omega arith))
@@ -469,12 +469,12 @@ module _
           moves = ok .moves;
           finds = λ f h.
               fuel (λ (j : ℕ). phrase j ors before (tokens (drop place text)) ≡ some (record { tree = joined before (ok .tree); rest = tokens (drop p text) }))
-              (size ors text place) f h
+              (remaining ors text place) f h
               (λ g k. term g k ∙ simp (ne-eqb (first-token (tokens (drop p text))) 2 (λ z. e (l .kind-is ∙ z))));
           holds = joined-holds before later (ok .tree) out out′ out″ n m r is join (ok .holds);
         }
 
-    pub less-term : x .kind ≡ 2 → size ors text (x .next) < size ors text place
+    pub less-term : x .kind ≡ 2 → remaining ors text (x .next) < remaining ors text place
     less-term e = omega (arith, l .moves (λ z. omega arith), ok .moves)
 
     pub ors-more : (q : Read) (out‴ : List ℕ) → x .kind ≡ 2 → ReadsLevel ors (some (joined before (ok .tree))) text out″ (x .next) r q out‴
@@ -485,7 +485,7 @@ module _
           moves = omega (arith, ok .moves, l .forward, ok′ .moves);
           finds = λ f h.
               fuel (λ (j : ℕ). phrase j ors before (tokens (drop place text)) ≡ some (record { tree = ok′ .tree; rest = tokens (drop p′ text) }))
-              (size ors text place) f h
+              (remaining ors text place) f h
               (λ g k.
               term g k
               ∙ simp (eq-eqb (first-token (tokens (drop p text))) 2 (sym (l .kind-is) ∙ e))
@@ -493,7 +493,7 @@ module _
           holds = λ es h. ok′ .holds es (joined-holds before later (ok .tree) out out′ out″ n m r is join (ok .holds) es h);
         }
     ors-more Fault out‴ e bad = λ f h.
-        fuel (λ (j : ℕ). phrase j ors before (tokens (drop place text)) ≡ none) (size ors text place) f h
+        fuel (λ (j : ℕ). phrase j ors before (tokens (drop place text)) ≡ none) (remaining ors text place) f h
         (λ g k.
         term g k
         ∙ simp (eq-eqb (first-token (tokens (drop p text))) 2 (sym (l .kind-is) ∙ e))

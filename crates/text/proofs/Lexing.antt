@@ -18,6 +18,7 @@ use Rattle.text.specs.declared.token.Run.{Run}
 use Rattle.text.specs.declared.token.Lexeme.{Lexeme}
 use Rattle.text.proofs.Words.{long-word}
 use Rattle.text.proofs.Cases.{by}
+use Rattle.text.proofs.TokenNumbers.{numbered}
 
 -- the longest run that is not unknown already
 abbrev pub longest : ℕ
@@ -182,46 +183,14 @@ lexed-end text place start x s l a b c d =
       moves = λ h. absurd (h a);
     }
 
--- whether a token is unknown, by its number
-kind-unknown : (t : Token) → is-unknown t ≡ eqb (kind t) 14
-kind-unknown (Token.letter k) = refl
-kind-unknown (Token.number n) = refl
-kind-unknown Token.not = refl
-kind-unknown Token.or = refl
-kind-unknown Token.prev = refl
-kind-unknown Token.next = refl
-kind-unknown Token.since = refl
-kind-unknown Token.until = refl
-kind-unknown Token.inf = refl
-kind-unknown Token.opening = refl
-kind-unknown Token.closing = refl
-kind-unknown Token.from = refl
-kind-unknown Token.to = refl
-kind-unknown Token.comma = refl
-kind-unknown Token.unknown = refl
-
 some-unknown-is : (ts : List Token) → some-unknown ts ≡ eqb (first-token ts) 14 || some-unknown (tail ts)
 unfolding some-unknown
 some-unknown-is [] = refl
-some-unknown-is (t ∷ ts) = ap (λ (b : Bool). b || some-unknown ts) (kind-unknown t)
+some-unknown-is (t ∷ ts) = ap (λ (b : Bool). b || some-unknown ts) (numbered t .unknown)
 
 -- no token has the number of the end
 pub not-the-end : (t : Token) → kind t ≡ 15 → ⊥
-not-the-end (Token.letter k) e = omega arith
-not-the-end (Token.number n) e = omega arith
-not-the-end Token.not e = omega arith
-not-the-end Token.or e = omega arith
-not-the-end Token.prev e = omega arith
-not-the-end Token.next e = omega arith
-not-the-end Token.since e = omega arith
-not-the-end Token.until e = omega arith
-not-the-end Token.inf e = omega arith
-not-the-end Token.opening e = omega arith
-not-the-end Token.closing e = omega arith
-not-the-end Token.from e = omega arith
-not-the-end Token.to e = omega arith
-not-the-end Token.comma e = omega arith
-not-the-end Token.unknown e = omega arith
+not-the-end t e = omega (arith, numbered t .within)
 
 ends-known : (ts : List Token) → first-token ts ≡ 15 → some-unknown ts ≡ false
 unfolding some-unknown

@@ -1,5 +1,6 @@
 -- Laws of tokens, of the grammar and of the buffer that the functions' proofs cite.
 pub mod Cases
+pub mod TokenNumbers
 pub mod Words
 pub mod Lexing
 pub mod Buffer

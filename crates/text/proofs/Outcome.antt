@@ -23,8 +23,8 @@ use Rattle.rule.proofs.Encoded.{length-body, weighed}
 use Rattle.text.specs.Tokens.{Token, tokens, some-unknown, unreadable}
 use Rattle.text.specs.Grammar.{meaning, Derived}
 use Rattle.text.specs.Grammar.Level.{ors}
-use Rattle.text.specs.Parse.{entries-refusal, text-refusal, bytes, Parses}
-use Rattle.text.specs.Reader.{Lexed, size, phrase, Contains, ReadsPhrase, ReadsLevel}
+use Rattle.text.specs.Parse.{parsed-refusal, text-refusal, bytes, Parses}
+use Rattle.text.specs.Reader.{Lexed, remaining, phrase, Contains, ReadsPhrase, ReadsLevel}
 use Rattle.text.specs.Reader.{first-token as first-kind}
 use Rattle.text.specs.declared.Parsed.the-variants.{Written, Refused}
 use Rattle.text.specs.declared.token.Lexeme.{Lexeme}
@@ -81,7 +81,7 @@ module _ (text rule : List ℕ) (short : length text ≤ 1024) (known : some-unk
 
   -- calls enough for both
   abbrev plenty : ℕ
-  plenty = suc (size ors text 0) + 4 * length (tokens text)
+  plenty = suc (remaining ors text 0) + 4 * length (tokens text)
 
   pub faulty : (out out′ : List ℕ) → ReadsLevel ors none text out 0 0 Fault out′ → Parses text rule (Refused 17) rule
   faulty out out′ bad = underived (decides (tokens text) plenty (omega arith) none (bad plenty (omega arith)))
@@ -108,7 +108,7 @@ module _ (text rule : List ℕ) (short : length text ≤ 1024) (known : some-unk
       held = ok .holds [] begun
 
       pub too-many : 128 < n → Parses text rule (Refused 4) rule
-      unfolding entries-refusal
+      unfolding parsed-refusal
       too-many h =
           refuses text rule (some φ) 3 derives-it
           (simp (readable, lt-ltb 128 (length es) (omega (arith, held .counts))))
@@ -149,7 +149,7 @@ module _ (text rule : List ℕ) (short : length text ≤ 1024) (known : some-unk
 
         -- what remains of the refusals
         pending : text-refusal text (some φ) (length rule) ≡ first 6 misplaces (first 8 exceeds (first 18 (ltb (length rule) (8 + length es * 10)) 0))
-        unfolding entries-refusal
+        unfolding parsed-refusal
         pending = simp (readable, le-ltb 128 (length es) (omega (arith, count-is)))
 
         pub stopped : (k r : ℕ) → measure-answer (Stopped k) ≡ measured (rule-of φ) → r ≡ k → Parses text rule (Refused r) rule

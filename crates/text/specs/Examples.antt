@@ -14,7 +14,7 @@ use Rattle.rule.specs.Words.{offset}
 use Rattle.rule.specs.Postfix.{postfix}
 use Rattle.text.specs.Ascii.{ascii}
 use Rattle.text.specs.Tokens.{token-of, sign, tokens-from, some-unknown}
-use Rattle.text.specs.Parse.{entries-refusal, text-refusal}
+use Rattle.text.specs.Parse.{parsed-refusal, text-refusal}
 
 -- a text, the bytes of the lent buffer, the number of the refusal that it meets or 0, and what the grammar derives from it
 pub record Row : Type 0 where
@@ -117,5 +117,5 @@ Right n (r ∷ rs) = (wrong n r ≡ 0) × Right (suc n) rs
 
 -- every row computes; an edit of the definitions that breaks a row has its number in an error
 pub every-row : Right 1 rows
-unfolding Right wrong rows repeated nots ascii tokens-from token-of sign some-unknown postfix entries-refusal any offset
+unfolding Right wrong rows repeated nots ascii tokens-from token-of sign some-unknown postfix parsed-refusal any offset
 every-row = (refl, (refl, (refl, (refl, (refl, (refl, (refl, (refl, (refl, (refl, (refl, (refl, (refl, (refl, (refl, (refl, (refl, (refl, (refl, (refl, (refl, (refl, (refl, (refl, (refl, (refl, (refl, (refl, (refl, (refl, (refl, (refl, (refl, (refl, (refl, (refl, (refl, (refl, (refl, (refl, (refl, (refl, tt))))))))))))))))))))))))))))))))))))))))))

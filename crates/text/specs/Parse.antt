@@ -34,8 +34,8 @@ underived none = true
 underived (some φ) = false
 
 -- 4, 6, 8 and 18, of the entries of a formula and a lent buffer of `room` bytes
-unfoldable pub entries-refusal : List Entry → ℕ → ℕ
-entries-refusal es room =
+unfoldable pub parsed-refusal : List Entry → ℕ → ℕ
+parsed-refusal es room =
     first 4 (ltb 128 (length es))
     (first 6 (any (length es) (misplaced-at es))
     (first 8 (over-limit 1 es (length es)) (first 18 (ltb room (8 + length es * 10)) 0)))
@@ -47,7 +47,7 @@ entries-of (some φ) = postfix φ
 
 -- the number with which reading the text stops, by what the grammar derives from it; 0 where it is accepted
 abbrev pub text-refusal : List ℕ → Option Formula → ℕ → ℕ
-text-refusal text o room = first 16 (unreadable text) (first 17 (underived o) (entries-refusal (entries-of o) room))
+text-refusal text o room = first 16 (unreadable text) (first 17 (underived o) (parsed-refusal (entries-of o) room))
 
 -- the rule's bytes
 abbrev pub bytes : Option Formula → List ℕ

@@ -12,7 +12,7 @@ use lib.Dec.{ltb, eqb}
 use lib.ListN.{length, take, drop, getD}
 use Rattle.rule.specs.declared.Entry.{Entry}
 use Rattle.rule.specs.Postfix.{postfix}
-use Rattle.rule.specs.Encoding.{entry-bytes, body}
+use Rattle.rule.specs.Encoding.{entry-bytes, body, rule-header}
 use Rattle.text.specs.Tokens.{Token, runs, token-of, tokens}
 use Rattle.text.specs.Grammar.{Level, End, Prefix, Infix, Tree, meaning, bound}
 use Rattle.text.specs.Grammar.Level.{ors, timed, prefixed, atom}
@@ -231,18 +231,14 @@ weight timed = 2
 weight prefixed = 1
 weight atom = 0
 
-abbrev pub size : Level → List ℕ → ℕ → ℕ
-size l text place = (length text - place) * 4 + weight l
+abbrev pub remaining : Level → List ℕ → ℕ → ℕ
+remaining l text place = (length text - place) * 4 + weight l
 
--- the header before its count is known
-abbrev pub start : List ℕ
-start = 0x4B ∷ 0x52 ∷ 0x4C ∷ 0 ∷ 1 ∷ 0 ∷ 0 ∷ 0 ∷ []
-
--- the buffer has these entries, n of them; 129 for more than 128, of which it holds nothing
+-- the buffer has these entries, n of them, behind a header whose count is not known yet; 129 for more than 128, of which it holds nothing
 pub record Contains (out : List ℕ) (n : ℕ) (es : List Entry) : Type 0 where
   pub long : length out ≡ 1288
   pub counts : n ≡ min (length es) 129
-  pub bytes : length es ≤ 128 → take (8 + n * 10) out ≡ start ++ body es
+  pub bytes : length es ≤ 128 → take (8 + n * 10) out ≡ rule-header 0 ++ body es
 
 -- an entry put behind the n entries of the buffer
 pub record Puts (out : List ℕ) (n : ℕ) (e : Entry) (r : ℕ) (out′ : List ℕ) : Type 0 where
@@ -270,12 +266,12 @@ is-given (some t) = true
 pub record ReadsPhrase (l : Level) (before : Option (Tree ors)) (text out : List ℕ) (place n place′ n′ : ℕ) (out′ : List ℕ) : Type 0 where
   pub tree : Tree l
   pub moves : place ≤ place′
-  pub finds : (f : ℕ) → size l text place < f → phrase f l before (tokens (drop place text)) ≡ some (record { tree = tree; rest = tokens (drop place′ text) })
+  pub finds : (f : ℕ) → remaining l text place < f → phrase f l before (tokens (drop place text)) ≡ some (record { tree = tree; rest = tokens (drop place′ text) })
   pub holds : (es : List Entry) → Contains out n (es ++ written before) → Contains out′ n′ (es ++ postfix (meaning tree))
 
 abbrev pub ReadsLevel : (l : Level) → Option (Tree ors) → List ℕ → List ℕ → ℕ → ℕ → Read → List ℕ → Type 0
 ReadsLevel l before text out place n (Formula place′ n′) out′ = ReadsPhrase l before text out place n place′ n′ out′
-ReadsLevel l before text out place n Fault out′ = (f : ℕ) → size l text place < f → phrase f l before (tokens (drop place text)) ≡ none
+ReadsLevel l before text out place n Fault out′ = (f : ℕ) → remaining l text place < f → phrase f l before (tokens (drop place text)) ≡ none
 
 -- whatever phrase stands before this one, if one does
 abbrev pub AnswersAfter : Bool → List ℕ → List ℕ → ℕ → ℕ → Read → List ℕ → Type 0

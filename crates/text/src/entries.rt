@@ -3,14 +3,15 @@ ghost use mathlib.Core.Path.{_≡_};
 ghost use mathlib.Core.List.{_++_};
 ghost use Prim.Native.Nat.{_≤_};
 ghost use lib.ListN.{length, take, drop};
-ghost use Rattle.text.specs.Reader.{start, Puts};
+ghost use Rattle.rule.specs.Encoding.{rule-header};
+ghost use Rattle.text.specs.Reader.{Puts};
 
 // the most entries of a rule
 const MOST: usize = 128;
 
 // A buffer with a rule's header, the count still 0.
 pub fn begin() -> [u8; 1288]
-    ensures { λ r. ⌜ (length r ≡ 1288) × (take 8 r ≡ start) ⌝ }
+    ensures { λ r. ⌜ (length r ≡ 1288) × (take 8 r ≡ rule-header 0) ⌝ }
 {
     let mark = b"KRL";
     let mut out = [0u8; 1288];

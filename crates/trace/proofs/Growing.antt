@@ -12,7 +12,7 @@ use Rattle.trace.specs.Positions.{spot, place, positions, before}
 use Rattle.trace.specs.Log.{log-of}
 use Rattle.trace.proofs.Counting.{one-record, count-grows, spot-holds}
 use Rattle.trace.proofs.Positions.{log-placed}
-use Rattle.trace.proofs.Slices.{Part, prefix-part, time-part, letter-part, before-part}
+use Rattle.trace.proofs.Parts.{Part, prefix-part, time-part, letter-part, before-part}
 
 -- u begins with the records s
 module _ (u s : List ℕ) (part : Part u s 0) where

@@ -3,11 +3,7 @@ pub mod Laws
 pub mod Falling
 pub mod Counting
 pub mod Positions
-pub mod Windows
-pub mod Picking
-pub mod Reading
-pub mod Slices
-pub mod Marks
+pub mod Parts
 pub mod Growing
 pub mod Making
 pub mod Trimming

@@ -174,10 +174,8 @@ module _ (time events : ℕ → ℕ) where
 
 -- header, count and records of a trimmed log
 pub put-trimmed : (buffer : List ℕ) (n : ℕ) (s : List ℕ) → 16 + length s ≤ length buffer →
-    put (put (put (put buffer 0 (log-header 3)) 8 (word-bytes (n / 4294967296))) 12 (word-bytes (n % 4294967296))) 16 s ≡ put buffer 0 (trimmed-bytes n s)
+    put (put (put buffer 0 (log-header 3)) 8 (record-bytes (n / 4294967296) (n % 4294967296))) 16 s ≡ put buffer 0 (trimmed-bytes n s)
 put-trimmed buffer n s fits =
-    let high = word-bytes (n / 4294967296) in
-    let low = word-bytes (n % 4294967296) in
-    ap (λ (b : List ℕ). put (put b 12 low) 16 s) (put-behind buffer 0 (log-header 3) high (omega arith)) ∙
-    ap (λ (b : List ℕ). put b 16 s) (put-behind buffer 0 (log-header 3 ++ high) low (omega arith)) ∙
-    put-behind buffer 0 ((log-header 3 ++ high) ++ low) s (omega arith)
+    let count = record-bytes (n / 4294967296) (n % 4294967296) in
+    ap (λ (b : List ℕ). put b 16 s) (put-behind buffer 0 (log-header 3) count (omega arith)) ∙
+    put-behind buffer 0 (log-header 3 ++ count) s (omega arith)

@@ -8,13 +8,11 @@ use mathlib.Core.Path.{_≡_, refl, ap, _∙_}
 use lib.ListN.{length, getD, length-drop}
 use lib.Seq.{getD-drop}
 use borrow.Author.Tests.{le-leb, le-ltb}
-use Rattle.trace.specs.Format.{record-count, skips-of, is-trimmed, dropped, records-of, total-records, malformed}
-use Rattle.trace.specs.View.{from-record}
-use Rattle.trace.specs.Window.{SameRecord}
+use Rattle.trace.specs.Format.{record-count, skips-of, is-trimmed, dropped, records-of, total-records, malformed, from-record, SameRecord}
 use Rattle.trace.specs.Making.{word-bytes, trimmed-bytes, trimmed}
 use Rattle.trace.proofs.Laws.{well-formed-iff}
 use Rattle.trace.proofs.Making.{word-back}
-use Rattle.trace.proofs.Slices.{Cut}
+use Rattle.trace.proofs.Parts.{Cut}
 
 -- A VERSION 3 LOG of the records s, before which n were dropped
 

@@ -1,9 +1,6 @@
--- The log format. Read Format (the bytes), Positions and Log (what they mean to the logic), Order (check 14), View and Window (how the
--- records are handed to the reading heads), then Making (logs made here).
+-- The log format. Read Format (the bytes), Positions and Log (what they mean to the logic), Order (check 14), then Making (logs made here).
 pub mod Format
 pub mod Positions
 pub mod Log
 pub mod Order
-pub mod View
-pub mod Window
 pub mod Making

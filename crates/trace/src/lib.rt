@@ -4,31 +4,19 @@ ghost use Prim.Native.Nat.{_+_, _*_, _%_, _<_, _≤_, _^_};
 ghost use lib.ListN.{length};
 ghost use lib.Dec.{ltb};
 ghost use Rattle.bits.specs.Packed.{number, Packed};
-ghost use Rattle.trace.specs.Format.{word-at, record-count, time-at, has-letter, version-of, skips-of, is-trimmed, dropped as dropped-of, records-of, total-records, wrong-mark, wrong-version, wrong-spare, too-short, malformed};
+ghost use Rattle.trace.specs.Format.{word-at, record-count, time-at, has-letter, version-of, skips-of, is-trimmed, dropped as dropped-of, records-of, total-records, wrong-mark, wrong-version, wrong-spare, too-short, malformed, from-record, records-from};
 ghost use Rattle.trace.specs.Order.{falls, FallsBetween, starts-below, disordered, last-time};
-ghost use Rattle.trace.specs.View.{from-record, records-from};
 ghost use Rattle.trace.specs.Making.{log-header, word-bytes, record-bytes, trimmed-bytes, put};
-
-pub mod view;
-pub mod window;
-
-pub use window::Window;
-
-fn wide(x: u8) -> u64
-    ensures { λ r. ⌜ (r ≡ x) × (r < 256) ⌝ }
-{
-    x as u64
-}
 
 // The big-endian number in the four bytes from `at` on.
 fn word(bytes: &[u8], at: usize) -> u64
     requires { ⌜ at + 4 ≤ length (now bytes) ⌝ }
     ensures { λ r. ⌜ (r ≡ word-at (now (bytes .entry)) at) × (r < 4294967296) ⌝ }
 {
-    wide(bytes[at]) * 16777216
-        + wide(bytes[at + 1]) * 65536
-        + wide(bytes[at + 2]) * 256
-        + wide(bytes[at + 3])
+    bits::bytes::wide(bytes[at]) * 16777216
+        + bits::bytes::wide(bytes[at + 1]) * 65536
+        + bits::bytes::wide(bytes[at + 2]) * 256
+        + bits::bytes::wide(bytes[at + 3])
 }
 
 fn has_wrong_mark(log: &[u8]) -> bool
@@ -43,7 +31,7 @@ fn version(log: &[u8]) -> u64
     requires { ⌜ 8 ≤ length (now log) ⌝ }
     ensures { λ r. ⌜ r ≡ version-of (now (log .entry)) ⌝ }
 {
-    wide(log[3]) * 256 + wide(log[4])
+    bits::bytes::wide(log[3]) * 256 + bits::bytes::wide(log[4])
 }
 
 fn has_wrong_spare(log: &[u8]) -> bool
@@ -191,11 +179,11 @@ fn letter_bit(records: &[u8], i: usize, letter: u64) -> u64
     ensures { λ r. ⌜ (r ≡ number (has-letter (now (records .entry)) letter i) * 2 ^ (letter % 8)) × (r < 256) ⌝ }
 {
     let byte = records[i * 8 + (7 - (letter / 8) as usize)];
-    wide(byte) & (1 << (letter % 8))
+    bits::bytes::wide(byte) & (1 << (letter % 8))
 }
 
 // The letter at each of up to eight positions, as a word of answers, from the last one down.
-fn letter_group(records: &[u8], from: usize, n: usize, letter: u64) -> u64
+pub fn letter_group(records: &[u8], from: usize, n: usize, letter: u64) -> u64
     requires { ⌜ (from + n ≤ record-count (now records)) × (n ≤ 8) × (letter < 32) ⌝ }
     ensures { λ r. ⌜ (r < 2 ^ n) × Packed (has-letter (now (records .entry)) letter) from n r ⌝ }
 {
@@ -305,36 +293,23 @@ pub fn write_header(log: &mut [u8], version: u8)
     log[7] = 0;
 }
 
-// Writes a number into the four bytes from `at` on, big-endian.
-fn write_word(log: &mut [u8], at: usize, word: u32)
-    requires { ⌜ at + 4 ≤ length (now log) ⌝ }
-    ensures { λ _. ⌜ now (log .exit) ≡ put (now (log .entry)) at (word-bytes word) ⌝ }
-{
-    log[at] = (word / 16777216 % 256) as u8;
-    log[at + 1] = (word / 65536 % 256) as u8;
-    log[at + 2] = (word / 256 % 256) as u8;
-    log[at + 3] = (word % 256) as u8;
-}
-
-// Writes a record into the eight bytes from `at` on.
+// Writes a record into the eight bytes from `at` on: two numbers, big-endian.
 pub fn write_record(log: &mut [u8], at: usize, time: u32, events: u32)
     requires { ⌜ at + 8 ≤ length (now log) ⌝ }
     ensures { λ _. ⌜ now (log .exit) ≡ put (now (log .entry)) at (record-bytes time events) ⌝ }
 {
-    write_word(log, at, time);
-    write_word(log, at + 4, events);
-}
-
-// Copies bytes into the log from `at` on.
-fn write_bytes(bytes: &[u8], log: &mut [u8], at: usize)
-    requires { ⌜ at + length (now bytes) ≤ length (now log) ⌝ }
-    ensures { λ _. ⌜ now (log .exit) ≡ put (now (log .entry)) at (now (bytes .entry)) ⌝ }
-{
-    let mut i: usize = 0;
-    while i < bytes.len() {
-        log[at + i] = bytes[i];
-        i += 1;
-    }
+    bits::bytes::write_eight(
+        log,
+        at,
+        (time / 16777216 % 256) as u8,
+        (time / 65536 % 256) as u8,
+        (time / 256 % 256) as u8,
+        (time % 256) as u8,
+        (events / 16777216 % 256) as u8,
+        (events / 65536 % 256) as u8,
+        (events / 256 % 256) as u8,
+        (events % 256) as u8,
+    );
 }
 
 // Writes a version 3 log of these records, before which so many were dropped, and gives its length.
@@ -344,8 +319,13 @@ pub fn write_trimmed(dropped: u64, records: &[u8], log: &mut [u8]) -> usize
     ensures { λ _. ⌜ now (log .exit) ≡ put (now (log .entry)) 0 (trimmed-bytes dropped (now (records .entry))) ⌝ }
 {
     write_header(log, 3);
-    write_word(log, 8, (dropped / 4294967296) as u32);
-    write_word(log, 12, (dropped % 4294967296) as u32);
-    write_bytes(records, log, 16);
+    // the count's halves stand as the two numbers of a record do
+    write_record(
+        log,
+        8,
+        (dropped / 4294967296) as u32,
+        (dropped % 4294967296) as u32,
+    );
+    bits::bytes::copy(records, log, 16);
     16 + records.len()
 }

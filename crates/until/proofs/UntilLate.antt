@@ -13,7 +13,8 @@ use Rattle.bits.specs.Packed.{bit, Packed, Prolonged}
 use Rattle.bits.proofs.Laws.{packed-same}
 use Rattle.bits.proofs.Filling.{no-bit}
 use Rattle.until.specs.Settle.{next-of, latest-right, is-late, Met}
-use Rattle.until.proofs.UntilWords.{Known, Yes, No, Verdict, Unsettled, Settles, Rises}
+use Rattle.until.proofs.UntilLog.{Rises}
+use Rattle.until.proofs.UntilWords.{Known, Yes, No, Verdict, Unsettled, Settles}
 
 -- the larger of two times that may be missing is one of them
 either : (t u : ℕ) (l r : Bool) → 0 < max (cond l t 0) (cond r u 0) →

@@ -1,13 +1,18 @@
 -- until's two heads, over numbers: what the record `Until` settles, and how it goes on from there.
 use Prim.Native.Nat.{ℕ, _+_, _-_, _≤_, _<_}
-use mathlib.Core.Bool.{Bool, true, false}
+use mathlib.Core.Bool.{Bool, true, false, _||_, true≢false}
 use mathlib.Core.Logic.{_⊎_, inl, inr, ⊎-elim}
-use mathlib.Core.Path.{_≡_, sym, _∙_, ap}
+use mathlib.Core.Path.{_≡_, refl, sym, _∙_, ap}
 use native.Mathlib.Omega.{arith}
 use lib.Dec.{eqb}
 use Rattle.mtl.proofs.Bounded.{true-and-false, le-or-lt, Above}
 use Rattle.mtl.proofs.Until.{SettledYes, SettledNo, Ended}
 use Rattle.blocks.specs.Block.{Until}
+
+-- neither of two tests holds
+pub neither : (x y : Bool) → x || y ≡ false → (x ≡ false) × (y ≡ false)
+neither true y e = absurd (true≢false e)
+neither false y e = (refl, e)
 
 -- nothing taken so far settles g, nor does the time of position p
 pub record Waits (low high : ℕ) (time : ℕ → ℕ) (left right : ℕ → Bool) (size g p : ℕ) : Type 0 where

@@ -19,10 +19,10 @@ use Rattle.mtl.proofs.Closing.{settled-closed, by-closed, both-settled, both-fi
 use Rattle.bits.specs.Packed.{number}
 use Rattle.bits.proofs.Laws.{number-lt, packed-none}
 use Rattle.trace.specs.Format.{time-at}
-use Rattle.trace.specs.View.{slice-first, total, skips, closed, in-slice}
-use Rattle.trace.specs.Window.{window-of, Opened, Windowed, Passed}
-use Rattle.trace.specs.declared.window.Window.{Window}
-use Rattle.trace.proofs.Reading.{shown-time-bound}
+use Rattle.window.specs.View.{slice-first, total, skips, closed, in-slice}
+use Rattle.window.specs.Window.{window-of, Opened, Windowed, Passed}
+use Rattle.window.specs.declared.Window.{Window}
+use Rattle.window.proofs.Reading.{shown-time-bound}
 use Rattle.blocks.specs.Block.{word, taken, left-count, left-bits, right-count, right-bits, answered, last-left, last-right, last-taken-time, head, waiting-head, Onward, Heads, Until, Buffer, Ready}
 use Rattle.blocks.specs.Step.{Agrees, Moved, Stepped, Ends}
 use Rattle.until.specs.Settle.{pick, settle-spec, time-of-none, next-of, ReadsTimes, Reached, StillWaits, Walk, HasRecords, starts-of, ahead-of, last-taken, walked, FitsRoom, Stuck, Wants}
@@ -151,11 +151,7 @@ pub stands-outside : (total at g : ℕ) → ltb total at || ltb at g ≡ true �
 stands-outside total at g e = ⊎-elim (λ t. inl (ltb-true total at t)) (λ t. inr (ltb-true at g t)) (or-iff (ltb total at) (ltb at g) .0 e)
 
 pub stands-inside : (total at g : ℕ) → ltb total at || ltb at g ≡ false → (g ≤ at) × (at ≤ total)
-stands-inside total at g e = let t = or-false (ltb total at) (ltb at g) e in (ltb-false at g (t .1), ltb-false total at (t .0))
-  where
-    or-false : (x y : Bool) → x || y ≡ false → (x ≡ false) × (y ≡ false)
-    or-false true y e = absurd (true≢false e)
-    or-false false y e = (refl, e)
+stands-inside total at g e = let t = logic.neither (ltb total at) (ltb at g) e in (ltb-false at g (t .1), ltb-false total at (t .0))
 
 -- where g is not settled and nothing is to be taken, there is no answer
 module _ {low high most : ℕ} (clamp : most ≡ min high unbounded) (φ ψ : Formula) (L : Log) (falls : NeverFalls L) {g p start next : ℕ} {fresh : Bool}

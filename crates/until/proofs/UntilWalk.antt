@@ -15,7 +15,7 @@ use Rattle.mtl.proofs.Bounded.{and-iff, true-or-false, le-or-lt, Above, above-s
 use Rattle.mtl.proofs.Closing.{settled-closed, by-closed, both-settled, both-fit, until-settles, until-met, until-unmet, until-ends}
 use Rattle.bits.specs.Packed.{number, with-bit}
 use Rattle.bits.proofs.Laws.{packed-push}
-use Rattle.trace.specs.View.{closed}
+use Rattle.window.specs.View.{closed}
 use Rattle.blocks.specs.Block.{Until, Buffer}
 use Rattle.until.specs.Settle.{pick, is-met, is-over, settle-spec, time-of-none, look-spec, take-spec, ReadsTimes, Walks}
 use Rattle.until.specs.declared.Last.{Last}

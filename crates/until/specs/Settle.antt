@@ -15,8 +15,8 @@ use Rattle.mtl.specs.Satisfaction.{sat}
 use Rattle.mtl.specs.Progress.{settled-to}
 use Rattle.bits.specs.Packed.{bit, number}
 use Rattle.trace.specs.Format.{record-count, time-at}
-use Rattle.trace.specs.Window.{window-of}
-use Rattle.trace.specs.declared.window.Window.{Window}
+use Rattle.window.specs.Window.{window-of}
+use Rattle.window.specs.declared.Window.{Window}
 use Rattle.blocks.specs.Block.{taken, left-count, right-count, answered, last-left, last-right, last-taken-time, took-both, Until, Buffer, Ready}
 use Rattle.blocks.specs.Step.{Agrees}
 use Rattle.until.specs.declared.Last.{Last}
@@ -99,6 +99,10 @@ pub record Walk (low most : ℕ) (start next : ℕ → ℕ) (lead n left right :
   pub waiting : w .count ≡ 0 → w .took ≡ 0 → StillWaits low most start next lead n (w .count) (w .took) (w .last)
   pub walks : Walks low most start next lead n left right from (w .bits) (w .count) (w .took) (w .last)
 
+-- the times of the first n positions never fall
+abbrev pub Rising : (time : ℕ → ℕ) (n : ℕ) → Type 0
+Rising time n = (i j : ℕ) → i ≤ j → j < n → time i ≤ time j
+
 -- the time of the latest right that left leads to, among n positions from i on; 0 where there is none
 unfoldable pub latest-right : (time : ℕ → ℕ) (left right n i : ℕ) → ℕ
 latest-right time left right zero i = 0
@@ -126,6 +130,29 @@ pub record ByWords (low high : ℕ) (start time : ℕ → ℕ) (lead n : ℕ) (f
   pub small : low < 2 ^ 32
   pub quiet : Quiet low (start 0) lead from
   pub inside : time (n - 1) - start 0 ≤ high
+
+-- the time of the first right among n positions from i on; later than any where there is none
+unfoldable pub first-right : (time : ℕ → ℕ) (right n i : ℕ) → ℕ
+first-right time right zero i = 8589934592
+first-right time right (suc n) i = cond (bit right i) (time i) (first-right time right n (suc i))
+
+-- it lies at most high after position i of n
+abbrev pub is-soon : (high : ℕ) (time : ℕ → ℕ) (right n i : ℕ) → Bool
+is-soon high time right n i = leb (first-right time right (n - i) i) (time i + high)
+
+-- the first `far` of n positions lie more than high before the last of them, and no others
+pub record Far (high : ℕ) (time : ℕ → ℕ) (n far : ℕ) : Type 0 where
+  pub below : far < n
+  pub over : 0 < far → time (far - 1) + high < time (n - 1)
+  pub near : (i : ℕ) → far ≤ i → i < n → time (n - 1) ≤ time i + high
+
+-- those to take reach further than high, and what was taken settles none of those that wait
+pub record Outreaches (high : ℕ) (time : ℕ → ℕ) (lead n : ℕ) (from : Last) : Type 0 where
+  pub some : 0 < n
+  pub few : lead < 64
+  pub small : high + 1 < 2 ^ 32
+  pub quiet : 0 < lead → (from .left ≡ true) × (from .right ≡ false)
+  pub longer : high < time (n - 1) - time 0
 
 -- a window that has n records
 pub record HasRecords (w : Window) (s copy : List ℕ) (n : ℕ) : Type 0 where

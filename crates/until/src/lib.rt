@@ -1,24 +1,23 @@
 // until: two reading heads and no history.
 ghost use mathlib.Core.Path.{_≡_};
 ghost use mathlib.Core.Bool.{true, cond};
-ghost use Prim.Native.Nat.{ℕ, _+_, _-_, _≤_, _<_, _^_, min, max};
+ghost use Prim.Native.Nat.{ℕ, _+_, _-_, _%_, _≤_, _<_, _^_, min};
 ghost use lib.ListN.{length};
 ghost use Rattle.mtl.specs.Formula.{Formula};
 ghost use Rattle.mtl.specs.Formula.Formula.{until};
 ghost use Rattle.trace.specs.Format.{record-count, time-at};
-ghost use Rattle.trace.specs.View.{Views, total};
-ghost use Rattle.trace.specs.Window.{window-of};
+ghost use Rattle.window.specs.View.{Views, total};
+ghost use Rattle.window.specs.Window.{window-of};
 ghost use Rattle.bits.specs.Packed.{Packed};
 ghost use Rattle.blocks.specs.Block.{taken, left-count, left-bits, right-count, right-bits, answered};
 ghost use Rattle.blocks.specs.Step.{Steps, Ends};
-ghost use Rattle.until.specs.Settle.{settle-spec, time-of-none, next-of, look-spec, take-spec, latest-right, is-late, Met, Walk, ByWords, HasRecords, starts-of, ahead-of, last-taken, walked, Wants, Stuck, FitsRoom};
+ghost use Rattle.until.specs.Settle.{settle-spec, time-of-none, next-of, look-spec, take-spec, Rising, latest-right, is-late, first-right, is-soon, Met, Far, Walk, ByWords, Outreaches, HasRecords, starts-of, ahead-of, last-taken, walked, Wants, Stuck, FitsRoom};
 ghost use Rattle.until.specs.declared.Settled.the-variants.{Unknown};
 use blocks::Step;
 use blocks::time;
 use blocks::word;
-use trace::Window;
-use trace::view;
-use trace::window;
+use window::Window;
+use window::view;
 
 // What is known of the next position to answer.
 pub enum Settled {
@@ -48,6 +47,13 @@ pub struct Late {
     right: u64,
 }
 
+// What right's word of those to take tells where high is shorter than they reach: bit i where the first right from i on lies at most high
+// after i; and the time of the first right of all, later than any where there is none.
+pub struct Soon {
+    bits: u64,
+    right: u64,
+}
+
 // How far a step may go: how many positions it may take, how many it looks at ahead, which is one more where the log has it, and how many
 // of those that wait it may answer.
 pub struct Room {
@@ -58,6 +64,9 @@ pub struct Room {
 
 // No two times lie further apart than this: a high above it is as good as this one.
 const LONGEST_GAP: u64 = 4294967295;
+
+// The time that stands for a right's where there is none: no time and high come to it.
+const TIME_OF_NO_RIGHT: u64 = 8589934592;
 
 // Whether the last position taken or the time of the next settles the position whose time is `start`.
 fn settle(low: u64, high: u64, start: u64, last: Last, next: u64) -> Settled
@@ -212,32 +221,42 @@ fn keep_if(yes: bool, x: u64) -> u64
     if yes { x } else { 0 }
 }
 
-// The larger of two.
-fn larger(a: u64, b: u64) -> u64
-    ensures { λ r. ⌜ r ≡ max a b ⌝ }
+// One of two, the first where it is told so.
+fn pick(first: bool, a: u64, b: u64) -> u64
+    ensures { λ r. ⌜ r ≡ cond first a b ⌝ }
 {
-    if a < b { b } else { a }
+    if first { a } else { b }
 }
 
-// Which of n positions lie at least low before the latest right that left leads to from there on. From the last one down, without a
-// branch: whether an operand holds is hard to predict.
-fn find_late(low: u64, ahead: &[u8], n: u64, left: u64, right: u64) -> Late
-    requires { ⌜ (low < 2 ^ 32) × (n ≤ 64) × (n ≤ record-count (now ahead)) ⌝ }
-    ensures { λ r. ⌜ Packed (is-late low (time-at (now (ahead .entry))) left right n) 0 n (r .bits) × (r .right ≡ latest-right (time-at (now (ahead .entry))) left right n 0) ⌝ }
+// The first n bits.
+fn first_bits(word: u64, n: u64) -> u64
+    requires { ⌜ n ≤ 64 ⌝ }
+    ensures { λ r. ⌜ r ≡ word % 2 ^ n ⌝ }
 {
-    let mut latest: u64 = 0;
+    if n < 64 { word % (1 << n) } else { word }
+}
+
+// Which of n positions lie at least low before the latest right that left leads to from there on. Times never fall, so one from which left
+// leads on to a right behind it has the same latest right as the next; any other has none but its own, and is not late. From the last one
+// that leads on down, without a branch: whether an operand holds is hard to predict.
+fn find_late(low: u64, ahead: &[u8], n: u64, left: u64, right: u64) -> Late
+    requires { ⌜ (0 < low) × (low < 2 ^ 32) × (0 < n) × (n ≤ 64) × (n ≤ record-count (now ahead)) ⌝ }
+    ensures { λ r. ⌜ (Rising (time-at (now (ahead .entry))) n → Packed (is-late low (time-at (now (ahead .entry))) left right n) 0 n (r .bits) × (r .right ≡ latest-right (time-at (now (ahead .entry))) left right n 0)) ⌝ }
+{
+    let own = bits::fill_down(left, first_bits(right, n));
+    let leads = left & (own >> 1);
+    let mut i = bits::find_last_zero(!leads, n);
+    let mut latest = trace::time(ahead, i as usize);
     let mut bits: u64 = 0;
-    let mut i = n;
     while 0 < i {
         i -= 1;
         let now = trace::time(ahead, i as usize);
-        let here = keep_if(bits::test(right, i), now);
-        latest = larger(keep_if(bits::test(left, i), latest), here);
+        latest = pick(bits::test(leads, i), latest, now);
         bits = bits * 2 + bits::flag(now + low <= latest);
     }
     Late {
         bits,
-        right: latest,
+        right: keep_if(bits::test(own, 0), latest),
     }
 }
 
@@ -290,6 +309,83 @@ fn walk_late(
     }
 }
 
+// Behind which of n positions the first right lies at most high after them, from the last one down.
+fn find_soon(high: u64, ahead: &[u8], n: u64, right: u64) -> Soon
+    requires { ⌜ (high < 2 ^ 32) × (n ≤ 64) × (n ≤ record-count (now ahead)) ⌝ }
+    ensures { λ r. ⌜ Packed (is-soon high (time-at (now (ahead .entry))) right n) 0 n (r .bits) × (r .right ≡ first-right (time-at (now (ahead .entry))) right n 0) ⌝ }
+{
+    let mut next = TIME_OF_NO_RIGHT;
+    let mut bits: u64 = 0;
+    let mut i = n;
+    while 0 < i {
+        i -= 1;
+        let now = trace::time(ahead, i as usize);
+        next = pick(bits::test(right, i), now, next);
+        bits = bits * 2 + bits::flag(next <= now + high);
+    }
+    Soon { bits, right: next }
+}
+
+// How many of n positions, from the first on, lie more than high before the last one.
+fn count_far(high: u64, ahead: &[u8], n: u64) -> u64
+    requires { ⌜ (high < 2 ^ 32) × (0 < n) × (n ≤ record-count (now ahead)) ⌝ }
+    ensures { λ r. ⌜ Far high (time-at (now (ahead .entry))) n r ⌝ }
+{
+    let last = trace::time(ahead, n as usize - 1);
+    let mut i = n - 1;
+    while 0 < i {
+        if trace::time(ahead, i as usize - 1) + high < last {
+            break;
+        }
+        i -= 1;
+    }
+    i
+}
+
+// As `walk_inside`, where those to take reach further than high: a position is yes where its first right lies at most high after it, and
+// no one waits that lies more than high before the last of them.
+fn walk_far(
+    high: u64,
+    starts: &[u8],
+    ahead: &[u8],
+    lead: u64,
+    n: u64,
+    left: u64,
+    right: u64,
+) -> Walked
+    requires { ⌜ (high + 1 < 2 ^ 32) × (0 < n) × (n ≤ 64) × (n ≤ record-count (now ahead)) × (lead < 64) × (lead ≤ record-count (now starts)) ⌝ }
+    ensures { λ r. ⌜ ((after : ℕ) (from : Last) → Outreaches high (time-at (now (ahead .entry))) lead n from → Walk 0 high (time-at (now (starts .entry))) (next-of (time-at (now (ahead .entry))) n after) lead n left right from r) ⌝ }
+{
+    let soon = find_soon(high, ahead, n, right);
+    let own = bits::fill_down(left, right);
+    let over = count_met(high + 1, starts, lead, soon.right);
+    let front = bits::repeat(bits::test(own, 0), lead) & !bits::repeat(true, over);
+    let event = bits::find_last_zero(left & !right, n);
+    let far = count_far(high, ahead, n);
+    let known = pick(event < far, far, event);
+    let took = taken_for(lead, known, n);
+    Walked {
+        bits: bits::prolong(own & soon.bits, front, lead),
+        count: blocks::smaller(lead + known, 64),
+        took,
+        last: take(ahead, took - 1, left, right),
+    }
+}
+
+// Whether those to take reach further than high, and nothing that was taken settles one that waits.
+fn outreaches(high: u64, ahead: &[u8], lead: u64, n: u64, from: Last) -> bool
+    requires { ⌜ n ≤ record-count (now ahead) ⌝ }
+    ensures { λ r. ⌜ (r ≡ true → Outreaches high (time-at (now (ahead .entry))) lead n from) ⌝ }
+{
+    if (n == 0) | (64 <= lead) {
+        return false;
+    }
+    let quiet = (lead == 0) | (from.left & !from.right);
+    let first = trace::time(ahead, 0);
+    let last = trace::time(ahead, n as usize - 1);
+    quiet & (high < time::gap(first, last))
+}
+
 // Whether a walk can go by whole words. No rule has a low above the longest gap: a time and low can be added.
 fn by_words(low: u64, high: u64, starts: &[u8], ahead: &[u8], lead: u64, n: u64, from: Last) -> bool
     requires { ⌜ (n ≤ record-count (now ahead)) × (lead + n < 2 ^ 64) × (min (lead + n) 64 ≤ record-count (now starts)) ⌝ }
@@ -330,6 +426,9 @@ fn walk_words(
     }
     if by_words(low, high, starts, ahead, lead, n, from) {
         return walk_inside(ahead, lead, n, left, right);
+    }
+    if outreaches(high, ahead, lead, n, from) {
+        return walk_far(high, starts, ahead, lead, n, left, right);
     }
     walk(low, high, starts, ahead, lead, n, after, left, right, from)
 }

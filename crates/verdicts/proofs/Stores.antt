@@ -41,21 +41,14 @@ one-store l at word i rest l′ e r =
       ap (λ (v : ℕ). v / 2 ^ 8) r ∙ shr-shr word (8 * i) 8 ∙ ap (λ (k : ℕ). word / 2 ^ k) (sym more),
     )
 
--- eight stores
-stored : (l : List ℕ) (at a b c d e f g h : ℕ) →
-    set (set (set (set (set (set (set (set l at a) (at + 1) b) (at + 2) c) (at + 3) d) (at + 4) e) (at + 5) f) (at + 6) g) (at + 7) h ≡
-    sets l at (a ∷ b ∷ c ∷ d ∷ e ∷ f ∷ g ∷ h ∷ [])
-stored l at a b c d e f g h = simp towards-suc
-
+-- the eight bytes of a word, as they are computed
 abbrev shifted : (word k : ℕ) → ℕ
 shifted word k = word / 2 ^ k % 256
 
-pub eight-stores : (l : List ℕ) (at word : ℕ) →
-    set (set (set (set (set (set (set (set l at (word % 256)) (at + 1) (shifted word 8)) (at + 2) (shifted word 16)) (at + 3) (shifted word 24))
-    (at + 4) (shifted word 32)) (at + 5) (shifted word 40)) (at + 6) (shifted word 48)) (at + 7) (shifted word 56) ≡
+pub eight-bytes : (l : List ℕ) (at word : ℕ) →
+    sets l at (word % 256 ∷ shifted word 8 ∷ shifted word 16 ∷ shifted word 24 ∷ shifted word 32 ∷ shifted word 40 ∷ shifted word 48 ∷ shifted word 56 ∷ []) ≡
     sets l at (first-bytes 8 word)
 unfolding first-bytes
-eight-stores l at word =
+eight-bytes l at word =
     let whole : word % 256 ≡ word / 1 % 256 = omega arith in
-    stored l at (word % 256) (shifted word 8) (shifted word 16) (shifted word 24) (shifted word 32) (shifted word 40) (shifted word 48) (shifted word 56)
-    ∙ ap (λ (v : ℕ). sets l at (v ∷ shifted word 8 ∷ shifted word 16 ∷ shifted word 24 ∷ shifted word 32 ∷ shifted word 40 ∷ shifted word 48 ∷ shifted word 56 ∷ [])) whole
+    ap (λ (v : ℕ). sets l at (v ∷ shifted word 8 ∷ shifted word 16 ∷ shifted word 24 ∷ shifted word 32 ∷ shifted word 40 ∷ shifted word 48 ∷ shifted word 56 ∷ [])) whole

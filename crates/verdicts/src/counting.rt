@@ -8,12 +8,6 @@ ghost use Rattle.mtl.specs.Satisfaction.{any};
 ghost use Rattle.verdicts.specs.Counts.{count-of, counts};
 ghost use Rattle.verdicts.specs.Tally.{beyond};
 
-fn wide(x: u8) -> u64
-    ensures { λ r. ⌜ r ≡ x ⌝ }
-{
-    x as u64
-}
-
 // Whether a byte has a bit that is no formula's: it is then among all bits of the sheet taken together.
 pub fn has_bit_beyond(sheet: &[u8], formulas: u64) -> bool
     requires { ⌜ formulas < 64 ⌝ }
@@ -25,7 +19,7 @@ pub fn has_bit_beyond(sheet: &[u8], formulas: u64) -> bool
         all = all | sheet[i];
         i += 1;
     }
-    0 < (wide(all) >> formulas)
+    0 < (bits::bytes::wide(all) >> formulas)
 }
 
 // How often formula k says yes.
@@ -36,7 +30,7 @@ fn count_yes(sheet: &[u8], k: u64) -> u64
     let mut count: u64 = 0;
     let mut i: usize = 0;
     while i < sheet.len() {
-        count += (wide(sheet[i]) >> k) % 2;
+        count += (bits::bytes::wide(sheet[i]) >> k) % 2;
         i += 1;
     }
     count

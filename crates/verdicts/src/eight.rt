@@ -36,14 +36,18 @@ pub fn write_all(sheet: &mut [u8], at: usize, word: u64)
     requires { ⌜ at + 8 ≤ length (now sheet) ⌝ }
     ensures { λ _. ⌜ now (sheet .exit) ≡ sets (now (sheet .entry)) at (first-bytes 8 word) ⌝ }
 {
-    sheet[at] = (word % 256) as u8;
-    sheet[at + 1] = ((word >> 8) % 256) as u8;
-    sheet[at + 2] = ((word >> 16) % 256) as u8;
-    sheet[at + 3] = ((word >> 24) % 256) as u8;
-    sheet[at + 4] = ((word >> 32) % 256) as u8;
-    sheet[at + 5] = ((word >> 40) % 256) as u8;
-    sheet[at + 6] = ((word >> 48) % 256) as u8;
-    sheet[at + 7] = ((word >> 56) % 256) as u8;
+    bits::bytes::write_eight(
+        sheet,
+        at,
+        (word % 256) as u8,
+        ((word >> 8) % 256) as u8,
+        ((word >> 16) % 256) as u8,
+        ((word >> 24) % 256) as u8,
+        ((word >> 32) % 256) as u8,
+        ((word >> 40) % 256) as u8,
+        ((word >> 48) % 256) as u8,
+        ((word >> 56) % 256) as u8,
+    );
 }
 
 // Writes the first n bytes of a word.

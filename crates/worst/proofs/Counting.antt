@@ -9,14 +9,14 @@ use borrow.Author.Tests.{eq-eqb, eqb-true}
 use Rattle.mtl.specs.Satisfaction.{any}
 use Rattle.mtl.proofs.Bounded.{true-or-false, false-iff, and-iff, not-iff, any-iff, le-or-lt}
 use Rattle.bits.specs.Packed.{number}
-use Rattle.worst.specs.Waiting.{count, same-value, new-value, distinct}
+use Rattle.worst.specs.Waiting.{count-where, same-value, new-value, distinct}
 
 number-le : (b : Bool) → number b ≤ 1
 number-le true = omega arith
 number-le false = omega arith
 
-pub count-le : (n : ℕ) (p : ℕ → Bool) → count n p ≤ n
-unfolding count
+pub count-le : (n : ℕ) (p : ℕ → Bool) → count-where n p ≤ n
+unfolding count-where
 count-le zero p = omega arith
 count-le (suc n) p = omega (arith, count-le n p, number-le (p n))
 
@@ -46,7 +46,7 @@ module _ (p : ℕ → Bool) (value : ℕ → ℕ) where
       ((i j : ℕ) → i ≤ j → j < n → value i ≤ value j) →
       ((i : ℕ) → i < n → p i ≡ true → (from ≤ value i) × (value i < end)) →
       distinct n p value ≤ end - from
-  unfolding count
+  unfolding count-where
   distinct-le from end zero falls inside = omega arith
   distinct-le from end (suc n) falls inside =
       ⊎-elim
@@ -68,7 +68,7 @@ module _ (p : ℕ → Bool) (value : ℕ → ℕ) where
   -- values that rise by one up to `top` and stay there, at all numbers below n
   pub distinct-rising : (top n : ℕ) → ((i : ℕ) → i < n → p i ≡ true) → ((i : ℕ) → i < n → value i ≡ min i top) →
       distinct n p value ≡ min n (top + 1)
-  unfolding count
+  unfolding count-where
   distinct-rising top zero every rising = omega arith
   distinct-rising top (suc n) every rising =
       let before = distinct-rising top n (λ i h. every i (omega arith)) (λ i h. rising i (omega arith)) in

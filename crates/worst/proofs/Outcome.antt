@@ -10,10 +10,10 @@ use borrow.Author.Tests.{ltb-false, eqb-true, eqb-false, eq-eqb}
 use Rattle.mtl.specs.Formula.{unbounded}
 use Rattle.rule.specs.Refusal.{first}
 use Rattle.rule.proofs.Headers.{or-left, or-right}
-use Rattle.trace.specs.Making.{log-header, records-bytes, put}
+use Rattle.trace.specs.Making.{log-header, records-bytes, put, log-length}
 use Rattle.trace.proofs.Making.{put-log}
-use Rattle.worst.specs.Written.{worst-time, events-of}
-use Rattle.worst.specs.Refusal.{interval-fault, size-of, no-room, worst-refusal}
+use Rattle.worst.specs.Written.{worst-time, worst-events}
+use Rattle.worst.specs.Refusal.{interval-fault, no-room, worst-refusal}
 use Rattle.worst.specs.Call.{Answer, answer, WritesWorst}
 use Rattle.worst.specs.Code.{checked}
 use Rattle.worst.specs.declared.Made.the-variants.{Length, Refused}
@@ -35,7 +35,7 @@ pub record Accepted (low high n lent : ℕ) : Type 0 where
   pub zero : worst-refusal low high n lent ≡ 0
   pub finite : high ≤ 3600
   pub few : n ≤ 1000000
-  pub room : size-of n ≤ lent
+  pub room : log-length n ≤ lent
 
 module _ (low high n lent : ℕ) where
   high-le : interval-fault low high ≡ false → high ≤ 3600
@@ -47,8 +47,8 @@ module _ (low high n lent : ℕ) where
       record {
         zero = z;
         finite = high-le f;
-        few = ltb-false 1000000 n (or-left (ltb 1000000 n) (ltb lent (size-of n)) r);
-        room = ltb-false lent (size-of n) (or-right (ltb 1000000 n) (ltb lent (size-of n)) r);
+        few = ltb-false 1000000 n (or-left (ltb 1000000 n) (ltb lent (log-length n)) r);
+        room = ltb-false lent (log-length n) (or-right (ltb 1000000 n) (ltb lent (log-length n)) r);
       }
 
   by-zero : (b : Bool) → eqb (worst-refusal low high n lent) 0 ≡ b → (k : ℕ) →
@@ -76,15 +76,15 @@ module _ (low high n : ℕ) (log : List ℕ) where
 
   -- the log is written
   pub writes-log : (k : ℕ) (log′ : List ℕ) → Passed k ≡ checked low high n lent →
-      log′ ≡ put (put log 0 (log-header 1)) 8 (records-bytes (worst-time high) events-of k) → WritesWorst low high n log (Length (8 + k * 8)) log′
+      log′ ≡ put (put log 0 (log-header 1)) 8 (records-bytes (worst-time high) worst-events k) → WritesWorst low high n log (Length (8 + k * 8)) log′
   writes-log k log′ e is =
       let (same, a) = passes low high n lent k e in
-      let size : 8 + k * 8 ≡ size-of n = omega arith in
+      let size : 8 + k * 8 ≡ log-length n = omega arith in
       let z = eq-eqb (worst-refusal low high n lent) 0 (a .zero) in
       let r = a .room in
       record {
         answer = simp z (ap (λ (l : ℕ). answer (Length l)) size);
-        bytes = simp z (is ∙ put-log (worst-time high) events-of log k (omega arith) ∙ rw (size, same));
+        bytes = simp z (is ∙ put-log (worst-time high) worst-events log k (omega arith) ∙ rw (size, same));
       }
 
   -- a refusal has a number
@@ -93,8 +93,8 @@ module _ (low high n : ℕ) (log : List ℕ) where
     where
       go : (b : Bool) → eqb (worst-refusal low high n lent) 0 ≡ b → ⊥
       go true z =
-          let e : answer (Refused k) ≡ answer (Length (size-of n)) = w .answer ∙ simp z in
-          let none : 0 ≡ size-of n = ap (λ (a : Answer). a .length) e in
+          let e : answer (Refused k) ≡ answer (Length (log-length n)) = w .answer ∙ simp z in
+          let none : 0 ≡ log-length n = ap (λ (a : Answer). a .length) e in
           omega arith
       go false z =
           let e : answer (Refused k) ≡ answer (Refused (worst-refusal low high n lent)) = w .answer ∙ simp z in

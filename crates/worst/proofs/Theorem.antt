@@ -22,7 +22,7 @@ use Rattle.trace.specs.Format.{time-at, has-letter, records-of}
 use Rattle.trace.specs.Log.{log-of}
 use Rattle.trace.proofs.Making.{records-count, time-back, events-back, made-well, made-plain, made-ordered}
 use Rattle.worst.specs.Waiting.{waiting, is-open, new-value, open-times}
-use Rattle.worst.specs.Written.{worst-time, events-of, worst-bytes, worst}
+use Rattle.worst.specs.Written.{worst-time, worst-events, worst-bytes, worst}
 use Rattle.worst.specs.Refusal.{worst-refusal}
 use Rattle.worst.specs.Most.{most, MostWaiting}
 use Rattle.worst.proofs.Outcome.{accepted}
@@ -63,18 +63,18 @@ module _ (low high n : ℕ) (ok : high ≤ 3600) where
   records = records-of (worst-bytes high n)
 
   plain : worst high n ≡ log-of false records
-  plain = ap (λ (skips : Bool). log-of skips records) (made-plain (worst-time high) events-of n)
+  plain = ap (λ (skips : Bool). log-of skips records) (made-plain (worst-time high) worst-events n)
 
   size : worst high n .size ≡ n
-  size = ap (λ (L : Log). L .size) plain ∙ records-count (worst-time high) events-of n
+  size = ap (λ (L : Log). L .size) plain ∙ records-count (worst-time high) worst-events n
 
   time : (i : ℕ) → i < n → worst high n .time i ≡ min i high
-  time i h = ap (λ (L : Log). L .time i) plain ∙ ap (time-at records) (zero-add i) ∙ time-back (worst-time high) events-of n i h (omega arith)
+  time i h = ap (λ (L : Log). L .time i) plain ∙ ap (time-at records) (zero-add i) ∙ time-back (worst-time high) worst-events n i h (omega arith)
 
   letters : (i k : ℕ) → i < n → worst high n .letters i k ≡ eqb k 0
   letters i k h =
       ap (λ (L : Log). L .letters i k) plain ∙ ap (has-letter records k) (zero-add i) ∙
-      ap (λ (e : ℕ). bit e k) (events-back (worst-time high) events-of n i h (omega arith)) ∙ alone k
+      ap (λ (e : ℕ). bit e k) (events-back (worst-time high) worst-events n i h (omega arith)) ∙ alone k
 
   never-falls : NeverFalls (worst high n)
   never-falls i j le h =
@@ -120,6 +120,6 @@ most-waiting low high n lent z =
       letters = letters low high n ok;
       reached = reached low high n ok;
       no-more = λ L few falls. omega (arith, no-more low high (λ u. omega arith) L falls);
-      well-formed = made-well (worst-time high) events-of n (a .few);
-      ordered = made-ordered (worst-time high) events-of n (λ i h. omega arith) (λ i j le h. omega arith);
+      well-formed = made-well (worst-time high) worst-events n (a .few);
+      ordered = made-ordered (worst-time high) worst-events n (λ i h. omega arith) (λ i j le h. omega arith);
     }

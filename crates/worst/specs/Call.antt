@@ -6,7 +6,8 @@ use mathlib.Core.Path.{_≡_}
 use lib.Dec.{eqb}
 use lib.ListN.{length, drop}
 use Rattle.worst.specs.Written.{worst-bytes}
-use Rattle.worst.specs.Refusal.{size-of, worst-refusal}
+use Rattle.trace.specs.Making.{log-length}
+use Rattle.worst.specs.Refusal.{worst-refusal}
 use Rattle.worst.specs.declared.Made.{Made}
 use Rattle.worst.specs.declared.Made.the-variants.{Length, Refused}
 
@@ -25,14 +26,14 @@ module _ (low high n lent : ℕ) where
   abbrev pub if-written : {A : Type 0} → A → A → A
   if-written x y = cond (eqb (worst-refusal low high n lent) 0) x y
 
-  abbrev pub answered : Answer
-  answered =
-      if-written (record { number = 0; length = size-of n }) (record { number = worst-refusal low high n lent; length = 0 })
+  abbrev pub the-answer : Answer
+  the-answer =
+      if-written (record { number = 0; length = log-length n }) (record { number = worst-refusal low high n lent; length = 0 })
 
 -- the lent bytes afterwards: "In every lent buffer the bytes behind what a call writes are kept"; a refused call writes nothing
 abbrev pub buffer-after : (low high n : ℕ) (log : List ℕ) → List ℕ
-buffer-after low high n log = if-written low high n (length log) (worst-bytes high n ++ drop (size-of n) log) log
+buffer-after low high n log = if-written low high n (length log) (worst-bytes high n ++ drop (log-length n) log) log
 
 pub record WritesWorst (low high n : ℕ) (log : List ℕ) (r : Made) (log′ : List ℕ) : Type 0 where
-  pub answer : answer r ≡ answered low high n (length log)
+  pub answer : answer r ≡ the-answer low high n (length log)
   pub bytes : log′ ≡ buffer-after low high n log

@@ -8,7 +8,7 @@ use Rattle.mtl.specs.Satisfaction.{any, all, sat}
 use Rattle.mtl.specs.Progress.{run, progress}
 use Rattle.mtl.specs.Examples.{Records, log-of-list}
 use Rattle.trace.specs.Making.{records-bytes}
-use Rattle.worst.specs.Waiting.{waiting, count, open-times}
+use Rattle.worst.specs.Waiting.{waiting, count-where, open-times}
 use Rattle.worst.specs.Written.{worst-bytes}
 
 -- an interval, a log's times and event sets (letter 0 is worth 1, letter 1 is worth 2), and the distinct times among its open positions
@@ -49,7 +49,7 @@ rows =
     ∷ []
 
 pub every-row : wrong 1 rows ≡ []
-unfolding wrong rows seconds count progress run sat any all
+unfolding wrong rows seconds count-where progress run sat any all
 every-row = refl
 
 -- the log for high 1 and three records

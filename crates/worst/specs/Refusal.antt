@@ -5,19 +5,16 @@ use mathlib.Core.Bool.{Bool, _||_}
 use lib.Dec.{ltb}
 use Rattle.rule.specs.Postfix.{root}
 use Rattle.rule.specs.Refusal.{first, misplaced}
+use Rattle.trace.specs.Making.{log-length}
 use Rattle.worst.specs.Waiting.{waiting}
 
 -- 6, as for the entry of this until in a rule
 abbrev pub interval-fault : (low high : ℕ) → Bool
 interval-fault low high = misplaced (root (waiting low high))
 
--- the bytes of a log of n records
-abbrev pub size-of : ℕ → ℕ
-size-of n = 8 + 8 * n
-
 -- 19, on a lent buffer of so many bytes
 abbrev pub no-room : (n lent : ℕ) → Bool
-no-room n lent = ltb 1000000 n || ltb lent (size-of n)
+no-room n lent = ltb 1000000 n || ltb lent (log-length n)
 
 -- the number with which the call stops, and 0 where it writes the log
 abbrev pub worst-refusal : (low high n lent : ℕ) → ℕ

@@ -18,9 +18,9 @@ abbrev pub is-open : Formula → Log → ℕ → Bool
 is-open φ L i = leb (progress φ L) i
 
 -- how many numbers below n have p
-unfoldable pub count : ℕ → (ℕ → Bool) → ℕ
-count zero p = 0
-count (suc n) p = count n p + number (p n)
+unfoldable pub count-where : ℕ → (ℕ → Bool) → ℕ
+count-where zero p = 0
+count-where (suc n) p = count-where n p + number (p n)
 
 -- j has p, and i's value
 abbrev pub same-value : (ℕ → Bool) → (ℕ → ℕ) → (i j : ℕ) → Bool
@@ -32,7 +32,7 @@ new-value p value i = p i && not (any i (same-value p value i))
 
 -- how many distinct values the numbers below n with p have
 abbrev pub distinct : ℕ → (ℕ → Bool) → (ℕ → ℕ) → ℕ
-distinct n p value = count n (new-value p value)
+distinct n p value = count-where n (new-value p value)
 
 -- "distinct times among its open positions"
 abbrev pub open-times : Formula → Log → ℕ

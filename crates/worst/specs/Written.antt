@@ -11,12 +11,12 @@ abbrev pub worst-time : (high i : ℕ) → ℕ
 worst-time high i = min i high
 
 -- "letter 0 alone"; "letter k is the bit worth 2 to the k"
-abbrev pub events-of : (i : ℕ) → ℕ
-events-of i = 2 ^ 0
+abbrev pub worst-events : (i : ℕ) → ℕ
+worst-events i = 2 ^ 0
 
 -- the log's bytes
 abbrev pub worst-bytes : (high n : ℕ) → List ℕ
-worst-bytes high n = log-bytes (worst-time high) events-of n
+worst-bytes high n = log-bytes (worst-time high) worst-events n
 
 -- the log of the logic that they are
 abbrev pub worst : (high n : ℕ) → Log

@@ -4,7 +4,7 @@ ghost use mathlib.Core.Path.{_≡_};
 ghost use Prim.Native.Nat.{_+_, _*_, _≤_, min};
 ghost use lib.ListN.{length};
 ghost use Rattle.trace.specs.Making.{records-bytes, put};
-ghost use Rattle.worst.specs.Written.{worst-time, events-of};
+ghost use Rattle.worst.specs.Written.{worst-time, worst-events};
 ghost use Rattle.worst.specs.Refusal.{no-room};
 ghost use Rattle.worst.specs.Call.{answer, WritesWorst};
 ghost use Rattle.worst.specs.Code.{checked, checked-number};
@@ -60,7 +60,7 @@ fn lacks_room(n: u64, lent: usize) -> bool
     if n > MOST_RECORDS {
         return true;
     }
-    (lent as u64) < 8 + 8 * n
+    (lent as u64) < 8 + n * 8
 }
 
 // Refusals 6 and 19.
@@ -91,7 +91,7 @@ fn smaller(a: u32, b: u32) -> u32
 // Writes n records behind the header.
 fn write_records(high: u32, n: usize, log: &mut [u8])
     requires { ⌜ (n ≤ 1000000) × (8 + n * 8 ≤ length (now log)) ⌝ }
-    ensures { λ _. ⌜ now (log .exit) ≡ put (now (log .entry)) 8 (records-bytes (worst-time high) events-of n) ⌝ }
+    ensures { λ _. ⌜ now (log .exit) ≡ put (now (log .entry)) 8 (records-bytes (worst-time high) worst-events n) ⌝ }
 {
     let end = 8 + n * 8;
     let mut at: usize = 8;

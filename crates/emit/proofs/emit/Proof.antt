@@ -3,9 +3,9 @@ use borrow.Author.Needs.{needs}
 use mathlib.Core.Path.{refl}
 use native.Mathlib.Omega.{arith}
 use lib.ListN.{length}
-use Rattle.trace.proofs.Marks.{made-views}
+use Rattle.window.proofs.Marks.{made-views}
 use Rattle.engine.proofs.Rows.{zeros}
-use Rattle.emit.specs.Code.{Fits}
+use Rattle.emit.specs.Code.{plan, Fits}
 use Rattle.emit.proofs.Emitting.{fits-of, emitted}
 use Rattle.emit.proofs.emit.Statement.{statement}
 use Rattle.emit.proofs.emit.Tie as tie
@@ -13,7 +13,7 @@ use Rattle.emit.proofs.emit.Tie as tie
 -- the rule's formulas, once they are laid out
 laid : (d : tie.After-lay-tops) →
     let s = d .before .before .before .before .before .before .before .before in
-    Fits (d .before .before .before .lay-out .last .1 .1 .0) (d .lay-tops .result) (s .args .base) (s .args .number) (s .pre .the-formulas) (length (s .args .words .now))
+    Fits (plan (d .before .before .before .lay-out .last .1 .1 .0) (d .lay-tops .result) (s .args .number)) (s .args .base) (s .pre .the-formulas) (length (s .args .words .now))
 laid d =
     let s = d .before .before .before .before .before .before .before .before in
     let a = s .args in

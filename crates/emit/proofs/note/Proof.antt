@@ -7,7 +7,7 @@ use mathlib.Core.Path.{_≡_, refl}
 use lib.ListN.{length-set}
 use Rattle.trace.specs.Format.{record-count}
 use Rattle.trace.specs.Order.{last-time}
-use Rattle.trace.specs.View.{closed}
+use Rattle.window.specs.View.{closed}
 use Rattle.checkpoint.specs.Checkpoint.{seen, last, first-wanted, kind-of-log}
 use Rattle.emit.proofs.note.Statement.{statement}
 use Rattle.emit.proofs.note.Tie as tie

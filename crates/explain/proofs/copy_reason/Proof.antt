@@ -1,11 +1,9 @@
 -- `explain::copy_reason` meets its contract.
-use Prim.Native.Nat.{ℕ, _≤_}
-use mathlib.Core.Path.{_≡_, refl, sym}
+use mathlib.Core.Path.{sym}
 use native.Mathlib.Omega.{arith}
-use lib.ListN.{length}
 use lib.Seq.{length-take-le}
 use Rattle.trace.specs.Log.{log-of}
-use Rattle.explain.proofs.Calling.{copies-none, copies-short, copies-all}
+use Rattle.explain.proofs.Calling.{reasoned-missing, reasoned-ends, ends-inside, copies-none, copies-short, copies-all}
 use borrow.Author.Needs.{needs}
 use Rattle.explain.proofs.copy_reason.Statement.{statement}
 use Rattle.explain.proofs.copy_reason.Tie as tie
@@ -37,7 +35,7 @@ returns c fs ended steady =
     let r = c .before .before .before .reason-of in
     let lines = r .last .1 .1 .1 .1 .1 .1 .1 .1 .0 in
     let told = c .enum-told .given .1 in
-    copies-none fs (log-of (a .skips) (a .records .now)) (a .formula) (a .position) (a .text .now) (rw told at (r .ensures .1 fs ended steady))
+    copies-none fs (log-of (a .skips) (a .records .now)) (a .formula) (a .position) (a .text .now) (reasoned-missing fs (log-of (a .skips) (a .records .now)) (a .formula) (a .position) _ (r .result) lines told (r .ensures .1 fs ended steady))
 
 -- src/lib.rt:227:9
 returns-2 : tie.Need-returns-2
@@ -46,7 +44,7 @@ returns-2 c fs ended steady =
     let r = c .before .before .before .before .before .reason-of in
     let lines = r .last .1 .1 .1 .1 .1 .1 .1 .1 .0 in
     let told = c .before .before .reason .given in
-    let (one, two, wrote) = rw (told .1) at (r .ensures .1 fs ended steady) in
+    let (one, two, wrote) = reasoned-ends fs (log-of (a .skips) (a .records .now)) (a .formula) (a .position) _ (r .result) lines (told .0 .0) (told .1) (r .ensures .1 fs ended steady) in
     let ends = wrote .ends in
     copies-short fs (log-of (a .skips) (a .records .now)) (a .formula) (a .position) (a .text .now) (omega (arith, c .if1 .taken))
 
@@ -57,7 +55,7 @@ array-share-prefix-lines c =
     let r = c .before .before .before .before .before .reason-of in
     let lines = r .last .1 .1 .1 .1 .1 .1 .1 .1 .0 in
     let told = c .before .before .reason .given in
-    let inside = rw (told .1) at (r .ensures .0) in
+    let inside = ends-inside _ (r .result) (told .0 .0) (told .1) (r .ensures .0) in
     let kept = r .kept .1 .1 .1 .1 .1 .1 .1 .1 .0 in
     omega arith
 
@@ -68,7 +66,7 @@ slice-aggregate-put c =
     let r = c .before .before .before .before .before .before .reason-of in
     let lines = r .last .1 .1 .1 .1 .1 .1 .1 .1 .0 in
     let told = c .before .before .before .reason .given in
-    let inside = rw (told .1) at (r .ensures .0) in
+    let inside = ends-inside _ (r .result) (told .0 .0) (told .1) (r .ensures .0) in
     let kept = r .kept .1 .1 .1 .1 .1 .1 .1 .1 .0 in
     sym (length-take-le _ lines (omega arith))
 
@@ -79,7 +77,7 @@ put-requires c κs =
     let r = c .before .before .before .before .before .before .before .reason-of in
     let lines = r .last .1 .1 .1 .1 .1 .1 .1 .1 .0 in
     let told = c .before .before .before .before .reason .given in
-    let inside = rw (told .1) at (r .ensures .0) in
+    let inside = ends-inside _ (r .result) (told .0 .0) (told .1) (r .ensures .0) in
     let kept = r .kept .1 .1 .1 .1 .1 .1 .1 .1 .0 in
     let size = length-take-le (told .0 .0) lines (omega arith) in
     omega (arith, c .before .before .if1 .left)
@@ -95,7 +93,7 @@ returns-3 c fs ended steady =
     let r = c .before .before .before .before .before .before .before .before .before .before .reason-of in
     let lines = r .last .1 .1 .1 .1 .1 .1 .1 .1 .0 in
     let told = c .before .before .before .before .before .before .before .reason .given in
-    let (one, two, wrote) = rw (told .1) at (r .ensures .1 fs ended steady) in
+    let (one, two, wrote) = reasoned-ends fs (log-of (a .skips) (a .records .now)) (a .formula) (a .position) _ (r .result) lines (told .0 .0) (told .1) (r .ensures .1 fs ended steady) in
     copies-all fs (log-of (a .skips) (a .records .now)) (a .formula) (a .position) (a .text .now) one two _ lines (told .0 .0) wrote (omega (arith, c .before .before .before .before .before .if1 .left)) (c .before .before .put .result) (c .before .before .put .last .1 .0) (c .before .before .put .ensures)
 
 pub copy-reason-spec : {M : Type 1} → statement M

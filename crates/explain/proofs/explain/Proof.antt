@@ -1,13 +1,11 @@
 -- `explain::explain` meets its contract: the refusals in their order, and the reason.
-use Prim.Native.Nat.{ℕ, _≤_}
-use mathlib.Core.Path.{_≡_, refl, sym, _∙_, ap}
+use mathlib.Core.Path.{sym, _∙_, ap}
 use native.Mathlib.Omega.{arith}
-use Rattle.rule.specs.Measure.{measured}
 use Rattle.rule.specs.Measure.{answer as weighing}
 use Rattle.rule.proofs.Headers.{few-to-decode, measured-once}
 use Rattle.rule.proofs.Outcome.{passes-with, stops-with}
 use Rattle.rule.proofs.Acceptance.{accepted}
-use Rattle.checkpoint.proofs.Sizes.{is-decoded}
+use Rattle.checks.proofs.Sizes.{is-decoded}
 use Rattle.emit.specs.Verdicts.{formulas-of}
 use Rattle.monitor.proofs.Meaning.{rule-ended}
 use Rattle.explain.proofs.Calling.{rule-refused, log-refused, log-passes, explained}

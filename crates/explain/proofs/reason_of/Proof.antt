@@ -4,7 +4,7 @@ use native.Mathlib.Omega.{arith}
 use Rattle.trace.specs.Format.{record-count}
 use Rattle.trace.specs.Log.{log-of}
 use Rattle.trace.proofs.Positions.{before-few}
-use Rattle.trace.proofs.Marks.{total-told, made-views}
+use Rattle.window.proofs.Marks.{total-told, made-views}
 use Rattle.engine.proofs.Rows.{zeros}
 use Rattle.explain.proofs.Calling.{prepared, told-of}
 use borrow.Author.Needs.{needs}

@@ -1,15 +1,15 @@
 -- `explain::write_reason` meets its contract.
-use Prim.Native.Nat.{ℕ, _+_, _-_, _≤_, _<_}
+use Prim.Native.Nat.{ℕ, _-_, _≤_, _<_}
 use mathlib.Core.Bool.{Bool, true, false, _||_}
 use mathlib.Core.Bool.{not as negate}
 use mathlib.Core.Logic.{_⊎_, inl, inr, ⊎-elim}
-use mathlib.Core.Path.{_≡_, refl, sym, _∙_}
+use mathlib.Core.Path.{_≡_, refl, sym}
 use native.Mathlib.Omega.{arith}
 use lib.Dec.{leb}
 use lib.ListN.{getD}
 use borrow.Author.Tests.{leb-true, le-leb}
-use Rattle.mtl.proofs.Bounded.{true-and-false, or-iff, le-or-lt}
-use Rattle.trace.specs.View.{total}
+use Rattle.mtl.proofs.Bounded.{true-and-false, or-iff}
+use Rattle.window.specs.View.{total}
 use Rattle.decimal.specs.Text.{ascii}
 use Rattle.explain.proofs.Formulas.{none-there, none-answered, empty-reasoned, formula-reasoned}
 use borrow.Author.Needs.{needs}
@@ -20,7 +20,7 @@ use Rattle.explain.proofs.write_reason.Lts as lts
 use Rattle.decimal.proofs.put.Reads as put-reads
 use Rattle.emit.proofs.columns_of.Reads as columns-of-reads
 use Rattle.explain.proofs.all_answered.Reads as all-answered-reads
-use Rattle.explain.proofs.telling.tell.Reads as tell-reads
+use Rattle.telling.proofs.tell.Reads as tell-reads
 
 either-far : (c k n i : ℕ) → leb c k || leb n i ≡ true → (c ≤ k) ⊎ (n ≤ i)
 either-far c k n i e = ⊎-elim (λ h. inl (leb-true c k h)) (λ h. inr (leb-true n i h)) (or-iff (leb c k) (leb n i) .0 e)
@@ -141,11 +141,8 @@ tell-requires c κs =
     let bound = rows .0 (getD (a .ends .now) (a .formula) 0 - 1) (omega arith) .bound in
     let kept = c .before .before .before .before .before .before .before .before .before .all-answered .kept .1 .1 .1 .1 .1 .0 in
     let room = p .words-room in
-    let text-room = c .before .before .before .before .before .before .before .before .before .before .before .before .before .before .before .before .before .before .before .pre .1 in (
-      record { entry = omega arith; rows = rows .0; lows = rows .1; words-room = omega arith; copy-room = c .before .before .before .before .before .before .before .before .before .all-answered .ensures .1 .0; waiting-room = c .before .before .before .before .before .before .before .before .before .all-answered .ensures .1 .1; views = p .views; few = p .few-records },
-      omega arith,
-      omega arith,
-    )
+    let text-room = c .before .before .before .before .before .before .before .before .before .before .before .before .before .before .before .before .before .before .before .pre .1 in
+    record { lent = record { entry = omega arith; rows = rows .0; lows = rows .1; words-room = omega arith; copy-room = c .before .before .before .before .before .before .before .before .before .all-answered .ensures .1 .0; waiting-room = c .before .before .before .before .before .before .before .before .before .all-answered .ensures .1 .1; views = p .views; few = p .few-records }; far = omega arith; space = omega arith }
 
 -- src/lib.rt:99:1
 same-length-4 : tie.Need-same-length-4

@@ -6,7 +6,7 @@ use Rattle.rule.specs.Measure.{Answer, measured}
 use Rattle.rule.specs.Measure.{answer as weighing}
 use Rattle.rule.proofs.Headers.{few-to-decode, measured-once}
 use Rattle.rule.proofs.Outcome.{passes-with, stops-with}
-use Rattle.checkpoint.proofs.Sizes.{is-decoded}
+use Rattle.checks.proofs.Sizes.{is-decoded}
 use Rattle.monitor.proofs.Summarizing.{columns-are, formulas-refused, formulas-told}
 use Rattle.monitor.proofs.formulas.Statement.{statement}
 use Rattle.monitor.proofs.formulas.Tie as tie

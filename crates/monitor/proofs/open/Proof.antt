@@ -9,9 +9,9 @@ use Rattle.rule.specs.Entries.{version}
 use Rattle.rule.specs.Refusal.{refusal}
 use Rattle.rule.proofs.Acceptance.{accepted}
 use Rattle.rule.proofs.Headers.{Decoded, few-to-decode, measured-once}
-use Rattle.checkpoint.specs.Code.{sized-of, sized-number}
-use Rattle.checkpoint.specs.declared.check.Sized.the-variants.{Words}
-use Rattle.checkpoint.proofs.Sizes.{Enough, enough, stops, sized-refusal, sized-is, is-decoded, is-version, version-most}
+use Rattle.checks.specs.Contract.{sized-number, sized-of}
+use Rattle.checks.specs.declared.Sized.the-variants.{Words}
+use Rattle.checks.proofs.Sizes.{Enough, enough, stops, sized-refusal, sized-is, is-decoded, is-version, version-most}
 use Rattle.monitor.proofs.Starts.{opens-refused, opens-done}
 use Rattle.monitor.proofs.open.Statement.{statement}
 use Rattle.monitor.proofs.open.Tie as tie

@@ -6,11 +6,11 @@ use lib.ListN.{length}
 use Rattle.rule.specs.Entries.{version, count, decoded}
 use Rattle.rule.proofs.Headers.{Decoded, few-to-decode, measured-once}
 use Rattle.rule.proofs.Spans.{header-least}
-use Rattle.checkpoint.specs.Refusal.{point-refusal}
-use Rattle.checkpoint.specs.Code.{sized-of, checked-by}
-use Rattle.checkpoint.specs.declared.check.Sized.the-variants.{Words}
-use Rattle.checkpoint.proofs.Sizes.{Enough, enough, sized-is, is-decoded, is-version, fits-in}
-use Rattle.checkpoint.proofs.Checks.{stopped, failed, passed}
+use Rattle.checks.specs.Refusal.{point-refusal}
+use Rattle.checks.specs.Contract.{sized-of, checked-by}
+use Rattle.checks.specs.declared.Sized.the-variants.{Words}
+use Rattle.checks.proofs.Sizes.{Enough, enough, sized-is, is-decoded, is-version, fits-in}
+use Rattle.checks.proofs.Checks.{stopped, failed, passed}
 use Rattle.monitor.specs.Resume.{wanted-records}
 use Rattle.monitor.proofs.Resuming.{resume-refused, resume-given, ready-of}
 use Rattle.monitor.proofs.resume_or_close.Statement.{statement}

@@ -7,10 +7,10 @@ use lib.ListN.{length}
 use Rattle.rule.specs.Entries.{version}
 use Rattle.rule.proofs.Headers.{few-to-decode}
 use Rattle.rule.proofs.Spans.{header-least}
-use Rattle.checkpoint.specs.Code.{checked-by}
-use Rattle.checkpoint.specs.Refusal.{summary-refusal}
-use Rattle.checkpoint.proofs.Checks.{fails-with, passed}
-use Rattle.checkpoint.proofs.Checks.{covers, own-is, has-room}
+use Rattle.checks.specs.Contract.{checked-by}
+use Rattle.checks.specs.Refusal.{summary-refusal}
+use Rattle.checks.proofs.Checks.{fails-with, passed}
+use Rattle.checks.proofs.Checks.{covers, own-is, has-room}
 use Rattle.monitor.proofs.Summarizing.{status-refused, status-told}
 use Rattle.monitor.proofs.status.Statement.{statement}
 use Rattle.monitor.proofs.status.Tie as tie

@@ -4,11 +4,11 @@ use mathlib.Core.Path.{_≡_, sym, _∙_}
 use native.Mathlib.Omega.{arith}
 use Rattle.rule.specs.Entries.{version}
 use Rattle.rule.proofs.Headers.{few-to-decode}
-use Rattle.checkpoint.specs.Code.{checked-by}
-use Rattle.checkpoint.specs.Refusal.{summary-refusal}
-use Rattle.checkpoint.proofs.Sizes.{is-decoded, is-version}
-use Rattle.checkpoint.proofs.Checks.{fails-with, passed}
-use Rattle.checkpoint.proofs.Checks.{covers, own-is, is-accepted}
+use Rattle.checks.specs.Contract.{checked-by}
+use Rattle.checks.specs.Refusal.{summary-refusal}
+use Rattle.checks.proofs.Sizes.{is-decoded, is-version}
+use Rattle.checks.proofs.Checks.{fails-with, passed}
+use Rattle.checks.proofs.Checks.{covers, own-is, is-accepted}
 use Rattle.emit.specs.Verdicts.{formulas-of, columns}
 use Rattle.monitor.proofs.Summarizing.{columns-are, counts-fit, summary-refused, summary-told}
 use Rattle.monitor.proofs.summary.Statement.{statement}

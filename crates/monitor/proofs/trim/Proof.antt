@@ -7,12 +7,12 @@ use lib.ListN.{length}
 use Rattle.rule.specs.Entries.{version, count, decoded}
 use Rattle.rule.proofs.Headers.{few-to-decode}
 use Rattle.rule.proofs.Spans.{header-least}
-use Rattle.checkpoint.specs.Refusal.{words-refusal, trimming-refusal}
-use Rattle.checkpoint.specs.Code.{sized-of, checked-by}
-use Rattle.checkpoint.specs.declared.check.Sized.the-variants.{Words}
-use Rattle.checkpoint.proofs.Sizes.{enough}
-use Rattle.checkpoint.proofs.Checks.{stopped, failed, passed, covered, room-to-trim}
-use Rattle.checkpoint.proofs.Checks.{covers, sized-once, words-once}
+use Rattle.checks.specs.Refusal.{words-refusal, trimming-refusal}
+use Rattle.checks.specs.Contract.{sized-of, checked-by}
+use Rattle.checks.specs.declared.Sized.the-variants.{Words}
+use Rattle.checks.proofs.Sizes.{enough}
+use Rattle.checks.proofs.Checks.{stopped, failed, passed, covered, room-to-trim}
+use Rattle.checks.proofs.Checks.{covers, sized-once, words-once}
 use Rattle.monitor.proofs.Trimming.{trim-refused, trim-written}
 use Rattle.monitor.proofs.trim.Statement.{statement}
 use Rattle.monitor.proofs.trim.Tie as tie

@@ -5,8 +5,7 @@ use native.Mathlib.Omega.{arith}
 use mathlib.Core.Path.{_≡_}
 use lib.ListN.{length}
 use borrow.Author.Needs.{needs}
-use Rattle.blocks.specs.Step.{left-of, right-of}
-use Rattle.operators.proofs.ByKind.{steps-of, room-of, since-room-of, until-room-of}
+use Rattle.operators.proofs.ByKind.{promised, room-of, since-room-of, until-room-of}
 use Rattle.operators.proofs.advance.Statement.{statement}
 use Rattle.operators.proofs.advance.Tie as tie
 
@@ -39,117 +38,54 @@ step-until-requires c κs =
     let last : start .args .kind ≡ 6 = omega arith in
     (until-room-of (start .args .kind) (start .args .high) _ last (start .pre .3), start .pre .4, start .pre .5, start .pre .6)
 
-same-length : tie.Need-same-length
-same-length c = search needs
-
 returns : tie.Need-returns
 returns c =
-    let start = c .before .before .before .before .before .before .before in
-    let a = start .args in
     let step = c .before .before .step-letter in
-    let kind = c .before .before .before .before .match .keys1 in (
-      rw kind (step .ensures .0),
-      (
-        λ φ f. steps-of φ 0 (a .view .now) (a .records .now) (a .block .now) (step .result) (step .last .1 .1 .1 .0) kind f (step .ensures .1),
-        (start .pre .4, start .pre .5),
-      ),
-    )
-
-same-length-2 : tie.Need-same-length-2
-same-length-2 c = search needs
+    let start = c .before .before .before .before .before .before .before in
+    promised 0 (step .result) (step .last .1 .1 .1 .0)
+    (c .before .before .before .before .match .keys1) (step .ensures .0) (λ φ ψ. step .ensures .1) (start .pre .4, start .pre .5)
 
 returns-2 : tie.Need-returns-2
 returns-2 c =
-    let start = c .before .before .before .before .before .before .before in
-    let a = start .args in
     let step = c .before .before .step-not in
-    let kind = c .before .before .before .before .match .keys2 in (
-      rw kind (step .ensures .0),
-      (
-        λ φ f. steps-of φ 1 (a .view .now) (a .records .now) (a .block .now) (step .result) (step .last .1 .0) kind f (step .ensures .1 (a .records .now) (right-of φ)),
-        (start .pre .4, start .pre .5),
-      ),
-    )
-
-same-length-3 : tie.Need-same-length-3
-same-length-3 c = search needs
+    let start = c .before .before .before .before .before .before .before in
+    promised 1 (step .result) (step .last .1 .0)
+    (c .before .before .before .before .match .keys2) (step .ensures .0) (λ φ ψ. step .ensures .1 _ ψ) (start .pre .4, start .pre .5)
 
 returns-3 : tie.Need-returns-3
 returns-3 c =
-    let start = c .before .before .before .before .before .before .before in
-    let a = start .args in
     let step = c .before .before .step-or in
-    let kind = c .before .before .before .before .match .keys3 in (
-      rw kind (step .ensures .0),
-      (
-        λ φ f. steps-of φ 2 (a .view .now) (a .records .now) (a .block .now) (step .result) (step .last .1 .0) kind f (step .ensures .1 (a .records .now) (left-of φ) (right-of φ)),
-        (start .pre .4, start .pre .5),
-      ),
-    )
-
-same-length-4 : tie.Need-same-length-4
-same-length-4 c = search needs
+    let start = c .before .before .before .before .before .before .before in
+    promised 2 (step .result) (step .last .1 .0)
+    (c .before .before .before .before .match .keys3) (step .ensures .0) (λ φ ψ. step .ensures .1 _ φ ψ) (start .pre .4, start .pre .5)
 
 returns-4 : tie.Need-returns-4
 returns-4 c =
-    let start = c .before .before .before .before .before .before .before .before in
-    let a = start .args in
     let step = c .before .before .step-previous in
-    let kind = c .before .before .before .before .before .match .keys4 in (
-      rw kind (step .ensures .0),
-      (
-        λ φ f. steps-of φ 3 (a .view .now) (a .records .now) (a .block .now) (step .result) (step .last .1 .1 .1 .1 .1 .0) kind f (step .ensures .1 .0 (right-of φ)),
-        (step .ensures .1 .1, start .pre .5),
-      ),
-    )
-
-same-length-5 : tie.Need-same-length-5
-same-length-5 c = search needs
+    let start = c .before .before .before .before .before .before .before .before in
+    promised 3 (step .result) (step .last .1 .1 .1 .1 .1 .0)
+    (c .before .before .before .before .before .match .keys4) (step .ensures .0) (λ φ ψ. step .ensures .1 .0 ψ) (step .ensures .1 .1, start .pre .5)
 
 returns-5 : tie.Need-returns-5
 returns-5 c =
-    let start = c .before .before .before .before .before .before .before .before in
-    let a = start .args in
     let step = c .before .before .step-next in
-    let kind = c .before .before .before .before .before .match .keys5 in (
-      rw kind (step .ensures .0),
-      (
-        λ φ f. steps-of φ 4 (a .view .now) (a .records .now) (a .block .now) (step .result) (step .last .1 .1 .1 .1 .1 .0) kind f (step .ensures .1 .0 (right-of φ)),
-        (step .ensures .1 .1, start .pre .5),
-      ),
-    )
-
-same-length-6 : tie.Need-same-length-6
-same-length-6 c = search needs
+    let start = c .before .before .before .before .before .before .before .before in
+    promised 4 (step .result) (step .last .1 .1 .1 .1 .1 .0)
+    (c .before .before .before .before .before .match .keys5) (step .ensures .0) (λ φ ψ. step .ensures .1 .0 ψ) (step .ensures .1 .1, start .pre .5)
 
 returns-6 : tie.Need-returns-6
 returns-6 c =
-    let start = c .before .before .before .before .before .before .before .before in
-    let a = start .args in
     let step = c .before .before .step-since in
-    let kind = c .before .before .before .before .before .match .keys6 in (
-      rw kind (step .ensures .0),
-      (
-        λ φ f. steps-of φ 5 (a .view .now) (a .records .now) (a .block .now) (step .result) (step .last .1 .1 .1 .1 .1 .0) kind f (step .ensures .1 .0 (left-of φ) (right-of φ)),
-        (step .ensures .1 .1, start .pre .5),
-      ),
-    )
-
-same-length-7 : tie.Need-same-length-7
-same-length-7 c = search needs
+    let start = c .before .before .before .before .before .before .before .before in
+    promised 5 (step .result) (step .last .1 .1 .1 .1 .1 .0)
+    (c .before .before .before .before .before .match .keys6) (step .ensures .0) (step .ensures .1 .0) (step .ensures .1 .1, start .pre .5)
 
 returns-7 : tie.Need-returns-7
 returns-7 c =
     let start = c .before .before .before .before .before .before .before .before .before in
-    let a = start .args in
     let step = c .before .before .step-until in
-    let kind : a .kind ≡ 6 = omega (arith, start .pre .0, c .before .before .before .before .before .before .match) in (
-      rw kind (step .ensures .0),
-      (
-        λ φ f. steps-of φ 6 (a .view .now) (a .records .now) (a .block .now) (step .result) (step .last .1 .1 .1 .1 .1 .1 .0) kind f (step .ensures .1 .0 (left-of φ) (right-of φ)),
-        step .ensures .1 .1,
-      ),
-    )
+    let kind : start .args .kind ≡ 6 = omega (arith, start .pre .0, c .before .before .before .before .before .before .match) in
+    promised 6 (step .result) (step .last .1 .1 .1 .1 .1 .1 .0) kind (step .ensures .0) (step .ensures .1 .0) (step .ensures .1 .1)
 
 pub advance-spec : {M : Type 1} → statement M
 advance-spec =
@@ -162,17 +98,17 @@ advance-spec =
     step-next-requires
     step-since-requires
     step-until-requires
-    same-length
+    (λ c. search needs)
     returns
-    same-length-2
+    (λ c. search needs)
     returns-2
-    same-length-3
+    (λ c. search needs)
     returns-3
-    same-length-4
+    (λ c. search needs)
     returns-4
-    same-length-5
+    (λ c. search needs)
     returns-5
-    same-length-6
+    (λ c. search needs)
     returns-6
-    same-length-7
+    (λ c. search needs)
     returns-7)

@@ -59,10 +59,10 @@ ran d =
     refl
 
 -- how many words a line has: one per formula
-columned : (d : tie.After-columns-of) →
+columned : (d : tie.After-words-in-line) →
     let a = d .before .before .before .before .before .before .before .before .before .before .before .before .before .before .before .before .before .before .args in
-    d .columns-of .result ≡ columns (formulas-of (a .rule .now))
-columned d = d .columns-of .ensures (ran (d .before .before) .accepts)
+    d .words-in-line .result ≡ columns (formulas-of (a .rule .now))
+columned d = d .words-in-line .ensures (ran (d .before .before) .accepts)
 
 is-too-long-requires : tie.Need-is-too-long-requires
 is-too-long-requires c κs = search needs
@@ -158,8 +158,8 @@ returns-3 c =
     (n .ensures) in
     subst (λ (t : List ℕ). Writes (a .text .now) 0 t (w .result) (w .last .1 .0)) (sym text) (w .ensures)
 
-columns-of-requires : tie.Need-columns-of-requires
-columns-of-requires c κs = search needs
+words-in-line-requires : tie.Need-words-in-line-requires
+words-in-line-requires c κs = search needs
 
 records-requires : tie.Need-records-requires
 records-requires c κs = search needs
@@ -233,7 +233,7 @@ report-spec =
     number-requires-2
     put-refused-requires-2
     returns-3
-    columns-of-requires
+    words-in-line-requires
     records-requires
     count-requires
     put-counts-requires

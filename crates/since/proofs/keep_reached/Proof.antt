@@ -10,6 +10,7 @@ use Rattle.bits.proofs.Laws.{packed-and}
 use Rattle.trace.specs.Format.{time-at}
 use Rattle.blocks.specs.Ring.{in-reach}
 use Rattle.since.proofs.Newest.{all-in-reach}
+use Rattle.since.proofs.Runs.{reached-are}
 use Rattle.since.proofs.keep_reached.Statement.{statement}
 use Rattle.since.proofs.keep_reached.Tie as tie
 
@@ -24,9 +25,7 @@ returns-all c rises =
 returns-some : tie.Need-returns-2
 returns-some c rises =
     let a = c .before .before .before .before .before .args in
-    packed-and (bit (a .alive)) (in-reach 0 (a .high) (time-at (a .window .now)) (a .right) (a .first)) 0 (a .n) (a .alive) (c .find-within .result)
-    (record { few = omega arith; same = λ i h. ap (bit (a .alive)) (zero-add i) })
-    (c .find-within .ensures)
+    reached-are (a .high) (time-at (a .window .now)) (a .right) (a .first) (a .n) (a .alive) (c .find-late .result) (omega arith) (c .find-late .ensures rises)
 
 pub keep-reached-spec : {M : Type 1} → statement M
 keep-reached-spec =
@@ -36,5 +35,6 @@ keep-reached-spec =
     (λ c κs. search needs)
     (λ c κs. search needs)
     returns-all
+    (λ c. search needs)
     (λ c κs. search needs)
     returns-some)

@@ -5,7 +5,7 @@ use native.Mathlib.Omega.{arith}
 use mathlib.Core.Path.{refl, _∙_}
 use lib.ListN.{length, length-set}
 use borrow.Author.Needs.{needs}
-use Rattle.trace.specs.View.{total}
+use Rattle.window.specs.View.{total}
 use Rattle.blocks.specs.Block.{taken, left-count, right-count, head}
 use Rattle.blocks.proofs.Words.{Available, available}
 use Rattle.blocks.proofs.Reading.{readable, end-fits}

@@ -20,13 +20,14 @@ returns c first-is =
     let a = start .args in
     let small : a .left < 2 ^ 64 = omega arith in
     let filled = rw (flag .flag .ensures) at (fill .find-alive .ensures) in
-    takes-inside (a .first) (fill .find-alive .result) (f .find-within .result) _ (some .has-some .result)
+    takes-inside (a .first) (fill .find-alive .result) (f .find-late .result) _ (some .has-some .result)
     (start .pre .0)
     (start .pre .3)
     (λ qs r. some .has-some .ensures (ring-words (a .high)) qs r)
     filled
     (mark-is (a .left) (a .right) (some .has-some .result) (fill .find-alive .result) filled (lt-of-le-of-lt (and-le-l (a .left) _) small))
-    (rw (flag .flag .ensures) at (f .find-within .ensures))
+    (start .pre .5)
+    (rw (flag .flag .ensures) at (f .find-late .ensures))
     (start .pre .6)
     (t .turn-word .ensures)
     first-is

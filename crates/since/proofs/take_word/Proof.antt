@@ -19,14 +19,14 @@ returns c =
     let cells = time .before in
     let start = cells .before .before .before in
     let a = start .args in
-    takes-low (first .newest .result) (fill .find-alive .result) (keep .keep-reached .result) (newest .newest-right .result) (some .has-some .result) (test .test .result)
+    takes-low (first .newest .result) (fill .find-alive .result) (keep .keep-reached .result) (newest .newest-marked .result) (some .has-some .result) (test .test .result)
     (λ qs r. some .has-some .ensures (ring-words (a .high)) qs r)
     (rw (cells .cells-for .ensures .0, time .time .ensures .0) at (first .newest .ensures))
     (rw (flag .flag .ensures) at (fill .find-alive .ensures))
     (keep .keep-reached .ensures)
     (start .pre .2)
     (test .test .ensures)
-    (newest .newest-right .ensures)
+    (newest .newest-marked .ensures .0)
     (p .put-one .ensures (ring-words (a .high)))
 
 pub take-word-spec : {M : Type 1} → statement M

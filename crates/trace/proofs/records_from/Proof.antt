@@ -4,8 +4,7 @@ use borrow.Author.Needs.{needs}
 use Prim.Native.Nat.{ℕ, zero, _-_}
 use mathlib.Core.Path.{_≡_, refl, sym, ap, ap₂, _∙_}
 use native.Mathlib.Omega.{arith}
-use Rattle.trace.specs.Format.{dropped}
-use Rattle.trace.specs.View.{from-record}
+use Rattle.trace.specs.Format.{dropped, from-record}
 use Rattle.trace.proofs.records_from.Statement.{statement}
 use Rattle.trace.proofs.records_from.Tie as tie
 

@@ -7,7 +7,7 @@ use mathlib.Core.Logic.{⊎-elim}
 use mathlib.Core.Path.{_≡_, refl}
 use lib.ListN.{length}
 use borrow.Author.Needs.{needs}
-use Rattle.trace.specs.View.{total}
+use Rattle.window.specs.View.{total}
 use Rattle.blocks.specs.Block.{taken, answered}
 use Rattle.until.proofs.UntilSteps.{
   Opens,

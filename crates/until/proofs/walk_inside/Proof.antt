@@ -5,7 +5,8 @@ use mathlib.Core.Path.{refl, _∙_}
 use borrow.Author.Needs.{needs}
 use Rattle.trace.specs.Format.{time-at}
 use Rattle.until.specs.Settle.{next-of}
-use Rattle.until.proofs.UntilWords.{Known, known-is, settled-walk, takes-few, taken-at, by-next}
+use Rattle.until.proofs.UntilLog.{takes-few}
+use Rattle.until.proofs.UntilWords.{Known, known-is, settled-walk, taken-at, by-next}
 use Rattle.until.proofs.UntilSoon.{soon-none, soon-some}
 use Rattle.until.proofs.walk_inside.Statement.{statement}
 use Rattle.until.proofs.walk_inside.Tie as tie

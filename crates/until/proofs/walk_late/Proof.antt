@@ -7,8 +7,10 @@ use lib.Pow.{pow-mono}
 use borrow.Author.Needs.{needs}
 use Rattle.trace.specs.Format.{time-at}
 use Rattle.until.specs.Settle.{next-of}
-use Rattle.until.proofs.UntilWords.{Known, known-is, settled-walk, takes-few, taken-at, by-next}
+use Rattle.until.proofs.UntilLog.{takes-few}
+use Rattle.until.proofs.UntilWords.{Known, known-is, settled-walk, taken-at, by-next}
 use Rattle.until.proofs.UntilLate.{late-next, met-next, late-none, late-some}
+use Rattle.until.proofs.UntilLeads.{rising-next}
 use Rattle.until.proofs.walk_late.Statement.{statement}
 use Rattle.until.proofs.walk_late.Tie as tie
 
@@ -42,8 +44,8 @@ returns-none c high after from by =
     settled-walk (by-next after by) (omega arith)
     (λ rises.
     late-none (a .low) (next-of time (a .n) after) (a .left) (a .right) (a .n) (omega arith) (known z)
-    (late-next (a .low) time (a .left) (a .right) (a .n) after (f .find-late .ensures .0))
-    (met-next (a .low) time (a .left) (a .right) (a .n) after (f .find-late .ensures .1) (m .count-met .ensures))
+    (late-next (a .low) time (a .left) (a .right) (a .n) after (f .find-late .ensures (rising-next time (a .n) after rises) .0))
+    (met-next (a .low) time (a .left) (a .right) (a .n) after (f .find-late .ensures (rising-next time (a .n) after rises) .1) (m .count-met .ensures))
     (r .repeat .ensures .0)
     (r .repeat .ensures .1)
     (c .before .if1 .taken))
@@ -66,13 +68,15 @@ returns-some c high after from by =
     let time = time-at (a .ahead .now) in
     let most = z .find-last-zero .ensures .1 in
     settled-walk (by-next after by) (omega arith)
-    (late-some (a .low) (next-of time (a .n) after) (a .left) (a .right) (a .n) (omega arith) (known z)
-    (late-next (a .low) time (a .left) (a .right) (a .n) after (f .find-late .ensures .0))
-    (met-next (a .low) time (a .left) (a .right) (a .n) after (f .find-late .ensures .1) (m .count-met .ensures))
+    (λ rises.
+    late-some (a .low) (next-of time (a .n) after) (a .left) (a .right) (a .n) (omega arith) (known z)
+    (late-next (a .low) time (a .left) (a .right) (a .n) after (f .find-late .ensures (rising-next time (a .n) after rises) .0))
+    (met-next (a .low) time (a .left) (a .right) (a .n) after (f .find-late .ensures (rising-next time (a .n) after rises) .1) (m .count-met .ensures))
     (r .repeat .ensures .0)
     (r .repeat .ensures .1)
     (omega arith)
-    (p .prolong .ensures))
+    (p .prolong .ensures)
+    rises)
     (c .before .smaller .result) (t .taken-for .result) (c .before .smaller .ensures) (t .taken-for .ensures) (c .take2 .result)
     (c .take2 .ensures .0 ∙ taken-at time (a .n) after (t .taken-for .result - 1) (a .left) (a .right) (omega (arith, took t)))
     (c .take2 .ensures .1)

@@ -28,6 +28,20 @@ returns-words c =
     let a = e .before .before .before .args in
     rw (e .if1 .left) (c .walk-inside .ensures (a .high) (a .after) _ (a .from) (rw (e .if1 .left) at (k .before .by-words2 .ensures (k .if3 .taken))))
 
+walk-far-requires : tie.Need-walk-far-requires
+walk-far-requires c κs =
+    let w = c .before .outreaches .ensures (c .if4 .taken) in
+    let few = w .few in
+    let some = w .some in
+    (w .small, w .some, omega arith, omega arith, w .few, omega arith)
+
+returns-far : tie.Need-returns-4
+returns-far c =
+    let k = c .before in
+    let e = k .before .before .before .before in
+    let a = e .before .before .before .args in
+    rw (e .if1 .left) (c .walk-far .ensures (a .after) (a .from) (k .before .outreaches .ensures (k .if4 .taken)))
+
 pub walk-words-spec : {M : Type 1} → statement M
 walk-words-spec =
     tie.close
@@ -40,5 +54,8 @@ walk-words-spec =
     (λ c κs. search needs)
     walk-inside-requires
     returns-words
+    (λ c κs. search needs)
+    walk-far-requires
+    returns-far
     (λ c κs. search needs)
     (λ c. search needs))

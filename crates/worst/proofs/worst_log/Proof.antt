@@ -6,7 +6,7 @@ use mathlib.Core.Path.{_≡_, sym, ap, _∙_}
 use lib.ListN.{length}
 use borrow.Author.Needs.{needs}
 use Rattle.trace.specs.Making.{records-bytes, put}
-use Rattle.worst.specs.Written.{worst-time, events-of}
+use Rattle.worst.specs.Written.{worst-time, worst-events}
 use Rattle.worst.specs.Code.{checked-number}
 use Rattle.worst.proofs.Outcome.{Accepted, passes, writes-nothing, writes-log}
 use Rattle.worst.proofs.worst_log.Statement.{statement}
@@ -60,7 +60,7 @@ returns-2 : tie.Need-returns-2
 returns-2 c =
     let a = c .before .before .before .before .before .before .before .before .before .before .before .before .before .args in
     let checked = c .before .before .before .before .before .before .before .before .before .checked .given in
-    let records = records-bytes (worst-time (a .high)) events-of (checked .0 .0) in
+    let records = records-bytes (worst-time (a .high)) worst-events (checked .0 .0) in
     writes-log (a .low) (a .high) (a .n) (a .log .now) (checked .0 .0) _ (sym (checked .1) ∙ c .before .before .before .before .before .before .before .before .before .before .before .check .ensures)
     (c .before .before .write-records .ensures ∙ ap (λ (l : List ℕ). put l 8 records) (c .before .before .before .before .before .before .write-header .ensures))
 

@@ -7,13 +7,13 @@ use lib.ListN.{length}
 use borrow.Author.Needs.{needs}
 use Rattle.trace.specs.Making.{record-bytes, records-bytes, put}
 use Rattle.trace.proofs.Making.{put-nothing, put-record}
-use Rattle.worst.specs.Written.{worst-time, events-of}
+use Rattle.worst.specs.Written.{worst-time, worst-events}
 use Rattle.worst.proofs.write_records.Statement.{statement}
 use Rattle.worst.proofs.write_records.Tie as tie
 
 abbrev Inv-loop : tie.InvT-loop
 Inv-loop high n log₀ end at₀ i₀ log at i =
-    (i ≤ n) × (at ≡ 8 + i * 8) × (length log ≡ length log₀) × (log ≡ put log₀ 8 (records-bytes (worst-time high) events-of i))
+    (i ≤ n) × (at ≡ 8 + i * 8) × (length log ≡ length log₀) × (log ≡ put log₀ 8 (records-bytes (worst-time high) worst-events i))
 
 abbrev μ-loop : tie.MeasureT-loop
 μ-loop high n log₀ end at₀ i₀ log at i = n - i
@@ -28,17 +28,17 @@ loop-again c =
     let l = c .before .before .before .before .before .before .loop in
     let s = c .before .before .before .smaller in
     let w = c .before .before .write-record in
-    let wrote : w .last .0 ≡ put (l .log) (l .at) (record-bytes (s .result) (events-of (l .i))) = w .ensures in
+    let wrote : w .last .0 ≡ put (l .log) (l .at) (record-bytes (s .result) (worst-events (l .i))) = w .ensures in
     let time : s .result ≡ worst-time (a .high) (l .i) = s .ensures in
-    let before = put (a .log .now) 8 (records-bytes (worst-time (a .high)) events-of (l .i)) in (
+    let before = put (a .log .now) 8 (records-bytes (worst-time (a .high)) worst-events (l .i)) in (
       omega arith,
       omega arith,
       w .kept .0 ∙ l .inv .2,
       wrote ∙
-          ap (λ (b : List ℕ). put b (l .at) (record-bytes (s .result) (events-of (l .i)))) (l .inv .3) ∙
-          ap (λ (t : ℕ). put before (l .at) (record-bytes t (events-of (l .i)))) time ∙
-          ap (λ (k : ℕ). put before k (record-bytes (worst-time (a .high) (l .i)) (events-of (l .i)))) (l .inv .1) ∙
-          put-record (worst-time (a .high)) events-of (a .log .now) (l .i) (omega arith),
+          ap (λ (b : List ℕ). put b (l .at) (record-bytes (s .result) (worst-events (l .i)))) (l .inv .3) ∙
+          ap (λ (t : ℕ). put before (l .at) (record-bytes t (worst-events (l .i)))) time ∙
+          ap (λ (k : ℕ). put before k (record-bytes (worst-time (a .high) (l .i)) (worst-events (l .i)))) (l .inv .1) ∙
+          put-record (worst-time (a .high)) worst-events (a .log .now) (l .i) (omega arith),
     )
 
 returns : tie.Need-returns Inv-loop μ-loop

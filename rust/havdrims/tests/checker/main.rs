@@ -10,6 +10,7 @@ mod forged;
 mod guard;
 mod large;
 mod lists;
+mod neighbours;
 mod runner;
 mod simulate;
 mod single;

@@ -49,14 +49,13 @@ fn records(r: &mut Random) -> Vec<Record> {
     all
 }
 
-/// The log in calls of one record, of about a word, or of all; the last of them closes it in every other case.
-fn run(r: &mut Random, rule: &[u8], file: &[u8], closing: bool) -> Vec<u8> {
+/// The log in calls of so many records; the last of them may close it.
+pub fn run(step: usize, rule: &[u8], file: &[u8], closing: bool) -> Vec<u8> {
     let mut point = vec![0; measure(rule).unwrap().words];
     open(rule, &mut point).unwrap();
-    let step = 8 * r.pick(&[1, 2, 63, 64, 65, 100, 1_000]);
     let (mut sheet, mut given, mut end) = (vec![0xFF; file.len() / 8 - 1], 0, 8);
     while end < file.len() {
-        end = file.len().min(end + step);
+        end = file.len().min(end + 8 * step);
         given += resume(rule, &file[..end], &mut point, &mut sheet[given..]).unwrap().verdicts;
     }
     if closing {
@@ -83,7 +82,7 @@ fn at_the_edges_of_a_word() {
         let positions = log::positions(version, &records);
         let expected = model::verdicts(closing, &rule::parse(&rule).unwrap(), &positions);
         let file = log::encode_as(version, &records);
-        let sheet = run(r, &rule, &file, closing);
+        let sheet = run(r.pick(&[1, 2, 63, 64, 65, 100, 1_000]), &rule, &file, closing);
         assert_eq!(sheet, expected, "rule {}, log {}", hex(&rule), hex(&file));
         counts.add("verdicts", sheet.len());
         counts.add("closed", usize::from(closing));
@@ -94,4 +93,66 @@ fn at_the_edges_of_a_word() {
     cases("at_the_edges_of_a_word", 12_000, body, |counts| {
         counts.get("verdicts") > 1_000_000 && counts.get("closed") > 0 && counts.get("late yes") > 10_000
     });
+}
+
+/// Letter 0 holds but where a stretch begins. Letter 1 does there, and at every position if `always` says so: the ring then has a time a
+/// second, and drops them within a word.
+fn stretches(length: usize, first: usize, always: bool, a_second: usize, count: usize) -> Vec<Record> {
+    let record = |at: usize| {
+        let begins = at % length == first;
+        let letters = u32::from(!begins) | u32::from(begins || always) << 1;
+        Record { time: 1_000 + (at / a_second) as u32, letters }
+    };
+    (0..count).map(record).collect()
+}
+
+/// A since with low above 0 on stretches in which left holds: from many in a word to one in many words, few enough to be gone through one by
+/// one or too many for that; with low and high at the edge of a second.
+#[test]
+fn since_on_stretches() {
+    for (low, high) in [(1, 1), (1, 2), (1, 70), (2, 2), (2, 64), (3, 600), (31, 33), (1, NO_END), (5, NO_END)] {
+        let rule = rule::encode(&[Entry::letter(0), Entry::letter(1), Entry::timed(SINCE, low, high)]);
+        let formulas = rule::parse(&rule).unwrap();
+        let (mut yes, mut no) = (0, 0);
+        for length in [2, 3, 5, 8, 9, 10, 11, 16, 31, 32, 33, 63, 64, 65, 100] {
+            for (first, always) in [(0, false), (1, true), (length - 1, false), (length / 2, true)] {
+                for (a_second, count) in [(1, 130), (2, 193), (3, 129), (64, 195)] {
+                    let records = stretches(length, first, always, a_second, count);
+                    let expected = model::verdicts(false, &formulas, &log::positions(1, &records));
+                    let file = log::encode(&records);
+                    for step in [63, 64, 1_000] {
+                        let sheet = run(step, &rule, &file, false);
+                        assert_eq!(sheet, expected, "since[{low},{high}], calls of {step}, log {}", hex(&file));
+                    }
+                    yes += expected.iter().filter(|&&byte| byte == 1).count();
+                    no += expected.iter().filter(|&&byte| byte == 0).count();
+                }
+            }
+        }
+        assert!(yes > 500 && no > 500, "since[{low},{high}]: {yes} yes and {no} no");
+    }
+}
+
+/// Left holds throughout and right once: the positions from low to high before it are yes, and no others.
+#[test]
+fn one_right_at_the_edges_of_its_interval() {
+    let mut r = Random::new(64);
+    let intervals = [(0, 0), (0, 1), (0, 5), (0, 62), (0, 63), (0, 64), (1, 1), (1, 2), (2, 120), (63, 64)];
+    let mut yes = 0;
+    for (low, high) in intervals {
+        let rule = rule::encode(&[Entry::letter(0), Entry::letter(1), Entry::timed(UNTIL, low, high)]);
+        for at in [0, 1, 62, 63, 64, 65, 127, 128, 129, 192] {
+            for a_second in [1, 2, 7, 63, 64, 65] {
+                let time = |i: u32| 1_000 + i / a_second;
+                let records: Vec<Record> =
+                    (0..200).map(|i| Record { time: time(i), letters: 1 | u32::from(i == at) << 1 }).collect();
+                let holds = |i| i <= at && (low..=high).contains(&(time(at) - time(i)));
+                let expected: Vec<u8> = (0..200).map(|i| u8::from(holds(i))).collect();
+                let sheet = run(r.pick(&[1, 2, 63, 64, 65, 100, 1_000]), &rule, &log::encode(&records), true);
+                assert_eq!(sheet, expected, "until[{low},{high}], right at {at}, {a_second} a second");
+                yes += sheet.iter().filter(|&&byte| byte == 1).count();
+            }
+        }
+    }
+    assert!(yes > 10_000);
 }

@@ -1,99 +1,73 @@
--- `blocks::time::near` meets its contract. The loop's invariant: the first i positions are answered, one bit each.
--- Assumes nothing.
-use Prim.Native.Nat.{ℕ, _+_, _-_, _^_, _≤_, _<_}
+-- `blocks::time::near` meets its contract. Assumes nothing.
+use Prim.Native.Nat.{ℕ, _+_, _-_, _^_, _<_}
 use native.Mathlib.Omega.{arith}
-use mathlib.Core.Bool.{Bool}
+use mathlib.Core.Bool.{Bool, true, false, _&&_}
+use mathlib.Core.Bool.{not as negate}
 use mathlib.Core.List.{List}
-use mathlib.Core.Path.{_≡_}
+use mathlib.Core.Logic.{inl, inr, ⊎-elim}
+use mathlib.Core.Path.{_≡_, refl, ap, ap₂, sym, _∙_}
+use lib.Bits.{bitAnd}
+use lib.Dec.{leb}
+use lib.ListN.{getD}
 use borrow.Author.Needs.{needs}
-use Rattle.mtl.specs.Satisfaction.{within}
-use Rattle.bits.specs.Packed.{with-bit, Packed}
-use Rattle.bits.proofs.Laws.{Pushed, pushed-none, pushed-more}
+use borrow.Author.Tests.{le-leb, lt-leb}
+use Rattle.mtl.proofs.Bounded.{within-small, le-or-lt}
+use Rattle.bits.specs.Packed.{Packed}
+use Rattle.bits.proofs.Laws.{packed-same, packed-and, packed-not}
 use Rattle.trace.specs.Format.{time-at}
-use Rattle.blocks.specs.Near.{near-after}
+use Rattle.trace.proofs.Laws.{time-bound}
+use Rattle.blocks.specs.Near.{close-after, near-after}
 use Rattle.blocks.proofs.time.near.Statement.{statement}
 use Rattle.blocks.proofs.time.near.Tie as tie
 
-record Answered (low high : ℕ) (s : List ℕ) (n word last i : ℕ) : Type 0 where
-  inside : i ≤ n
-  pushed : Pushed (near-after low high (time-at s)) 0 i word
-  told : last ≡ time-at s i
+-- low ≤ gap where the gap is not below low
+not-below : (low gap : ℕ) → 0 < low → leb low gap ≡ negate (leb gap (low - 1))
+not-below low gap some =
+    ⊎-elim
+    (λ h. le-leb low gap h ∙ sym (ap negate (lt-leb gap (low - 1) (omega arith))))
+    (λ h. lt-leb low gap h ∙ sym (ap negate (le-leb gap (low - 1) (omega arith))))
+    (le-or-lt low gap)
 
-module _ (low high : ℕ) (s : List ℕ) (n : ℕ) where
-  none-yet : (last : ℕ) → last ≡ time-at s 0 → Answered low high s n 0 last 0
-  none-yet last e = record { inside = omega arith; pushed = pushed-none (near-after low high (time-at s)) 0; told = e }
+swap : (a b : Bool) → b && a ≡ a && b
+swap true true = refl
+swap true false = refl
+swap false true = refl
+swap false false = refl
 
-  more : (word last i now : ℕ) (x : Bool) (word′ : ℕ) → i < n → n ≤ 64 → now ≡ time-at s (i + 1) → x ≡ within low high last now →
-      (word′ ≡ with-bit word i x) × (word′ < 2 ^ (i + 1)) → Answered low high s n word last i → Answered low high s n word′ now (i + 1)
-  more word last i now x word′ h few e near gave done =
-      let here : 0 + i ≡ i = omega arith in
-      record {
-        inside = omega arith;
-        pushed = pushed-more (near-after low high (time-at s)) 0 i word x word′ (omega arith) (rw (here, near, done .told, e)) gave (done .pushed);
-        told = e;
-      }
+module _ (s : List ℕ) (byte : (k : ℕ) → getD s k 0 < 256) (low high n : ℕ) where
+  abbrev gap : ℕ → ℕ
+  gap i = time-at s (i + 1) - time-at s i
 
-  all : (word last i : ℕ) → n ≤ i → Answered low high s n word last i → Packed (near-after low high (time-at s)) 0 n word
-  all word last i h done = let same : n ≡ i = omega arith in rw same (done .pushed .packed)
+  -- both ends, each a test of the gap
+  ends : (i : ℕ) → near-after low high (time-at s) i ≡ leb low (gap i) && leb (gap i) high
+  ends i = within-small low high (time-at s i) (time-at s (i + 1)) (omega (arith, time-bound s byte (i + 1)))
 
-abbrev Inv-loop : tie.InvT-loop
-Inv-loop low high window n answers₀ last₀ i₀ answers last i = Answered low high window n answers last i
+  from-none : (word : ℕ) → low ≡ 0 → Packed (close-after high (time-at s)) 0 n word → Packed (near-after low high (time-at s)) 0 n word
+  from-none word e =
+      packed-same (close-after high (time-at s)) (near-after low high (time-at s)) 0 0 n word
+      (λ i h. ends (0 + i) ∙ ap (λ (b : Bool). b && leb (gap (0 + i)) high) (le-leb low (gap (0 + i)) (omega arith)))
 
-abbrev μ-loop : tie.MeasureT-loop
-μ-loop low high window n answers₀ last₀ i₀ answers last i = n - i
+  from-low : (v w : ℕ) → 0 < low → w < 2 ^ 64 → Packed (close-after high (time-at s)) 0 n v → Packed (close-after (low - 1) (time-at s)) 0 n w →
+      Packed (near-after low high (time-at s)) 0 n (bitAnd v (2 ^ 64 - 1 - w))
+  from-low v w some small upper lower =
+      packed-same (λ i. close-after high (time-at s) i && negate (close-after (low - 1) (time-at s) i)) (near-after low high (time-at s)) 0 0 n
+      (bitAnd v (2 ^ 64 - 1 - w))
+      (λ i h.
+      ends (0 + i)
+      ∙ ap (λ (b : Bool). b && leb (gap (0 + i)) high) (not-below low (gap (0 + i)) some)
+      ∙ swap (leb (gap (0 + i)) high) (negate (leb (gap (0 + i)) (low - 1))))
+      (packed-and (close-after high (time-at s)) (λ i. negate (close-after (low - 1) (time-at s) i)) 0 n v (2 ^ 64 - 1 - w) upper
+      (packed-not (close-after (low - 1) (time-at s)) 0 n w small lower))
 
-time-requires : tie.Need-time-requires Inv-loop μ-loop
-time-requires c κs = search needs
-
-loop-holds : tie.Need-loop-holds Inv-loop μ-loop
-loop-holds c =
-    let a = c .before .before .args in
-    none-yet (a .low) (a .high) (a .window .now) (a .n) (c .time .result) (c .time .ensures .0)
-
-add-time : tie.Need-add-time Inv-loop μ-loop
-add-time c = search needs
-
-time-requires-2 : tie.Need-time-requires-2 Inv-loop μ-loop
-time-requires-2 c κs = search needs
-
-within-requires : tie.Need-within-requires Inv-loop μ-loop
-within-requires c κs = search needs
-
-push-requires : tie.Need-push-requires Inv-loop μ-loop
-push-requires c κs = search needs
-
-add-i : tie.Need-add-i Inv-loop μ-loop
-add-i c = search needs
-
-loop-less : tie.Need-loop-less Inv-loop μ-loop
-loop-less c = search needs
-
-loop-again : tie.Need-loop-again Inv-loop μ-loop
-loop-again c =
-    let a = c .before .before .before .before .before .before .before .args in
-    let l = c .before .before .before .before .loop in
-    more (a .low) (a .high) (a .window .now) (a .n) (l .answers) (l .last) (l .i) (c .before .before .time2 .result) (c .before .within .result)
-    (c .push .result) (omega arith) (omega arith) (c .before .before .time2 .ensures .0) (c .before .within .ensures) (c .push .ensures) (l .inv)
-
-returns : tie.Need-returns Inv-loop μ-loop
+returns : tie.Need-returns
 returns c =
+    let a = c .before .before .before .args in
+    from-none (a .window .now) (λ k. c .before .before .shared-slice-known .given k .fits) (a .low) (a .high) (a .n) (c .before .close .result) (omega arith) (c .before .close .ensures)
+
+returns-2 : tie.Need-returns-2
+returns-2 c =
     let a = c .before .before .before .before .args in
-    let l = c .before .loop in
-    all (a .low) (a .high) (a .window .now) (a .n) (l .answers) (l .last) (l .i) (omega arith) (l .inv)
+    from-low (a .window .now) (λ k. c .before .before .before .shared-slice-known .given k .fits) (a .low) (a .high) (a .n) (c .before .before .close .result) (c .close2 .result) (omega arith) (omega arith) (c .before .before .close .ensures) (c .close2 .ensures)
 
 pub near-spec : {M : Type 1} → statement M
-near-spec =
-    tie.close
-    (tie.spec
-    Inv-loop
-    μ-loop
-    time-requires
-    loop-holds
-    add-time
-    time-requires-2
-    within-requires
-    push-requires
-    add-i
-    loop-less
-    loop-again
-    returns)
+near-spec = tie.close (tie.spec (λ c κs. search needs) returns (λ c. search needs) (λ c κs. search needs) returns-2)

@@ -4,7 +4,7 @@ use native.Mathlib.Omega.{arith}
 use mathlib.Core.Path.{_≡_, refl, sym, ap, _∙_}
 use lib.ListN.{length, length-set}
 use borrow.Author.Needs.{needs}
-use Rattle.checkpoint.specs.Code.{copies}
+use Rattle.checkpoint.specs.Fresh.{copies}
 use Rattle.checkpoint.proofs.Offsets.{Walk, walk-start, walk-room, walk-on, walk-ends}
 use Rattle.checkpoint.proofs.Copies.{copies-more, copies-length}
 use Rattle.checkpoint.proofs.fresh.write_copies.Statement.{statement}

@@ -3,7 +3,7 @@ use native.Mathlib.Omega.{arith}
 use mathlib.Core.Path.{refl}
 use borrow.Author.Needs.{needs}
 use Rattle.mtl.proofs.Closing.{settled-or}
-use Rattle.trace.specs.View.{total}
+use Rattle.window.specs.View.{total}
 use Rattle.blocks.specs.Block.{taken, left-count, right-count}
 use Rattle.blocks.proofs.Words.{fits}
 use Rattle.blocks.proofs.Taking.{both-onward, Shared, shared}

@@ -5,7 +5,7 @@ use mathlib.Core.Path.{refl}
 use lib.ListN.{length-set}
 use borrow.Author.Needs.{needs}
 use Rattle.mtl.proofs.Closing.{settled-letter}
-use Rattle.trace.specs.View.{slice-first}
+use Rattle.window.specs.View.{slice-first}
 use Rattle.blocks.proofs.Words.{available}
 use Rattle.operators.proofs.Simple.{read-onward, letter-batch}
 use Rattle.operators.proofs.letter.step_letter.Statement.{statement}

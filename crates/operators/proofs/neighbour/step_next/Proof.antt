@@ -10,7 +10,7 @@ use lib.Dec.{eqb}
 use borrow.Author.Needs.{needs}
 use borrow.Author.Tests.{eqb-true, eq-eqb}
 use Rattle.mtl.proofs.Bounded.{and-iff}
-use Rattle.trace.specs.View.{total, closed}
+use Rattle.window.specs.View.{total, closed}
 use Rattle.blocks.specs.Block.{taken, right-count, answered}
 use Rattle.blocks.proofs.Words.{put, stores-onward, available}
 use Rattle.blocks.proofs.Taking.{right-onward, all-of}

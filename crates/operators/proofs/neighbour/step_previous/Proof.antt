@@ -9,7 +9,7 @@ use mathlib.Core.Path.{_≡_, refl}
 use lib.Dec.{leb, ltb}
 use borrow.Author.Needs.{needs}
 use Rattle.mtl.proofs.Closing.{settled-previous}
-use Rattle.trace.specs.View.{total}
+use Rattle.window.specs.View.{total}
 use Rattle.blocks.specs.Block.{taken, right-count, answered}
 use Rattle.blocks.proofs.Words.{put, stores-onward}
 use Rattle.operators.proofs.Simple.{answered-onward, not-open, previous-open, previous-first, previous-batch}

@@ -4,7 +4,7 @@ use native.Mathlib.Numerals.{add-one}
 use native.Mathlib.Omega.{arith}
 use borrow.Author.Needs.{needs}
 use mathlib.Core.Path.{refl, _≡_}
-use Rattle.rule.specs.Code.{filled}
+use Rattle.rule.specs.Contract.{filled}
 use Rattle.rule.proofs.entries.decode.Statement.{statement}
 use Rattle.rule.proofs.entries.decode.Tie as tie
 

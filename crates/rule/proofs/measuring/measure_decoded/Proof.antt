@@ -4,7 +4,7 @@ use borrow.Author.Needs.{needs}
 use mathlib.Core.Path.{sym, ap, _∙_}
 use Rattle.rule.specs.declared.refusals.Header.{Header}
 use Rattle.rule.specs.Measure.{refused}
-use Rattle.rule.specs.Code.{header-number, header-count, measured-by}
+use Rattle.rule.specs.Contract.{header-number, header-count, measured-by}
 use Rattle.rule.proofs.measuring.measure_decoded.Statement.{statement}
 use Rattle.rule.proofs.measuring.measure_decoded.Tie as tie
 

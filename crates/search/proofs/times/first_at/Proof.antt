@@ -5,10 +5,10 @@ use lib.ListN.{length, take}
 use lib.Seq.{length-take-le}
 use Rattle.trace.specs.Format.{record-count}
 use Rattle.trace.specs.Positions.{before}
-use Rattle.trace.specs.View.{skips}
+use Rattle.window.specs.View.{skips}
 use Rattle.trace.proofs.Laws.{count-prefix}
 use Rattle.trace.proofs.Positions.{before-few}
-use Rattle.trace.proofs.Slices.{prefix-part}
+use Rattle.trace.proofs.Parts.{prefix-part}
 use Rattle.trace.proofs.Growing.{before-stays}
 use Rattle.search.proofs.Showing.{counted-time}
 -- `search::times::first_at` meets its contract.
@@ -18,7 +18,7 @@ use Rattle.search.proofs.times.first_at.Tie as tie
 use Rattle.search.proofs.times.first_at.Reads as reads
 use Rattle.search.proofs.times.first_at.Lts as lts
 use Rattle.search.proofs.times.first_record.Reads as first-record-reads
-use Rattle.trace.proofs.window.positions.Reads as positions-reads
+use Rattle.window.proofs.positions.Reads as positions-reads
 
 -- src/times.rt:61:15
 first-record-requires : tie.Need-first-record-requires

@@ -6,7 +6,7 @@ use Rattle.search.proofs.times.record_of.Tie as tie
 use Rattle.search.proofs.times.record_of.Reads as reads
 use Rattle.search.proofs.times.record_of.Lts as lts
 use Rattle.blocks.proofs.time.gap.Reads as gap-reads
-use Rattle.trace.proofs.window.find.Reads as find-reads
+use Rattle.window.proofs.find.Reads as find-reads
 
 -- src/times.rt:13:39
 element-copy-out-gap : tie.Need-element-copy-out-gap

@@ -2,7 +2,7 @@
 -- has read, and the brackets lead back to the lowest. "Remaining bytes and level fall": the measure is four times the bytes left,
 -- and the level.
 use Prim.Native.Nat.{ℕ, _<_}
-use borrow.Fn.Kinds.{In}
+use borrow.Fn.Kinds.{In, PK}
 use borrow.Fn.PlainCycle.{Measures, is, falls, and}
 use Rattle.text.proofs.level.atom.Reads as atom
 use Rattle.text.proofs.level.atom.Kinds as atom-kinds
@@ -29,7 +29,7 @@ use mathlib.Core.Path.{_≡_, refl, subst}
 use mathlib.Core.List.{List}
 use mathlib.Core.Option.{Option, none, some}
 use Rattle.text.specs.Grammar.{Level, Tree}
-use Rattle.text.specs.Reader.{Timed, joined, size, ReadsLevel}
+use Rattle.text.specs.Reader.{Timed, joined, remaining, ReadsLevel}
 use Rattle.text.specs.declared.level.Ends.{Ends}
 use Rattle.text.specs.declared.level.Read.{Read}
 use Rattle.text.proofs.Levels.{atom-letter, atom-neither, less-inside, atom-empty, atom-unclosed, atom-brackets, prefixed-atom, prefixed-missing, less-behind, prefixed-fault, prefixed-one, timed-none, timed-alone, timed-missing, less-right, timed-fault, timed-two, ors-none, ors-more, ors-end}
@@ -43,40 +43,23 @@ told-ends : (k : ℕ) (text : List ℕ) (place : ℕ) {r q : Ends} → r ≡ q �
 told-ends k text place e h = subst (λ (x : Ends). Timed k text place x) e h
 
 abbrev μ-atom : Measures 2 atom-kinds.ps ℕ
-μ-atom κs a = size Level.atom (a .0 .now) (a .1 .0)
+μ-atom κs a = remaining Level.atom (a .0 .now) (a .1 .0)
 
 abbrev μ-ors : Measures 2 ors-kinds.ps ℕ
-μ-ors κs a = size Level.ors (a .0 .now) (a .1 .0)
+μ-ors κs a = remaining Level.ors (a .0 .now) (a .1 .0)
 
 abbrev μ-prefixed : Measures 2 prefixed-kinds.ps ℕ
-μ-prefixed κs a = size Level.prefixed (a .0 .now) (a .1 .0)
+μ-prefixed κs a = remaining Level.prefixed (a .0 .now) (a .1 .0)
 
 abbrev μ-timed : Measures 2 timed-kinds.ps ℕ
-μ-timed κs a = size Level.timed (a .0 .now) (a .1 .0)
+μ-timed κs a = remaining Level.timed (a .0 .now) (a .1 .0)
 
-abbrev atom-at : ℕ → In 2 atom-kinds.ps
-atom-at t = and 2 atom-kinds.ps (is 2 atom-kinds.ps μ-atom t) atom.Pre
+-- a member's precondition where its measure is t, and where it is below t
+abbrev standing : (ps : List (PK 2)) → Measures 2 ps ℕ → In 2 ps → ℕ → In 2 ps
+standing ps μ pre t = and 2 ps (is 2 ps μ t) pre
 
-abbrev atom-below : ℕ → In 2 atom-kinds.ps
-atom-below t = and 2 atom-kinds.ps (falls 2 atom-kinds.ps _<_ μ-atom t) atom.Pre
-
-abbrev ors-at : ℕ → In 2 ors-kinds.ps
-ors-at t = and 2 ors-kinds.ps (is 2 ors-kinds.ps μ-ors t) ors.Pre
-
-abbrev ors-below : ℕ → In 2 ors-kinds.ps
-ors-below t = and 2 ors-kinds.ps (falls 2 ors-kinds.ps _<_ μ-ors t) ors.Pre
-
-abbrev prefixed-at : ℕ → In 2 prefixed-kinds.ps
-prefixed-at t = and 2 prefixed-kinds.ps (is 2 prefixed-kinds.ps μ-prefixed t) prefixed.Pre
-
-abbrev prefixed-below : ℕ → In 2 prefixed-kinds.ps
-prefixed-below t = and 2 prefixed-kinds.ps (falls 2 prefixed-kinds.ps _<_ μ-prefixed t) prefixed.Pre
-
-abbrev timed-at : ℕ → In 2 timed-kinds.ps
-timed-at t = and 2 timed-kinds.ps (is 2 timed-kinds.ps μ-timed t) timed.Pre
-
-abbrev timed-below : ℕ → In 2 timed-kinds.ps
-timed-below t = and 2 timed-kinds.ps (falls 2 timed-kinds.ps _<_ μ-timed t) timed.Pre
+abbrev below : (ps : List (PK 2)) → Measures 2 ps ℕ → In 2 ps → ℕ → In 2 ps
+below ps μ pre t = and 2 ps (falls 2 ps _<_ μ t) pre
 
 pub +atom+ors+prefixed+timed-spec : {M : Type 1} → statement M
 +atom+ors+prefixed+timed-spec =
@@ -87,8 +70,8 @@ pub +atom+ors+prefixed+timed-spec : {M : Type 1} → statement M
     μ-timed
     (λ t.
     atom-lts.spec
-    (token-at-reads.Asked, token-at-reads.Learnt, put-reads.Asked, put-reads.Learnt, ors-below t, ors.Post)
-    (atom-at t)
+    (token-at-reads.Asked, token-at-reads.Learnt, put-reads.Asked, put-reads.Learnt, below ors-kinds.ps μ-ors ors.Pre t, ors.Post)
+    (standing atom-kinds.ps μ-atom atom.Pre t)
     atom.Post
     (λ c κs. search needs)
     (λ c κs. search needs)
@@ -110,8 +93,8 @@ pub +atom+ors+prefixed+timed-spec : {M : Type 1} → statement M
     (c .before .before .token-at2 .result) (c .before .before .token-at2 .ensures) (c .if3 .left)))
     (λ t.
     ors-lts.spec
-    (timed-below t, timed.Post, join-reads.Asked, join-reads.Learnt, token-at-reads.Asked, token-at-reads.Learnt, ors-below t, ors.Post)
-    (ors-at t)
+    (below timed-kinds.ps μ-timed timed.Pre t, timed.Post, join-reads.Asked, join-reads.Learnt, token-at-reads.Asked, token-at-reads.Learnt, below ors-kinds.ps μ-ors ors.Pre t, ors.Post)
+    (standing ors-kinds.ps μ-ors ors.Pre t)
     ors.Post
     (λ c κs. (omega (arith, c .before .before .pre .0), tt))
     (λ c. search needs)
@@ -136,8 +119,8 @@ pub +atom+ors+prefixed+timed-spec : {M : Type 1} → statement M
     (c .before .before .before .join .ensures) (c .before .before .token-at .result) (c .before .before .token-at .ensures) (c .if1 .left)))
     (λ t.
     prefixed-lts.spec
-    (token-at-reads.Asked, token-at-reads.Learnt, atom-below t, atom.Post, interval-reads.Asked, interval-reads.Learnt, prefixed-below t, prefixed.Post, put-reads.Asked, put-reads.Learnt)
-    (prefixed-at t)
+    (token-at-reads.Asked, token-at-reads.Learnt, below atom-kinds.ps μ-atom atom.Pre t, atom.Post, interval-reads.Asked, interval-reads.Learnt, below prefixed-kinds.ps μ-prefixed prefixed.Pre t, prefixed.Post, put-reads.Asked, put-reads.Learnt)
+    (standing prefixed-kinds.ps μ-prefixed prefixed.Pre t)
     prefixed.Post
     (λ c κs. search needs)
     (λ c κs. (omega (arith, c .before .before .before .before .pre .0), tt))
@@ -156,8 +139,8 @@ pub +atom+ors+prefixed+timed-spec : {M : Type 1} → statement M
     (told Level.prefixed none (c .before .before .before .before .before .before .before .before .before .before .before .before .before .before .args .text .now) (c .before .before .before .before .before .before .before .before .before .before .before .before .before .before .args .out .now) (c .before .before .before .before .before .before .before .before .low .given .0 .1 .1 .0) (c .before .before .before .before .before .before .before .before .before .before .before .before .before .before .args .count) (c .before .before .before .before .before .prefixed .last .1 .1 .0) (c .before .before .before .behind .given .1) (c .before .before .before .before .before .prefixed .ensures)) (c .put .ensures)))
     (λ t.
     timed-lts.spec
-    (prefixed-below t, prefixed.Post, token-at-reads.Asked, token-at-reads.Learnt, interval-reads.Asked, interval-reads.Learnt, timed-below t, timed.Post, put-reads.Asked, put-reads.Learnt)
-    (timed-at t)
+    (below prefixed-kinds.ps μ-prefixed prefixed.Pre t, prefixed.Post, token-at-reads.Asked, token-at-reads.Learnt, interval-reads.Asked, interval-reads.Learnt, below timed-kinds.ps μ-timed timed.Pre t, timed.Post, put-reads.Asked, put-reads.Learnt)
+    (standing timed-kinds.ps μ-timed timed.Pre t)
     timed.Post
     (λ c κs. (omega (arith, c .before .before .pre .0), tt))
     (λ c. search needs)

@@ -27,7 +27,7 @@ loop-again c =
     let a = c .before .before .before .before .before .args in
     let l = c .before .before .before .loop in (
       omega arith,
-      ap₂ (λ (n b : ℕ). n + b / 2 ^ a .k % 2) (l .inv .1) (c .wide .ensures) ∙ sym (count-yes-more (a .k) (a .sheet .now) (l .i)),
+      ap₂ (λ (n b : ℕ). n + b / 2 ^ a .k % 2) (l .inv .1) (c .wide .ensures .0) ∙ sym (count-yes-more (a .k) (a .sheet .now) (l .i)),
       omega arith,
     )
 

@@ -31,7 +31,7 @@ returns c =
     let a = c .before .before .before .before .args in
     let l = c .before .before .loop in
     let last : l .i ≡ length (a .sheet .now) = omega arith in
-    ap (λ (v : ℕ). ltb 0 (v / 2 ^ a .formulas)) (c .wide .ensures) ∙ rw last at (l .inv .1)
+    ap (λ (v : ℕ). ltb 0 (v / 2 ^ a .formulas)) (c .wide .ensures .0) ∙ rw last at (l .inv .1)
 
 pub has-bit-beyond-spec : {M : Type 1} → statement M
 has-bit-beyond-spec =

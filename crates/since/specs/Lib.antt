@@ -1,0 +1,2 @@
+-- What since's inner functions promise.
+pub mod Old

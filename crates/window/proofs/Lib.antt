@@ -1,0 +1,6 @@
+-- Laws on slices, views and windows that the layers above cite.
+pub mod Slices
+pub mod Marks
+pub mod Windows
+pub mod Picking
+pub mod Reading

@@ -1,0 +1,502 @@
+-- WINDOWS: what the loops that pass and copy records have done, and what a window has then. Assumes nothing.
+use Prim.Native.Nat.{ℕ, zero, suc, _+_, _-_, _*_, _/_, _≤_, _<_, max}
+use native.Mathlib.Omega.{arith}
+use native.Mathlib.Nat.{add-zero, zero-add}
+use native.Mathlib.Numerals.{add-one}
+use mathlib.Core.Bool.{Bool, true, false, _&&_}
+use mathlib.Core.Bool.{not as negate}
+use mathlib.Core.List.{List, [], _∷_}
+use mathlib.Core.Logic.{_⊎_, inl, inr, ⊎-elim}
+use mathlib.Core.Path.{_≡_, refl, sym, ap, subst, _∙_}
+use lib.Dec.{ltb, leb}
+use lib.ListN.{length, getD, take, drop, length-drop, List·getD-append}
+use lib.Seq.{getD-take, getD-drop, drop-cons, length-take-le}
+use borrow.Author.Tests.{lt-ltb, ltb-true, le-leb, not-true}
+use Rattle.mtl.proofs.Bounded.{le-or-lt, true-or-false, true-and-false, and-iff, leb-iff, any-false-iff}
+use Rattle.mtl.specs.Satisfaction.{any}
+use Rattle.bits.specs.Packed.{number, Packed}
+use Rattle.bits.proofs.Laws.{number-bit, packed-none, packed-same}
+use Rattle.trace.specs.Format.{record-count, events-at, has-letter, SameRecord}
+use Rattle.trace.specs.Positions.{is-service, seek, spot, place, moved, positions, Inside}
+use Rattle.trace.specs.Making.{put}
+use Rattle.window.specs.View.{slice-first, skips, in-slice}
+use Rattle.window.specs.Window.{some-service, dense, record-of, letter-at, Counted, Copied, Lettered, Opened, Behind, Gathered, Windowed, Passed, Found}
+use Rattle.window.specs.declared.Letters.{Letters}
+use Rattle.window.specs.declared.Window.{Window}
+use Rattle.trace.proofs.Making.{byte-behind, length-put}
+use Rattle.trace.proofs.Counting.{spot-last, head-finds, count-one, count-grows, count-most}
+use Rattle.trace.proofs.Positions.{seek-position, spot-service, spot-position, spot-past, spot-plain}
+
+-- what a loop's test of two parts says, and what it says when the loop ends
+pub goes-on : (i n at end : ℕ) → ltb i n && ltb at end ≡ true → (i < n) × (at < end)
+goes-on i n at end e = let both = and-iff (ltb i n) (ltb at end) .0 e in (ltb-true i n (both .0), ltb-true at end (both .1))
+
+pub stops : (i n at end : ℕ) → ltb i n && ltb at end ≡ false → (n ≤ i) ⊎ (end ≤ at)
+stops i n at end e =
+    ⊎-elim inl
+    (λ l. ⊎-elim inr (λ h. absurd (true-and-false (and-iff (ltb i n) (ltb at end) .1 (lt-ltb i n l, lt-ltb at end h)) e)) (le-or-lt end at))
+    (le-or-lt n i)
+
+-- what a refusal of one record more says: none is left to pass, or none is there
+pub ended : {n k left at end count : ℕ} → (left < 1) ⊎ (end < at + 1) → (n ≤ k + left) × (count ≤ end) → (n ≤ k) ⊎ (count ≤ at)
+ended refused (most, there) = ⊎-elim (λ h. inl (omega arith)) (λ h. inr (omega arith)) refused
+
+-- letter 31 is the highest bit of the first byte of the event set
+pub top-bit : (s : List ℕ) (i : ℕ) → ((k : ℕ) → getD s k 0 < 256) → getD s (i * 8 + 4) 0 / 128 ≡ number (is-service s i)
+top-bit s i byte =
+    let at = i * 8 + 4 in
+    sym (number-bit (events-at s i) 31 ∙ omega (arith, byte at, byte (at + 1), byte (at + 2), byte (at + 3)))
+
+-- where none of the first i is a service record, those behind them decide
+pub some-further : (s : List ℕ) (from i n : ℕ) → some-service s from i ≡ false → some-service s from (i + n) ≡ some-service s (from + i) n
+unfolding any
+some-further s from i zero none = rw (add-zero i) none
+some-further s from i (suc n) none =
+    let next : i + suc n ≡ suc (i + n) = omega arith in
+    let here : from + (i + n) ≡ from + i + n = omega arith in
+    rw (next, some-further s from i n none, here)
+
+-- PASSING
+
+-- k of n positions from `from` on are passed, and the head stands at record `at`: what is left is what stands from there on
+pub record Going (s : List ℕ) (from n k at : ℕ) : Type 0 where
+  pub few : k ≤ n
+  pub low : from ≤ at
+  pub high : at ≤ max from (record-count s)
+  pub left : (j : ℕ) → spot s from (k + j) ≡ spot s at j
+  pub head : k ≡ n → at ≡ moved true s from n
+
+module _ (s : List ℕ) (from n : ℕ) where
+  pub going-none : Going s from n 0 from
+  unfolding moved
+  going-none =
+      record { few = omega arith; low = omega arith; high = omega arith; left = λ j. ap (spot s from) (omega arith); head = λ e. rw (← e) }
+
+  module _ (k at : ℕ) (g : Going s from n k at) (below : k < n) (inside : at < record-count s) where
+    -- a position
+    going-here : is-service s at ≡ false → spot s from k ≡ at
+    unfolding spot
+    going-here plain = ap (spot s from) (sym (add-zero k)) ∙ g .left 0 ∙ seek-position s at inside plain
+
+    going-more : is-service s at ≡ false → Going s from n (k + 1) (at + 1)
+    unfolding moved
+    going-more plain =
+        let low = g .low in
+        record {
+          few = omega arith;
+          low = omega arith;
+          high = omega arith;
+          left = λ j. ap (spot s from) (omega arith) ∙ g .left (suc j) ∙ spot-position s at inside plain j ∙ rw add-one;
+          head = λ e. subst (λ (m : ℕ). at + 1 ≡ moved true s from m) (sym (add-one k) ∙ e) (add-one at ∙ ap suc (sym (going-here plain)));
+        }
+
+    -- a service record
+    going-past : is-service s at ≡ true → Going s from n (k + 0) (at + 1)
+    going-past service =
+        let low = g .low in
+        record {
+          few = omega arith;
+          low = omega arith;
+          high = omega arith;
+          left = λ j. ap (spot s from) (omega arith) ∙ g .left j ∙ rw add-one (spot-service s at inside service j);
+          head = λ e. absurd (omega arith);
+        }
+
+    -- either, as the code counts it
+    pub going-on : (x : ℕ) → x ≡ number (is-service s at) → Going s from n (k + (1 - x)) (at + 1)
+    going-on x e = by (is-service s at) refl
+      where
+        by : (b : Bool) → is-service s at ≡ b → Going s from n (k + (1 - x)) (at + 1)
+        by true service = let one : x ≡ 1 = e ∙ ap number service in rw one (going-past service)
+        by false plain = let none : x ≡ 0 = e ∙ ap number plain in rw none (going-more plain)
+
+  -- m records, of which r are positions
+  module _ (k at : ℕ) (g : Going s from n k at) where
+    pub going-group : (m : ℕ) → k + m ≤ n → at + m ≤ record-count s → (r : ℕ) → positions s at + r ≡ positions s (at + m) → Going s from n (k + r) (at + m)
+    going-group zero h inside r e =
+        let none : r ≡ 0 = omega (arith, ap (positions s) (add-zero at)) in
+        rw (none, add-zero at, add-zero k) g
+    going-group (suc m) h inside r e =
+        let x = number (is-service s (at + m)) in
+        let here : at + suc m ≡ at + m + 1 = omega arith in
+        let all = rw here at e in
+        let one = count-one s (at + m) x refl in
+        let low = count-grows s at (at + m) (omega arith) in
+        let high = count-most s at (at + m) (omega arith) in
+        let before = positions s (at + m) - positions s at in
+        let sum : k + r ≡ k + before + (1 - x) = omega arith in
+        rw (here, sum) (going-on (k + before) (at + m) (going-group m (omega arith) (omega arith) before (omega arith)) (omega arith) (omega arith) x refl)
+
+  -- no more to pass, or no more records: the positions that are there are all passed
+  module _ (k at : ℕ) (g : Going s from n k at) (ended : (n ≤ k) ⊎ (record-count s ≤ at)) where
+    pub going-all : Inside true s from n → k ≡ n
+    going-all inside =
+        ⊎-elim
+        (λ l. omega (arith, g .few))
+        (λ past.
+        ⊎-elim
+        (λ l. omega (arith, g .few))
+        (λ l.
+        let here : spot s from k ≡ spot s at 0 = ap (spot s from) (sym (add-zero k)) ∙ g .left 0 in
+        absurd (omega (arith, inside k l, spot-past s at past 0)))
+        (le-or-lt n k))
+        ended
+
+    pub going-behind : Behind s from n at
+    going-behind = record { onward = g .low; bounded = g .high; end = λ inside. g .head (going-all inside) }
+
+-- COUNTING A FEW RECORDS
+
+module _ (s : List ℕ) (from : ℕ) where
+  pub counted-none : Counted s from 0 0
+  counted-none = record { few = omega arith; sum = add-zero (positions s from) ∙ ap (positions s) (sym (add-zero from)) }
+
+  pub counted-on : (i r x : ℕ) → x ≡ number (is-service s (from + i)) → Counted s from i r → Counted s from (i + 1) (r + (1 - x))
+  counted-on i r x e c =
+      let next : from + (i + 1) ≡ from + i + 1 = omega arith in
+      let few = c .few in
+      let sum = c .sum in
+      record { few = omega arith; sum = rw next (omega (arith, count-one s (from + i) x e)) }
+
+  pub counted-join : (i m a b : ℕ) → Counted s from i a → Counted s (from + i) m b → Counted s from (i + m) (a + b)
+  counted-join i m a b c d =
+      let sum : from + (i + m) ≡ from + i + m = omega arith in
+      record { few = omega (arith, c .few, d .few); sum = rw sum (omega (arith, c .sum, d .sum)) }
+
+  -- those behind them are what stands behind the records
+  pub counted-left : (i r : ℕ) → Counted s from i r → from + i ≤ record-count s → (j : ℕ) → spot s from (r + j) ≡ spot s (from + i) j
+  counted-left i r c inside =
+      rw zero-add at (going-group s from i 0 from (going-none s from i) i (omega arith) inside r (c .sum) .left)
+
+  -- where a position follows, it is the next
+  pub counted-here : (i r : ℕ) → Counted s from i r → from + i < record-count s → is-service s (from + i) ≡ false → spot s from r ≡ from + i
+  unfolding spot
+  counted-here i r c inside plain =
+      ap (spot s from) (sym (add-zero r)) ∙ counted-left i r c (omega arith) 0 ∙ seek-position s (from + i) inside plain
+
+  -- where none is a service record, all are positions
+  pub counted-all : (n : ℕ) → some-service s from n ≡ false → Counted s from n n
+  counted-all n none = at n (omega arith)
+    where
+      at : (i : ℕ) → i ≤ n → Counted s from i i
+      at zero h = counted-none
+      at (suc i) h =
+          let plain = any-false-iff n (λ j. is-service s (from + j)) .0 none i (omega arith) in
+          rw (← add-one) (counted-on i i 0 (sym (ap number plain)) (at i (omega arith)))
+
+-- from the first record on
+pub counted-whole : (s : List ℕ) (n r : ℕ) → Counted s 0 n r → r ≡ positions s n
+unfolding positions
+counted-whole s n r c = sym (zero-add r) ∙ c .sum ∙ ap (positions s) (zero-add n)
+
+-- COPYING
+
+-- n bytes from byte at + k on
+unfoldable bytes : (s : List ℕ) (at n k : ℕ) → List ℕ
+bytes s at zero k = []
+bytes s at (suc n) k = getD s (at + k) 0 ∷ bytes s at n (suc k)
+
+listed : (s : List ℕ) (at n k : ℕ) → at + k + n ≤ length s → take n (drop (at + k) s) ≡ bytes s at n k
+unfolding bytes
+listed s at zero k h = refl
+listed s at (suc n) k h =
+    let next : suc (at + k) ≡ at + suc k = omega arith in
+    ap (take (suc n)) (drop-cons s (at + k) 0 (omega arith)) ∙
+    ap (λ (l : List ℕ). getD s (at + k) 0 ∷ l) (ap (λ (j : ℕ). take n (drop j s)) next ∙ listed s at n (suc k) (omega arith))
+
+module _ (s : List ℕ) (i k : ℕ) (copy : List ℕ) (inside : i < record-count s) (room : k * 8 + 8 ≤ length copy) where
+  record-long : length (record-of s i) ≡ 8
+  record-long = let rest = length-drop (i * 8) s in length-take-le 8 (drop (i * 8) s) (omega arith)
+
+  pub record-is :
+      record-of s i ≡
+      getD s (i * 8) 0 ∷ getD s (i * 8 + 1) 0 ∷ getD s (i * 8 + 2) 0 ∷ getD s (i * 8 + 3) 0 ∷
+      getD s (i * 8 + 4) 0 ∷ getD s (i * 8 + 5) 0 ∷ getD s (i * 8 + 6) 0 ∷ getD s (i * 8 + 7) 0 ∷ []
+  unfolding bytes
+  record-is = rw (add-zero (i * 8)) at (listed s (i * 8) 8 0 (omega arith))
+
+  pub copied-long : length (put copy (k * 8) (record-of s i)) ≡ length copy
+  copied-long = let eight = record-long in length-put copy (k * 8) (record-of s i) (omega arith)
+
+  pub copied-here : SameRecord (put copy (k * 8) (record-of s i)) k s i
+  copied-here b h =
+      let eight = record-long in
+      let behind = record-of s i in
+      byte-behind (take (k * 8) copy) _ (k * 8) b (length-take-le (k * 8) copy (omega arith)) ∙
+      List·getD-append (record-of s i) _ 0 b (omega arith) ∙ getD-take 8 (drop (i * 8) s) b 0 h ∙ getD-drop (i * 8) s b 0
+
+  pub copied-before : (j : ℕ) → j < k → SameRecord (put copy (k * 8) (record-of s i)) j copy j
+  copied-before j l b h =
+      let long = length-take-le (k * 8) copy (omega arith) in
+      List·getD-append (take (k * 8) copy) _ 0 (j * 8 + b) (omega arith) ∙ getD-take (k * 8) copy (j * 8 + b) 0 (omega arith)
+
+-- i of a few records from `from` on are copied, from number k on
+module _ (s : List ℕ) (from : ℕ) (copy : List ℕ) (k : ℕ) where
+  pub copied-none : Copied s from 0 copy k copy 0
+  copied-none =
+      record {
+        counted = counted-none s from;
+        long = refl;
+        before = λ j h b byte. refl;
+        here = λ j h. absurd (omega arith);
+      }
+
+  -- one more, as number k + r: it stays if it is a position
+  pub copied-on : (i r x : ℕ) (now next : List ℕ) → from + i < record-count s → (k + r) * 8 + 8 ≤ length now → x ≡ number (is-service s (from + i)) →
+      next ≡ put now ((k + r) * 8) (record-of s (from + i)) → Copied s from i copy k now r → Copied s from (i + 1) copy k next (r + (1 - x))
+  copied-on i r x now next inside room e is so-far =
+      rw is
+      record {
+        counted = counted-on s from i r x e (so-far .counted);
+        long = copied-long s (from + i) (k + r) now inside room ∙ so-far .long;
+        before = λ j h b byte. older j (omega arith) b byte ∙ so-far .before j h b byte;
+        here = λ j h. ⊎-elim (λ l. last j l h) (λ l b byte. older (k + j) (omega arith) b byte ∙ so-far .here j l b byte) (le-or-lt r j);
+      }
+    where
+      older : (j : ℕ) → j < k + r → SameRecord (put now ((k + r) * 8) (record-of s (from + i))) j now j
+      older = copied-before s (from + i) (k + r) now inside room
+
+      last : (j : ℕ) → r ≤ j → j < r + (1 - x) → SameRecord (put now ((k + r) * 8) (record-of s (from + i))) (k + j) s (spot s from j)
+      last j l h =
+          ⊎-elim
+          (λ service. let one : x ≡ 1 = e ∙ ap number service in absurd (omega arith))
+          (λ plain.
+          let same : j ≡ r = omega arith in
+          rw (same, counted-here s from i r (so-far .counted) inside plain) (copied-here s (from + i) (k + r) now inside room))
+          (true-or-false (is-service s (from + i)))
+
+-- the records of those passed stand in the copy
+pub record Gathering (s : List ℕ) (from n k at : ℕ) (copy : List ℕ) : Type 0 where
+  pub going : Going s from n k at
+  pub long : length copy ≡ 520
+  pub done : (j : ℕ) → j < k → SameRecord copy j s (spot s from j)
+
+module _ (s : List ℕ) (from n : ℕ) where
+  pub gathering-none : (copy : List ℕ) → length copy ≡ 520 → Gathering s from n 0 from copy
+  gathering-none copy long = record { going = going-none s from n; long = long; done = λ j h. absurd (omega arith) }
+
+  pub gathering-group : (k at m r : ℕ) (copy copy′ : List ℕ) → Gathering s from n k at copy → k + m ≤ n → at + m ≤ record-count s → Copied s at m copy k copy′ r →
+      Gathering s from n (k + r) (at + m) copy′
+  gathering-group k at m r copy copy′ g few inside copied =
+      record {
+        going = going-group s from n k at (g .going) m few inside r (copied .counted .sum);
+        long = copied .long ∙ g .long;
+        done = λ j h. ⊎-elim (λ l. new j l h) (λ l b byte. copied .before j l b byte ∙ g .done j l b byte) (le-or-lt k j);
+      }
+    where
+      new : (j : ℕ) → k ≤ j → j < k + r → SameRecord copy′ j s (spot s from j)
+      new j l h =
+          let same : k + (j - k) ≡ j = omega arith in
+          let place = rw same at (g .going .left (j - k)) in
+          rw place (rw same at (copied .here (j - k) (omega arith)))
+
+  pub gathered : (k at : ℕ) (copy : List ℕ) → Gathering s from n k at copy → (n ≤ k) ⊎ (record-count s ≤ at) → Gathered s from n copy at
+  gathered k at copy g ended =
+      record {
+        long = g .long;
+        at = λ inside i h. let all = going-all s from n k at (g .going) ended inside in g .done i (omega arith);
+        behind = going-behind s from n k at (g .going) ended;
+      }
+
+-- OPENING
+
+module _ (skips : Bool) (s : List ℕ) (at n : ℕ) where
+  -- what it is to be dense
+  pub dense-fits : dense skips s at n ≡ true → at + n ≤ record-count s
+  dense-fits e = leb-iff (at + n) (record-count s) .0 (and-iff (leb (at + n) (record-count s)) (negate (skips && some-service s at n)) .0 e .0)
+
+  dense-plain : dense skips s at n ≡ true → skips ≡ true → (i : ℕ) → i < n → is-service s (at + i) ≡ false
+  dense-plain e kind =
+      let none = not-true (skips && some-service s at n) (and-iff (leb (at + n) (record-count s)) (negate (skips && some-service s at n)) .0 e .1) in
+      any-false-iff n (λ i. is-service s (at + i)) .0 (rw kind at none)
+
+  place-dense : (kind : Bool) → skips ≡ kind → dense skips s at n ≡ true → (i : ℕ) → i < n → place kind s at i ≡ at + i
+  place-dense true kind e i h = spot-plain s at n (dense-fits e) (dense-plain e kind) i h
+  place-dense false kind e i h = refl
+
+  moved-dense : dense skips s at n ≡ true → (m : ℕ) → m ≤ n → moved skips s at m ≡ at + m
+  unfolding moved
+  moved-dense e zero h = sym (add-zero at)
+  moved-dense e (suc m) h = let here = place-dense skips refl e m h in omega arith
+
+  -- where a window is not, though the log has its positions, service records are passed over
+  sparse-skips : dense skips s at n ≡ false → Inside skips s at n → 0 < n → skips ≡ true
+  sparse-skips e inside some = by skips refl
+    where
+      by : (kind : Bool) → skips ≡ kind → skips ≡ true
+      by true kind = kind
+      by false kind =
+          let last : at + (n - 1) < record-count s = rw kind at (inside (n - 1) (omega arith)) in
+          let fits : leb (at + n) (record-count s) ≡ true = le-leb (at + n) (record-count s) (omega arith) in
+          absurd (true-and-false (and-iff (leb (at + n) (record-count s)) true .1 (fits, refl)) (rw kind at e))
+
+  abbrev window : (end : ℕ) (dense : Bool) → Window
+  window end dense = record { at = at; end = end; dense = dense }
+
+  pub opened-dense : (copy : List ℕ) → length copy ≡ 520 → dense skips s at n ≡ true → Opened skips s at n (window (at + n) true) copy
+  opened-dense copy room e =
+      let fits = dense-fits e in
+      record {
+        start = refl;
+        kind = sym e;
+        long = let rest = length-drop (at * 8) s in omega arith;
+        room = room;
+        shows = λ inside i h b few.
+            getD-drop (at * 8) s (i * 8 + b) 0 ∙
+            ap (λ (j : ℕ). getD s j 0) (let here = place-dense skips refl e i h in omega arith);
+        onward = omega arith;
+        bounded = omega arith;
+        end = λ inside. sym (moved-dense e n (omega arith));
+      }
+
+  -- no position is passed
+  stays : (r : ℕ) → Behind s at n r → n ≤ 0 → r ≡ moved skips s at n
+  unfolding moved
+  stays r behind h =
+      let none : n ≡ 0 = omega arith in
+      let here : r ≡ moved true s at n = behind .end (λ i l. absurd (omega arith)) in
+      rw none (rw none at here)
+
+  -- the head behind
+  sparse-end : (r : ℕ) → dense skips s at n ≡ false → Behind s at n r → Inside skips s at n → r ≡ moved skips s at n
+  sparse-end r e behind inside =
+      ⊎-elim
+      (λ none. stays r behind none)
+      (λ some. let kind = sparse-skips e inside some in rw kind (behind .end (rw kind at inside)))
+      (le-or-lt n 0)
+
+  pub opened-copied : (copy : List ℕ) (r : ℕ) → n ≤ 65 → dense skips s at n ≡ false → Gathered s at n copy r → Opened skips s at n (window r false) copy
+  opened-copied copy r few e g =
+      record {
+        start = refl;
+        kind = sym e;
+        long = let long = g .long in omega arith;
+        room = g .long;
+        shows = λ inside i h. let kind = sparse-skips e inside (omega arith) in rw kind (g .at (rw kind at inside) i h);
+        onward = g .behind .onward;
+        bounded = g .behind .bounded;
+        end = sparse-end r e (g .behind);
+      }
+
+-- LETTERS WITHOUT A WINDOW
+
+module _ (skips : Bool) (s : List ℕ) (letter at n : ℕ) where
+  pub lettered-dense : (bits : ℕ) → dense skips s at n ≡ true → Packed (has-letter s letter) at n bits →
+      Lettered skips s letter at n (record { bits = bits; end = at + n })
+  lettered-dense bits e packed =
+      let fits = dense-fits skips s at n e in
+      record {
+        answers = λ inside.
+            packed-same (has-letter s letter) (letter-at skips s letter at) at 0 n bits
+            (λ i h. rw (zero-add i) (ap (has-letter s letter) (place-dense skips s at n skips refl e i h)))
+            packed;
+        onward = omega arith;
+        bounded = omega arith;
+        end = λ inside. sym (moved-dense skips s at n e n (omega arith));
+      }
+
+  pub lettered-sparse : (r : Letters) → dense skips s at n ≡ false → Lettered true s letter at n r → Lettered skips s letter at n r
+  lettered-sparse r e l =
+      record {
+        answers = λ inside.
+            ⊎-elim
+            (λ none. let zero : n ≡ 0 = omega arith in rw zero (packed-none (letter-at skips s letter at) 0 (r .bits)))
+            (λ some. let kind = sparse-skips skips s at n e inside some in rw kind (l .answers (rw kind at inside)))
+            (le-or-lt n 0);
+        onward = l .onward;
+        bounded = l .bounded;
+        end = sparse-end skips s at n (r .end) e (record { onward = l .onward; bounded = l .bounded; end = l .end });
+      }
+
+-- AFTER SOME OF ITS POSITIONS
+
+module _ (v s : List ℕ) (head n : ℕ) (w : Window) where
+  pub passed-none : n ≡ 0 → Passed v s head n w head
+  passed-none none =
+      record { onward = omega arith; still = λ e. refl; behind = λ m copy few opened inside some. absurd (omega arith) }
+
+  module _ (windowed : Windowed v s head n w) (some : 0 < n) where
+    abbrev at : ℕ
+    at = in-slice (slice-first v) head
+
+    pub begins : w .at ≡ at
+    begins = windowed .3 .start
+
+    pub passed-fits : w .dense ≡ true → w .at + n ≤ record-count s
+    passed-fits e =
+        let m = windowed .0 in
+        let start = begins in
+        omega (arith, windowed .2, dense-fits (skips v) s at m (sym (windowed .3 .kind) ∙ e))
+
+    pub passed-dense : w .dense ≡ true → Passed v s head n w (slice-first v + w .at + n)
+    passed-dense e =
+        let start = begins in
+        record {
+          onward = omega arith;
+          still = λ none. absurd (omega arith);
+          behind = λ m copy few opened inside more.
+              let here = moved-dense (skips v) s at m (sym (opened .kind) ∙ e) n few in
+              omega arith;
+        }
+
+    pub passed-behind : w .dense ≡ false → (r : ℕ) → Behind s (w .at) n r → Passed v s head n w (slice-first v + r)
+    passed-behind e r behind =
+        let start = begins in
+        let low = behind .onward in
+        record {
+          onward = omega arith;
+          still = λ none. absurd (omega arith);
+          behind = λ m copy few opened inside more.
+              let kind = sparse-skips (skips v) s at m (sym (opened .kind) ∙ e) inside (omega arith) in
+              let from : Behind s at n r = rw begins at behind in
+              rw kind (ap (λ (x : ℕ). slice-first v + x) (from .end (λ i h. (rw kind at inside) i (omega arith))));
+        }
+
+-- THE FIRST RECORD WANTED
+
+-- of n positions counted from the end down all but `left`, and record p is the last one
+pub record Back (s : List ℕ) (n left p : ℕ) : Type 0 where
+  pub few : left ≤ n
+  pub inside : p ≤ record-count s
+  pub counted : positions s p + (n - left) ≡ positions s (record-count s)
+  pub plain : left ≡ 0 → p < record-count s → is-service s p ≡ false
+
+pub back-none : (s : List ℕ) (n : ℕ) → Back s n n (record-count s)
+back-none s n =
+    record { few = omega arith; inside = omega arith; counted = omega arith; plain = λ none h. absurd (omega arith) }
+
+pub back-on : (s : List ℕ) (n left p x : ℕ) → Back s n left p → 0 < left → 0 < p → x ≡ number (is-service s (p - 1)) → x ≤ 1 →
+    Back s n (left - (1 - x)) (p - 1)
+back-on s n left p x b some inside is small =
+    let few = b .few in
+    let high = b .inside in
+    let counted = b .counted in
+    let here : (p - 1) + 1 ≡ p = omega arith in
+    let one = rw here at (count-one s (p - 1) x is) in
+    record {
+      few = omega arith;
+      inside = omega arith;
+      counted = omega arith;
+      plain = λ none h. no-number (is-service s (p - 1)) (omega arith);
+    }
+  where
+    no-number : (b : Bool) → number b ≡ 0 → b ≡ false
+    no-number true e = absurd (omega arith)
+    no-number false e = refl
+
+pub back-found : (s : List ℕ) (n left p : ℕ) → Back s n left p → (left ≤ 0) ⊎ (p ≤ 0) → Found true s n p
+unfolding positions
+back-found s n left p b ends =
+    record {
+      bounded = b .inside;
+      at = λ enough.
+          let few = b .few in
+          let counted = b .counted in
+          let all : left ≡ 0 =
+          ⊎-elim (λ h. omega arith) (λ h. let none : p ≡ 0 = omega arith in let c = rw none at counted in omega arith) ends in
+          let number : positions s p ≡ positions s (record-count s) - n = omega arith in
+          ⊎-elim
+          (λ h. let last : p ≡ record-count s = omega (arith, b .inside) in let none : positions s (record-count s) ≡ positions s (record-count s) - n = rw last at number in last ∙ sym (spot-last s) ∙ ap (spot s 0) none)
+          (λ h. sym (seek-position s p h (b .plain all h)) ∙ head-finds s (positions s (record-count s) - n) p (b .inside) number (omega arith))
+          (le-or-lt (record-count s) p);
+    }

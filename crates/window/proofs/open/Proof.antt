@@ -1,0 +1,40 @@
+-- `trace::window::open` meets its contract, by the laws of proofs/Windows. Assumes nothing.
+use native.Mathlib.Omega.{arith}
+use mathlib.Core.Path.{sym, _∙_}
+use borrow.Author.Needs.{needs}
+use Rattle.window.specs.View.{skips}
+use Rattle.window.proofs.Windows.{dense-fits, opened-dense, opened-copied}
+use Rattle.window.proofs.open.Statement.{statement}
+use Rattle.window.proofs.open.Tie as tie
+
+add-end : tie.Need-add-end
+add-end c =
+    let a = c .before .before .before .before .before .args in
+    let at = c .before .before .in-slice .result in
+    omega (arith, dense-fits (skips (a .view .now)) (a .records .now) at (a .n) (sym (c .before .is-dense .ensures) ∙ c .if1 .taken))
+
+returns : tie.Need-returns
+returns c =
+    let a = c .before .before .before .before .before .args in
+    let at = c .before .before .in-slice in
+    rw (← at .ensures) (opened-dense (skips (a .view .now)) (a .records .now) (at .result) (a .n) (a .copy .now) (c .before .before .before .before .before .pre .1) (sym (c .before .is-dense .ensures) ∙ c .if1 .taken))
+
+returns-2 : tie.Need-returns-2
+returns-2 c =
+    let a = c .before .before .before .before .before .before .before .args in
+    let at = c .before .before .before .before .in-slice in
+    rw (← at .ensures)
+    (opened-copied (skips (a .view .now)) (a .records .now) (at .result) (a .n) (c .gather .last .1 .1 .1 .0) (c .gather .result) (omega arith)
+    (sym (c .before .before .before .is-dense .ensures) ∙ c .before .before .if1 .left) (c .gather .ensures))
+
+pub open-spec : {M : Type 1} → statement M
+open-spec =
+    tie.close
+    (tie.spec
+    (λ c. search needs)
+    (λ c κs. search needs)
+    (λ c κs. search needs)
+    add-end
+    returns
+    (λ c κs. search needs)
+    returns-2)

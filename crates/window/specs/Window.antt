@@ -1,0 +1,103 @@
+-- A window: the records of the next positions from a reading head on, and no others.
+use Prim.Native.Nat.{ℕ, _+_, _-_, _*_, _≤_, _<_, _^_, max}
+use mathlib.Core.Bool.{Bool, true, cond, _&&_}
+use mathlib.Core.Bool.{not as negate}
+use mathlib.Core.Path.{_≡_}
+use mathlib.Core.List.{List}
+use lib.ListN.{length, getD, take, drop}
+use lib.Dec.{leb}
+use Rattle.mtl.specs.Satisfaction.{any}
+use Rattle.bits.specs.Packed.{Packed}
+use Rattle.trace.specs.Format.{record-count, has-letter, SameRecord}
+use Rattle.trace.specs.Positions.{is-service, spot, place, moved, positions, before, Inside}
+use Rattle.window.specs.View.{slice-first, skips, in-slice}
+use Rattle.window.specs.declared.Letters.{Letters}
+use Rattle.window.specs.declared.Picked.{Picked}
+use Rattle.window.specs.declared.Window.{Window}
+
+-- one of the n records from `from` on is a service record
+abbrev pub some-service : List ℕ → (from n : ℕ) → Bool
+some-service s from n = any n (λ i. is-service s (from + i))
+
+-- the n records from `from` on are all there, and all positions
+abbrev pub dense : (skips : Bool) → List ℕ → (from n : ℕ) → Bool
+dense skips s from n = leb (from + n) (record-count s) && negate (skips && some-service s from n)
+
+-- the bytes of a window: the records' own part, or the copy
+abbrev pub window-of : Window → (s copy : List ℕ) → List ℕ
+window-of w s copy = cond (w .dense) (drop (w .at * 8) s) copy
+
+-- the bytes of record i
+abbrev pub record-of : List ℕ → ℕ → List ℕ
+record-of s i = take 8 (drop (i * 8) s)
+
+-- of n records from `from` on, r are positions
+pub record Counted (s : List ℕ) (from n r : ℕ) : Type 0 where
+  pub few : r ≤ n
+  pub sum : positions s from + r ≡ positions s (from + n)
+
+-- the r positions of n records from `from` on, copied as the records from number k on
+pub record Copied (s : List ℕ) (from n : ℕ) (copy : List ℕ) (k : ℕ) (copy′ : List ℕ) (r : ℕ) : Type 0 where
+  pub counted : Counted s from n r
+  pub long : length copy′ ≡ length copy
+  pub before : (j : ℕ) → j < k → SameRecord copy′ j copy j
+  pub here : (j : ℕ) → j < r → SameRecord copy′ (k + j) s (spot s from j)
+
+-- a letter at the i-th position that stands at record r or behind it
+abbrev pub letter-at : (skips : Bool) → List ℕ → (letter r i : ℕ) → Bool
+letter-at skips s letter r i = has-letter s letter (place skips s r i)
+
+-- a letter at the positions among n records from `from` on
+pub record Picks (s : List ℕ) (letter from n : ℕ) (r : Picked) : Type 0 where
+  pub counted : Counted s from n (r .count)
+  pub small : r .bits < 2 ^ r .count
+  pub packed : Packed (letter-at true s letter from) 0 (r .count) (r .bits)
+
+-- a letter at n positions from record `at` of the slice on, and the head behind them
+pub record Lettered (skips : Bool) (s : List ℕ) (letter at n : ℕ) (r : Letters) : Type 0 where
+  pub answers : Inside skips s at n → Packed (letter-at skips s letter at) 0 n (r .bits)
+  pub onward : at ≤ r .end
+  pub bounded : r .end ≤ max at (record-count s)
+  pub end : Inside skips s at n → r .end ≡ moved skips s at n
+
+-- a window of n positions from record `at` of the slice on
+pub record Opened (skips : Bool) (s : List ℕ) (at n : ℕ) (w : Window) (copy : List ℕ) : Type 0 where
+  pub start : w .at ≡ at
+  pub kind : w .dense ≡ dense skips s at n
+  -- it has n records, whatever the words hold from which the head was taken; they are the log's where the log has them
+  pub long : n ≤ record-count (window-of w s copy)
+  pub room : length copy ≡ 520
+  pub shows : Inside skips s at n → (i : ℕ) → i < n → SameRecord (window-of w s copy) i s (place skips s at i)
+  -- the head behind them
+  pub onward : at ≤ w .end
+  pub bounded : w .end ≤ max at (record-count s)
+  pub end : Inside skips s at n → w .end ≡ moved skips s at n
+
+-- the record behind n positions from `from` on, service records passed over; the end of the records where they have not so many
+pub record Behind (s : List ℕ) (from n r : ℕ) : Type 0 where
+  pub onward : from ≤ r
+  pub bounded : r ≤ max from (record-count s)
+  pub end : Inside true s from n → r ≡ moved true s from n
+
+-- the records of these positions copied, one behind the other
+pub record Gathered (s : List ℕ) (from n : ℕ) (copy : List ℕ) (r : ℕ) : Type 0 where
+  pub long : length copy ≡ 520
+  pub at : Inside true s from n → (i : ℕ) → i < n → SameRecord copy i s (place true s from i)
+  pub behind : Behind s from n r
+
+-- a window opened from this head on, of n positions at least
+abbrev pub Windowed : (v s : List ℕ) (head n : ℕ) → Window → Type 0
+Windowed v s head n w =
+    (m : ℕ) × (copy : List ℕ) × (n ≤ m) × Opened (skips v) s (in-slice (slice-first v) head) m w copy
+
+-- the head after n of its positions
+pub record Passed (v s : List ℕ) (head n : ℕ) (w : Window) (r : ℕ) : Type 0 where
+  pub onward : head ≤ r
+  pub still : n ≡ 0 → r ≡ head
+  pub behind : (m : ℕ) (copy : List ℕ) → n ≤ m → Opened (skips v) s (in-slice (slice-first v) head) m w copy →
+      Inside (skips v) s (in-slice (slice-first v) head) m → 0 < n → r ≡ slice-first v + moved (skips v) s (in-slice (slice-first v) head) n
+
+-- the record that holds the position from which on there are n, "or the record after all seen where no seen record holds it"
+pub record Found (skips : Bool) (s : List ℕ) (n r : ℕ) : Type 0 where
+  pub bounded : r ≤ record-count s
+  pub at : n ≤ before skips s (record-count s) → r ≡ place skips s 0 (before skips s (record-count s) - n)

@@ -1,0 +1,433 @@
+// Positions and windows. A service record, one with letter 31, is no position. A window has the records of the next positions from a
+// reading head on and no others: it is the log's own part where no service record lies among them, else a copy of them.
+ghost use mathlib.Core.Path.{_≡_};
+ghost use mathlib.Core.Bool.{true, false};
+ghost use mathlib.Core.Logic.{_⊎_};
+ghost use Prim.Native.Nat.{_+_, _*_, _≤_, _<_, _^_, max};
+ghost use lib.ListN.{length};
+ghost use Rattle.bits.specs.Packed.{number};
+ghost use Rattle.trace.specs.Format.{record-count};
+ghost use Rattle.trace.specs.Positions.{is-service, before};
+ghost use Rattle.trace.specs.Making.{put};
+ghost use Rattle.window.specs.View.{slice-first, skips, in-slice, BlockMarks, Views};
+ghost use Rattle.window.specs.Window.{some-service, dense, window-of, record-of, Counted, Copied, Picks, Lettered, Gathered, Opened, Behind, Windowed, Passed, Found};
+
+pub mod view;
+
+// Where a window begins in the slice of records, the record behind its last, and whether its records stand there one after the other.
+pub struct Window {
+    pub at: usize,
+    pub end: usize,
+    pub dense: bool,
+}
+
+// A letter at some positions, as a word of answers, and the record behind the last of them.
+pub struct Letters {
+    pub bits: u64,
+    pub end: usize,
+}
+
+// A letter at those of a few records that are positions, as a word of answers, and how many they are.
+struct Picked {
+    bits: u64,
+    count: usize,
+}
+
+// 1 where record i is a service record, else 0.
+fn service(records: &[u8], i: usize) -> usize
+    requires { ⌜ i < record-count (now records) ⌝ }
+    ensures { λ r. ⌜ (r ≡ number (is-service (now (records .entry)) i)) × (r ≤ 1) ⌝ }
+{
+    records[i * 8 + 4] as usize / 128
+}
+
+// How many of n records from `from` on are positions, one by one.
+fn count_mixed(records: &[u8], from: usize, n: usize) -> usize
+    requires { ⌜ from + n ≤ record-count (now records) ⌝ }
+    ensures { λ r. ⌜ Counted (now (records .entry)) from n r ⌝ }
+{
+    let mut found: usize = 0;
+    let mut i: usize = 0;
+    while i < n {
+        found += 1 - service(records, from + i);
+        i += 1;
+    }
+    found
+}
+
+// Whether one of a few records from `from` on is a service record, without a branch: letter 31 is the highest bit of its byte.
+fn group_has_service(records: &[u8], from: usize, n: usize) -> bool
+    requires { ⌜ from + n ≤ record-count (now records) ⌝ }
+    ensures { λ r. ⌜ r ≡ some-service (now (records .entry)) from n ⌝ }
+{
+    let mut joined: u8 = 0;
+    let mut i: usize = 0;
+    while i < n {
+        joined = joined | records[(from + i) * 8 + 4];
+        i += 1;
+    }
+    128 <= joined
+}
+
+// The same of a group: where it has no service record, all are.
+fn count_group(records: &[u8], from: usize, n: usize) -> usize
+    requires { ⌜ from + n ≤ record-count (now records) ⌝ }
+    ensures { λ r. ⌜ Counted (now (records .entry)) from n r ⌝ }
+{
+    if group_has_service(records, from, n) {
+        count_mixed(records, from, n)
+    } else {
+        n
+    }
+}
+
+// The same of any number of records. Eight at a time, since a group of known size is compiled without a loop.
+pub fn count_many(records: &[u8], from: usize, n: usize) -> usize
+    requires { ⌜ from + n ≤ record-count (now records) ⌝ }
+    ensures { λ r. ⌜ Counted (now (records .entry)) from n r ⌝ }
+{
+    let mut found: usize = 0;
+    let mut i: usize = 0;
+    while i + 8 <= n {
+        found += count_group(records, from + i, 8);
+        i += 8;
+    }
+    found + count_mixed(records, from + i, n - i)
+}
+
+// Whether one of the n records from `from` on is a service record, eight at a time.
+fn has_service(records: &[u8], from: usize, n: usize) -> bool
+    requires { ⌜ from + n ≤ record-count (now records) ⌝ }
+    ensures { λ r. ⌜ r ≡ some-service (now (records .entry)) from n ⌝ }
+{
+    let mut i: usize = 0;
+    while i + 8 <= n {
+        if group_has_service(records, from + i, 8) {
+            return true;
+        }
+        i += 8;
+    }
+    group_has_service(records, from + i, n - i)
+}
+
+// Where a head at this record stands in a slice that begins with record `first`.
+fn in_slice(first: u64, head: u64) -> usize
+    ensures { λ r. ⌜ r ≡ in-slice first head ⌝ }
+{
+    if head <= first {
+        0
+    } else {
+        (head - first) as usize
+    }
+}
+
+// The same of so few records that they lie in two blocks at most: where neither is marked, no record is looked at.
+fn finds_service(records: &[u8], view: &[u64; 66], from: usize, n: usize) -> bool
+    requires { ⌜ (from + n ≤ record-count (now records)) × (n ≤ 65) × BlockMarks (now view) (now records) ⌝ }
+    ensures { λ r. ⌜ r ≡ some-service (now (records .entry)) from n ⌝ }
+{
+    if view::is_marked(view, from / 256) | view::is_marked(view, (from + n) / 256) {
+        return has_service(records, from, n);
+    }
+    false
+}
+
+// The n records from `from` on are all there, and none of them is a service record that is passed over.
+fn is_dense(records: &[u8], view: &[u64; 66], from: usize, n: usize) -> bool
+    requires { ⌜ (n ≤ 65) × Views (now view) (now records) ⌝ }
+    ensures { λ r. ⌜ r ≡ dense (skips (now (view .entry))) (now (records .entry)) from n ⌝ }
+{
+    let end = trace::count(records);
+    if end < n {
+        return false;
+    }
+    if end - n < from {
+        return false;
+    }
+    if view[view::SKIPS] == 1 {
+        !finds_service(records, view, from, n)
+    } else {
+        true
+    }
+}
+
+// Copies record i, as number k of the copy. All bytes are read before the first is written: it is compiled as one word then.
+fn copy_record(records: &[u8], i: usize, copy: &mut [u8; 520], k: usize)
+    requires { ⌜ (i < record-count (now records)) × (k < 65) × (length (now copy) ≡ 520) ⌝ }
+    ensures { λ _. ⌜ now (copy .exit) ≡ put (now (copy .entry)) (k * 8) (record-of (now (records .entry)) i) ⌝ }
+{
+    let from = i * 8;
+    let to = k * 8;
+    let a = records[from];
+    let b = records[from + 1];
+    let c = records[from + 2];
+    let d = records[from + 3];
+    let e = records[from + 4];
+    let f = records[from + 5];
+    let g = records[from + 6];
+    let h = records[from + 7];
+    copy[to] = a;
+    copy[to + 1] = b;
+    copy[to + 2] = c;
+    copy[to + 3] = d;
+    copy[to + 4] = e;
+    copy[to + 5] = f;
+    copy[to + 6] = g;
+    copy[to + 7] = h;
+}
+
+// Copies n records from `from` on, none of which is a service record, as those from number k on.
+fn copy_plain(records: &[u8], from: usize, n: usize, copy: &mut [u8; 520], k: usize)
+    requires { ⌜ (from + n ≤ record-count (now records)) × (k + n ≤ 65) × (length (now copy) ≡ 520) × (some-service (now records) from n ≡ false) ⌝ }
+    ensures { λ _. ⌜ Copied (now (records .entry)) from n (now (copy .entry)) k (now (copy .exit)) n ⌝ }
+{
+    let mut i: usize = 0;
+    while i < n {
+        copy_record(records, from + i, copy, k + i);
+        i += 1;
+    }
+}
+
+// The same of records among which service records may be: each of those is written over by the next. Gives how many are left.
+fn copy_mixed(records: &[u8], from: usize, n: usize, copy: &mut [u8; 520], k: usize) -> usize
+    requires { ⌜ (from + n ≤ record-count (now records)) × (k + n ≤ 65) × (length (now copy) ≡ 520) ⌝ }
+    ensures { λ r. ⌜ Copied (now (records .entry)) from n (now (copy .entry)) k (now (copy .exit)) r ⌝ }
+{
+    let mut copied: usize = 0;
+    let mut i: usize = 0;
+    while i < n {
+        copy_record(records, from + i, copy, k + copied);
+        copied += 1 - service(records, from + i);
+        i += 1;
+    }
+    copied
+}
+
+// The same of a group, by what is in it.
+fn copy_group(records: &[u8], from: usize, n: usize, copy: &mut [u8; 520], k: usize) -> usize
+    requires { ⌜ (from + n ≤ record-count (now records)) × (k + n ≤ 65) × (length (now copy) ≡ 520) ⌝ }
+    ensures { λ r. ⌜ Copied (now (records .entry)) from n (now (copy .entry)) k (now (copy .exit)) r ⌝ }
+{
+    if group_has_service(records, from, n) {
+        copy_mixed(records, from, n, copy, k)
+    } else {
+        copy_plain(records, from, n, copy, k);
+        n
+    }
+}
+
+// Whether m more records are wanted, of `left`, and are there.
+fn can_take(m: usize, left: usize, at: usize, end: usize) -> bool
+    ensures { λ r. ⌜ (r ≡ true → (m ≤ left) × (at + m ≤ end)) × (r ≡ false → (left < m) ⊎ (end < at + m)) ⌝ }
+{
+    if end < m {
+        false
+    } else {
+        (m <= left) & (at <= end - m)
+    }
+}
+
+// Copies the records of n positions from `from` on, as many as there are, eight at a time. Gives the record behind them.
+fn gather(records: &[u8], from: usize, n: usize, copy: &mut [u8; 520]) -> usize
+    requires { ⌜ (n ≤ 65) × (length (now copy) ≡ 520) ⌝ }
+    ensures { λ r. ⌜ Gathered (now (records .entry)) from n (now (copy .exit)) r ⌝ }
+{
+    let end = trace::count(records);
+    let mut at = from;
+    let mut k: usize = 0;
+    while can_take(8, n - k, at, end) {
+        k += copy_group(records, at, 8, copy, k);
+        at += 8;
+    }
+    while can_take(1, n - k, at, end) {
+        k += copy_group(records, at, 1, copy, k);
+        at += 1;
+    }
+    at
+}
+
+// The letter at record i, as a word of one answer, or of none where it is a service record.
+fn pick_one(records: &[u8], i: usize, letter: u64) -> Picked
+    requires { ⌜ (i < record-count (now records)) × (letter < 32) ⌝ }
+    ensures { λ r. ⌜ Picks (now (records .entry)) letter i 1 r ⌝ }
+{
+    let count = 1 - service(records, i);
+    let bits = trace::letter_group(records, i, 1, letter) * count as u64;
+    Picked { bits, count }
+}
+
+// The same at each of up to eight records, one by one.
+fn pick_mixed(records: &[u8], from: usize, n: usize, letter: u64) -> Picked
+    requires { ⌜ (from + n ≤ record-count (now records)) × (n ≤ 8) × (letter < 32) ⌝ }
+    ensures { λ r. ⌜ Picks (now (records .entry)) letter from n r ⌝ }
+{
+    let mut bits: u64 = 0;
+    let mut count: usize = 0;
+    let mut i: usize = 0;
+    while i < n {
+        let one = pick_one(records, from + i, letter);
+        bits = bits + (one.bits << count as u64);
+        count += one.count;
+        i += 1;
+    }
+    Picked { bits, count }
+}
+
+// The same of a group, by what is in it.
+fn pick_group(records: &[u8], from: usize, n: usize, letter: u64) -> Picked
+    requires { ⌜ (from + n ≤ record-count (now records)) × (n ≤ 8) × (letter < 32) ⌝ }
+    ensures { λ r. ⌜ Picks (now (records .entry)) letter from n r ⌝ }
+{
+    if group_has_service(records, from, n) {
+        return pick_mixed(records, from, n, letter);
+    }
+    let bits = trace::letter_group(records, from, n, letter);
+    Picked { bits, count: n }
+}
+
+// The letter at each of n positions from `from` on, as many as there are, eight records at a time.
+fn pick_letters(records: &[u8], from: usize, n: usize, letter: u64) -> Letters
+    requires { ⌜ (n ≤ 64) × (letter < 32) ⌝ }
+    ensures { λ r. ⌜ Lettered true (now (records .entry)) letter from n r ⌝ }
+{
+    let end = trace::count(records);
+    let mut at = from;
+    let mut k: usize = 0;
+    let mut bits: u64 = 0;
+    while can_take(8, n - k, at, end) {
+        let group = pick_group(records, at, 8, letter);
+        bits = bits + (group.bits << k as u64);
+        k += group.count;
+        at += 8;
+    }
+    while can_take(1, n - k, at, end) {
+        let one = pick_one(records, at, letter);
+        bits = bits + (one.bits << k as u64);
+        k += one.count;
+        at += 1;
+    }
+    Letters { bits, end: at }
+}
+
+// The letter at each of n positions from a head on, without a copy of their records.
+pub fn read_letters(records: &[u8], view: &[u64; 66], head: u64, n: u64, letter: u64) -> Letters
+    requires { ⌜ (n ≤ 64) × (letter < 32) × Views (now view) (now records) ⌝ }
+    ensures { λ r. ⌜ Lettered (skips (now (view .entry))) (now (records .entry)) letter (in-slice (slice-first (now (view .entry))) head) n r ⌝ }
+{
+    let at = in_slice(view[view::FIRST], head);
+    if is_dense(records, view, at, n as usize) {
+        let bits = trace::letter_bits(records, at, n as usize, letter);
+        let end = at + n as usize;
+        return Letters { bits, end };
+    }
+    pick_letters(records, at, n as usize, letter)
+}
+
+// The window of n positions from a head on; the copy is written where it is needed.
+pub fn open(records: &[u8], view: &[u64; 66], head: u64, n: u64, copy: &mut [u8; 520]) -> Window
+    requires { ⌜ (n ≤ 65) × (length (now copy) ≡ 520) × Views (now view) (now records) ⌝ }
+    ensures { λ r. ⌜ Opened (skips (now (view .entry))) (now (records .entry)) (in-slice (slice-first (now (view .entry))) head) n r (now (copy .exit)) ⌝ }
+{
+    let at = in_slice(view[view::FIRST], head);
+    if is_dense(records, view, at, n as usize) {
+        let end = at + n as usize;
+        return Window {
+            at,
+            end,
+            dense: true,
+        };
+    }
+    let end = gather(records, at, n as usize, copy);
+    Window {
+        at,
+        end,
+        dense: false,
+    }
+}
+
+// The window's records.
+pub fn read<'a>(window: Window, records: &'a [u8], copy: &'a [u8]) -> &'a [u8]
+    requires { ⌜ (window .dense ≡ true → window .at * 8 ≤ length (now records)) ⌝ }
+    ensures { λ r. ⌜ now r ≡ window-of window (now (records .entry)) (now (copy .entry)) ⌝ }
+{
+    if window.dense {
+        &records[window.at * 8..]
+    } else {
+        copy
+    }
+}
+
+// The record behind n positions from `from` on, or the end of the records.
+fn behind(records: &[u8], from: usize, n: usize) -> usize
+    ensures { λ r. ⌜ Behind (now (records .entry)) from n r ⌝ }
+{
+    let end = trace::count(records);
+    let mut at = from;
+    let mut left = n;
+    while can_take(8, left, at, end) {
+        left -= count_group(records, at, 8);
+        at += 8;
+    }
+    while can_take(1, left, at, end) {
+        left -= count_mixed(records, at, 1);
+        at += 1;
+    }
+    at
+}
+
+// Where a head stands after all positions of its window, of which there is one at least.
+pub fn pass_all(window: Window, view: &[u64; 66]) -> u64
+    requires { ⌜ slice-first (now view) + window .end < 2 ^ 64 ⌝ }
+    ensures { λ r. ⌜ r ≡ slice-first (now (view .entry)) + window .end ⌝ }
+{
+    view[view::FIRST] + window.end as u64
+}
+
+// Where a head stands after n positions of its window; where it stood if there are none.
+pub fn pass(head: u64, window: Window, records: &[u8], view: &[u64; 66], n: u64) -> u64
+    requires { ⌜ Views (now view) (now records) × Windowed (now view) (now records) head n window ⌝ }
+    ensures { λ r. ⌜ Passed (now (view .entry)) (now (records .entry)) head n window r ⌝ }
+{
+    if n == 0 {
+        return head;
+    }
+    if window.dense {
+        return view[view::FIRST] + window.at as u64 + n;
+    }
+    view[view::FIRST] + behind(records, window.at, n as usize) as u64
+}
+
+// How many of the records are positions.
+pub fn positions(records: &[u8], skips: bool) -> u64
+    ensures { λ r. ⌜ r ≡ before skips (now (records .entry)) (record-count (now (records .entry))) ⌝ }
+{
+    if skips {
+        count_many(records, 0, trace::count(records)) as u64
+    } else {
+        trace::count(records) as u64
+    }
+}
+
+// The record of the last position but n - 1, or the end of the records where n is 0: from there on stand n positions.
+fn step_back(records: &[u8], n: usize) -> usize
+    ensures { λ r. ⌜ Found true (now (records .entry)) n r ⌝ }
+{
+    let mut at = trace::count(records);
+    let mut left = n;
+    while (0 < left) & (0 < at) {
+        at -= 1;
+        left -= 1 - service(records, at);
+    }
+    at
+}
+
+// The record of the position from which on there are n, or the end of the records where n is 0.
+pub fn find(records: &[u8], skips: bool, n: u64) -> u64
+    ensures { λ r. ⌜ Found skips (now (records .entry)) n r ⌝ }
+{
+    if skips {
+        return step_back(records, n as usize) as u64;
+    }
+    let end = trace::count(records) as u64;
+    if n < end { end - n } else { 0 }
+}
