@@ -8,7 +8,9 @@
 
 use crate::disk::{Disk, Lock};
 use crate::evenings::{bound_to, rows, Known, Row, ROW};
+use crate::followed::{Followed, Follower};
 use crate::letters::Letters;
+use crate::parts::{counted, records, verdicts};
 use havdrims::save::{checksum, checksum_from, Saved, Unreadable};
 use havdrims::{close, measure, open, resume, status, summary, tally, trim, Log, Refusal, Status, Summary, Tally};
 use std::borrow::Cow;
@@ -31,8 +33,12 @@ pub const NEW_POINT: &str = "point.new";
 pub const LETTERS: &str = "letters";
 /// The names to be, until they are renamed.
 pub const NEW_LETTERS: &str = "letters.new";
+/// The cards that go on from this one, if there are any.
+pub const FOLLOWED: &str = "followed";
+/// The same with one more, until it is renamed.
+pub const NEW_FOLLOWED: &str = "followed.new";
 
-const OWN: [&str; 8] = [CARD, RULE, SHEET, EVENINGS, POINT, NEW_POINT, LETTERS, NEW_LETTERS];
+const OWN: [&str; 10] = [CARD, RULE, SHEET, EVENINGS, POINT, NEW_POINT, LETTERS, NEW_LETTERS, FOLLOWED, NEW_FOLLOWED];
 
 /// Whether a folder with these names is a card, a damaged one or one that is being made included.
 pub fn is_card(names: &[String]) -> bool {
@@ -82,6 +88,9 @@ pub enum Fault {
     /// No row that is whole is that of the checkpoint.
     EveningsDamaged,
     LettersDamaged,
+    /// Other cards go on from this one, and the log is theirs.
+    Followed(Followed),
+    FollowedDamaged,
     /// The records from the first wanted one to the last seen are others than the card has seen.
     OtherRecords {
         from: u64,
@@ -133,7 +142,7 @@ impl fmt::Display for Fault {
             Fault::Missing(name) => write!(f, "the file `{name}` is missing"),
             Fault::CardDamaged => write!(f, "the file `card.txt` is damaged: it does not hold the card's number"),
             Fault::PointMissing { has } => {
-                write!(f, "the file `point` is missing, but the sheet has {has} verdicts")
+                write!(f, "the file `point` is missing, but the sheet has {}", verdicts(*has))
             }
             Fault::PointUnreadable(why) => match why {
                 Unreadable::Foreign => write!(f, "the file `point` is not that of a card"),
@@ -148,14 +157,23 @@ impl fmt::Display for Fault {
                 write!(f, "the file `point` holds what this library never writes (refused {})", refusal.number())
             }
             Fault::PointCounts { given, words } => {
-                write!(f, "the file `point` is damaged: it says {given} verdicts, its words {words}")
+                write!(f, "the file `point` is damaged: it says {}, its words {words}", verdicts(*given))
             }
             Fault::PointServices { services, others } => {
-                write!(f, "the file `point` is damaged: it says {services} service records where {others} records have no verdict")
+                let (services, have) = (
+                    counted(*services as usize, "service record", "service records"),
+                    counted(*others as usize, "record has", "records have"),
+                );
+                write!(f, "the file `point` is damaged: it says {services} where {have} no verdict")
             }
             Fault::AnotherRule => write!(f, "the file `rule.krl` is not the rule that this card was made for"),
             Fault::SheetShort { given, has } => {
-                write!(f, "the file `sheet` has {has} verdicts, but {given} were given")
+                write!(
+                    f,
+                    "the file `sheet` has {}, but {} given",
+                    verdicts(*has),
+                    counted(*given as usize, "was", "were")
+                )
             }
             Fault::SheetDamaged => write!(f, "the file `sheet` is damaged: its checksum does not fit"),
             Fault::EveningsDamaged => {
@@ -164,6 +182,17 @@ impl fmt::Display for Fault {
             Fault::LettersDamaged => {
                 write!(f, "the file `letters` is damaged, or not of this card: `havdrims letters` writes it anew")
             }
+            Fault::Followed(followed) => {
+                let whom = if followed.cards().len() == 1 { "it" } else { "them" };
+                write!(f, "{}: give the log to {whom}. With --both this card takes it too.", followed.says())
+            }
+            Fault::FollowedDamaged => {
+                write!(
+                    f,
+                    "the file `followed` is damaged, or not of this card: it says which card goes on from this one. "
+                )?;
+                write!(f, "Give the log to that one; if there is none, take the file away")
+            }
             Fault::OtherRecords { from, to } if from + 1 == *to => {
                 write!(f, "record {from} is not the one that this card has seen")
             }
@@ -171,10 +200,10 @@ impl fmt::Display for Fault {
                 write!(f, "records {from} to {} are not those that this card has seen", to - 1)
             }
             Fault::LogBefore { has, first } => {
-                write!(f, "the log has {has} records, and this card begins at record {first}")
+                write!(f, "the log has {}, and this card begins at record {first}", records(*has as u64))
             }
             Fault::LogShort { has, seen } => {
-                write!(f, "the log has {has} records, and the card before this one has seen {seen}")
+                write!(f, "the log has {}, and the card before this one has seen {seen}", records(*has))
             }
             Fault::PositionUnknown => {
                 write!(f, "this card was made by an earlier program: run `havdrims evening` with it once more")
@@ -365,6 +394,34 @@ fn read_evenings(disk: &mut impl Disk) -> Result<Option<Vec<u8>>, Fault> {
     }
 }
 
+/// The cards that go on from the one that is bound to this.
+fn read_followed(disk: &mut impl Disk, bound: u64) -> Result<Followed, Fault> {
+    match disk.read(FOLLOWED) {
+        Err(fault) if fault.kind() == ErrorKind::NotFound => Ok(Followed::default()),
+        read => {
+            let bytes = read.map_err(failed("read the file `followed`"))?;
+            Followed::decode(&bytes, bound).ok_or(Fault::FollowedDamaged)
+        }
+    }
+}
+
+/// Writes down in a card, which may be damaged, that another goes on from it. A cut leaves the file as it was, or with that one in it.
+pub fn follow(disk: &mut impl Disk, follower: Follower) -> Result<(), Fault> {
+    let doing = "write the file `followed`";
+    take(disk, Lock::Alone)?;
+    let card = disk.read(CARD).map_err(failed("read the file `card.txt`"))?;
+    let bound = bound_to(&card, &disk.read(RULE).map_err(failed("read the file `rule.krl`"))?);
+    // What is damaged is written anew.
+    let bytes = read_followed(disk, bound).unwrap_or_default().with(follower).encode(bound);
+    let written = disk.write(NEW_FOLLOWED, 0, &bytes).and_then(|()| disk.sync(NEW_FOLLOWED));
+    if written.is_err() {
+        let _ = disk.remove(NEW_FOLLOWED);
+        return written.map_err(failed(doing));
+    }
+    disk.rename(NEW_FOLLOWED, FOLLOWED).map_err(failed(doing))?;
+    disk.sync_folder().map_err(failed("sync the folder"))
+}
+
 /// The last row of which this holds, and which it is.
 fn last(rows: &[Option<Row>], holds: impl Fn(&Row) -> bool) -> Option<(usize, Row)> {
     rows.iter().copied().enumerate().rev().find_map(|(at, row)| row.filter(&holds).map(|row| (at, row)))
@@ -394,7 +451,9 @@ pub struct Evening {
     pub new: u64,
     /// Their yes and no, formula by formula.
     pub counts: Tally,
-    /// The service records among the records that were new.
+    /// The records that were new.
+    pub new_records: u64,
+    /// The service records among them.
     pub passed_over: u64,
     /// The card, of an earlier program, could not tell whether the log is its own. From now on it can.
     pub unknown: bool,
@@ -533,6 +592,11 @@ impl<'a, D: Disk> Card<'a, D> {
                 Letters::decode(&bytes, self.bound).ok_or(Fault::LettersDamaged)
             }
         }
+    }
+
+    /// The cards that go on from this one.
+    pub fn followed(&mut self) -> Result<Followed, Fault> {
+        read_followed(self.disk, self.bound)
     }
 
     /// Gives its letters these names, in place of others. When this returns, they survive a cut.
@@ -695,9 +759,10 @@ impl<'a, D: Disk> Card<'a, D> {
         let counts = tally(&new, self.formulas()).map_err(Fault::Refused)?;
         let first = self.verdicts.len() as u64;
         let unknown = self.row.is_none();
+        let new_records = so_far.status.seen - self.so_far.status.seen;
         self.save(&new, words, row)?;
         self.so_far = so_far;
-        Ok(Evening { first, new: new.len() as u64, counts, passed_over, unknown, so_far })
+        Ok(Evening { first, new: new.len() as u64, counts, new_records, passed_over, unknown, so_far })
     }
 
     /// What is left of the log without the records that were released. When this returns, the card survives a cut: a checkpoint

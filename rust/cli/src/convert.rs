@@ -2,6 +2,7 @@
 
 use crate::command::{Answer, Failure, Given};
 use crate::disk::{read_all, read_file};
+use crate::parts::{counted, records as many};
 use crate::wrong::{self, numbered, Wrong};
 use crate::{beside, card, file};
 use havdrims::{formulas, measure, parse, simulate, text, worst_log};
@@ -90,18 +91,42 @@ fn is_name(word: &str) -> bool {
 /// What is wrong where the words of a formula stand alone, because nothing stands around them.
 fn unquoted(words: &[&str]) -> Option<Failure> {
     let parts: Vec<&str> = words.iter().copied().filter(|word| !word.ends_with(".krl")).collect();
-    if parts.len() < 2 || parts.iter().any(|part| part.contains(' ')) {
+    if parts.len() < 2 {
         return None;
     }
     let (refusal, typed) = (parts.iter().find_map(|part| refused(part))?, parts.join(" "));
-    match refused(&typed) {
-        None => Some(Failure::Fault(numbered(&between_quotes(&typed), refusal))),
+    match (formulas_in(&parts), refused(&typed)) {
+        (Some(formulas), _) => Some(Failure::Fault(numbered(&each_between_quotes(&formulas), refusal))),
         // One of its words is a part of a formula, and no formula.
-        Some(whole) if refusal == Refusal::NotDerived => {
+        (None, Some(whole)) if refusal == Refusal::NotDerived && !parts.iter().any(|part| part.contains(' ')) => {
             let says = wrong::named(whole, wrong::formula(&typed));
-            Some(Failure::Fault(format!("{says}\nPut the formula between quotes, when it is right")))
+            Some(Failure::Fault(format!("{says}\nPut each formula between quotes of its own, when it is right")))
         }
-        Some(_) => None,
+        _ => None,
+    }
+}
+
+/// The fewest formulas that these words make, one behind the other. What has a space stood between quotes and is one by itself.
+fn formulas_in(words: &[&str]) -> Option<Vec<String>> {
+    const MOST: usize = 100;
+    let mut fewest = vec![Some(Vec::new())];
+    for end in 1..=words.len().min(MOST) {
+        let last = |from: usize| {
+            let (before, own) = (fewest[from].as_ref()?, &words[from..end]);
+            let typed = own.join(" ");
+            let joins = own.len() == 1 || !own.iter().any(|word| word.contains(' '));
+            (joins && is_formula(&typed)).then(|| [before.as_slice(), &[typed]].concat())
+        };
+        let made = (0..end).filter_map(last).min_by_key(Vec::len);
+        fewest.push(made);
+    }
+    fewest.pop().flatten().filter(|_| words.len() <= MOST)
+}
+
+fn each_between_quotes(formulas: &[String]) -> String {
+    match formulas {
+        [only] => between_quotes(only),
+        _ => format!("each formula needs quotes of its own: '{}'", formulas.join("' '")),
     }
 }
 
@@ -204,7 +229,7 @@ pub fn to_log(path: &str, log: &str, force: bool) -> Answer {
         0 => String::new(),
         number => format!(", behind {number} dropped"),
     };
-    Ok(format!("{log}: {} records{services}{dropped}\n", made.records().count()))
+    Ok(format!("{log}: {}{services}{dropped}\n", many(made.records().count() as u64)))
 }
 
 pub fn to_text(path: &str) -> Answer {
@@ -247,7 +272,8 @@ pub fn worst(low: &str, high: &str, records: &str, log: &str, force: bool) -> An
         Failure::Fault(wrong::named(refusal, found))
     })?;
     file::write(log, &bytes[..length], force)?;
-    Ok(format!("{log}: {records} records, {} seconds waiting\n", records.min(u64::from(high) + 1)))
+    let waiting = counted(records.min(u64::from(high) + 1) as usize, "second", "seconds");
+    Ok(format!("{log}: {}, {waiting} waiting\n", many(records)))
 }
 
 /// The numbers that `simulate` takes, and their least and most.
@@ -275,7 +301,7 @@ pub fn simulated(given: &Given) -> Answer {
     file::write(log, &bytes[..simulated.written], given.has("--force"))?;
     let numbers = [("finished", simulated.finished), ("printing", simulated.printing), ("waiting", simulated.waiting)];
     let numbers = numbers.map(|(name, number)| format!("{name} {number}")).join(", ");
-    Ok(format!("{log}: {seconds} records, {numbers}\n"))
+    Ok(format!("{log}: {}, {numbers}\n", many(u64::from(seconds))))
 }
 
 /// The first setting that is outside of its range.

@@ -3,11 +3,15 @@
 //! The sheet has its checksums in two places, in the point and in the rows of `evenings`; the latter are bound to `card.txt` and
 //! `rule.krl` and need no point.
 
-use crate::card::{Begins, First, Label, SoFar, CARD, EVENINGS, LETTERS, NEW_LETTERS, NEW_POINT, POINT, RULE, SHEET};
+use crate::card::{
+    Begins, First, Label, SoFar, CARD, EVENINGS, FOLLOWED, LETTERS, NEW_FOLLOWED, NEW_LETTERS, NEW_POINT, POINT, RULE,
+    SHEET,
+};
 use crate::disk::Disk;
 use crate::evenings::{bound_to, rows, Known, Row};
+use crate::followed::Followed;
 use crate::letters::Letters;
-use crate::parts::counted;
+use crate::parts::{counted, verdicts};
 use havdrims::save::{checksum, Saved};
 use havdrims::{formulas, measure, status, Summary};
 
@@ -19,6 +23,8 @@ pub struct Kept {
     pub after: Option<Begins>,
 }
 
+const FOREIGN: &str = "damaged, or not of this card";
+
 /// The files as they are, those that can be read.
 struct Files {
     card: Option<Vec<u8>>,
@@ -27,6 +33,7 @@ struct Files {
     evenings: Option<Vec<u8>>,
     point: Option<Vec<u8>>,
     letters: Option<Vec<u8>>,
+    followed: Option<Vec<u8>>,
 }
 
 impl Files {
@@ -39,6 +46,7 @@ impl Files {
             evenings: read(EVENINGS),
             point: read(POINT),
             letters: read(LETTERS),
+            followed: read(FOLLOWED),
         }
     }
 
@@ -56,28 +64,41 @@ impl Files {
         let label = self.card.as_ref().and_then(|card| Label::decode(card));
         let point = label.and_then(|label| self.of_point(label.number));
         let Some(row) = point.or(self.rows().into_iter().flatten().next_back()) else {
-            return Some(format!("{has} verdicts, for which nothing vouches"));
+            return Some(format!("{}, for which nothing vouches", verdicts(has)));
         };
         let given = row.status.given;
         Some(match self.vouched(&row) {
-            None if has < given => format!("damaged: it has {has} verdicts, and {given} were given"),
+            None if has < given => {
+                format!("damaged: it has {}, and {} given", verdicts(has), counted(given as usize, "was", "were"))
+            }
+            None if given == 1 => "damaged: the verdict in it is not the one that was given".to_string(),
             None => format!("damaged: the {given} verdicts in it are not those that were given"),
-            Some(_) if has == given => format!("{given} verdicts"),
+            Some(_) if has == given => verdicts(given),
             // Only the point says whether those behind count.
             Some(_) if point.is_some() => {
-                format!("{given} verdicts; what a run that was cut wrote behind does not count")
+                format!("{}; what a run that was cut wrote behind does not count", verdicts(given))
             }
-            Some(_) => format!("{has} verdicts, and nothing vouches for those behind the first {given}"),
+            Some(_) => format!("{}, and nothing vouches for those behind the first {given}", verdicts(has)),
         })
+    }
+
+    /// What the rows and the files of names are bound to.
+    fn bound(&self) -> Option<u64> {
+        Some(bound_to(self.card.as_ref()?, self.rule.as_ref()?))
     }
 
     /// What there is to say of the names of letters, if there are any.
     fn letters(&self) -> Option<String> {
-        let read = |bytes: &[u8]| Letters::decode(bytes, bound_to(self.card.as_ref()?, self.rule.as_ref()?));
-        Some(match read(self.letters.as_ref()?) {
-            Some(letters) => counted(letters.count(), "name", "names"),
-            None => "damaged, or not of this card".to_string(),
-        })
+        let bytes = self.letters.as_ref()?;
+        let letters = self.bound().and_then(|bound| Letters::decode(bytes, bound));
+        Some(letters.map_or(FOREIGN.to_string(), |letters| counted(letters.count(), "name", "names")))
+    }
+
+    /// What there is to say of the cards that go on from this one, if there are any.
+    fn followed(&self) -> Option<String> {
+        let bytes = self.followed.as_ref()?;
+        let followed = self.bound().and_then(|bound| Followed::decode(bytes, bound));
+        Some(followed.map_or(FOREIGN.to_string(), |followed| counted(followed.cards().len(), "card", "cards")))
     }
 
     /// What the point says, as a row would, but of records and positions.
@@ -158,10 +179,13 @@ pub fn looked_at(disk: &mut impl Disk) -> Vec<(String, String)> {
     let mut said: Vec<(String, String)> =
         own.into_iter().map(|(name, said)| (name.to_string(), said.unwrap_or_else(missing))).collect();
     said.extend(files.letters().map(|letters| (LETTERS.to_string(), letters)));
+    said.extend(files.followed().map(|followed| (FOLLOWED.to_string(), followed)));
     for name in disk.names().ok().flatten().unwrap_or_default() {
         match name.as_str() {
-            CARD | RULE | SHEET | EVENINGS | POINT | LETTERS => {}
-            NEW_POINT | NEW_LETTERS => said.push((name, "left by a run that was cut; it does not count".to_string())),
+            CARD | RULE | SHEET | EVENINGS | POINT | LETTERS | FOLLOWED => {}
+            NEW_POINT | NEW_LETTERS | NEW_FOLLOWED => {
+                said.push((name, "left by a run that was cut; it does not count".to_string()))
+            }
             _ => said.push((name, "not of this card".to_string())),
         }
     }

@@ -1,14 +1,14 @@
 //! What a rule and its letters are called: of a card, a rule file or a formula.
 
 use crate::beside::is_card;
-use crate::card::{Card, First};
+use crate::card::{Card, First, SoFar};
 use crate::command::Failure;
 use crate::convert;
 use crate::disk::{read_all, Folder};
 use crate::letters::Letters;
 use crate::parts;
 use crate::words::in_words;
-use havdrims::Rule;
+use havdrims::{Rule, Status};
 use std::path::Path;
 
 /// A rule with the names of its letters.
@@ -21,8 +21,12 @@ pub struct Named {
 pub struct Judged {
     pub first: First,
     pub verdicts: Vec<u8>,
-    /// The log that it was brought, from its first record on.
+    /// The card is closed, and the log has all records that it has seen.
+    pub closed: bool,
+    /// The log that it was brought, from its first record on, and of a card that is closed up to its last.
     pub log: Vec<u8>,
+    /// The records behind that.
+    pub further: usize,
 }
 
 impl Named {
@@ -52,8 +56,14 @@ impl Named {
         }
         let mut disk = Folder::new(Path::new(word));
         let card = Card::open(&mut disk, false).map_err(|fault| Failure::fault(word, fault))?;
-        let log = card.own_part(log).map_err(|fault| Failure::fault(path, fault))?.into_owned();
-        Ok(Some(Judged { first: card.so_far.first, verdicts: card.verdicts().to_vec(), log }))
+        let mut log = card.own_part(log).map_err(|fault| Failure::fault(path, fault))?.into_owned();
+        let SoFar { first, status: Status { closed, seen, .. }, .. } = card.so_far;
+        let records = convert::opened(path, &log)?;
+        let further = records.len().checked_sub(seen as usize).filter(|_| closed);
+        let (closed, further) = (further.is_some(), further.unwrap_or(0));
+        let kept = records.len() - records.dropped();
+        log.truncate(log.len() - 8 * further.min(kept));
+        Ok(Some(Judged { first, verdicts: card.verdicts().to_vec(), closed, log, further }))
     }
 }
 

@@ -66,6 +66,14 @@ pub fn counted(number: usize, one: &str, more: &str) -> String {
     format!("{number} {}", if number == 1 { one } else { more })
 }
 
+pub fn records(number: u64) -> String {
+    counted(number as usize, "record", "records")
+}
+
+pub fn verdicts(number: u64) -> String {
+    counted(number as usize, "verdict", "verdicts")
+}
+
 /// All entries of a rule, in turn.
 pub fn entries(rule: &Rule, letters: &Letters) -> Vec<Entry> {
     let bytes: Vec<&[u8]> = entries_of(rule.as_bytes()).collect();

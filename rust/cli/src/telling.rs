@@ -1,5 +1,6 @@
 //! A reason in sentences, with the letters by their names.
 
+use crate::beginning::{begins, is_first_read};
 use crate::letters::Letters;
 use crate::parts::{denied, entries, holds_everywhere, seconds, Entry, Kind};
 use havdrims::reason::{Cause, Line, Said};
@@ -12,7 +13,8 @@ pub struct Places {
     /// The first record's number, and one more than the last's.
     first: usize,
     end: usize,
-    held: Vec<(usize, u32)>,
+    held: Vec<usize>,
+    times: Vec<u32>,
 }
 
 impl Places {
@@ -22,8 +24,8 @@ impl Places {
             return Err(Refusal::RecordDropped);
         }
         let positions = log.records().enumerate().filter(|(_, record)| !record.service);
-        let held = positions.map(|(at, record)| (first + at, record.seconds)).collect();
-        Ok(Places { first, end: first + log.len(), held })
+        let (held, times) = positions.map(|(at, record)| (first + at, record.seconds)).unzip();
+        Ok(Places { first, end: first + log.len(), held, times })
     }
 
     /// The position that a record holds, counted from the first, or what it is instead.
@@ -38,17 +40,17 @@ impl Places {
                 records => format!("there is no record {record}: the log has {records}, 0 to {}", records - 1),
             });
         }
-        let at = self.held.binary_search_by_key(&record, |&(record, _)| record);
+        let at = self.held.binary_search(&record);
         at.map(|at| at as u64)
             .map_err(|_| format!("record {record} is a service record: it is no position and has no verdict"))
     }
 
     fn record(&self, position: u64) -> usize {
-        self.held[position as usize].0
+        self.held[position as usize]
     }
 
     fn gap(&self, earlier: u64, later: u64) -> u32 {
-        self.held[later as usize].1 - self.held[earlier as usize].1
+        self.times[later as usize] - self.times[earlier as usize]
     }
 }
 
@@ -106,9 +108,26 @@ impl Teller {
         }
     }
 
+    /// That the card begins with the record up to which this line looks back, and that others stand before it.
+    fn begun(&self, line: &Line) -> Option<String> {
+        let first = self.places.first;
+        (first > 0 && is_first_read(&self.entries, &self.places.times, line)).then(|| begins(first))
+    }
+
+    /// The same of all lines of a reason.
+    pub fn begun_in(&self, reason: &Reason) -> Option<String> {
+        reason.lines().iter().find_map(|line| self.begun(line))
+    }
+
     /// The next line, and those that follow because of it.
     fn tree(&self, lines: &mut slice::Iter<'_, Line>) -> Tree {
-        let &Line { entry, position, said } = lines.next().expect("a reason has the lines that its others ask for");
+        let line = lines.next().expect("a reason has the lines that its others ask for");
+        let mut tree = self.of_line(line, lines);
+        tree.why.extend(self.begun(line));
+        tree
+    }
+
+    fn of_line(&self, &Line { entry, position, said }: &Line, lines: &mut slice::Iter<'_, Line>) -> Tree {
         let e = &self.entries[entry];
         let leaf = |yes, why| Tree { entry, position, yes, by: None, why, below: Vec::new() };
         match said {
@@ -301,7 +320,7 @@ struct Nowhere {
     alone: bool,
 }
 
-fn word(yes: bool) -> &'static str {
+pub fn word(yes: bool) -> &'static str {
     if yes {
         "yes"
     } else {

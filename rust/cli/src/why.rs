@@ -1,9 +1,10 @@
 //! Why a record has its verdict: the library's reason as it is, or in sentences.
 
 use crate::card::First;
-use crate::command::Failure;
-use crate::named::Named;
-use crate::telling::{Places, Teller};
+use crate::command::{warn, Failure};
+use crate::named::{Judged, Named};
+use crate::page::reasons::Missing;
+use crate::telling::{word, Places, Teller};
 use crate::{convert, wrong};
 use havdrims::{Log, Refusal, Rule};
 
@@ -30,18 +31,29 @@ pub fn answer(question: &Question) -> Result<String, Failure> {
     let bytes = judged.as_ref().map_or(bytes.as_slice(), |judged| &judged.log);
     let bytes = convert::opened(log, bytes)?;
     let places = Places::of(&bytes, first.record as usize).map_err(|refusal| refused(log, &bytes, refusal))?;
+    if judged.as_ref().is_some_and(|judged| judged.is_further(record, &bytes)) {
+        return Err(Failure::fault(
+            log,
+            format!("record {record} came after the card was closed: its sheet has no verdict of it"),
+        ));
+    }
     let position = places.position(record).map_err(|fault| Failure::fault(log, fault))?;
-    let reason = match rule.explain(&bytes, formula, position) {
-        Err(Refusal::NoReason) => return Err(Failure::fault(log, open(record, rule.formulas()))),
-        reason => reason.map_err(|refusal| refused(log, &bytes, refusal))?,
+    let given = judged.as_ref().and_then(|judged| judged.is_yes(position, formula));
+    let reason = match (rule.explain(&bytes, formula, position), given) {
+        (Err(Refusal::NoReason), Some(yes)) if judged.as_ref().is_some_and(|judged| judged.closed) => {
+            return Err(Failure::fault(log, closed(record, yes)));
+        }
+        (Err(Refusal::NoReason), _) => return Err(Failure::fault(log, open(record, rule.formulas()))),
+        (reason, _) => reason.map_err(|refusal| refused(log, &bytes, refusal))?,
     };
     let teller = Teller::new(&rule, &letters, places);
     let says = teller.is_yes(&reason);
-    let given = judged.as_ref().and_then(|judged| judged.verdicts.get(position as usize));
-    if given.is_some_and(|verdict| (verdict >> formula & 1 == 1) != says) {
+    if given.is_some_and(|yes| yes != says) {
         return Err(Failure::fault(log, altered(record, says)));
     }
     if !question.words {
+        // The reason has the library's form, in which there is no such line.
+        teller.begun_in(&reason).iter().for_each(|begun| warn(begun.trim_start_matches("; ")));
         return Ok(reason.to_string());
     }
     let number = first.position + position;
@@ -52,9 +64,26 @@ pub fn answer(question: &Question) -> Result<String, Failure> {
     Ok(teller.told(&reason, &what, (rule.formulas() > 1).then_some(formula)))
 }
 
+impl Judged {
+    fn is_yes(&self, position: u64, formula: usize) -> Option<bool> {
+        self.verdicts.get(position as usize).map(|verdict| verdict >> formula & 1 == 1)
+    }
+
+    /// Whether a record stands behind this part of the log, in which the card was closed.
+    fn is_further(&self, record: usize, log: &Log<'_>) -> bool {
+        let end = self.first.record as usize + log.len();
+        (end..end + self.further).contains(&record)
+    }
+}
+
+/// The card's sheet has a verdict that its log has not settled.
+fn closed(record: usize, yes: bool) -> String {
+    format!("record {record} is {} in the card's sheet: {}", word(yes), Missing::Closed.said())
+}
+
 /// The card's sheet has the other verdict.
 fn altered(record: usize, says: bool) -> String {
-    let [sheet, log] = if says { ["no", "yes"] } else { ["yes", "no"] };
+    let [sheet, log] = [!says, says].map(word);
     format!(
         "record {record} is {sheet} in the card's sheet, and {log} on this log: records were overwritten or altered since\n\
          A reason needs the log as it was."

@@ -128,7 +128,10 @@ fn falls(log: &Log<'_>, so_far: &SoFar) -> (String, String) {
     }
     let new = so_far.first.record + so_far.status.seen;
     let early = || format!("record {new}, the first new one, comes before the last one that the card has seen");
-    let hint = "Is this the log of another kiosk, or did its clock begin anew? ";
+    let hint = match fall.is_some_and(|fall| fall.is_again(log)) {
+        true => "Is this the log of another kiosk, did its clock begin anew, or were records added twice? ",
+        false => "Is this the log of another kiosk, or did its clock begin anew? ",
+    };
     (fall.map_or_else(early, |fall| fall.says()), hint.to_string())
 }
 

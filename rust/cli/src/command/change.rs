@@ -1,13 +1,15 @@
 //! Making a card, and where it begins.
 
-use super::reading::vouched;
+use super::reading::{quoted, vouched};
 use super::told::by_formula;
 use super::{of_card, Answer, Failure, Given};
+use crate::back::Back;
 use crate::card::{self, Begins, Card, First};
 use crate::disk::Folder;
+use crate::followed::Follower;
 use crate::letters::Letters;
 use crate::{convert, named};
-use havdrims::MOST_RECORDS;
+use havdrims::{Rule, MOST_RECORDS};
 use std::hash::{BuildHasher, RandomState};
 use std::path::Path;
 
@@ -29,7 +31,18 @@ pub fn new(given: &Given) -> Answer {
         (None, Some(old)) => names_of(old),
         (None, None) => Letters::default(),
     };
-    make(folder, rules, begins, &letters)
+    let made = make(folder, rules, begins, &letters)?;
+    let noted = given.value("--after").map_or(Ok(()), |old| follow(old, folder, begins.first.record));
+    noted.map_err(|fault| Failure::Partly { fault, printed: made.clone() })?;
+    Ok(made)
+}
+
+/// Writes down in the old card that this one goes on from it, last of all: a cut before leaves both cards whole.
+fn follow(old: &str, folder: &str, record: u64) -> Result<(), String> {
+    let written = card::follow(&mut Folder::new(Path::new(old)), Follower::new(folder, record));
+    written.map_err(|fault| {
+        format!("{old}: {fault}\nThe card {folder} is made. That it goes on from {old} is not written there: give the log to {folder} alone.")
+    })
 }
 
 /// The names that a card's letters have: none where they cannot be read.
@@ -58,6 +71,10 @@ fn from_record(record: u64) -> Result<First, Failure> {
 
 /// Why there is no card.
 fn unmade(folder: &str, fault: &card::Fault) -> Failure {
+    if let card::Fault::AlreadyThere = fault {
+        let other = format!("havdrims new OTHER RULE --after {}", quoted(folder));
+        return of_card(folder, fault).and(&format!("A card keeps its rule: `{other}` goes on from it with another."));
+    }
     match Path::new(folder).parent().filter(|above| *above != Path::new("") && !above.exists()) {
         Some(above) => Failure::fault(folder, format!("the folder {} is not there", above.display())),
         None if matches!(fault, card::Fault::Disk { .. }) && !Path::new(folder).is_file() => of_card(folder, fault)
@@ -76,10 +93,16 @@ fn make(folder: &str, rules: &[&str], begins: Begins, letters: &Letters) -> Answ
         1 => folder.to_string(),
         number => format!("{folder}: {number} formulas"),
     };
-    let begins = match begins.first {
-        First { record: 0, .. } => String::new(),
+    Ok(format!("{}{needs}{}", by_formula(&made, ": ", formulas), beginning(begins.first, &bytes)))
+}
+
+/// Where a card begins, and what its rule misses there.
+fn beginning(first: First, rule: &[u8]) -> String {
+    let begins = match first {
+        First { record: 0, .. } => return String::new(),
         First { record, position } if record == position => format!("begins at record {record}\n"),
         First { record, position } => format!("begins at record {record}, position {position}\n"),
     };
-    Ok(format!("{}{needs}{begins}", by_formula(&made, ": ", formulas)))
+    let misses = Rule::new(rule).ok().and_then(|rule| Back::of(&rule).told(first.record));
+    begins + &misses.unwrap_or_default()
 }

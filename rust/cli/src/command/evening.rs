@@ -2,11 +2,13 @@
 
 use super::brought::Brought;
 use super::json::Json;
-use super::told::{all, as_json, by_formula, position};
+use super::told::{all, as_json, by_formula, followed_by, position};
 use super::{Answer, Failure, Given, Paint};
-use crate::card::{Card, Evening, SoFar};
+use crate::card::{Card, Evening, Fault, SoFar};
 use crate::disk::Folder;
 use crate::file;
+use crate::followed::Followed;
+use crate::parts::records;
 use havdrims::{Log, MOST_RECORDS};
 use std::path::Path;
 
@@ -19,11 +21,21 @@ pub fn carry_on(given: &Given, closing: bool) -> Answer {
     let log = Brought::read(folder, path, "No verdict was counted")?;
     let mut disk = Folder::new(Path::new(folder));
     let mut card = Card::open(&mut disk, true).map_err(|fault| log.failed(&fault, None))?;
+    let followed = followed(&mut card, given).map_err(|fault| log.failed(&fault, None))?;
     let evening = card.carry_on(closing, &log.bytes).map_err(|fault| log.failed(&fault, Some(&card.so_far)))?;
     Ok(match given.has("--json") {
-        true => json(&evening),
-        false => told(&evening, given.paint),
+        true => json(&evening, &followed),
+        false => told(&evening, &followed, given.paint),
     })
+}
+
+/// The cards that go on from this one: it takes no log beside them, unless that is meant.
+fn followed(card: &mut Card<'_, Folder>, given: &Given) -> Result<Followed, Fault> {
+    let followed = card.followed()?;
+    match followed.is_empty() || given.has("--both") {
+        true => Ok(followed),
+        false => Err(Fault::Followed(followed)),
+    }
 }
 
 /// The words of `trim`.
@@ -33,6 +45,7 @@ pub fn trim(given: &Given) -> Answer {
     let log = Brought::read(folder, path, "Nothing was written")?;
     let mut disk = Folder::new(Path::new(folder));
     let mut card = Card::open(&mut disk, true).map_err(|fault| log.failed(&fault, None))?;
+    let followed = followed(&mut card, given).map_err(|fault| log.failed(&fault, None))?;
     let left = card.trim(&log.bytes).map_err(|fault| log.failed(&fault, Some(&card.so_far)))?;
     file::put(&mut into, &name, &left, given.has("--force")).map_err(|fault| Failure::fault(out, fault))?;
     let left = Log::new(&left).map_err(|refusal| Failure::fault(out, refusal))?;
@@ -41,7 +54,19 @@ pub fn trim(given: &Given) -> Answer {
         1 => "record 0 dropped".to_string(),
         dropped => format!("records 0 to {} dropped", dropped - 1),
     };
-    Ok(format!("{out}: {dropped}, {} left\n", left.records().count()))
+    let others = match left.dropped() {
+        0 => String::new(),
+        _ => still_wanted(&followed, "the log as it was"),
+    };
+    Ok(format!("{out}: {dropped}, {} left\n{others}", left.records().count()))
+}
+
+/// That the cards that go on from this one may still want what it does not.
+fn still_wanted(followed: &Followed, what: &str) -> String {
+    match followed.is_empty() {
+        true => String::new(),
+        false => format!("{} may still want {what}\n", followed.names()),
+    }
 }
 
 /// What closing means, to one who may have typed it for `evening`.
@@ -51,15 +76,15 @@ takes no further records. It cannot be undone. With --final it is done; `havdrim
 Nothing was changed.";
 
 /// An evening in plain words.
-fn told(evening: &Evening, paint: Paint) -> String {
-    let Evening { first, new, counts, passed_over, unknown, so_far } = evening;
+fn told(evening: &Evening, followed: &Followed, paint: Paint) -> String {
+    let Evening { first, new, counts, passed_over, unknown, so_far, .. } = evening;
     let unknown = match unknown {
         true => "this card was made by an earlier program: from now on it knows its log again\n",
         false => "",
     };
     let first = first + so_far.first.position;
     let which = match new {
-        0 => "no new verdict".to_string(),
+        0 => nothing_new(evening),
         1 => format!("{} {first}", position(so_far)),
         _ => format!("{}s {first} to {}", position(so_far), first + new - 1),
     };
@@ -71,13 +96,43 @@ fn told(evening: &Evening, paint: Paint) -> String {
         1 => "1 service record passed over\n".to_string(),
         _ => format!("{passed_over} service records passed over\n"),
     };
-    let released = match so_far.released() {
-        0 => "no record may be overwritten yet".to_string(),
-        1 => "record 0 may be overwritten".to_string(),
-        wanted => format!("records 0 to {} may be overwritten", wanted - 1),
-    };
     // What may be overwritten is the last line: a job reads it there.
-    format!("{unknown}{given}{passed_over}{}{}{released}\n", all(so_far, paint), nearly_full(so_far, paint))
+    let released = released(so_far, followed);
+    format!("{unknown}{given}{passed_over}{}{}{released}", all(so_far, paint), nearly_full(so_far, paint))
+}
+
+/// Which records may be overwritten: that is not known of those that another card may want.
+fn released(so_far: &SoFar, followed: &Followed) -> String {
+    let records = match so_far.released() {
+        0 => return "no record may be overwritten yet\n".to_string(),
+        1 => "record 0".to_string(),
+        wanted => format!("records 0 to {}", wanted - 1),
+    };
+    match followed.is_empty() {
+        true => format!("{records} may be overwritten\n"),
+        false => format!("this card no longer wants {records}; {}", still_wanted(followed, "some of them")),
+    }
+}
+
+/// Why there is no new verdict. The number of records is that of the log.
+fn nothing_new(evening: &Evening) -> String {
+    let Evening { new_records, passed_over, so_far, .. } = evening;
+    let SoFar { first, status, .. } = so_far;
+    match new_records {
+        _ if status.closed => "no new verdict".to_string(),
+        0 if status.seen == 0 && first.record == 0 => "no new verdict: the log has no record yet".to_string(),
+        0 if status.seen == 0 => {
+            format!("no new verdict: the log ends before record {}, the card's first", first.record)
+        }
+        0 => {
+            let seen = records(first.record + status.seen);
+            format!("no new record since the last evening ({seen}): is it an older copy of the log?")
+        }
+        1 if *passed_over == 1 => "no new verdict: 1 record is new, a service record".to_string(),
+        1 => "no new verdict: 1 record is new, and not settled yet".to_string(),
+        new if new == passed_over => format!("no new verdict: {new} records are new, all of them service records"),
+        new => format!("no new verdict: {new} records are new, and none is settled yet"),
+    }
 }
 
 /// From so many records on it is said that a log will be full.
@@ -105,8 +160,8 @@ fn nearly_full(so_far: &SoFar, paint: Paint) -> String {
 }
 
 /// An evening for other programs.
-fn json(evening: &Evening) -> String {
-    let Evening { first, new, counts, passed_over, so_far, .. } = evening;
+fn json(evening: &Evening, followed: &Followed) -> String {
+    let Evening { first, new, counts, new_records, passed_over, so_far, .. } = evening;
     let first = (*new > 0).then_some(first + so_far.first.position);
     let formula = |(yes, no): (&u64, &u64)| Json::Object(vec![("yes", (*yes).into()), ("no", (*no).into())]);
     let new = Json::Object(vec![
@@ -117,9 +172,11 @@ fn json(evening: &Evening) -> String {
     ]);
     Json::Object(vec![
         ("new", new),
+        ("new_records", (*new_records).into()),
         ("so_far", as_json(so_far)),
-        ("released_records", so_far.released().into()),
+        ("released_records", if followed.is_empty() { so_far.released() } else { 0 }.into()),
         ("records_left", left(so_far).into()),
+        ("followed_by", followed_by(followed)),
     ])
     .to_string()
 }

@@ -254,10 +254,10 @@ mod tests {
     #[test]
     fn usages() {
         let usage = |name: &str| COMMANDS.iter().find(|command| command.name == name).unwrap().usage();
-        assert_eq!(usage("evening"), "havdrims evening CARD LOG [--json]");
+        assert_eq!(usage("evening"), "havdrims evening CARD LOG [--both] [--json]");
         assert_eq!(usage("sheet"), "havdrims sheet CARD [--csv | --json] [--no] [--from N] [--to N]");
         assert_eq!(usage("new"), "havdrims new CARD RULE.. [--after OLD | --from N] [--letters FILE]");
-        assert_eq!(usage("close"), "havdrims close CARD LOG --final [--json]");
+        assert_eq!(usage("close"), "havdrims close CARD LOG --final [--both] [--json]");
         assert_eq!(usage("man"), "havdrims man");
     }
 }

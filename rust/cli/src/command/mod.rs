@@ -22,6 +22,7 @@ use crate::{beside, card};
 pub use given::Given;
 pub use paint::Paint;
 use std::fmt::Display;
+use std::io::{self, Write};
 use std::path::Path;
 
 /// Why a command did not do all of what it was asked for.
@@ -66,6 +67,11 @@ fn of_card(folder: &str, fault: &card::Fault) -> Failure {
         },
         _ => Failure::fault(folder, fault),
     }
+}
+
+/// Says something besides on standard error. The command goes on.
+pub fn warn(line: &str) {
+    let _ = writeln!(io::stderr(), "{line}");
 }
 
 /// What a command prints.

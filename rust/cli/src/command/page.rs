@@ -18,6 +18,7 @@ pub fn page(given: &Given) -> Answer {
     let mut disk = Folder::new(Path::new(folder));
     let mut card = Card::open(&mut disk, false).map_err(|fault| log.failed(&fault, None))?;
     let so_far = card.so_far;
+    let followed = card.followed().unwrap_or_default();
     let page = page::page(&mut card, folder, &log.bytes, clock);
     let page = page.map_err(|fault| log.failed(&fault, Some(&so_far)))?;
     file::put(&mut into, &name, page.html.as_bytes(), given.has("--force"))
@@ -33,7 +34,7 @@ pub fn page(given: &Given) -> Answer {
             format!("{} no in {stretches}{lost}", no.number)
         }
     };
-    Ok(by_formula(out, ": ", page.no.iter().map(no).collect()))
+    Ok(by_formula(out, ": ", page.no.iter().map(no).collect()) + &followed.line())
 }
 
 fn start(typed: &str) -> Result<Clock, Failure> {

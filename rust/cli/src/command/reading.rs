@@ -1,10 +1,11 @@
 //! What a card can be asked without a log: how far it has come, and whether its files fit together.
 
 use super::json::Json;
-use super::told::{all, as_json};
+use super::told::{all, as_json, followed_by};
 use super::{of_card, Answer, Failure, Given};
 use crate::card::{self, Begins, Card, Fault, First, SoFar};
 use crate::disk::Folder;
+use crate::followed::Followed;
 use crate::kept::{self, Kept};
 use havdrims::save::Unreadable;
 use havdrims::Refusal;
@@ -15,6 +16,8 @@ use std::path::Path;
 pub struct Told {
     pub so_far: SoFar,
     pub verdicts: Vec<u8>,
+    /// The cards that go on from it, where that can be read.
+    followed: Followed,
     fault: Option<Fault>,
 }
 
@@ -22,11 +25,16 @@ impl Told {
     pub fn of(folder: &str) -> Result<Told, Failure> {
         let mut disk = Folder::new(Path::new(folder));
         let fault = match Card::open(&mut disk, false) {
-            Ok(card) => return Ok(Told { so_far: card.so_far, verdicts: card.verdicts().to_vec(), fault: None }),
+            Ok(mut card) => {
+                let followed = card.followed().unwrap_or_default();
+                return Ok(Told { so_far: card.so_far, verdicts: card.verdicts().to_vec(), followed, fault: None });
+            }
             Err(fault) => fault,
         };
         match vouched(&mut disk, &fault).filter(|kept| !kept.verdicts.is_empty()) {
-            Some(Kept { so_far, verdicts, .. }) => Ok(Told { so_far, verdicts, fault: Some(fault) }),
+            Some(Kept { so_far, verdicts, .. }) => {
+                Ok(Told { so_far, verdicts, followed: Followed::default(), fault: Some(fault) })
+            }
             None => Err(of_card(folder, &fault)),
         }
     }
@@ -43,7 +51,10 @@ impl Told {
     /// Ends with what was to be printed, and with the fault if there is one.
     pub fn end(&self, folder: &str, printed: String) -> Answer {
         let Some(fault) = &self.fault else { return Ok(printed) };
-        let vouched = format!("This is of the first {} verdicts, which a checksum vouches for.", self.verdicts.len());
+        let vouched = match self.verdicts.len() {
+            1 => "This is of the first verdict, which a checksum vouches for.".to_string(),
+            many => format!("This is of the first {many} verdicts, which a checksum vouches for."),
+        };
         let fault = format!("{folder}: {fault}\n{vouched} `havdrims check` says what can be done.");
         Err(Failure::Partly { printed, fault })
     }
@@ -58,8 +69,13 @@ pub fn vouched(disk: &mut Folder, fault: &Fault) -> Option<Kept> {
 pub fn summary(given: &Given) -> Answer {
     let told = Told::of(given.only())?;
     let printed = match given.has("--json") {
-        true => Json::Object(vec![("so_far", as_json(&told.so_far)), ("fault", told.fault().into())]).to_string(),
-        false => all(&told.so_far, given.paint),
+        true => Json::Object(vec![
+            ("so_far", as_json(&told.so_far)),
+            ("followed_by", followed_by(&told.followed)),
+            ("fault", told.fault().into()),
+        ])
+        .to_string(),
+        false => all(&told.so_far, given.paint) + &told.followed.line(),
     };
     told.end(given.only(), printed)
 }
@@ -68,7 +84,10 @@ pub fn summary(given: &Given) -> Answer {
 pub fn check(given: &Given) -> Answer {
     let folder = given.only();
     let mut disk = Folder::new(Path::new(folder));
-    let opened = Card::open(&mut disk, false).and_then(|mut card| card.letters().map(|_| card.so_far));
+    let opened = Card::open(&mut disk, false).and_then(|mut card| {
+        card.letters()?;
+        Ok((card.so_far, card.followed()?))
+    });
     match &opened {
         Err(fault @ (Fault::NoCard | Fault::InUse)) => return Err(of_card(folder, fault)),
         Err(fault) if Path::new(folder).is_file() => return Err(of_card(folder, fault)),
@@ -81,7 +100,9 @@ pub fn check(given: &Given) -> Answer {
         false => {
             let files: String = files.iter().map(|(name, said)| format!("{name}: {said}\n")).collect();
             let all_of_it = match &opened {
-                Ok(so_far) => format!("all files fit together\n{}", all(so_far, given.paint)),
+                Ok((so_far, followed)) => {
+                    format!("all files fit together\n{}{}", all(so_far, given.paint), followed.line())
+                }
                 Err(fault) => advice(folder, fault, kept.as_ref()),
             };
             files + &all_of_it
@@ -93,12 +114,12 @@ pub fn check(given: &Given) -> Answer {
     }
 }
 
-fn check_json(files: &[(String, String)], opened: &Result<SoFar, Fault>, kept: Option<&Kept>) -> String {
+fn check_json(files: &[(String, String)], opened: &Result<(SoFar, Followed), Fault>, kept: Option<&Kept>) -> String {
     let file = |(name, said): &(String, String)| {
         Json::Object(vec![("name", name.as_str().into()), ("says", said.as_str().into())])
     };
     let (so_far, vouched, after) = match opened {
-        Ok(so_far) => (Some(so_far), so_far.status.given, None),
+        Ok((so_far, _)) => (Some(so_far), so_far.status.given, None),
         Err(_) => {
             let after = kept.and_then(|kept| kept.after).map(|begins| begins.first.record);
             let some = kept.filter(|kept| !kept.verdicts.is_empty());
@@ -112,18 +133,20 @@ fn check_json(files: &[(String, String)], opened: &Result<SoFar, Fault>, kept: O
         ("vouched_verdicts", vouched.into()),
         ("new_card_from_record", after.into()),
         ("so_far", so_far.map(as_json).into()),
+        ("followed_by", opened.as_ref().ok().map(|(_, followed)| followed_by(followed)).into()),
     ])
     .to_string()
 }
 
 /// What can be done with a card that has this fault.
 fn advice(folder: &str, fault: &Fault, kept: Option<&Kept>) -> String {
-    if let Fault::Unfinished | Fault::LettersDamaged = fault {
+    if let Fault::Unfinished | Fault::LettersDamaged | Fault::FollowedDamaged = fault {
         return String::new();
     }
     let given = kept.map_or(0, |kept| kept.verdicts.len());
     let mut text = match given {
         0 => "no verdict is vouched for\n".to_string(),
+        1 => "the first verdict is vouched for: `havdrims sheet` prints it\n".to_string(),
         _ => format!("the first {given} verdicts are vouched for: `havdrims sheet` prints them\n"),
     };
     text.push_str("what can be done:\n");

@@ -85,6 +85,8 @@ fn json(told: &Told, lines: impl Iterator<Item = Line>) -> String {
     };
     Json::Object(vec![
         ("formulas", (told.formulas() as u64).into()),
+        ("first_record", told.so_far.first.record.into()),
+        ("first_position", told.so_far.first.position.into()),
         ("fault", told.fault().into()),
         ("verdicts", lines.map(verdict).collect()),
     ])

@@ -72,6 +72,7 @@ impl Opt {
 
 const JSON: Opt = flag("--json", "print for other programs, as docs/FORMATS.md says");
 const FORCE: Opt = flag("--force", "replace a file that is there already");
+const BOTH: Opt = flag("--both", "do it though another card goes on from this one");
 
 pub const COMMANDS: [Command; 20] = [
     Command {
@@ -89,8 +90,13 @@ RULE is a .krl file, or a text such as 'not e2 or e0 until[0,90] e1' (`havdrims 
 eight formulas, are judged together: a position has its verdicts when every formula has answered it. The folder must not
 be there yet, or be empty; if making it was cut short, it can be made again with the same words.
 
-The card begins at record 0 of its log, unless an option says otherwise. What stands before is never read: previous finds
-nothing there. All commands go on speaking of the log's own records.",
+The card begins at record 0 of its log, unless an option says otherwise. What stands before is never read: previous and
+since find nothing there, so that the first verdicts of a rule that looks back may be others than on the whole log; then it
+is said how far it looks. Where those records still stand as they were, --from with the number of an earlier one avoids it.
+All commands go on speaking of the log's own records.
+
+With --after it is written down in OLD that this card goes on from it: evening, close and trim of OLD are refused from then
+on, unless --both says that they are meant. The file `followed` in OLD has it, and may be taken away with the new card.",
         example: "havdrims new shop 'not e2 or e0 until[0,90] e1'",
         run: change::new,
     },
@@ -98,7 +104,7 @@ nothing there. All commands go on speaking of the log's own records.",
         name: "evening",
         group: Group::Card,
         words: &["CARD", "LOG"],
-        options: &[JSON],
+        options: &[BOTH, JSON],
         does: "carry on with the log as far as it goes",
         more: "\
 LOG is the kiosk's whole log, a .klg file, or what `havdrims trim` left of it, with new records behind. The records that
@@ -112,6 +118,9 @@ be overwritten. A run that was cut, for whatever reason, is simply repeated.
 From log version 2 on service records are passed over: they are no positions and get no verdict. It is said how many
 there were, the verdicts are then counted in positions, and what may be overwritten in records all the same.
 
+A card from which another goes on (`havdrims new --after`) takes no log: that is for the other. With --both it does, and
+as the other may still want them, no records are named that may be overwritten.
+
 A log has at most 1000000 records, dropped ones included. From 900000 on it is said how many are left, and what to do.
 While another command is at work on the card this one waits, for up to two seconds.",
         example: "havdrims evening card day.klg",
@@ -122,7 +131,7 @@ While another command is at work on the card this one waits, for up to two secon
         group: Group::Card,
         words: &["CARD", "LOG"],
         // It is asked for by the command itself, which says what closing means.
-        options: &[flag("--final", "say that it is meant").needed(), JSON],
+        options: &[flag("--final", "say that it is meant").needed(), BOTH, JSON],
         does: "the month's end: no record will follow",
         more: "\
 LOG is as for evening. Every remaining position gets its verdict on the log as it ends. From then on the card is closed:
@@ -134,7 +143,7 @@ it can be closed again with the same log, but takes no further records. It canno
         name: "trim",
         group: Group::Card,
         words: &["CARD", "LOG", "OUT"],
-        options: &[FORCE],
+        options: &[BOTH, FORCE],
         does: "write a shorter log, without the records that the card no longer wants",
         more: "\
 LOG is as for evening, of version 2 or 3. OUT becomes a log of version 3, which says how many records were dropped and
@@ -262,15 +271,15 @@ for by a checksum and how to go on. The card is not changed. The exit status is 
         does: "print the reason for the yes or no of a record",
         more: "\
 RULE is a .krl file, a formula, or a card, whose names for letters are shown then. LOG is the whole log, with no record overwritten or dropped. RECORD
-is the record's number in it, from 0; a service record has no verdict, and an open record none yet. Of a card the log is read from the
-card's first record on, positions count from there, and no reason is given that its sheet contradicts.
+is the record's number in it, from 0; a service record has no verdict, and an open record none yet.
 
 The reason is a line for each part of the rule that counts: the number of its entry, a position, and what makes it yes
 or no there. Positions are numbered over the records that are no service records.
 
-It explains the rule on this log from record 0 on. A card's sheet may say otherwise where the card was made with --after
-or --from, since it reads nothing before its first record, and where a record got its verdict by a closing and the log
-went on.",
+A rule or formula is explained on the log from record 0 on; a card as it has judged: from its first record on, from which
+its positions count, and where it is closed up to its last. A reason that looks back to a first record with others before
+it says that the card has not read them. A verdict that came from closing alone has no reason, and none is given that the
+card's sheet contradicts.",
         example: "havdrims why card/rule.krl day.klg 5 --words",
         run: |given| {
             let [rule, log, record] = given.words();

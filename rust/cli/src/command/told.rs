@@ -3,6 +3,8 @@
 use super::json::Json;
 use super::Paint;
 use crate::card::SoFar;
+use crate::followed::{Followed, Follower};
+use crate::parts::{counted, records, verdicts};
 
 /// What has a verdict: where no service record was seen every record is a position, and has its number.
 pub fn position(so_far: &SoFar) -> &'static str {
@@ -30,11 +32,11 @@ pub fn all(so_far: &SoFar, paint: Paint) -> String {
         Some(at) => format!(", the latest at {} {}", position(so_far), first.position + at),
     };
     let counts = summary.no().iter().zip(summary.latest()).map(|(no, at)| paint.number_of_no(*no) + &latest(at));
-    let counts = by_formula(&format!("so far: {} verdicts", status.given), ", ", counts.collect());
+    let counts = by_formula(&format!("so far: {}", verdicts(status.given)), ", ", counts.collect());
     let open = open_line(so_far);
     let service = match services {
         0 => String::new(),
-        _ => format!("service: {services} of {} records\n", status.seen),
+        _ => format!("service: {services} of {}\n", records(status.seen)),
     };
     format!("{counts}{open}{service}")
 }
@@ -45,7 +47,9 @@ pub fn open_line(so_far: &SoFar) -> String {
         0 => String::new(),
         record => format!(" from record {record} on"),
     };
-    format!("open: {} of {} {}s{begun}{ended}\n", so_far.open(), so_far.positions(), position(so_far))
+    let one = position(so_far);
+    let of = counted(so_far.positions() as usize, one, &format!("{one}s"));
+    format!("open: {} of {of}{begun}{ended}\n", so_far.open())
 }
 
 /// The same for other programs. Positions are those that `sheet` prints, and records those of the log.
@@ -65,4 +69,10 @@ pub fn as_json(so_far: &SoFar) -> Json {
         ("first_position", first.position.into()),
         ("closed", status.closed.into()),
     ])
+}
+
+/// The cards that go on from this one, for other programs.
+pub fn followed_by(followed: &Followed) -> Json {
+    let card = |card: &Follower| Json::Object(vec![("card", card.name().into()), ("record", card.record.into())]);
+    followed.cards().iter().map(card).collect()
 }

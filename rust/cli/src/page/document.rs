@@ -42,7 +42,11 @@ pub struct Document<'a> {
     /// The times of the first open record and of the last.
     pub open_from: Option<(u32, u32)>,
     pub closed: bool,
+    /// Which cards go on from this one.
+    pub followed: String,
     pub numbers: Numbers,
+    /// The number of the card's first record.
+    pub first: u64,
     /// Service records seen, and those in the visits that are shown.
     pub services: u64,
     /// Records of the log that the card has not seen.
@@ -111,7 +115,16 @@ impl Document<'_> {
             services => format!(", {} service", grouped(services)),
         };
         let seen = many(self.verdicts + self.open + self.services, "record", "records");
-        format!("{seen}: {} with a verdict, {} open{service}.", grouped(self.verdicts), grouped(self.open))
+        let begins = match self.first {
+            0 => String::new(),
+            first => format!(" The card begins at record {}.", grouped(first)),
+        };
+        let followed = match self.followed.is_empty() {
+            true => String::new(),
+            false => format!("<br><bdi>{}</bdi>.", text(&self.followed)),
+        };
+        let (verdicts, open) = (grouped(self.verdicts), grouped(self.open));
+        format!("{seen}: {verdicts} with a verdict, {open} open{service}.{begins}{followed}")
     }
 
     /// A line for each formula: is there anything to decide?
@@ -305,7 +318,14 @@ impl Document<'_> {
     }
 
     fn about_proofs(&self) -> String {
-        let on = if self.closed { "on the log as it ends" } else { "on this log and however it goes on" };
+        let from = match self.first {
+            0 => String::new(),
+            first => format!(" from record {} on", grouped(first)),
+        };
+        let on = match self.closed {
+            true => format!("on the log{from} as it ends"),
+            false => format!("on this log{from} and however it goes on"),
+        };
         let has_no = self.formulas.iter().any(|formula| !formula.stretches.is_empty());
         let reasons = if has_no {
             "; what a reason says holds of the records that the library was shown for it, and forces the no there"

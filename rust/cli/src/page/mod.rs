@@ -63,17 +63,20 @@ pub fn page(card: &mut Card<'_, impl Disk>, folder: &str, log: &[u8], clock: Clo
     let no = formulas.iter().map(|formula| No::of(&formula.stretches)).collect();
     let known: u64 = spans.iter().map(|span| span.held.len() as u64).sum();
     let open_from = place(&spans, status.given).zip(spans.last().and_then(Span::ends));
+    let made = SystemTime::now().duration_since(UNIX_EPOCH).map_or(0, |since| since.as_secs());
     let document = Document {
         card: name(folder),
         clock,
-        made: SystemTime::now().duration_since(UNIX_EPOCH).map_or(0, |since| since.as_secs()),
+        made,
         formulas,
         days,
         verdicts: status.given,
         open: card.so_far.open(),
         open_from: open_from.map(|(first, (_, last))| (first.seconds, last)),
         closed: status.closed,
+        followed: card.followed().unwrap_or_default().says(),
         numbers: Numbers { position: first.position, same: services == 0 && first.record == first.position },
+        first: first.record,
         services,
         further: whole.len() as u64 - first.record - status.seen,
         lost: card.so_far.positions() - known,

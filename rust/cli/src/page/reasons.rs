@@ -53,6 +53,8 @@ pub struct Reasons<'a> {
 struct Explained<'a> {
     reason: Reason,
     held: &'a [Held],
+    /// The first of them is the card's first.
+    begins: bool,
 }
 
 impl<'a> Reasons<'a> {
@@ -63,8 +65,8 @@ impl<'a> Reasons<'a> {
 
     /// The reason for the no of a position.
     pub fn of(&self, position: u64) -> Result<Sentence, Missing> {
-        let Explained { reason, held } = self.explained(position)?;
-        Sentence::of(&self.entries, &reason, &Place { held, first: self.first }).ok_or(Missing::Lost)
+        let Explained { reason, held, begins } = self.explained(position)?;
+        Sentence::of(&self.entries, &reason, &Place { held, first: self.first, begins }).ok_or(Missing::Lost)
     }
 
     fn explained(&self, position: u64) -> Result<Explained<'a>, Missing> {
@@ -79,7 +81,7 @@ impl<'a> Reasons<'a> {
         let bytes = self.part(&held[0], &held[held.len() - 1]).ok_or(Missing::Lost)?;
         let part = Log::new(&bytes).map_err(|_| Missing::Lost)?;
         match self.rule.explain(&part, 0, (at - from) as u64) {
-            Ok(reason) => Ok(Explained { reason, held }),
+            Ok(reason) => Ok(Explained { reason, held, begins: window.begins() == Some(from) }),
             // The log as the card has seen it ends with this span.
             Err(Refusal::NoReason) if span.records.end == self.log.len() as u64 => Err(Missing::Closed),
             Err(_) => Err(Missing::Lost),
@@ -185,7 +187,7 @@ mod tests {
     }
 
     /// The text of a reason with its positions moved by so many.
-    fn moved(Explained { reason, held }: &Explained, spans: &[Span]) -> String {
+    fn moved(Explained { reason, held, .. }: &Explained, spans: &[Span]) -> String {
         let span = spans.iter().find(|span| span.held.contains(&held[0])).unwrap();
         let by = span.first + span.held.iter().position(|other| *other == held[0]).unwrap() as u64;
         let line = |line: &str| {

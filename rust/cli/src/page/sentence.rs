@@ -3,6 +3,7 @@
 use super::html::{grouped, short};
 use super::known::Held;
 use super::reasons::Missing;
+use crate::beginning::{begins, is_first_read};
 use crate::parts::{denied, holds_everywhere, seconds, Entry, Kind};
 use havdrims::reason::{Cause, Line, Said};
 use havdrims::Reason;
@@ -27,6 +28,8 @@ pub struct Place<'a> {
     pub held: &'a [Held],
     /// The number that is added to a record's.
     pub first: u64,
+    /// The first of them is the card's first.
+    pub begins: bool,
 }
 
 impl Place<'_> {
@@ -36,6 +39,16 @@ impl Place<'_> {
 
     fn gap(&self, one: u64, other: u64) -> u32 {
         self.held[one as usize].seconds.abs_diff(self.held[other as usize].seconds)
+    }
+
+    /// That the card begins with the record up to which a reason looks back, and that others stand before it; else nothing.
+    fn begun(&self, entries: &[Entry], reason: &Reason) -> String {
+        if self.first == 0 || !self.begins {
+            return String::new();
+        }
+        let times: Vec<u32> = self.held.iter().map(|held| held.seconds).collect();
+        let first_read = reason.lines().iter().any(|line| is_first_read(entries, &times, line));
+        first_read.then(|| begins(grouped(self.first))).unwrap_or_default()
     }
 }
 
@@ -66,7 +79,8 @@ impl Sentence {
     pub fn of(entries: &[Entry], reason: &Reason, place: &Place<'_>) -> Option<Sentence> {
         let mut teller = Teller { entries, place, lines: reason.lines().iter(), failed_at: Vec::new() };
         let Part { yes, full, kind } = teller.part();
-        (!yes).then_some(Sentence { text: cut(full), kind: cut(kind), failed_at: teller.failed_at })
+        let [text, kind] = [full, kind].map(|said| cut(said) + &place.begun(entries, reason));
+        (!yes).then_some(Sentence { text, kind, failed_at: teller.failed_at })
     }
 }
 
@@ -247,7 +261,7 @@ mod tests {
     use havdrims::{text, Log, Rule};
 
     /// What is said of a position of a log that is typed, and what of it without its times and records.
-    fn said(formula: &str, log: &str, position: u64) -> (String, String) {
+    fn said(formula: &str, log: &str, position: u64, begins: bool) -> (String, String) {
         let rule: Rule = formula.parse().unwrap();
         let bytes = text::log_from_text(log).unwrap();
         let log = Log::new(&bytes).unwrap();
@@ -255,7 +269,7 @@ mod tests {
             (0..).zip(log.records()).map(|(record, of)| Held { record, seconds: of.seconds }).collect();
         let reason = rule.explain(&log, 0, position).unwrap();
         let letters = Letters::read("0 head warm\n1 print starts\n2 customer asks\n").unwrap();
-        let place = Place { held: &held, first: 1_000 };
+        let place = Place { held: &held, first: 1_000, begins };
         let Sentence { text, kind, .. } = Sentence::of(&entries(&rule, &letters), &reason, &place).unwrap();
         (text, kind)
     }
@@ -263,7 +277,7 @@ mod tests {
     #[test]
     fn every_form_of_a_sentence() {
         let check = |formula: &str, log: &str, position: u64, text: &str, kind: &str| {
-            assert_eq!(said(formula, log, position), (text.to_string(), kind.to_string()), "{formula}");
+            assert_eq!(said(formula, log, position, false), (text.to_string(), kind.to_string()), "{formula}");
         };
         let same = |formula: &str, log: &str, position: u64, text: &str| check(formula, log, position, text, text);
         same("e0", "1 none\n", 0, "no \"head warm\"");
@@ -397,9 +411,27 @@ mod tests {
     #[test]
     fn a_sentence_that_is_too_long() {
         let formula = vec!["e31"; 60].join(" or ");
-        let (text, kind) = said(&formula, "1 none\n", 0);
+        let (text, kind) = said(&formula, "1 none\n", 0, false);
         let end = "; no … (cut off here; `havdrims why` has all of it)";
         assert!(text.starts_with("no e31; no e31; ") && text.ends_with(end), "{text}");
         assert_eq!((text.find('…'), kind), (Some(299), text.clone()));
+    }
+
+    /// A card that begins in the middle of a log has read nothing before.
+    #[test]
+    fn a_reason_that_looks_back_to_the_first_record() {
+        let check = |formula: &str, position: u64, text: &str, begun: bool| {
+            let log = "10 e0\n20 e0\n90 e0\n130 e0\n";
+            assert_eq!(said(formula, log, position, false).0, text, "{formula}");
+            let end = "; the card begins at record 1,000 and has read nothing before it";
+            let (full, kind) = said(formula, log, position, true);
+            assert_eq!(full, format!("{text}{}", if begun { end } else { "" }), "{formula}");
+            assert_eq!(kind.ends_with(end), begun, "{formula}");
+        };
+        check("prev[0,inf] e0", 0, "no record stands before", true);
+        check("e0 since[0,90] e1", 2, "no \"print starts\" in the 90 seconds before", true);
+        check("e0 since[0,90] e1", 3, "no \"print starts\" in the 90 seconds before", false);
+        check("e0 since[0,inf] e1", 3, "no \"print starts\" here or earlier", true);
+        check("e1 since[0,90] e2", 2, "at once no \"print starts\", and from then on no \"customer asks\"", false);
     }
 }

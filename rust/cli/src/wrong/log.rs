@@ -125,6 +125,12 @@ impl Fall {
         let Fall { record, seconds, before } = self;
         format!("record {record}, second {seconds}, comes after record {}, second {before}", record - 1)
     }
+
+    /// Whether an earlier record has its time already, as where records were added twice.
+    pub fn is_again(&self, log: &Log<'_>) -> bool {
+        let earlier = self.record - log.dropped();
+        log.records().take(earlier).any(|record| record.seconds == self.seconds)
+    }
 }
 
 /// The first such record behind this one.

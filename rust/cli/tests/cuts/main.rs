@@ -9,6 +9,7 @@ mod disk;
 use cli::card::{self, Begins, Card, Evening, Fault, First};
 use cli::disk::Disk;
 use cli::evenings::Known;
+use cli::followed::{Followed, Follower};
 use cli::letters::Letters;
 use cli::page::known::{self, Span};
 use cli::{file, kept};
@@ -622,6 +623,53 @@ fn a_failure_at_every_operation_of_naming() {
         }
     }
     assert!(failures > 0 && not_sure > 0);
+}
+
+/// That another card goes on from one is written down there, cut or failing at every operation: it is there as a whole or not at all,
+/// the others that were there stay, and the card's own verdicts are as they were.
+#[test]
+fn a_cut_and_a_failure_at_every_operation_of_following() {
+    let troubles = [Trouble::Full, Trouble::Late, Trouble::Broken];
+    let cuts = [Work::Nothing, Work::Part, Work::All].map(Trouble::Cut);
+    let (first, second) = (Follower::new("strict", 12), Follower::new("third", 17));
+    let one = Followed::default().with(first.clone());
+    let two = one.clone().with(second.clone());
+    let (mut tried, mut written) = (0, 0);
+    for seed in 0..20 {
+        let week = Week::new(&mut Random::new(seed));
+        for (&trouble, way) in troubles
+            .iter()
+            .chain(&cuts)
+            .flat_map(|trouble| [Way::Synced, Way::Killed, Way::Part].map(|way| (trouble, way)))
+        {
+            for operation in 0.. {
+                let mut run = Run::new(&week, seed);
+                run.make_again();
+                run.evening_again(week.days[0]);
+                card::follow(&mut run.disk, first.clone()).unwrap();
+                run.disk.trouble = Some((run.disk.operations + operation, trouble));
+                let ended = card::follow(&mut run.disk, second.clone());
+                run.disk.trouble = None;
+                run.cut(way);
+                let found = Card::open(&mut run.disk, false).and_then(|mut card| card.followed()).unwrap();
+                assert!(
+                    found == two || ended.is_err() && found == one,
+                    "{trouble:?} at {operation}, {way:?}: {week:?}"
+                );
+                assert_eq!(run.sheet(), week.sheet_of(week.days[0]), "{week:?}");
+                if ended.is_ok() {
+                    break;
+                }
+                tried += 1;
+                written += usize::from(found == two);
+                card::follow(&mut run.disk, second.clone()).unwrap();
+                run.cut(Way::Synced);
+                assert_eq!(Card::open(&mut run.disk, false).and_then(|mut card| card.followed()).unwrap(), two);
+            }
+        }
+    }
+    println!("{tried} cuts and failures, {written} of them when it was written");
+    assert!(tried > written && written > 0);
 }
 
 /// A `new` that was cut may have had names; made again without, the card has none.

@@ -1,6 +1,8 @@
 //! A new rule in the middle of a week: a card that begins where another has come to, or at a given record.
 
-use crate::{contents, example, Place, CARRY_ON, OLDER_LOG, OTHER_LOG, RULE};
+use crate::{contents, example, Place, ALREADY, CARRY_ON, OLDER_LOG, OTHER_LOG, RULE};
+use cli::evenings::bound_to;
+use cli::followed::{Followed, Follower};
 use evaluator::log::{self, Record};
 use std::fs;
 
@@ -29,7 +31,10 @@ fn a_card_after_another() {
     assert_eq!(place.ok(&["summary", "strict"]), none);
     let said = place.ok(&["evening", "strict", "day.klg"]);
     let so_far = "so far: 0 verdicts, 0 no\nopen: 2 of 2 records from record 12 on\n";
-    assert_eq!(said, format!("no new verdict\n{so_far}records 0 to 11 may be overwritten\n"));
+    let new = "no new verdict: 2 records are new, and none is settled yet";
+    assert_eq!(said, format!("{new}\n{so_far}records 0 to 11 may be overwritten\n"));
+    let again = place.ok(&["evening", "strict", "day.klg"]);
+    assert!(again.starts_with("no new record since the last evening (14 records): is it"), "{again}");
     let said = place.ok(&["evening", "strict", "tuesday.klg"]);
     let so_far = "so far: 6 verdicts, 1 no, the latest at record 15\nopen: 1 of 7 records from record 12 on\n";
     assert_eq!(said, format!("records 12 to 17: 5 yes, 1 no\n{so_far}records 0 to 17 may be overwritten\n"));
@@ -42,12 +47,15 @@ fn a_card_after_another() {
     let said = place.ok(&["close", "again", "tuesday.klg", "--final"]);
     assert!(said.starts_with("record 18: 0 yes, 1 no\n"), "{said}");
 
-    place.ok(&["close", "strict", "tuesday.klg", "--final"]);
+    place.ok(&["close", "strict", "tuesday.klg", "--final", "--both"]);
     let whole = place.ok(&["sheet", "whole"]);
     assert_eq!(place.ok(&["sheet", "strict"]), from(&whole, 12));
     assert_eq!(place.ok(&["sheet", "strict", "--from", "15"]), from(&whole, 15));
     assert_eq!(place.ok(&["sheet", "strict", "--from", "3"]), from(&whole, 12));
-    assert_eq!(place.card(), before);
+    // all that is new in the old card is that another goes on from it
+    let mut after = place.card();
+    assert!(after.remove("followed").is_some());
+    assert_eq!(after, before);
     // the log as the card knows it
     log[8 + 8 * 18 + 7] ^= 1;
     fs::write(place.path("other.klg"), &log).unwrap();
@@ -100,16 +108,17 @@ fn after_a_card_that_left_nothing_open() {
     assert!(place.ok(&["new", "next", "e1", "--after", "card"]).ends_with("begins at record 3\n"));
     // a card after one that has seen nothing, and one after a card whose point is damaged
     place.ok(&["new", "third", "e1", "--after", "next"]);
+    fs::remove_file(place.path("next/followed")).unwrap();
     fs::write(place.path("card/point"), b"").unwrap();
     place.ok(&["new", "fourth", "e1", "--after", "card"]);
     let hint = format!("{OTHER_LOG} Nothing was changed.\n");
     let refused = |card: &str| {
         let text = format!("other.klg: record 2 is not the one that this card has seen\n{hint}");
         for command in CARRY_ON {
-            assert_eq!(place.fails(1, &[command, &[card, "other.klg"]].concat()), text);
+            assert_eq!(place.fails(1, &[command, &[card, "other.klg", "--both"]].concat()), text);
         }
         assert_eq!(place.fails(1, &["open", card, "other.klg"]), text);
-        assert_eq!(place.fails(1, &["trim", card, "other.klg", "out.klg"]), text);
+        assert_eq!(place.fails(1, &["trim", card, "other.klg", "out.klg", "--both"]), text);
     };
     place.log("other.klg", "10 e0\n11 e1\n12 e1\n13 e1\n");
     ["next", "third", "fourth"].iter().for_each(|card| refused(card));
@@ -149,7 +158,8 @@ fn after_service_visits() {
         said.starts_with("open: 2 of 2 positions from record 15 on\nposition 12, record 15, second 700: "),
         "{said}"
     );
-    place.ok(&["trim", "old", "visit.klg", "left.klg"]);
+    let said = place.ok(&["trim", "old", "visit.klg", "left.klg", "--both"]);
+    assert_eq!(said, "left.klg: records 0 to 14 dropped, 2 left\n`card` may still want the log as it was\n");
     for log in ["visit.klg", "left.klg"] {
         let said = place.ok(&["evening", "card", log]);
         assert!(said.ends_with("records 0 to 14 may be overwritten\n"), "{said}");
@@ -173,7 +183,9 @@ fn after_service_visits() {
 fn a_card_from_a_record() {
     let place = Place::with_card(0);
     let said = place.ok(&["new", "back", "prev[0,inf] e0", "--from", "4"]);
-    assert!(said.ends_with("begins at record 4\n"), "{said}");
+    let looks = "`prev` looks back 1 record, and the first verdict may be another than on the whole log\n";
+    let begins = format!("begins at record 4\nit reads nothing before that: {looks}");
+    assert!(said.ends_with(&begins), "{said}");
     place.ok(&["evening", "back", "day.klg"]);
     assert!(place.ok(&["sheet", "back"]).starts_with("4 no\n5 yes\n"));
     let said = place.ok(&["new", "none", "e0", "--from", "0"]);
@@ -234,7 +246,8 @@ fn where_no_card_can_begin() {
     assert_eq!(said, format!("a log has at most 1000000 records\n{expected}"));
     let said = place.fails(1, &["new", "more", "e0", "--after", "none"]);
     assert_eq!(said, "none: no card is here; `havdrims new` makes one\n");
-    assert_eq!(place.fails(1, &["new", "card", "e0", "--after", "card"]), "card: a card is here already\n");
+    assert_eq!(place.fails(1, &["new", "card", "e0", "--after", "card"]), ALREADY);
+    assert!(!place.path("card/followed").exists());
     // cards of an earlier program: without service records the number is known
     place.make_old();
     assert!(place.ok(&["new", "next", "e0", "--after", "card"]).ends_with("begins at record 12\n"));
@@ -246,7 +259,153 @@ fn where_no_card_can_begin() {
     let text = "card: this card was made by an earlier program: run `havdrims evening` with it once more\n";
     assert_eq!(place.fails(1, &["new", "more", "e0", "--after", "card"]), text);
     assert!(!place.path("more").exists());
+    assert!(!place.path("card/followed").exists());
     place.ok(&["evening", "card", "visit.klg"]);
     let said = place.ok(&["new", "more", "e0", "--after", "card"]);
     assert!(said.ends_with("begins at record 15, position 12\n"), "{said}");
+}
+
+/// A since looks back over the record at which a card begins, and finds nothing there: it is said before a verdict is given.
+#[test]
+fn a_since_that_looks_back_over_the_beginning() {
+    let place = Place::new();
+    let (rule, monday) = ("not e1 or e3 since[0,90] e2", "0 e0 e3\n100 e0 e2 e3\n140 e0 e1 e3\n");
+    place.log("log.klg", monday);
+    let made = format!("{rule}\nwords 203, reach 0 seconds\n");
+    assert_eq!(place.ok(&["new", "whole", rule]), format!("whole: {made}"));
+    place.ok(&["evening", "whole", "log.klg"]);
+    let looks = "it reads nothing before that: `since` looks back 90 seconds, \
+                 and verdicts up to 90 seconds after record 3 may be others than on the whole log\n";
+    let said = place.ok(&["new", "next", "whole/rule.krl", "--after", "whole"]);
+    assert_eq!(said, format!("next: {made}begins at record 3\n{looks}"));
+    assert_eq!(place.ok(&["new", "from", rule, "--from", "3"]), format!("from: {made}begins at record 3\n{looks}"));
+    // an earlier beginning sees what is needed
+    place.ok(&["new", "early", rule, "--from", "1"]);
+    fs::remove_file(place.path("log.klg")).unwrap();
+    place.log("log.klg", &format!("{monday}170 e0 e1 e3\n195 e1 e3\n261 e3\n"));
+    place.ok(&["evening", "whole", "log.klg", "--both"]);
+    let sheet = |card: &str| {
+        if card != "whole" {
+            place.ok(&["evening", card, "log.klg"]);
+        }
+        place.ok(&["sheet", card, "--from", "3"])
+    };
+    assert_eq!(sheet("whole"), "3 yes\n4 no\n5 yes\n");
+    assert_eq!(sheet("early"), "3 yes\n4 no\n5 yes\n");
+    assert_eq!(sheet("next"), "3 no\n4 no\n5 yes\n");
+    assert_eq!(sheet("from"), "3 no\n4 no\n5 yes\n");
+}
+
+/// A card from which others go on takes no log by mistake: what it would release they may still want.
+#[test]
+fn a_card_that_another_goes_on_from() {
+    let place = Place::with_card(1);
+    fs::copy(example("visit.klg"), place.path("visit.klg")).unwrap();
+    let old = place.card();
+    place.ok(&["new", "strict", STRICT, "--after", "card"]);
+    let refused = |text: &str| {
+        let before = place.card();
+        let text = format!("card: {text}\nNothing was changed.\n");
+        for command in CARRY_ON {
+            assert_eq!(place.fails(1, &[command, &["card", "tuesday.klg"]].concat()), text);
+        }
+        assert_eq!(place.fails(1, &["trim", "card", "visit.klg", "left.klg"]), text);
+        assert_eq!(place.card(), before);
+        assert!(!place.path("left.klg").exists());
+    };
+    let strict = "`strict` goes on from this card at record 12";
+    refused(&format!("{strict}: give the log to it. With --both this card takes it too."));
+    let summary = place.ok(&["summary", "card"]);
+    assert!(summary.ends_with(&format!("open: 2 of 14 records\n{strict}\n")), "{summary}");
+    let check = place.ok(&["check", "card"]);
+    assert!(check.contains("point: good\nfollowed: 1 card\nall files fit together\n"), "{check}");
+    assert!(check.ends_with(&format!("open: 2 of 14 records\n{strict}\n")), "{check}");
+    let page = place.ok(&["page", "card", "day.klg", "page.html"]);
+    assert_eq!(page, format!("page.html: 2 no in 2 stretches\n{strict}\n"));
+    let page = fs::read_to_string(place.path("page.html")).unwrap();
+    assert!(page.contains(&format!("<br><bdi>{strict}</bdi>.")), "{page}");
+    // the new card has nothing of it
+    assert!(!place.path("strict/followed").exists());
+    assert!(place.ok(&["evening", "strict", "day.klg"]).ends_with("records 0 to 11 may be overwritten\n"));
+
+    place.ok(&["new", "third", "e0", "--after", "card"]);
+    let both = "`strict` goes on from this card at record 12, `third` at record 12";
+    refused(&format!("{both}: give the log to them. With --both this card takes it too."));
+    let json = place.ok(&["summary", "card", "--json"]);
+    let cards = "\"followed_by\": [{\"card\": \"strict\", \"record\": 12}, {\"card\": \"third\", \"record\": 12}]";
+    assert!(json.contains(cards), "{json}");
+    assert!(place.ok(&["check", "card", "--json"]).contains(cards));
+    // both are meant
+    let said = place.ok(&["evening", "card", "tuesday.klg", "--both"]);
+    let last = "this card no longer wants records 0 to 17; `strict` and `third` may still want some of them\n";
+    assert!(said.starts_with("records 12 to 17: 5 yes, 1 no\n") && said.ends_with(last), "{said}");
+    assert!(!said.contains("overwritten"), "{said}");
+    let json = place.ok(&["evening", "card", "tuesday.klg", "--both", "--json"]);
+    assert!(json.contains("\"released_records\": 0,") && json.contains(cards), "{json}");
+    assert!(place.ok(&["close", "card", "tuesday.klg", "--final", "--both"]).ends_with(last));
+    // without the file it is a card like others, and --both means nothing
+    fs::remove_dir_all(place.path("card")).unwrap();
+    fs::create_dir(place.path("card")).unwrap();
+    old.iter().for_each(|(name, bytes)| fs::write(place.path("card").join(name), bytes).unwrap());
+    let said = place.ok(&["evening", "card", "tuesday.klg", "--both"]);
+    assert!(said.ends_with("records 0 to 17 may be overwritten\n"), "{said}");
+}
+
+/// The file that says so may be damaged, or that of another card: then no log is taken, as another card may want it.
+#[test]
+fn what_goes_on_from_a_card_is_damaged() {
+    let place = Place::with_card(1);
+    place.ok(&["new", "next", STRICT, "--after", "card"]);
+    let good = fs::read(place.path("card/followed")).unwrap();
+    place.ok(&["new", "other", RULE]);
+    place.ok(&["new", "more", STRICT, "--after", "other"]);
+    let mut damaged = good.clone();
+    damaged[12] ^= 1;
+    let fault = "card: the file `followed` is damaged, or not of this card: it says which card goes on from this one. \
+                 Give the log to that one; if there is none, take the file away\n";
+    for bytes in [damaged, good[..20].to_vec(), Vec::new(), fs::read(place.path("other/followed")).unwrap()] {
+        fs::write(place.path("card/followed"), bytes).unwrap();
+        for words in [&["evening", "card", "day.klg"][..], &["evening", "card", "day.klg", "--both"]] {
+            assert_eq!(place.fails(1, words), format!("{fault}Nothing was changed.\n"));
+        }
+        let (printed, said) = place.partly(&["check", "card"]);
+        assert!(printed.ends_with("point: good\nfollowed: damaged, or not of this card\n"), "{printed}");
+        assert_eq!(said, fault);
+        // the verdicts do not depend on it
+        assert!(place.ok(&["sheet", "card"]).ends_with("11 yes\n"));
+        place.ok(&["page", "card", "day.klg", "page.html", "--force"]);
+    }
+    // it is written anew
+    fs::remove_dir_all(place.path("next")).unwrap();
+    fs::write(place.path("card/followed.new"), b"half").unwrap();
+    let said = place.partly(&["check", "card"]).0;
+    assert!(said.contains("followed.new: left by a run that was cut; it does not count\n"), "{said}");
+    place.ok(&["new", "next", STRICT, "--after", "card"]);
+    assert_eq!(fs::read(place.path("card/followed")).unwrap(), good);
+    assert!(!place.path("card/followed.new").exists());
+}
+
+/// Where nothing can be written into the old card the new one is made all the same, and it is said.
+#[test]
+fn an_old_card_that_cannot_be_written() {
+    let place = Place::with_card(1);
+    fs::create_dir(place.path("card/followed.new")).unwrap();
+    let (printed, said) = place.partly(&["new", "next", STRICT, "--after", "card"]);
+    assert!(printed.ends_with("begins at record 12\n"), "{printed}");
+    assert!(said.starts_with("card: cannot write the file `followed`: "), "{said}");
+    let told = "The card next is made. That it goes on from card is not written there: give the log to next alone.\n";
+    assert!(said.ends_with(told), "{said}");
+    assert!(place.ok(&["evening", "next", "tuesday.klg"]).starts_with("records 12 to 17: "));
+}
+
+/// The file that docs/FORMATS.md shows.
+#[test]
+fn the_file_of_the_cards_that_go_on() {
+    let card = b"havdrims card 0123456789abcdef\nbegins at record 0, position 0\n";
+    let bound = bound_to(card, &fs::read(example("rule.krl")).unwrap());
+    let file = Followed::default().with(Follower::new("strict", 12)).encode(bound);
+    let shown = "at record 12 strict\nchecksum 6183279eec9a7882\n";
+    assert_eq!(String::from_utf8(file).unwrap(), shown);
+    let formats = fs::read_to_string(example("../../docs/FORMATS.md")).unwrap();
+    assert!(formats.contains(&shown.lines().map(|line| format!("    {line}\n")).collect::<String>()));
 }

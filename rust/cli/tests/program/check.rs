@@ -105,6 +105,10 @@ fn a_card_of_another_version() {
         assert!(said.ends_with("begins at record 15, position 12\n"), "{said}");
         fs::remove_dir_all(place.path("next")).unwrap();
         fs::write(place.path("card/point"), &good["point"]).unwrap();
+        // That the new card goes on from it is written down there; it may be taken away with that one.
+        let said = place.fails(1, &["evening", "card", "visit.klg"]);
+        assert!(said.starts_with("card: `next` goes on from this card at record 15: give the log to it."), "{said}");
+        fs::remove_file(place.path("card/followed")).unwrap();
     }
     place.ok(&["evening", "card", "visit.klg"]);
 }

@@ -42,7 +42,7 @@ fn logs_of_version_2_as_text() {
     assert_eq!(place.ok(&["to-log", "day.txt", "day.klg"]), "day.klg: 4 records, 2 of them service\n");
     assert_eq!(place.ok(&["to-text", "day.klg"]), text);
     fs::write(place.path("none.txt"), "version 2\n10 e0\n").unwrap();
-    assert_eq!(place.ok(&["to-log", "none.txt", "none.klg"]), "none.klg: 1 records\n");
+    assert_eq!(place.ok(&["to-log", "none.txt", "none.klg"]), "none.klg: 1 record\n");
     assert_eq!(place.ok(&["to-text", "none.klg"]), "version 2\n10 e0\n");
     // the same records as version 1: letter 31 is a letter
     let mut bytes = fs::read(place.path("day.klg")).unwrap();

@@ -1,6 +1,6 @@
 //! What can go wrong, each with its words, exit status 1, and the card unchanged.
 
-use crate::{contents, ended, Place, CARRY_ON, OLDER_LOG, OTHER_CLOCK, OTHER_LOG, RULE};
+use crate::{contents, ended, Place, ALREADY, CARRY_ON, OLDER_LOG, OTHER_CLOCK, OTHER_LOG, RULE};
 use evaluator::log;
 use havdrims::save::{checksum, Saved};
 use std::fs::{self, File, Permissions};
@@ -172,6 +172,8 @@ fn a_log_that_leaves_nothing_open() {
     // a card in its place begins behind that record
     assert!(place.ok(&["new", "next", "e0", "--after", "card"]).ends_with("begins at record 3\n"));
     place.ok(&["evening", "next", "log.klg"]);
+    // without that one, and what is written of it
+    fs::remove_file(place.path("card/followed")).unwrap();
     assert_eq!(place.ok(&["trim", "card", "log.klg", "left.klg"]), "left.klg: records 0 to 1 dropped, 1 left\n");
     assert!(place.ok(&["evening", "card", "left.klg"]).ends_with("records 0 to 1 may be overwritten\n"));
     log("log.klg", "0 e0\n0 e1\n12 e0\n13 e0\n");
@@ -217,7 +219,9 @@ fn a_card_of_an_earlier_program() {
     let said = place.ok(&["evening", "card", "tuesday.klg"]);
     let earlier = "this card was made by an earlier program: from now on it knows its log again\n";
     assert!(said.starts_with(&format!("{earlier}records 12 to 17: 5 yes, 1 no\n")), "{said}");
-    assert!(place.ok(&["evening", "card", "tuesday.klg"]).starts_with("no new verdict\n"));
+    assert!(place
+        .ok(&["evening", "card", "tuesday.klg"])
+        .starts_with("no new record since the last evening (19 records)"));
     let mut log = fs::read(place.path("tuesday.klg")).unwrap();
     log[8 + 8 * 18 + 7] ^= 1;
     fs::write(place.path("other.klg"), log).unwrap();
@@ -238,7 +242,7 @@ fn a_closing_is_meant() {
     let text = "closing says that no record will follow: every open record gets its verdict on the log as it ends, and the card\n\
                 takes no further records. It cannot be undone. With --final it is done; `havdrims evening` carries on.\n\
                 Nothing was changed.\n\
-                expected: havdrims close CARD LOG --final [--json]\n";
+                expected: havdrims close CARD LOG --final [--both] [--json]\n";
     assert_eq!(place.fails(2, &["close", "card", "tuesday.klg"]), text);
     assert_eq!(place.fails(2, &["close", "none", "none.klg"]), text);
     assert_eq!(place.card(), before);
@@ -345,6 +349,21 @@ fn names_that_are_nearly_those_of_cards() {
     assert_eq!(place.fails(1, &["summary", "shop/"]), format!("shop/: {holds}"));
 }
 
+/// A log behind which its own records were put once more.
+#[test]
+fn records_that_were_added_twice() {
+    let place = Place::with_card(1);
+    let day = fs::read(place.path("day.klg")).unwrap();
+    fs::write(place.path("twice.klg"), [&day, &day[8..]].concat()).unwrap();
+    let twice = "twice.klg: record 14, second 0, comes after record 13, second 730 (refused 14)\n\
+                 Is this the log of another kiosk, did its clock begin anew, or were records added twice? Nothing was changed.\n";
+    assert_eq!(place.fails(1, &["evening", "card", "twice.klg"]), twice);
+    // A second that the log does not have.
+    fs::write(place.path("falls.klg"), [&day, &[0, 0, 0, 1, 0, 0, 0, 0][..]].concat()).unwrap();
+    let said = place.fails(1, &["evening", "card", "falls.klg"]);
+    assert!(said.ends_with(&format!("(refused 14)\n{OTHER_CLOCK} Nothing was changed.\n")), "{said}");
+}
+
 /// A formula of several words that the shell hands over one by one.
 #[test]
 fn formulas_without_quotes() {
@@ -366,8 +385,12 @@ fn formulas_without_quotes() {
         "new other not e2 or e0 untill[0,90] e1",
         "the word `untill` is not known; did you mean until?\n  not e2 or e0 untill[0,90] e1\n               ^^^^^^\n\
          there are the words not, or, prev, next, since, until, inf, the letters e0 to e31, numbers, and the signs ( ) [ ] , \
-         (refused 16)\nPut the formula between quotes, when it is right\n",
+         (refused 16)\nPut each formula between quotes of its own, when it is right\n",
     );
+    let each = "each formula needs quotes of its own: 'e0 until[0,9] e1' 'not e2 or e0' (refused 17)\n";
+    fails(1, "new other e0 until[0,9] e1 not e2 or e0", each);
+    assert_eq!(place.fails(1, &["new", "other", "e0 until[0,9] e1", "not", "e2", "or", "e0"]), each);
+    assert_eq!(place.fails(1, &["rule", "e0", "until[0,9]", "e1", "not e2 or e0", "out.krl"]), each);
     assert!(!place.path("other").exists() && !place.path("out.krl").exists());
     // two formulas, one of which is wrong, stand between quotes already
     let said = place.fails(1, &["new", "other", "e0 or", "e1"]);
@@ -382,12 +405,12 @@ fn formulas_without_quotes() {
     fails(
         2,
         "evening station hall day.klg",
-        "put the name between quotes: 'station hall'\nexpected: havdrims evening CARD LOG [--json]\n",
+        "put the name between quotes: 'station hall'\nexpected: havdrims evening CARD LOG [--both] [--json]\n",
     );
     fails(
         2,
         "evening station hall station hall.klg",
-        "put the name between quotes: 'station hall'\nexpected: havdrims evening CARD LOG [--json]\n",
+        "put the name between quotes: 'station hall'\nexpected: havdrims evening CARD LOG [--both] [--json]\n",
     );
 }
 
@@ -408,7 +431,7 @@ fn rules_that_are_refused() {
 #[test]
 fn folders_that_are_no_card_and_cards_that_are_there() {
     let place = Place::with_card(1);
-    refuses(&place, &["new", "card", RULE], "card: a card is here already\n");
+    refuses(&place, &["new", "card", RULE], ALREADY);
     let none = "no card is here; `havdrims new` makes one\n";
     fs::create_dir(place.path("bare")).unwrap();
     for folder in ["none", "bare"] {
@@ -493,7 +516,7 @@ fn files_that_are_missing() {
     }
     fs::remove_file(place.path("card/card.txt")).unwrap();
     missing("the file `card.txt` is missing", false);
-    refuses(&place, &["new", "card", RULE], "card: a card is here already\n");
+    refuses(&place, &["new", "card", RULE], ALREADY);
 }
 
 /// A reader that closes the pipe has seen enough; a disk that is full has not.
@@ -508,7 +531,8 @@ fn an_output_that_cannot_be_written() {
     let output = place.program().args(["evening", "card", "day.klg"]).stdout(full).output().unwrap();
     let text = "the command is done, but its output cannot be written: No space left on device (os error 28)\n";
     assert_eq!(ended(output), (1, String::new(), text.to_string()));
-    assert!(place.ok(&["evening", "card", "day.klg"]).starts_with("no new verdict\nso far: 12 verdicts"));
+    let again = place.ok(&["evening", "card", "day.klg"]);
+    assert!(again.starts_with("no new record ") && again.contains("\nso far: 12 verdicts"), "{again}");
 }
 
 #[test]
@@ -635,7 +659,7 @@ fn a_card_that_is_being_made() {
             refuses(&place, &["summary", "card"], IN_USE);
             refuses(&place, &["evening", "card", "day.klg"], &format!("{IN_USE}Nothing was changed.\n"));
         }
-        let again = if file == "point" { "card: a card is here already\n" } else { IN_USE };
+        let again = if file == "point" { ALREADY } else { IN_USE };
         refuses(&place, &["new", "card", RULE], again);
     }
     lock.unlock().unwrap();
@@ -680,7 +704,7 @@ fn two_cards_made_at_once() {
     for round in 0..8 {
         let all = at_once(&place, &[&["new", "card", RULE][..]; 8]);
         let made = all.iter().filter(|(status, _, err)| {
-            assert!(*status == 0 || err == IN_USE || err == "card: a card is here already\n", "{err}");
+            assert!(*status == 0 || err == IN_USE || err == ALREADY, "{err}");
             *status == 0
         });
         assert_eq!(made.count(), 1, "round {round}");

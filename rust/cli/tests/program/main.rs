@@ -35,6 +35,9 @@ Is this the log of another kiosk? Were more records overwritten than the last ev
 an older copy?";
 const OLDER_LOG: &str =
     "Is it an older copy of the log, only a part of it, or another kiosk's? The whole log is wanted, old records too.";
+/// What is said of a card that is to be made where one is.
+const ALREADY: &str = "card: a card is here already\n\
+                       A card keeps its rule: `havdrims new OTHER RULE --after card` goes on from it with another.\n";
 const OTHER_CLOCK: &str = "Is this the log of another kiosk, or did its clock begin anew?";
 
 /// A folder for one test, removed with it.

@@ -36,7 +36,7 @@ fn until_over_letters() {
     let said = place.open("e0 until[10,90] e1", "1200 e0\n");
     assert_eq!(
         said,
-        "open: 1 of 1 records\n\
+        "open: 1 of 1 record\n\
          record 0, second 1200: yes if e1 comes between second 1210 and second 1290, no if e0 is missing before\n"
     );
     let said = place.open("e0 until[90,90] e1", "1200 e0\n1290 e0\n");
@@ -93,28 +93,28 @@ fn what_can_no_longer_be_yes() {
     let of = |rule, text| place.open(rule, text);
     assert_eq!(
         of("next[0,3] e0", "version 2\n5 none\n9 service\n"),
-        format!("open: 1 of 1 positions\nposition 0, record 0, second 5: {never}\n")
+        format!("open: 1 of 1 position\nposition 0, record 0, second 5: {never}\n")
     );
     assert_eq!(
         of("e0 until[0,3] e1", "version 2\n4 service\n5 e0\n9 service\n"),
-        format!("open: 1 of 1 positions\nposition 0, record 1, second 5: {never}\n")
+        format!("open: 1 of 1 position\nposition 0, record 1, second 5: {never}\n")
     );
     assert_eq!(
         of("next[3600,3600] e0", "4294963696 none\n"),
-        format!("open: 1 of 1 records\nrecord 0, second 4294963696: {never}\n")
+        format!("open: 1 of 1 record\nrecord 0, second 4294963696: {never}\n")
     );
     assert_eq!(
         of("next[3600,3600] e0", "4294963695 none\n"),
-        "open: 1 of 1 records\n\
+        "open: 1 of 1 record\n\
          record 0, second 4294963695: yes if the next record has e0 and comes at second 4294967295, no if not\n"
     );
     assert_eq!(
         of("e0 until[0,3] e31", "version 2\n5 e0\n"),
-        "open: 1 of 1 records\nrecord 0, second 5: no longer yes, no if e0 is missing\n"
+        "open: 1 of 1 record\nrecord 0, second 5: no longer yes, no if e0 is missing\n"
     );
     assert_eq!(
         of("e0 until[0,3] e31", "5 e0\n"),
-        "open: 1 of 1 records\nrecord 0, second 5: yes if e31 comes by second 8, no if e0 is missing before\n"
+        "open: 1 of 1 record\nrecord 0, second 5: yes if e31 comes by second 8, no if e0 is missing before\n"
     );
 }
 

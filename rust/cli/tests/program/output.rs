@@ -159,7 +159,8 @@ const SO_FAR: [&str; 9] = [
 fn evenings_for_other_programs() {
     let place = Place::with_card(0);
     let said = Reader::all(&place.ok(&["evening", "card", "day.klg", "--json"]));
-    assert_eq!(said.names(), ["new", "so_far", "released_records", "records_left"]);
+    assert_eq!(said.names(), ["new", "new_records", "so_far", "released_records", "records_left", "followed_by"]);
+    assert_eq!(said.at("followed_by"), &Json::List(Vec::new()));
     assert_eq!(said.at("new").names(), ["verdicts", "first_position", "formulas", "service_records"]);
     assert_eq!(said.at("so_far").names(), SO_FAR);
     let numbers = |said: &Json, all: &[(&str, u64)]| {
@@ -174,6 +175,7 @@ fn evenings_for_other_programs() {
     assert_eq!(said.at("so_far.closed"), &Json::Truth(false));
     let again = Reader::all(&place.ok(&["evening", "card", "day.klg", "--json"]));
     assert_eq!((again.at("new.first_position"), again.number("new.verdicts")), (&Json::Null, 0));
+    assert_eq!((said.number("new_records"), again.number("new_records")), (14, 0));
     let closed = Reader::all(&place.ok(&["close", "card", "tuesday.klg", "--final", "--json"]));
     assert_eq!(closed.at("so_far.closed"), &Json::Truth(true));
     numbers(&closed, &[("new.verdicts", 7), ("new.first_position", 12), ("so_far.records", 19)]);
@@ -193,10 +195,11 @@ fn evenings_for_other_programs() {
 fn summaries_and_checks_for_other_programs() {
     let place = Place::with_card(1);
     let summary = Reader::all(&place.ok(&["summary", "card", "--json"]));
-    assert_eq!((summary.names(), summary.at("so_far").names()), (vec!["so_far", "fault"], SO_FAR.to_vec()));
+    let names = vec!["so_far", "followed_by", "fault"];
+    assert_eq!((summary.names(), summary.at("so_far").names()), (names, SO_FAR.to_vec()));
     assert_eq!((summary.number("so_far.verdicts"), summary.at("fault")), (12, &Json::Null));
     let check = Reader::all(&place.ok(&["check", "card", "--json"]));
-    let names = ["good", "fault", "files", "vouched_verdicts", "new_card_from_record", "so_far"];
+    let names = ["good", "fault", "files", "vouched_verdicts", "new_card_from_record", "so_far", "followed_by"];
     assert_eq!(check.names(), names);
     assert_eq!((check.at("good"), check.at("fault")), (&Json::Truth(true), &Json::Null));
     assert_eq!((check.at("so_far"), check.number("vouched_verdicts")), (summary.at("so_far"), 12));
@@ -236,9 +239,12 @@ fn sheets_for_other_programs() {
     let place = Place::with_card(1);
     let printed = place.ok(&["sheet", "card", "--json"]);
     // a line for each position
-    assert_eq!(printed.lines().nth(9), Some("    {\"position\": 5, \"yes\": [false]},"), "{printed}");
+    assert_eq!(printed.lines().nth(11), Some("    {\"position\": 5, \"yes\": [false]},"), "{printed}");
     let sheet = Reader::all(&printed);
-    assert_eq!(sheet.names(), ["formulas", "fault", "verdicts"]);
+    assert_eq!(sheet.names(), ["formulas", "first_record", "first_position", "fault", "verdicts"]);
+    place.ok(&["new", "later", RULE, "--from", "3"]);
+    let later = Reader::all(&place.ok(&["sheet", "later", "--json"]));
+    assert_eq!((later.number("first_record"), later.number("first_position")), (3, 3));
     let Json::List(verdicts) = sheet.at("verdicts") else { panic!("{sheet:?}") };
     let said: String = verdicts
         .iter()
@@ -281,6 +287,7 @@ fn the_names_that_are_documented() {
     let rows: String = part.lines().filter(|line| line.starts_with('|')).map(row).collect();
     let mut documented: Vec<&str> = rows.split('`').skip(1).step_by(2).filter(|name| !name.contains(' ')).collect();
     let mut printed = Vec::new();
+    place.ok(&["new", "next", RULE, "--after", "card"]);
     for words in [&["summary", "card", "--json"][..], &["check", "card", "--json"], &["sheet", "card", "--json"]] {
         Reader::all(&place.ok(words)).all_names(&mut printed);
     }

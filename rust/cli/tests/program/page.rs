@@ -236,6 +236,13 @@ fn a_card_after_another() {
     assert!(asked.contains(" | record 15 | 1 no | "), "{lines:?}");
     let first = lines.iter().find(|line| line.contains("no record stands before")).unwrap();
     assert!(first.contains(" | record 12 | 1 no | "), "{lines:?}");
+    assert!(first.ends_with("before; the card begins at record 12 and has read nothing before it"), "{first}");
+    let text = plain(&place.page("tuesday.klg", &[]));
+    assert!(text.contains(" 1 open. The card begins at record 12. / Made "), "{text}");
+    assert!(text.contains("of that record, on this log from record 12 on and however it goes on; what"), "{text}");
+    place.ok(&["close", "card", "tuesday.klg", "--final"]);
+    let text = plain(&place.page("tuesday.klg", &[]));
+    assert!(text.contains("of that record, on the log from record 12 on as it ends; what"), "{text}");
 }
 
 /// A card of an earlier program knows its log from its next evening on.
@@ -389,7 +396,7 @@ fn more_days_than_are_drawn() {
     fs::write(place.path("years.klg"), log_of(5_000, 12_345, |record| record % 3)).unwrap();
     place.ok(&["new", "card", "e0"]);
     place.ok(&["evening", "card", "years.klg"]);
-    let page = place.page("years.klg", &["--start", "2026-11-09"]);
+    let page = place.page("years.klg", &["--start", "2015-11-09"]);
     assert!(page.len() < 300_000, "{}", page.len());
     let days = 5_000_u64 * 12_345 / 86_400;
     assert!(plain(&page).contains(&format!("{} earlier days are not drawn.", days + 1 - 62)), "{days}");

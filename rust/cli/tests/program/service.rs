@@ -37,7 +37,8 @@ fn a_week_with_service_visits() {
     assert_eq!(said, format!("positions 0 to 11: 10 yes, 2 no\n14 service records passed over\n{so_far}{released}"));
     assert_eq!(place.ok(&["summary", "visited"]), so_far);
     let again = place.ok(&["evening", "visited", "monday.klg"]);
-    assert_eq!(again, format!("no new verdict\n{so_far}{released}"));
+    let older = "no new record since the last evening (28 records): is it an older copy of the log?";
+    assert_eq!(again, format!("{older}\n{so_far}{released}"));
 
     // on Tuesday the records that were released hold all ones: letter 31 in each of them
     let mut tuesday = place.log("tuesday.klg", &format!("{}1100 service\n", with_visits("tuesday.txt")));
@@ -82,12 +83,14 @@ fn few_visits_and_none() {
     let said = place.ok(&["evening", "some", "one.klg"]);
     let so_far = "so far: 2 verdicts, 0 no\nopen: 0 of 2 positions\nservice: 1 of 3 records\n";
     let end = "records 0 to 1 may be overwritten\n";
-    assert_eq!(said, format!("no new verdict\n1 service record passed over\n{so_far}{end}"));
+    let new = "no new verdict: 1 record is new, a service record";
+    assert_eq!(said, format!("{new}\n1 service record passed over\n{so_far}{end}"));
     let end = "records 0 to 2 may be overwritten\n";
     place.log("more.klg", "10 e0\n11 e1\n12 service\n13 e0\n13 e1 service\n");
     let said = place.ok(&["evening", "some", "more.klg"]);
     let so_far = "so far: 2 verdicts, 0 no\nopen: 1 of 3 positions\nservice: 2 of 5 records\n";
-    assert_eq!(said, format!("no new verdict\n1 service record passed over\n{so_far}{end}"));
+    let new = "no new verdict: 2 records are new, and none is settled yet";
+    assert_eq!(said, format!("{new}\n1 service record passed over\n{so_far}{end}"));
     let said = place.ok(&["close", "some", "more.klg", "--final"]);
     assert!(
         said.starts_with("position 2: 0 yes, 1 no\nso far: 3 verdicts, 1 no, the latest at position 2\n"),
@@ -97,7 +100,8 @@ fn few_visits_and_none() {
     place.log("alone.klg", "10 service\n11 service\n");
     let said = place.ok(&["evening", "card", "alone.klg"]);
     let so_far = "so far: 0 verdicts, 0 no\nopen: 0 of 0 positions\nservice: 2 of 2 records\n";
-    assert_eq!(said, format!("no new verdict\n2 service records passed over\n{so_far}record 0 may be overwritten\n"));
+    let new = "no new verdict: 2 records are new, all of them service records\n2 service records passed over";
+    assert_eq!(said, format!("{new}\n{so_far}record 0 may be overwritten\n"));
     assert_eq!(place.ok(&["sheet", "card"]), "");
 }
 

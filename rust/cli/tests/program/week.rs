@@ -26,11 +26,12 @@ fn evenings_in_plain_words() {
     assert_eq!(place.ok(&["sheet", "card"]), "");
     fs::write(place.path("empty.klg"), b"KLG\x00\x01\x00\x00\x00").unwrap();
     let said = place.ok(&["evening", "card", "empty.klg"]);
-    assert_eq!(said, format!("no new verdict\n{none}no record may be overwritten yet\n"));
+    assert_eq!(said, format!("no new verdict: the log has no record yet\n{none}no record may be overwritten yet\n"));
     place.ok(&["evening", "card", "day.klg"]);
     let again = place.ok(&["evening", "card", "day.klg"]);
     let so_far = "so far: 12 verdicts, 2 no, the latest at record 8\nopen: 2 of 14 records\n";
-    assert_eq!(again, format!("no new verdict\n{so_far}records 0 to 11 may be overwritten\n"));
+    let older = "no new record since the last evening (14 records): is it an older copy of the log?";
+    assert_eq!(again, format!("{older}\n{so_far}records 0 to 11 may be overwritten\n"));
     assert_eq!(place.ok(&["summary", "card"]), so_far);
     assert_eq!(place.ok(&["sheet", "card", "--from", "7"]), "7 yes\n8 no\n9 yes\n10 yes\n11 yes\n");
     assert_eq!(place.ok(&["sheet", "--from", "10", "--csv", "card"]), "position,verdict\n10,yes\n11,yes\n");
@@ -102,7 +103,8 @@ fn several_formulas_on_one_sheet() {
     assert_eq!(said, format!("records 0 to 11\n{new}{so_far}records 0 to 11 may be overwritten\n"));
     assert_eq!(place.ok(&["summary", "three"]), so_far);
     let said = place.ok(&["evening", "three", "day.klg"]);
-    assert_eq!(said, format!("no new verdict\n{so_far}records 0 to 11 may be overwritten\n"));
+    let older = "no new record since the last evening (14 records): is it an older copy of the log?";
+    assert_eq!(said, format!("{older}\n{so_far}records 0 to 11 may be overwritten\n"));
     assert_eq!(place.ok(&["sheet", "three", "--from", "10"]), "10 yes yes yes\n11 no yes yes\n");
     let csv = "position,formula 0,formula 1,formula 2\n11,no,yes,yes\n";
     assert_eq!(place.ok(&["sheet", "three", "--csv", "--from", "11"]), csv);
@@ -151,4 +153,39 @@ fn a_path_that_is_not_utf_8() {
     let (status, out, err) = ended(output.unwrap());
     assert_eq!((status, out.as_str(), err.as_str()), (2, "", "\"card\\xFF\" is not UTF-8\n"));
     assert_eq!(fs::read_dir(&place.0).unwrap().count(), 0);
+}
+
+/// One of something is told as one.
+#[test]
+fn one_record_and_one_verdict() {
+    let place = Place::new();
+    place.ok(&["new", "card", "e0 until[0,9] e1"]);
+    let log = |name: &str, text: &str| {
+        fs::write(place.path("text.txt"), text).unwrap();
+        place.ok(&["to-log", "text.txt", name, "--force"])
+    };
+    assert_eq!(log("one.klg", "1 e0\n"), "one.klg: 1 record\n");
+    let said = place.ok(&["evening", "card", "one.klg"]);
+    let new = "no new verdict: 1 record is new, and not settled yet";
+    assert_eq!(
+        said,
+        format!("{new}\nso far: 0 verdicts, 0 no\nopen: 1 of 1 record\nno record may be overwritten yet\n")
+    );
+    let said = place.ok(&["evening", "card", "one.klg"]);
+    assert!(said.starts_with("no new record since the last evening (1 record): is it an older copy of the log?\n"));
+    let json = place.ok(&["evening", "card", "one.klg", "--json"]);
+    assert!(json.contains("\n  \"new_records\": 0,\n"), "{json}");
+    let said = place.ok(&["close", "card", "one.klg", "--final"]);
+    assert!(said
+        .starts_with("record 0: 0 yes, 1 no\nso far: 1 verdict, 1 no, the latest at record 0\nopen: 0 of 1 record,"));
+    let sheet = fs::read(place.path("card/sheet")).unwrap();
+    fs::write(place.path("card/sheet"), []).unwrap();
+    let (_, said) = place.partly(&["summary", "card"]);
+    assert!(said.contains("the file `sheet` has 0 verdicts, but 1 was given"), "{said}");
+    fs::write(place.path("card/sheet"), sheet).unwrap();
+    log("service.klg", "version 2\n1 service\n");
+    place.ok(&["new", "visited", "e0"]);
+    let said = place.ok(&["evening", "visited", "service.klg"]);
+    assert!(said.contains("\nopen: 0 of 0 positions\nservice: 1 of 1 record\n"), "{said}");
+    assert_eq!(place.ok(&["worst", "0", "0", "1", "worst.klg"]), "worst.klg: 1 record, 1 second waiting\n");
 }

@@ -155,13 +155,74 @@ fn a_card_that_begins_in_the_middle() {
     place.ok(&["new", "card", "prev[0,inf] e0", "--from", "8"]);
     place.ok(&["evening", "card", "visit.klg"]);
     let why = |record: &str| place.ok(&["why", "card", "visit.klg", record, "--words"]);
-    assert_eq!(why("8"), "record 8 is no: no record stands before it\n");
+    let begins = "the card begins at record 8 and has read nothing before it";
+    assert_eq!(why("8"), format!("record 8 is no: no record stands before it; {begins}\n"));
+    let plain = place.run(&["why", "card", "visit.klg", "8"]);
+    assert_eq!(plain, (0, "1 0 prev none\n".to_string(), format!("{begins}\n")));
     assert!(place
         .ok(&["why", "prev[0,inf] e0", "visit.klg", "8", "--words"])
         .starts_with("record 8, position 5, is yes"));
     assert!(why("9").starts_with("record 9 is yes: record 8 is "), "{}", why("9"));
     let said = place.fails(1, &["why", "card", "visit.klg", "7"]);
     assert_eq!(said, "visit.klg: record 7 stands before the card's first, 8\n");
+}
+
+/// A since that looks back to the card's first record says nothing of those before, which the card has not read.
+#[test]
+fn a_since_that_looks_back_to_the_first_record() {
+    let place = Place::new();
+    let log = "0 e0\n10 e1\n20 e0\n30 e0\n40 e0\n150 e0\n160 none\n";
+    fs::write(place.path("typed.txt"), log).unwrap();
+    place.ok(&["to-log", "typed.txt", "typed.klg"]);
+    let begins = "the card begins at record 2 and has read nothing before it";
+    let says = |formula: &str, record: &str, said: &str, begun: bool| {
+        place.ok(&["new", "card", formula, "--from", "2"]);
+        place.ok(&["evening", "card", "typed.klg"]);
+        let end = if begun { format!("; {begins}") } else { String::new() };
+        let told = place.ok(&["why", "card", "typed.klg", record, "--words"]);
+        assert_eq!(told, format!("record {record} is no: {said}{end}\n"), "{formula}");
+        let (status, out, err) = place.run(&["why", "card", "typed.klg", record]);
+        assert!(status == 0 && !out.is_empty(), "{formula}: {out}");
+        assert_eq!(err, if begun { format!("{begins}\n") } else { String::new() }, "{formula}");
+        fs::remove_dir_all(place.path("card")).unwrap();
+    };
+    let first = "record 2 is the first at most 90 seconds before, and no record from 2 to 4 has e1";
+    says("e0 since[0,90] e1", "4", first, true);
+    says("e0 since[0,inf] e1", "4", "no record from 2 to 4 has e1", true);
+    let later = "record 5 is the first at most 90 seconds before, and record 5 does not have e1";
+    says("e0 since[0,90] e1", "5", later, false);
+    says("e0 since[0,90] e1", "6", "record 6 has neither e0 nor e1", false);
+    // A part of which the reason has no line of its own looks back as well.
+    let inner = "record 6 does not have e0, and (prev[0,inf] e1) is no at record 6";
+    says("e0 since[0,9] prev[0,inf] e1", "6", inner, false);
+    let inner = "record 5 is 110 seconds later, more than 5, and (e0 since[0,inf] e1) is no at record 4";
+    says("(e0 or not e0) until[0,5] (e0 since[0,inf] e1)", "4", inner, true);
+}
+
+/// A verdict that a closing gave has no reason, however the log went on.
+#[test]
+fn a_closed_card_whose_log_went_on() {
+    let place = Place::with_logs();
+    place.ok(&["new", "card", RULE]);
+    place.ok(&["close", "card", "day.klg", "--final"]);
+    let closed = "record 12 is no in the card's sheet: the log ended before it was settled, and the card was closed\n";
+    let [day, tuesday] = ["day.klg", "tuesday.klg"].map(|name| fs::read(place.path(name)).unwrap());
+    fs::write(place.path("longer.klg"), [&day, &tuesday[day.len()..]].concat()).unwrap();
+    for log in ["day.klg", "longer.klg"] {
+        for words in [&[][..], &["--words"]] {
+            let asked = [&["why", "card", log, "12"], words].concat();
+            assert_eq!(place.fails(1, &asked), format!("{log}: {closed}"));
+        }
+        assert!(place.ok(&["why", "card", log, "5", "--words"]).starts_with("record 5 is no: "));
+    }
+    let said = place.fails(1, &["why", "card", "longer.klg", "14"]);
+    assert_eq!(said, "longer.klg: record 14 came after the card was closed: its sheet has no verdict of it\n");
+    let said = place.fails(1, &["why", "card", "longer.klg", "99"]);
+    assert!(said.starts_with("longer.klg: there is no record 99: "), "{said}");
+    // An older copy of the log ends sooner than the card has seen it.
+    fs::write(place.path("older.klg"), &day[..day.len() - 8]).unwrap();
+    let said = place.fails(1, &["why", "card", "older.klg", "12"]);
+    assert_eq!(said, "older.klg: record 12 is open: the log ends before it is settled\n");
 }
 
 /// Each form of a sentence.
