@@ -89,10 +89,10 @@ abbrev pub left-to-do : (v b : List ℕ) → ℕ
 left-to-do v b = 3 * (total v - taken b) + empty (left-count b) + empty (right-count b)
 
 -- what a step promises on any words, for an operator that has a left operand and a right one, or not: where it writes, no head goes
--- back, and words 12 to 15 are kept
+-- back, and words 12 to 15 are kept; right is wanted only where left's buffer has answers
 abbrev pub Ends : (left right : Bool) → (v b : List ℕ) → Step → List ℕ → Type 0
 Ends left right v b (Batch bits count) b′ = Onward 12 b b′
 Ends left right v b Again b′ = (left-to-do v b′ < left-to-do v b) × Onward 12 b b′
 Ends left right v b Left b′ = (left ≡ true) × (b′ ≡ b) × (left-count b ≡ 0)
-Ends left right v b Right b′ = (right ≡ true) × (b′ ≡ b) × (right-count b ≡ 0)
+Ends left right v b Right b′ = (right ≡ true) × (b′ ≡ b) × (right-count b ≡ 0) × (left ≡ true → 0 < left-count b)
 Ends left right v b Open b′ = b′ ≡ b

@@ -14,7 +14,7 @@ pub enum Step {
     Batch { bits: u64, count: u64 },
     // The left operand's buffer is empty and wanted.
     Left,
-    // The right operand's, or only one's.
+    // The right operand's, or only one's; the left operand's is not.
     Right,
     // Positions were taken and nothing is settled yet.
     Again,

@@ -39,11 +39,11 @@ steps-of φ {c = c} {l = l} {h = h} n v s b r b′ e f steps =
     subst (λ (χ : Formula). Steps χ v s b r b′) same steps
 
 -- what `advance` promises of an entry of kind k, from what the step of the operator of kind n ensures
-pub promised : {k c l h : ℕ} (n : ℕ) {v s b : List ℕ} (r : Step) (b′ : List ℕ) {Kept : Type 0} → k ≡ n →
-    Ends (takes-left n) (takes-right n) v b r b′ → ((φ ψ : Formula) → Steps (formula n c l h φ ψ) v s b r b′) → Kept →
-    Ends (takes-left k) (takes-right k) v b r b′ × (((φ : Formula) → Fields φ k c l h → Steps φ v s b r b′) × Kept)
+pub promised : {k l h : ℕ} (n : ℕ) {v s b : List ℕ} (r : Step) (b′ : List ℕ) {Kept : Type 0} → k ≡ n →
+    Ends (takes-left n) (takes-right n) v b r b′ → ((c : ℕ) (φ ψ : Formula) → Steps (formula n c l h φ ψ) v s b r b′) → Kept →
+    Ends (takes-left k) (takes-right k) v b r b′ × (((φ : Formula) (c : ℕ) → Fields φ k c l h → Steps φ v s b r b′) × Kept)
 promised n {v} {s} {b} r b′ e ends steps kept =
-    (rw e ends, (λ φ f. steps-of φ n v s b r b′ e f (steps (left-of φ) (right-of φ)), kept))
+    (rw e ends, (λ φ c f. steps-of φ n v s b r b′ e f (steps c (left-of φ) (right-of φ)), kept))
 
 -- an entry's block has 16 words at least, a since's its ring besides, and an until's that of its other head
 pub room-of : (k h n : ℕ) → own-words k h ≤ n → 16 ≤ n

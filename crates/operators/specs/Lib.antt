@@ -1,2 +1,3 @@
--- Neighbour is the promise of an inner function.
+-- Letter and Neighbour are the promises of inner functions.
+pub mod Letter
 pub mod Neighbour

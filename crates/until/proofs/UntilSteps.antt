@@ -143,7 +143,7 @@ pub wanted-ends : (v b : List ℕ) (r : Step) → Wants b r → Ends true true v
 wanted-ends v b (Batch bits count) t = absurd t
 wanted-ends v b Again t = absurd t
 wanted-ends v b Left t = (refl, refl, t)
-wanted-ends v b Right t = (refl, refl, t .1)
+wanted-ends v b Right t = (refl, refl, t .1, λ e. t .0)
 wanted-ends v b Open t = refl
 
 -- the test for a block that stands outside the log

@@ -12,9 +12,6 @@ use Rattle.operators.proofs.advance.Tie as tie
 room : (c : tie.Start) → 16 ≤ length (c .args .block .now)
 room c = room-of (c .args .kind) (c .args .high) _ (c .pre .3)
 
-step-letter-requires : tie.Need-step-letter-requires
-step-letter-requires c κs = let start = c .before .before .before .before in (start .pre .1, room start, start .pre .6)
-
 step-not-requires : tie.Need-step-not-requires
 step-not-requires c κs = room (c .before .before .before .before)
 
@@ -30,7 +27,7 @@ step-next-requires c κs = let start = c .before .before .before .before .before
 step-since-requires : tie.Need-step-since-requires
 step-since-requires c κs =
     let start = c .before .before .before .before .before in
-    (start .pre .2, since-room-of (start .args .kind) (start .args .high) _ (c .before .before .match .keys6) (start .pre .3), start .pre .4, start .pre .6)
+    (start .pre .2, since-room-of (start .args .kind) (start .args .high) _ (c .before .before .match .keys5) (start .pre .3), start .pre .4, start .pre .6)
 
 step-until-requires : tie.Need-step-until-requires
 step-until-requires c κs =
@@ -40,58 +37,50 @@ step-until-requires c κs =
 
 returns : tie.Need-returns
 returns c =
-    let step = c .before .before .step-letter in
-    let start = c .before .before .before .before .before .before .before in
-    promised 0 (step .result) (step .last .1 .1 .1 .0)
-    (c .before .before .before .before .match .keys1) (step .ensures .0) (λ φ ψ. step .ensures .1) (start .pre .4, start .pre .5)
-
-returns-2 : tie.Need-returns-2
-returns-2 c =
     let step = c .before .before .step-not in
     let start = c .before .before .before .before .before .before .before in
     promised 1 (step .result) (step .last .1 .0)
-    (c .before .before .before .before .match .keys2) (step .ensures .0) (λ φ ψ. step .ensures .1 _ ψ) (start .pre .4, start .pre .5)
+    (c .before .before .before .before .match .keys1) (step .ensures .0) (λ c φ ψ. step .ensures .1 _ ψ) (start .pre .4, start .pre .5)
 
-returns-3 : tie.Need-returns-3
-returns-3 c =
+returns-2 : tie.Need-returns-2
+returns-2 c =
     let step = c .before .before .step-or in
     let start = c .before .before .before .before .before .before .before in
     promised 2 (step .result) (step .last .1 .0)
-    (c .before .before .before .before .match .keys3) (step .ensures .0) (λ φ ψ. step .ensures .1 _ φ ψ) (start .pre .4, start .pre .5)
+    (c .before .before .before .before .match .keys2) (step .ensures .0) (λ c φ ψ. step .ensures .1 _ φ ψ) (start .pre .4, start .pre .5)
 
-returns-4 : tie.Need-returns-4
-returns-4 c =
+returns-3 : tie.Need-returns-3
+returns-3 c =
     let step = c .before .before .step-previous in
     let start = c .before .before .before .before .before .before .before .before in
     promised 3 (step .result) (step .last .1 .1 .1 .1 .1 .0)
-    (c .before .before .before .before .before .match .keys4) (step .ensures .0) (λ φ ψ. step .ensures .1 .0 ψ) (step .ensures .1 .1, start .pre .5)
+    (c .before .before .before .before .before .match .keys3) (step .ensures .0) (λ c φ ψ. step .ensures .1 .0 ψ) (step .ensures .1 .1, start .pre .5)
 
-returns-5 : tie.Need-returns-5
-returns-5 c =
+returns-4 : tie.Need-returns-4
+returns-4 c =
     let step = c .before .before .step-next in
     let start = c .before .before .before .before .before .before .before .before in
     promised 4 (step .result) (step .last .1 .1 .1 .1 .1 .0)
-    (c .before .before .before .before .before .match .keys5) (step .ensures .0) (λ φ ψ. step .ensures .1 .0 ψ) (step .ensures .1 .1, start .pre .5)
+    (c .before .before .before .before .before .match .keys4) (step .ensures .0) (λ c φ ψ. step .ensures .1 .0 ψ) (step .ensures .1 .1, start .pre .5)
 
-returns-6 : tie.Need-returns-6
-returns-6 c =
+returns-5 : tie.Need-returns-5
+returns-5 c =
     let step = c .before .before .step-since in
     let start = c .before .before .before .before .before .before .before .before in
     promised 5 (step .result) (step .last .1 .1 .1 .1 .1 .0)
-    (c .before .before .before .before .before .match .keys6) (step .ensures .0) (step .ensures .1 .0) (step .ensures .1 .1, start .pre .5)
+    (c .before .before .before .before .before .match .keys5) (step .ensures .0) (λ c. step .ensures .1 .0) (step .ensures .1 .1, start .pre .5)
 
-returns-7 : tie.Need-returns-7
-returns-7 c =
+returns-6 : tie.Need-returns-6
+returns-6 c =
     let start = c .before .before .before .before .before .before .before .before .before in
     let step = c .before .before .step-until in
-    let kind : start .args .kind ≡ 6 = omega (arith, start .pre .0, c .before .before .before .before .before .before .match) in
-    promised 6 (step .result) (step .last .1 .1 .1 .1 .1 .1 .0) kind (step .ensures .0) (step .ensures .1 .0) (step .ensures .1 .1)
+    let kind : start .args .kind ≡ 6 = omega (arith, start .pre .0, start .pre .1, c .before .before .before .before .before .before .match) in
+    promised 6 (step .result) (step .last .1 .1 .1 .1 .1 .1 .0) kind (step .ensures .0) (λ c. step .ensures .1 .0) (step .ensures .1 .1)
 
 pub advance-spec : {M : Type 1} → statement M
 advance-spec =
     tie.close
     (tie.spec
-    step-letter-requires
     step-not-requires
     step-or-requires
     step-previous-requires
@@ -109,6 +98,4 @@ advance-spec =
     (λ c. search needs)
     returns-5
     (λ c. search needs)
-    returns-6
-    (λ c. search needs)
-    returns-7)
+    returns-6)

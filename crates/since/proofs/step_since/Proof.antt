@@ -1,6 +1,7 @@
 -- `since::step_since` meets its contract, by the laws of proofs/Turn.
 use Prim.Native.Nat.{_≤_, _<_, min}
 use native.Mathlib.Nat.{pos-of-ne-zero}
+use native.Mathlib.Nat.{pos-of-ne-zero}
 use native.Mathlib.Omega.{arith}
 use mathlib.Core.Path.{refl, _∙_}
 use lib.ListN.{length, length-set}
@@ -39,7 +40,7 @@ slice-read-if2 c = search needs
 returns-2 : tie.Need-returns-2
 returns-2 c =
     let a = c .before .before .before .before .before .before .before .args in
-    ((refl, refl, c .if2 .taken), (since-right (a .low) (a .high) (a .view .now) (a .records .now) (a .block .now), c .before .before .before .before .before .before .before .pre .2))
+    ((refl, refl, c .if2 .taken, λ e. pos-of-ne-zero (c .before .before .if1 .left)), (since-right (a .low) (a .high) (a .view .now) (a .records .now) (a .block .now), c .before .before .before .before .before .before .before .pre .2))
 
 slice-read-smaller : tie.Need-slice-read-smaller
 slice-read-smaller c = search needs

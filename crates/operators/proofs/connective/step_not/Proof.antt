@@ -2,6 +2,7 @@
 use native.Mathlib.Omega.{arith}
 use mathlib.Core.Path.{refl, _∙_}
 use borrow.Author.Needs.{needs}
+use Rattle.mtl.proofs.Bounded.{true-and-false}
 use Rattle.mtl.proofs.Closing.{settled-not}
 use Rattle.operators.proofs.Simple.{not-batch}
 use Rattle.blocks.proofs.Taking.{right-onward, all-of}
@@ -12,7 +13,7 @@ slice-read-if1 : tie.Need-slice-read-if1
 slice-read-if1 c = search needs
 
 returns : tie.Need-returns
-returns c = ((refl, refl, c .if1 .taken), λ s φ L g falls agrees ready. (refl, λ e. settled-not L φ ∙ e ∙ ready .core .own))
+returns c = ((refl, refl, c .if1 .taken, λ e. absurd (true-and-false e refl)), λ s φ L g falls agrees ready. (refl, λ e. settled-not L φ ∙ e ∙ ready .core .own))
 
 slice-read-available : tie.Need-slice-read-available
 slice-read-available c = search needs

@@ -1,4 +1,5 @@
 -- `operators::connective::step_or` meets its contract: the shorter buffer is taken whole. Assumes nothing.
+use native.Mathlib.Nat.{pos-of-ne-zero}
 use native.Mathlib.Omega.{arith}
 use mathlib.Core.Path.{refl}
 use borrow.Author.Needs.{needs}
@@ -32,7 +33,7 @@ slice-read-if2 c = search needs
 
 returns-2 : tie.Need-returns-2
 returns-2 c = (
-  (refl, refl, c .if2 .taken),
+  (refl, refl, c .if2 .taken, λ e. pos-of-ne-zero (c .before .before .if1 .left)),
   λ s φ ψ L g falls agrees ready. (refl, λ e. let core = ready .core in let w = ready .buffers .0 .within in omega (arith, settled-or L φ ψ)),
 )
 

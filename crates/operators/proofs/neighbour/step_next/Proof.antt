@@ -9,6 +9,7 @@ use mathlib.Core.Path.{_≡_, refl, sym, _∙_}
 use lib.Dec.{eqb}
 use borrow.Author.Needs.{needs}
 use borrow.Author.Tests.{eqb-true, eq-eqb}
+use Rattle.mtl.proofs.Bounded.{true-and-false}
 use Rattle.mtl.proofs.Bounded.{and-iff}
 use Rattle.window.specs.View.{total, closed}
 use Rattle.blocks.specs.Block.{taken, right-count, answered}
@@ -89,7 +90,7 @@ returns-right : tie.Need-returns-3
 returns-right c =
     let start = c .before .before .before .before .before .before .before .before .before .before in
     let a = start .args in (
-      (refl, refl, c .if3 .taken),
+      (refl, refl, c .if3 .taken, λ e. absurd (true-and-false e refl)),
       (
         λ φ L g falls agrees ready. (
           refl,

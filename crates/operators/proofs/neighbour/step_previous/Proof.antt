@@ -8,6 +8,7 @@ use mathlib.Core.List.{[], _∷_}
 use mathlib.Core.Path.{_≡_, refl}
 use lib.Dec.{leb, ltb}
 use borrow.Author.Needs.{needs}
+use Rattle.mtl.proofs.Bounded.{true-and-false}
 use Rattle.mtl.proofs.Closing.{settled-previous}
 use Rattle.window.specs.View.{total}
 use Rattle.blocks.specs.Block.{taken, right-count, answered}
@@ -65,7 +66,7 @@ returns-right c =
     let start = c .before .before .before .before .before .before .before .before .before in
     let a = start .args in
     let past = pos-of-ne-zero (c .before .before .if2 .left) in (
-      (refl, refl, c .if3 .taken),
+      (refl, refl, c .if3 .taken, λ e. absurd (true-and-false e refl)),
       (
         λ φ L g falls agrees ready. (
           refl,
