@@ -1,13 +1,13 @@
 -- The turns of an entry's loop: what each outcome of a step makes of the words.
 use Prim.Native.Nat.{ℕ, zero, suc, _+_, _*_, _-_, _≤_, _<_, _^_}
 use mathlib.Core.Bool.{Bool, true, false}
-use mathlib.Core.Bool.{not as negate}
+use mathlib.Core.Logic.{_⊎_, inl, inr, ⊎-elim}
 use mathlib.Core.Path.{_≡_, refl, sym, ap, subst, _∙_}
 use mathlib.Core.List.{List, _++_}
 use native.Mathlib.Omega.{arith}
 use native.Mathlib.Nat.{zero-add, pos-of-ne-zero}
 use lib.ListN.{length, take, drop, length-drop, take-append-drop}
-use lib.Seq.{length-take-le, take-at}
+use lib.Seq.{length-take-le, take-at, getD-drop}
 use Rattle.mtl.specs.Formula.{Formula}
 use Rattle.mtl.specs.Log.{Log, NeverFalls}
 use Rattle.mtl.specs.Progress.{settled-to}
@@ -15,13 +15,13 @@ use Rattle.mtl.proofs.Bounded.{true-and-false}
 use Rattle.window.specs.View.{total}
 use Rattle.rule.specs.Words.{own-words}
 use Rattle.rule.proofs.Spans.{own-least}
-use Rattle.blocks.specs.Block.{word, taken, Onward, Ready}
-use Rattle.blocks.specs.Step.{Agrees, Batched, Moved, Stepped, Steps, Ends, empty, left-to-do}
+use Rattle.blocks.specs.Block.{word, taken, left-count, Onward, Ready}
+use Rattle.blocks.specs.Step.{Agrees, Batched, Moved, Stepped, Steps, Ends, has-left, empty, left-to-do}
 use Rattle.engine.specs.State.{State}
 use Rattle.blocks.specs.Kinds.{takes-left, takes-right, Fields}
 use Rattle.engine.specs.Table.{Has, RowOk, RowsOk, column}
 use Rattle.engine.specs.Answer.{GoesOn, first-read, Answers}
-use Rattle.engine.specs.Ask.{part, back, stored, Advances, Asks}
+use Rattle.engine.specs.Ask.{part, back, stored, Advances, Asks, Fills, Stands, Full, Short, Refills}
 use Rattle.blocks.specs.declared.Step.{Step}
 use Rattle.blocks.specs.declared.Step.the-variants.{Batch, Left, Right, Again, Open}
 use Rattle.engine.specs.declared.Reply.the-variants.{Batch as Answered, Open as Unanswered}
@@ -30,21 +30,21 @@ use Rattle.engine.proofs.Parts.Side.{on-left, on-right}
 use Rattle.engine.proofs.Uniform.{View, view, unview, has, of, entry, Stands-at, operand, view-of, agrees-later, step-from, operand-from, row, operand-rows}
 use Rattle.blocks.proofs.Onward.{onward-refl}
 use Rattle.engine.proofs.Onward.{all-refl, all-trans, OnwardAt, all-from}
-use Rattle.engine.proofs.Fill.{stored-at, stored-onward, stored-count, stored-count-other, ready-filled}
+use Rattle.engine.proofs.Stored.{stored-at, stored-onward, stored-count, stored-count-other, ready-filled}
 
 -- A STEP
 
 -- the row of entry k as `advance` reads it, and words ws of as many as it has, in which its own block begins at `own`
-pub record RowRead (t : List ℕ) (k kind letter low high own : ℕ) (ws : List ℕ) : Type 0 where
+pub record RowRead (t : List ℕ) (k kind low high own : ℕ) (ws : List ℕ) : Type 0 where
   pub is-kind : kind ≡ column 0 t k
-  pub is-letter : letter ≡ column 1 t k
   pub is-low : low ≡ column 2 t k
   pub is-high : high ≡ column 3 t k
   pub rows : RowsOk t k
+  pub some : 0 < column 0 t k
   pub at : own ≡ column 5 t k + column 6 t k
   pub all : length ws ≡ column 7 t k
 
-module _ {t : List ℕ} {k kind letter low high own : ℕ} {ws : List ℕ} (read : RowRead t k kind letter low high own ws) where
+module _ {t : List ℕ} {k kind low high own : ℕ} {ws : List ℕ} (read : RowRead t k kind low high own ws) where
   own-row : RowOk t k
   own-row = read .rows k (omega arith)
 
@@ -58,10 +58,10 @@ module _ {t : List ℕ} {k kind letter low high own : ℕ} {ws : List ℕ} (read
   words-few = rw (read .all) (own-row .bound)
 
   -- what a step requires
-  pub may-step : (kind ≤ 6) × (letter < 32) × (high < 2 ^ 32) × (own-words kind high ≤ length (part own (length ws) ws))
+  pub may-step : (0 < kind) × (kind ≤ 6) × (high < 2 ^ 32) × (own-words kind high ≤ length (part own (length ws) ws))
   may-step = (
+    rw (read .is-kind) (read .some),
     rw (read .is-kind) (own-row .kind),
-    rw (read .is-letter) (own-row .letter),
     rw (read .is-high) (own-row .high),
     omega (arith, sizes, length-part own (length ws) ws (omega arith)),
   )
@@ -69,7 +69,7 @@ module _ {t : List ℕ} {k kind letter low high own : ℕ} {ws : List ℕ} (read
   -- what it gives: block b′ put back
   pub advanced : (v s : List ℕ) (r : Step) (b′ : List ℕ) →
       Ends (takes-left kind) (takes-right kind) v (part own (length ws) ws) r b′ →
-      ((φ : Formula) → Fields φ kind letter low high → Steps φ v s (part own (length ws) ws) r b′) →
+      ((φ : Formula) (c : ℕ) → Fields φ kind c low high → Steps φ v s (part own (length ws) ws) r b′) →
       Advances t v s k own ws r (put-back own (length ws) b′ ws)
   advanced v s r b′ ends steps =
       let e = part-end own (length ws) ws refl in
@@ -82,9 +82,10 @@ module _ {t : List ℕ} {k kind letter low high own : ℕ} {ws : List ℕ} (read
             rw put
             (rw e at
             (steps φ
+            (column 1 t k)
             (record {
               kind = read .is-kind ∙ row .fields .kind;
-              letter = read .is-letter ∙ row .fields .letter;
+              letter = row .fields .letter;
               low = read .is-low ∙ row .fields .low;
               high = read .is-high ∙ row .fields .high;
             })));
@@ -92,37 +93,27 @@ module _ {t : List ℕ} {k kind letter low high own : ℕ} {ws : List ℕ} (read
 
 -- THE LOOP
 
--- the blocks have gone on from the loop's start, and the words stand for whatever formula they stood for then
-abbrev pub Stands : (t v s : List ℕ) → ℕ → (ws₀ ws : List ℕ) → Type 0
-Stands t v s k ws₀ ws =
-    GoesOn t k ws₀ ws ×
-    ((φ : Formula) (L : Log) (g : ℕ) → Has φ t k → NeverFalls L → Agrees v s L (first-read φ g) → State φ L g ws₀ → State φ L g ws)
-
 pub stands-first : (t v s : List ℕ) (k : ℕ) (ws : List ℕ) → Stands t v s k ws ws
 stands-first t v s k ws = (λ φ entered. all-refl φ ws, λ φ L g entered never agrees state. state)
 
--- the row of entry k as `answer` reads it: its operands have a and c words, and it has `end` in all
-pub record Reading (t : List ℕ) (k left a c end : ℕ) : Type 0 where
-  pub is-left : left ≡ column 4 t k
+-- the row of entry k as `answer` and `fill` read it: its operands have a and c words, and it has `end` in all
+pub record Reading (t : List ℕ) (k a c end : ℕ) : Type 0 where
   pub is-a : a ≡ column 5 t k
   pub is-c : c ≡ column 6 t k
   pub few : k < 128
   pub rows : RowsOk t k
   pub all : end ≡ column 7 t k
 
--- one step of entry k, from words ws to words ws′
-pub record Turn (t v s : List ℕ) (k left a c end : ℕ) (ws₀ ws : List ℕ) (r : Step) (ws′ : List ℕ) : Type 0 where
-  pub is-left : left ≡ column 4 t k
-  pub is-a : a ≡ column 5 t k
-  pub is-c : c ≡ column 6 t k
+-- words ws, which stand for what words ws₀ stood for
+pub record Standing (t v s : List ℕ) (k a c end : ℕ) (ws₀ ws : List ℕ) : Type 0 where
+  pub read : Reading t k a c end
   pub last : length ws ≡ end
-  pub room : a + c + 16 ≤ end
   pub stands : Stands t v s k ws₀ ws
-  pub step : Advances t v s k (a + c) ws r ws′
 
--- the loop stands after a step, whose outcome is r, at words ws′
-abbrev pub Stepping : (t v s : List ℕ) (k left a c end : ℕ) (ws₀ : List ℕ) (r : Step) (ws′ : List ℕ) → Type 0
-Stepping t v s k left a c end ws₀ r ws′ = (ws : List ℕ) × Turn t v s k left a c end ws₀ ws r ws′
+-- one step of entry k, from words ws to words ws′
+pub record Turn (t v s : List ℕ) (k a c end : ℕ) (ws₀ ws : List ℕ) (r : Step) (ws′ : List ℕ) : Type 0 where
+  pub here : Standing t v s k a c end ws₀ ws
+  pub step : Advances t v s k (a + c) ws r ws′
 
 -- what a step says that wants an operand
 abbrev pub wants : Side → Step
@@ -133,7 +124,7 @@ abbrev pub takes : Side → ℕ → Bool
 takes on-left = takes-left
 takes on-right = takes-right
 
-module _ {t : List ℕ} {k left a c end : ℕ} (read : Reading t k left a c end) where
+module _ {t : List ℕ} {k a c end : ℕ} (read : Reading t k a c end) where
   this-row : RowOk t k
   this-row = read .rows k (omega arith)
 
@@ -149,10 +140,10 @@ module _ {t : List ℕ} {k left a c end : ℕ} (read : Reading t k left a c end)
 
   -- an operand's row is an earlier one, with its words
   earlier : (side : Side) → takes side (column 0 t k) ≡ true →
-      (entry side left k < k) × (start side a + column 7 t (entry side left k) ≡ stop side a c)
+      (entry side (column 4 t k) k < k) × (start side a + column 7 t (entry side (column 4 t k) k) ≡ stop side a c)
   earlier on-left has = (
-    rw (read .is-left) (this-row .left has .0),
-    zero-add (column 7 t left) ∙ rw (read .is-left, read .is-a) (this-row .left has .1),
+    this-row .left has .0,
+    zero-add (column 7 t (column 4 t k)) ∙ rw (read .is-a) (this-row .left has .1),
   )
   earlier on-right has =
       let some = this-row .right has .0 in
@@ -160,49 +151,14 @@ module _ {t : List ℕ} {k left a c end : ℕ} (read : Reading t k left a c end)
 
   -- what asking an operand requires of its entry
   pub may-ask : (side : Side) → takes side (column 0 t k) ≡ true →
-      (entry side left k < k) ×
-      (entry side left k < 128) ×
-      RowsOk t (entry side left k) ×
-      (start side a + column 7 t (entry side left k) ≡ stop side a c)
+      (entry side (column 4 t k) k < k) ×
+      (entry side (column 4 t k) k < 128) ×
+      RowsOk t (entry side (column 4 t k) k) ×
+      (start side a + column 7 t (entry side (column 4 t k) k) ≡ stop side a c)
   may-ask side has =
       let e = earlier side has in
       let few = read .few in
       (e .0, omega arith, λ j le. read .rows j (omega arith), e .1)
-
-  pub turn-of : (v s : List ℕ) (ws₀ ws : List ℕ) (r : Step) (ws′ : List ℕ) → length ws ≡ end → Stands t v s k ws₀ ws →
-      Advances t v s k (a + c) ws r ws′ → Turn t v s k left a c end ws₀ ws r ws′
-  turn-of v s ws₀ ws r ws′ last stands step =
-      record { is-left = read .is-left; is-a = read .is-a; is-c = read .is-c; last = last; room = room; stands = stands; step = step }
-
--- what is left to do where the loop stands after a step: an operand to fill, or another step
-abbrev pub rank : Step → ℕ → ℕ
-rank (Batch bits n) m = 0
-rank Open m = 0
-rank Left m = m + 1
-rank Right m = m + 1
-rank Again m = m + 2
-
--- no more than before the step, and one
-pub ranked : {t v s : List ℕ} {k own : ℕ} {ws : List ℕ} (r : Step) {ws′ : List ℕ} → Advances t v s k own ws r ws′ →
-    rank r (left-to-do v (drop own ws′)) ≤ left-to-do v (drop own ws) + 1
-ranked (Batch bits n) step = omega arith
-ranked Open step = omega arith
-ranked Left step = rw (step .ends .1) (omega arith)
-ranked Right step = rw (step .ends .1) (omega arith)
-ranked Again step = omega (arith, step .ends .0)
-
--- what the loop does between two steps: the words stand for what they stood for, and less is left to do
-pub record Onto (t v s : List ℕ) (k own : ℕ) (ws₀ : List ℕ) (r : Step) (ws ws′ : List ℕ) : Type 0 where
-  pub stands : Stands t v s k ws₀ ws′
-  pub less : left-to-do v (drop own ws′) + 1 < rank r (left-to-do v (drop own ws))
-
-pub next-step : {t v s : List ℕ} {k left a c end : ℕ} {ws₀ : List ℕ} {r : Step} {ws ws′ : List ℕ} → Reading t k left a c end → length ws′ ≡ end →
-    Onto t v s k (a + c) ws₀ r ws ws′ → (r′ : Step) (ws″ : List ℕ) → Advances t v s k (a + c) ws′ r′ ws″ → Stepping t v s k left a c end ws₀ r′ ws″
-next-step {v = v} {s = s} {ws₀ = ws₀} {ws′ = ws′} read last onto r′ ws″ step = (ws′, turn-of read v s ws₀ ws′ r′ ws″ last (onto .stands) step)
-
-pub next-less : {t v s : List ℕ} {k own : ℕ} {ws₀ : List ℕ} {r : Step} {ws ws′ : List ℕ} → Onto t v s k own ws₀ r ws ws′ →
-    (r′ : Step) (ws″ : List ℕ) → Advances t v s k own ws′ r′ ws″ → rank r′ (left-to-do v (drop own ws″)) < rank r (left-to-do v (drop own ws))
-next-less onto r′ ws″ step = omega (arith, ranked r′ step, onto .less)
 
 -- the same words before the block, and the same block
 same-words : (own : ℕ) (ws ws′ : List ℕ) → take own ws′ ≡ take own ws → drop own ws′ ≡ drop own ws → ws′ ≡ ws
@@ -210,39 +166,55 @@ same-words own ws ws′ before block =
     sym (take-append-drop own ws′) ∙ ap (λ (l : List ℕ). l ++ drop own ws′) before ∙ ap (λ (l : List ℕ). take own ws ++ l) block ∙
     take-append-drop own ws
 
-module _ {t v s : List ℕ} {k left a c end : ℕ} {ws₀ ws ws′ : List ℕ} where
+module _ {t v s : List ℕ} {k a c end : ℕ} {ws₀ ws : List ℕ} (here : Standing t v s k a c end ws₀ ws) where
+  -- words ws″ whose blocks have gone on from words ws
+  goes-from : (ws″ : List ℕ) → Onward 12 (drop (a + c) ws) (drop (a + c) ws″) →
+      ((φ : Formula) → Has φ t k → (x : Side) → OnwardAt x a c φ ws ws″) → GoesOn t k ws₀ ws″
+  goes-from ws″ own parts φ entered =
+      let e = row φ t k entered in
+      all-trans φ ws₀ ws ws″ (here .stands .0 φ entered)
+      (all-from φ ws ws″ (here .read .is-a ∙ e .left-words) (here .read .is-c ∙ e .right-words) own (parts φ entered))
+
+  module _ (φ : Formula) (L : Log) (g : ℕ) (entered : Has φ t k) where
+    viewed : NeverFalls L → Agrees v s L (first-read φ g) → State φ L g ws₀ → View a c φ L g ws
+    viewed never agrees state =
+        let e = row φ t k entered in
+        view φ L g ws (here .read .is-a ∙ e .left-words) (here .read .is-c ∙ e .right-words) (here .stands .1 φ L g entered never agrees state)
+
+    state-of : (p : ℕ) (ws″ b : List ℕ) → drop (a + c) ws″ ≡ b → Ready φ L p b →
+        ((side : Side) → Stands-at side a c φ L b ws″) → State φ L p ws″
+    state-of p ws″ b own ready parts =
+        let e = row φ t k entered in
+        unview φ L p ws″ (here .read .is-a ∙ e .left-words) (here .read .is-c ∙ e .right-words) (view-of a c φ L p ws″ b own ready parts)
+
+-- A STEP'S OUTCOMES
+
+-- what is known of left's buffer where a step wants an operand: right is wanted only where left's has answers
+abbrev LeftOf : Side → Formula → List ℕ → Type 0
+LeftOf on-left φ b = left-count b ≡ 0
+LeftOf on-right φ b = has-left φ ≡ true → 0 < left-count b
+
+short-of : (side : Side) (φ : Formula) (L : Log) (g : ℕ) (b b′ : List ℕ) → Short φ L b → Stepped φ L g b (wants side) b′ → LeftOf side φ b →
+    settled-to φ L ≡ g
+short-of on-left φ L g b b′ short st none =
+    ⊎-elim (λ l. st .1 (l .2)) (λ r. let some = r .0 (st .0) in absurd (omega arith)) short
+short-of on-right φ L g b b′ short st left =
+    ⊎-elim (λ l. let some = left (l .0) in let none = l .1 in absurd (omega arith)) (λ r. st .1 (r .2)) short
+
+module _ {t v s : List ℕ} {k a c end : ℕ} {ws₀ ws ws′ : List ℕ} where
   -- the outcome as it was told
-  pub told : {r r′ : Step} → r ≡ r′ → Turn t v s k left a c end ws₀ ws r ws′ → Turn t v s k left a c end ws₀ ws r′ ws′
+  pub told : {r r′ : Step} → r ≡ r′ → Turn t v s k a c end ws₀ ws r ws′ → Turn t v s k a c end ws₀ ws r′ ws′
   told e turn = rw e at turn
 
-  module _ {r : Step} (turn : Turn t v s k left a c end ws₀ ws r ws′) where
+  module _ {r : Step} (turn : Turn t v s k a c end ws₀ ws r ws′) where
     stay : (x : Side) → lent x a c ws′ ≡ lent x a c ws
     stay x = lent-before x a c ws ws′ (turn .step .before)
 
-    -- words ws″ whose blocks have gone on from words ws
-    goes-from : (ws″ : List ℕ) → Onward 12 (drop (a + c) ws) (drop (a + c) ws″) →
-        ((φ : Formula) → Has φ t k → (x : Side) → OnwardAt x a c φ ws ws″) → GoesOn t k ws₀ ws″
-    goes-from ws″ own parts φ entered =
-        let e = row φ t k entered in
-        all-trans φ ws₀ ws ws″ (turn .stands .0 φ entered)
-        (all-from φ ws ws″ (turn .is-a ∙ e .left-words) (turn .is-c ∙ e .right-words) own (parts φ entered))
-
     -- a step goes on in its own block, and its operands' blocks are as they were
     goes-on : Onward 12 (drop (a + c) ws) (drop (a + c) ws′) → GoesOn t k ws₀ ws′
-    goes-on own = goes-from ws′ own (λ φ entered x e. rw (stay x) (all-refl (of x φ) (lent x a c ws)))
+    goes-on own = goes-from (turn .here) ws′ own (λ φ entered x e. rw (stay x) (all-refl (of x φ) (lent x a c ws)))
 
     module _ (φ : Formula) (L : Log) (g : ℕ) (entered : Has φ t k) where
-      viewed : NeverFalls L → Agrees v s L (first-read φ g) → State φ L g ws₀ → View a c φ L g ws
-      viewed never agrees state =
-          let e = row φ t k entered in
-          view φ L g ws (turn .is-a ∙ e .left-words) (turn .is-c ∙ e .right-words) (turn .stands .1 φ L g entered never agrees state)
-
-      state-of : (p : ℕ) (ws″ b : List ℕ) → drop (a + c) ws″ ≡ b → Ready φ L p b →
-          ((side : Side) → Stands-at side a c φ L b ws″) → State φ L p ws″
-      state-of p ws″ b own ready parts =
-          let e = row φ t k entered in
-          unview φ L p ws″ (turn .is-a ∙ e .left-words) (turn .is-c ∙ e .right-words) (view-of a c φ L p ws″ b own ready parts)
-
       stepped : NeverFalls L → Agrees v s L (first-read φ g) → View a c φ L g ws → Stepped φ L g (drop (a + c) ws) r (drop (a + c) ws′)
       stepped never agrees seen = turn .step .steps φ (row φ t k entered) L g never (agrees-later agrees (step-from φ g)) (seen .own)
 
@@ -250,6 +222,11 @@ module _ {t v s : List ℕ} {k left a c end : ℕ} {ws₀ ws ws′ : List ℕ} w
       moved-on : (p : ℕ) → View a c φ L g ws → Ready φ L p (drop (a + c) ws′) → Moved φ (drop (a + c) ws) (drop (a + c) ws′) → State φ L p ws′
       moved-on p seen ready moved =
           state-of
+          (turn .here)
+          φ
+          L
+          g
+          entered
           p
           ws′
           (drop (a + c) ws′)
@@ -261,35 +238,84 @@ module _ {t v s : List ℕ} {k left a c end : ℕ} {ws₀ ws ws′ : List ℕ} w
           (λ e. rw (stay on-left, moved .left e) (operand seen on-left e))
           (λ e. rw (stay on-right, moved .right e) (operand seen on-right e)))
 
-  pub batch-turn : {bits n : ℕ} → Turn t v s k left a c end ws₀ ws (Batch bits n) ws′ → Answers t v s k ws₀ (Answered bits n) ws′
+  pub batch-turn : {bits n : ℕ} → Turn t v s k a c end ws₀ ws (Batch bits n) ws′ → Answers t v s k ws₀ (Answered bits n) ws′
   batch-turn {bits} {n} turn = (
     goes-on turn (turn .step .ends),
     λ φ L g entered never agrees state.
-        let seen = viewed turn φ L g entered never agrees state in
+        let seen = viewed (turn .here) φ L g entered never agrees state in
         let st = stepped turn φ L g entered never agrees seen in
         (st .0, moved-on turn φ L g entered (g + n) seen (st .1) (st .2)),
   )
 
-  again-stands : Turn t v s k left a c end ws₀ ws Again ws′ → Stands t v s k ws₀ ws′
+  -- a batch of no position, which no formula's words bring about
+  pub none-turn : {bits n : ℕ} → n ≡ 0 → Turn t v s k a c end ws₀ ws (Batch bits n) ws′ → Answers t v s k ws₀ Unanswered ws′
+  none-turn {bits} {n} e turn =
+      let all = batch-turn turn in (
+        all .0,
+        λ φ L g entered never agrees state.
+            let none : ⊥ = omega (arith, all .1 φ L g entered never agrees state .0 .some) in
+            absurd none,
+      )
+
+  pub again-stands : Turn t v s k a c end ws₀ ws Again ws′ → Stands t v s k ws₀ ws′
   again-stands turn = (
     goes-on turn (turn .step .ends .1),
     λ φ L g entered never agrees state.
-        let seen = viewed turn φ L g entered never agrees state in
+        let seen = viewed (turn .here) φ L g entered never agrees state in
         let st = stepped turn φ L g entered never agrees seen in
         moved-on turn φ L g entered g seen (st .0) (st .1),
   )
 
-  pub again-onto : {r : Step} → r ≡ Again → Turn t v s k left a c end ws₀ ws r ws′ → Onto t v s k (a + c) ws₀ r ws′ ws′
-  again-onto e turn = rw e (record { stands = again-stands (told e turn); less = omega arith })
-
-  pub open-turn : Turn t v s k left a c end ws₀ ws Open ws′ → Answers t v s k ws₀ Unanswered ws′
+  pub open-turn : Turn t v s k a c end ws₀ ws Open ws′ → Answers t v s k ws₀ Unanswered ws′
   open-turn turn =
       let same = same-words (a + c) ws ws′ (turn .step .before) (turn .step .ends) in (
-        rw same (turn .stands .0),
+        rw same (turn .here .stands .0),
         λ φ L g entered never agrees state.
-            let seen = viewed turn φ L g entered never agrees state in
-            (stepped turn φ L g entered never agrees seen, rw same (turn .stands .1 φ L g entered never agrees state)),
+            let seen = viewed (turn .here) φ L g entered never agrees state in
+            (stepped turn φ L g entered never agrees seen, rw same (turn .here .stands .1 φ L g entered never agrees state)),
       )
+
+  -- a step that wants an operand: its buffer is empty, and the words as they were
+  module _ (side : Side) (turn : Turn t v s k a c end ws₀ ws (wants side) ws′) where
+    ended : (side : Side) → Ends (takes-left (column 0 t k)) (takes-right (column 0 t k)) v (drop (a + c) ws) (wants side) (drop (a + c) ws′) →
+        (drop (a + c) ws′ ≡ drop (a + c) ws) × (word (drop (a + c) ws) (slot side) ≡ 0)
+    ended on-left e = (e .1, e .2)
+    ended on-right e = (e .1, e .2)
+
+    pub unchanged : ws′ ≡ ws
+    unchanged = same-words (a + c) ws ws′ (turn .step .before) (ended side (turn .step .ends) .0)
+
+    wanted-none : word (drop (a + c) ws) (slot side) ≡ 0
+    wanted-none = ended side (turn .step .ends) .1
+
+    -- no operand is wanted whose buffer has answers
+    pub not-full : Full (takes-left (column 0 t k)) (drop (a + c) ws) → ⊥
+    not-full full = empty-side side (turn .step .ends)
+      where
+        empty-side : (side : Side) → Ends (takes-left (column 0 t k)) (takes-right (column 0 t k)) v (drop (a + c) ws) (wants side) (drop (a + c) ws′) → ⊥
+        empty-side on-left e = omega (arith, full .left (e .0), e .2)
+        empty-side on-right e = omega (arith, full .right, e .2)
+
+    -- where an operand is short of answers, it is the one that is wanted
+    pub short-turn : ((φ : Formula) (L : Log) (g : ℕ) → Has φ t k → NeverFalls L → Agrees v s L (first-read φ g) → State φ L g ws₀ → Short φ L (drop (a + c) ws)) →
+        Answers t v s k ws₀ Unanswered ws′
+    short-turn short = (
+      rw unchanged (turn .here .stands .0),
+      λ φ L g entered never agrees state.
+          let seen = viewed (turn .here) φ L g entered never agrees state in
+          let st = stepped turn φ L g entered never agrees seen in
+          (
+            short-of side φ L g (drop (a + c) ws) (drop (a + c) ws′) (short φ L g entered never agrees state) st (ended-left φ entered side (turn .step .ends)),
+            rw unchanged (turn .here .stands .1 φ L g entered never agrees state),
+          ),
+    )
+      where
+        ended-left : (φ : Formula) → Has φ t k → (side : Side) →
+            Ends (takes-left (column 0 t k)) (takes-right (column 0 t k)) v (drop (a + c) ws) (wants side) (drop (a + c) ws′) → LeftOf side φ (drop (a + c) ws)
+        ended-left φ entered on-left e = e .2
+        ended-left φ entered on-right e = λ h. e .3 (rw (row φ t k entered .fields .kind) h)
+
+-- AN OPERAND'S BUFFER
 
 to-do : (side : Side) (v b : List ℕ) →
     left-to-do v b ≡ 3 * (total v - taken b) + empty (word b (slot side)) + empty (word b (slot (other side)))
@@ -300,116 +326,84 @@ empty-some : (n : ℕ) → 1 ≤ n → empty n ≡ 0
 empty-some zero le = omega arith
 empty-some (suc n) le = refl
 
--- an operand is wanted
-module _ {t v s : List ℕ} {k left a c end : ℕ} {ws₀ ws ws′ : List ℕ} (side : Side) (turn : Turn t v s k left a c end ws₀ ws (wants side) ws′) where
-  -- its buffer is empty, and the block as it was
-  ended : (side : Side) → Ends (takes-left (column 0 t k)) (takes-right (column 0 t k)) v (drop (a + c) ws) (wants side) (drop (a + c) ws′) →
-      (takes side (column 0 t k) ≡ true) × (drop (a + c) ws′ ≡ drop (a + c) ws) × (word (drop (a + c) ws) (slot side) ≡ 0)
-  ended on-left e = e
-  ended on-right e = e
+zero-or-some : (n : ℕ) → (n ≡ 0) ⊎ (0 < n)
+zero-or-some zero = inl refl
+zero-or-some (suc n) = inr (omega arith)
 
-  pub taking : takes side (column 0 t k) ≡ true
-  taking = ended side (turn .step .ends) .0
+-- an operator of this kind has the operand
+pub has-side : (t : List ℕ) (k : ℕ) (side : Side) (φ : Formula) → Has φ t k → takes side (column 0 t k) ≡ true → has side φ ≡ true
+has-side t k on-left φ entered e = rw (row φ t k entered .fields .kind) at e
+has-side t k on-right φ entered e = rw (row φ t k entered .fields .kind) at e
 
-  none : word (drop (a + c) ws) (slot side) ≡ 0
-  none = ended side (turn .step .ends) .2
+-- words ws″ after an operand's buffer was looked at, and filled if it was empty and the operand had answers, which x says
+pub record Topped (t v s : List ℕ) (k a c end : ℕ) (ws₀ ws : List ℕ) (side : Side) (x : Bool) (ws″ : List ℕ) : Type 0 where
+  pub here : Standing t v s k a c end ws₀ ws″
+  pub less : left-to-do v (drop (a + c) ws″) ≤ left-to-do v (drop (a + c) ws)
+  pub beside : word (drop (a + c) ws″) (slot (other side)) ≡ word (drop (a + c) ws) (slot (other side))
+  pub some : x ≡ true → 0 < word (drop (a + c) ws″) (slot side)
+  pub none : x ≡ false → word (drop (a + c) ws″) (slot side) ≡ 0
+  pub settled : x ≡ false → (φ : Formula) (L : Log) (g : ℕ) → Has φ t k → NeverFalls L → Agrees v s L (first-read φ g) → State φ L g ws₀ →
+      settled-to (of side φ) L ≡ taken (drop (a + c) ws″)
 
-  unchanged : ws′ ≡ ws
-  unchanged = same-words (a + c) ws ws′ (turn .step .before) (ended side (turn .step .ends) .1)
-
+module _ {t v s : List ℕ} {k a c end : ℕ} {ws₀ ws : List ℕ} (here : Standing t v s k a c end ws₀ ws) (side : Side) (taking : takes side (column 0 t k) ≡ true) where
   inside : a + c ≤ length ws
-  inside = omega (arith, turn .room, turn .last)
+  inside = omega (arith, room (here .read), here .last)
 
   long : 16 ≤ length (drop (a + c) ws)
-  long = simp length-drop (omega (arith, turn .room, turn .last))
+  long = simp length-drop (omega (arith, room (here .read), here .last))
 
-  wanting : (side : Side) (φ : Formula) (L : Log) (g : ℕ) (b : List ℕ) → Stepped φ L g b (wants side) (drop (a + c) ws′) →
-      (has side φ ≡ true) × (settled-to (of side φ) L ≡ taken b → settled-to φ L ≡ g)
-  wanting on-left φ L g b st = st
-  wanting on-right φ L g b st = st
+  -- its buffer is empty: it is asked, at the next position to take
+  module _ (none : word (drop (a + c) ws) (slot side) ≡ 0) where
+    ask-at : (P : Formula → Log → ℕ → Type 0) →
+        ((φ : Formula) (L : Log) (q : ℕ) → Has φ t (entry side (column 4 t k) k) → NeverFalls L → Agrees v s L (first-read φ q) →
+        State φ L q (lent side a c ws) → P φ L q) →
+        (φ : Formula) (L : Log) (g : ℕ) → Has φ t k → NeverFalls L → Agrees v s L (first-read φ g) → View a c φ L g ws →
+        P (of side φ) L (taken (drop (a + c) ws))
+    ask-at P promise φ L g entered never agrees seen =
+        let b = drop (a + c) ws in
+        let e = has-side t k side φ entered taking in
+        let at : taken b + word b (slot side) ≡ taken b = omega (arith, none) in
+        promise
+        (of side φ)
+        L
+        (taken b)
+        (operand-rows φ t k entered side e)
+        never
+        (agrees-later agrees (operand-from φ L g b (seen .own .core .own) side))
+        (rw at at (operand seen side e))
 
-  -- what the operand is asked, it is asked at the next position to take
-  ask-at : (P : Formula → Log → ℕ → Type 0) →
-      ((φ : Formula) (L : Log) (q : ℕ) → Has φ t (entry side left k) → NeverFalls L → Agrees v s L (first-read φ q) →
-      State φ L q (lent side a c ws) → P φ L q) →
-      (φ : Formula) (L : Log) (g : ℕ) → Has φ t k → NeverFalls L → Agrees v s L (first-read φ g) → View a c φ L g ws → has side φ ≡ true →
-      P (of side φ) L (taken (drop (a + c) ws))
-  ask-at P promise φ L g entered never agrees seen e =
-      let b = drop (a + c) ws in
-      let here : taken b + word b (slot side) ≡ taken b = omega (arith, none) in
-      promise
-      (of side φ)
-      L
-      (taken b)
-      (rw (turn .is-left) (operand-rows φ t k entered side e))
-      never
-      (agrees-later agrees (operand-from φ L g b (seen .own .core .own) side))
-      (rw here at (operand seen side e))
+    -- the operand goes on in its own blocks
+    goes-asked : (ws″ ys b : List ℕ) → Asked side a c ws ys ws″ b → Onward 12 (drop (a + c) ws) b →
+        GoesOn t (entry side (column 4 t k) k) (lent side a c ws) ys → GoesOn t k ws₀ ws″
+    goes-asked ws″ ys b frame own goes =
+        goes-from here ws″ (rw (frame .own) own)
+        (λ φ entered.
+        by-side
+        (λ x. OnwardAt x a c φ ws ws″)
+        side
+        (λ e. rw (frame .here) (goes (of side φ) (operand-rows φ t k entered side e)))
+        (λ e. rw (frame .there) (all-refl (of (other side) φ) (lent (other side) a c ws))))
 
-  -- the words after the question
-  asks-same : (x : Bool) (ws″ : List ℕ) →
-      Asks t v s (entry side left k) (start side a) (stop side a c) (a + c + slot side) ws′ x ws″ →
-      Asks t v s (entry side left k) (start side a) (stop side a c) (a + c + slot side) ws x ws″
-  asks-same x ws″ asks =
-      subst
-      (λ (l : List ℕ). Asks t v s (entry side left k) (start side a) (stop side a c) (a + c + slot side) l x ws″)
-      unchanged
-      asks
-
-  framed : (ys : List ℕ) (bits n : ℕ) → length ys ≡ stop side a c - start side a →
-      Asked
-      side
-      a
-      c
-      ws
-      ys
-      (stored (back (start side a) (stop side a c) ys ws) (a + c + slot side) bits n)
-      (stored (drop (a + c) ws) (slot side) bits n)
-  framed ys bits n kept =
-      asked-stored
-      side
-      a
-      c
-      ws
-      ys
-      (back (start side a) (stop side a c) ys ws)
-      (drop (a + c) ws)
-      bits
-      n
-      (asked side a c ws ys inside kept)
-
-  -- the operand goes on in its own blocks
-  goes-asked : (ws″ ys b : List ℕ) → Asked side a c ws ys ws″ b → Onward 12 (drop (a + c) ws) b →
-      GoesOn t (entry side left k) (lent side a c ws) ys → GoesOn t k ws₀ ws″
-  goes-asked ws″ ys b frame own goes =
-      goes-from turn ws″ (rw (frame .own) own)
-      (λ φ entered.
-      by-side
-      (λ x. OnwardAt x a c φ ws ws″)
-      side
-      (λ e. rw (frame .here) (goes (of side φ) (rw (turn .is-left) (operand-rows φ t k entered side e))))
-      (λ e. rw (frame .there) (all-refl (of (other side) φ) (lent (other side) a c ws))))
-
-  pub open-asked : (x : Bool) (ws″ : List ℕ) → negate x ≡ true →
-      Asks t v s (entry side left k) (start side a) (stop side a c) (a + c + slot side) ws′ x ws″ →
-      Answers t v s k ws₀ Unanswered ws″
-  open-asked true ws″ e asks = absurd (true-and-false e refl)
-  open-asked false ws″ e asks =
-      let got = asks-same false ws″ asks in
-      let ys = got .0 in
-      let b = drop (a + c) ws in
-      let after = back (start side a) (stop side a c) ys ws in
-      let here : taken b + word b (slot side) ≡ taken b = omega (arith, none) in
-      let frame = asked side a c ws ys inside (got .1) in (
-        rw (got .3 .0) (goes-asked after ys b frame (onward-refl b) (got .2)),
-        λ φ L g entered never agrees state.
-            let seen = viewed turn φ L g entered never agrees state in
-            let st = wanting side φ L g b (stepped turn φ L g entered never agrees seen) in
-            let it = ask-at (λ φ L q. (settled-to φ L ≡ q) × State φ L q ys) (got .3 .1) φ L g entered never agrees seen (st .0) in (
-              st .1 (it .0),
-              rw (got .3 .0)
-                  (state-of
-                  turn
+    asked-short : (ws″ : List ℕ) → length ws″ ≡ end → Asks t v s (entry side (column 4 t k) k) (start side a) (stop side a c) (a + c + slot side) ws false ws″ →
+        Topped t v s k a c end ws₀ ws side false ws″
+    asked-short ws″ last got =
+        let ys = got .0 in
+        let b = drop (a + c) ws in
+        let after = back (start side a) (stop side a c) ys ws in
+        let at : taken b + word b (slot side) ≡ taken b = omega (arith, none) in
+        let frame = asked side a c ws ys inside (got .1) in
+        rw (got .3 .0)
+        (record {
+          here = record {
+            read = here .read;
+            last = rw (got .3 .0) at last;
+            stands = (
+              goes-asked after ys b frame (onward-refl b) (got .2),
+              λ φ L g entered never agrees state.
+                  let seen = viewed here φ L g entered never agrees state in
+                  let it = ask-at (λ φ L q. (settled-to φ L ≡ q) × State φ L q ys) (got .3 .1) φ L g entered never agrees seen in
+                  state-of
+                  here
                   φ
                   L
                   g
@@ -422,84 +416,204 @@ module _ {t v s : List ℕ} {k left a c end : ℕ} {ws₀ ws ws′ : List ℕ} (
                   (by-side
                   (λ x. Stands-at x a c φ L b after)
                   side
-                  (λ e. rw (frame .here, here) (it .1))
-                  (λ e. rw (frame .there) (operand seen (other side) e)))),
-            ),
-      )
+                  (λ e. rw (frame .here, at) (it .1))
+                  (λ e. rw (frame .there) (operand seen (other side) e))),
+            );
+          };
+          less = rw (frame .own) (omega arith);
+          beside = rw (frame .own) refl;
+          some = λ e. absurd (true-and-false e refl);
+          none = λ e. rw (frame .own) none;
+          settled = λ e φ L g entered never agrees state.
+              rw (frame .own)
+              (ask-at (λ φ L q. (settled-to φ L ≡ q) × State φ L q ys) (got .3 .1) φ L g entered never agrees (viewed here φ L g entered never agrees state) .0);
+        })
 
-  filled : (x : Bool) (ws″ : List ℕ) → negate x ≡ false →
-      Asks t v s (entry side left k) (start side a) (stop side a c) (a + c + slot side) ws′ x ws″ →
-      Stands t v s k ws₀ ws″
-  filled false ws″ e asks = absurd (true-and-false refl e)
-  filled true ws″ e asks =
-      let got = asks-same true ws″ asks in
-      let ys = got .0 in
-      let bits = got .3 .0 in
-      let n = got .3 .1 in
-      let b = drop (a + c) ws in
-      let new = stored b (slot side) bits n in
-      let after = stored (back (start side a) (stop side a c) ys ws) (a + c + slot side) bits n in
-      let frame = framed ys bits n (got .1) in (
-        rw (got .3 .3) (goes-asked after ys new frame (stored-onward side b long bits n) (got .2)),
-        λ φ L g entered never agrees state.
-            let seen = viewed turn φ L g entered never agrees state in
-            let st = wanting side φ L g b (stepped turn φ L g entered never agrees seen) in
-            let it = ask-at (λ φ L q. Batched φ L q bits n × State φ L (q + n) ys) (got .3 .4) φ L g entered never agrees seen (st .0) in
-            rw (got .3 .3)
-            (state-of
-            turn
-            φ
-            L
-            g
-            entered
-            g
-            after
-            new
-            (frame .own)
-            (ready-filled side b long bits n φ L g (seen .own) (it .0))
-            (by-side
-            (λ x. Stands-at x a c φ L new after)
-            side
-            (λ e. rw (frame .here, stored-at side b long bits n, stored-count side b long bits n) (it .1))
-            (λ e.
-            rw (frame .there, stored-at side b long bits n, stored-count-other side b long bits n) (operand seen (other side) e)))),
-      )
+    asked-some : (ws″ : List ℕ) → length ws″ ≡ end → Asks t v s (entry side (column 4 t k) k) (start side a) (stop side a c) (a + c + slot side) ws true ws″ →
+        Topped t v s k a c end ws₀ ws side true ws″
+    asked-some ws″ last got =
+        let ys = got .0 in
+        let bits = got .3 .0 in
+        let n = got .3 .1 in
+        let b = drop (a + c) ws in
+        let new = stored b (slot side) bits n in
+        let after = stored (back (start side a) (stop side a c) ys ws) (a + c + slot side) bits n in
+        let frame = asked-stored side a c ws ys (back (start side a) (stop side a c) ys ws) b bits n (asked side a c ws ys inside (got .1)) in
+        rw (got .3 .3)
+        (record {
+          here = record {
+            read = here .read;
+            last = rw (got .3 .3) at last;
+            stands = (
+              goes-asked after ys new frame (stored-onward side b long bits n) (got .2),
+              λ φ L g entered never agrees state.
+                  let seen = viewed here φ L g entered never agrees state in
+                  let it = ask-at (λ φ L q. Batched φ L q bits n × State φ L (q + n) ys) (got .3 .4) φ L g entered never agrees seen in
+                  state-of
+                  here
+                  φ
+                  L
+                  g
+                  entered
+                  g
+                  after
+                  new
+                  (frame .own)
+                  (ready-filled side b long bits n φ L g (seen .own) (it .0))
+                  (by-side
+                  (λ x. Stands-at x a c φ L new after)
+                  side
+                  (λ e. rw (frame .here, stored-at side b long bits n, stored-count side b long bits n) (it .1))
+                  (λ e.
+                  rw (frame .there, stored-at side b long bits n, stored-count-other side b long bits n) (operand seen (other side) e))),
+            );
+          };
+          less =
+              rw (
+                frame .own,
+                to-do side v new,
+                to-do side v b,
+                stored-at side b long bits n,
+                stored-count side b long bits n,
+                stored-count-other side b long bits n,
+                none,
+                empty-some n (got .3 .2),
+              )
+              (omega arith);
+          beside = rw (frame .own) (stored-count-other side b long bits n);
+          some = λ e. rw (frame .own, stored-count side b long bits n) (got .3 .2);
+          none = λ e. absurd (true-and-false refl e);
+          settled = λ e. absurd (true-and-false refl e);
+        })
 
-  filled-less : (x : Bool) (ws″ : List ℕ) → negate x ≡ false →
-      Asks t v s (entry side left k) (start side a) (stop side a c) (a + c + slot side) ws′ x ws″ →
-      left-to-do v (drop (a + c) ws″) < left-to-do v (drop (a + c) ws′)
-  filled-less false ws″ e asks = absurd (true-and-false refl e)
-  filled-less true ws″ e asks =
-      let got = asks-same true ws″ asks in
-      let bits = got .3 .0 in
-      let n = got .3 .1 in
-      let b = drop (a + c) ws in
-      rw (
-        unchanged,
-        got .3 .3,
-        framed (got .0) bits n (got .1) .own,
-        to-do side v (stored b (slot side) bits n),
-        to-do side v b,
-        stored-at side b long bits n,
-        stored-count side b long bits n,
-        stored-count-other side b long bits n,
-        none,
-        empty-some n (got .3 .2),
-      )
-      (omega arith)
+    asked-empty : (x : Bool) (ws″ : List ℕ) → length ws″ ≡ end → Asks t v s (entry side (column 4 t k) k) (start side a) (stop side a c) (a + c + slot side) ws x ws″ →
+        Topped t v s k a c end ws₀ ws side x ws″
+    asked-empty false ws″ last got = asked-short ws″ last got
+    asked-empty true ws″ last got = asked-some ws″ last got
 
-  wanted-rank : (side : Side) (m : ℕ) → rank (wants side) m ≡ m + 1
-  wanted-rank on-left m = refl
-  wanted-rank on-right m = refl
+  -- it has answers
+  had-some : 0 < word (drop (a + c) ws) (slot side) → (x : Bool) (ws″ : List ℕ) → x ≡ true → ws″ ≡ ws → Topped t v s k a c end ws₀ ws side x ws″
+  had-some some x ws″ e same =
+      rw (same, e)
+      (record {
+        here = here;
+        less = omega arith;
+        beside = refl;
+        some = λ e. some;
+        none = λ e. absurd (true-and-false refl e);
+        settled = λ e. absurd (true-and-false refl e);
+      })
 
-  pub filled-onto : (x : Bool) (ws″ : List ℕ) → negate x ≡ false →
-      Asks t v s (entry side left k) (start side a) (stop side a c) (a + c + slot side) ws′ x ws″ →
-      Onto t v s k (a + c) ws₀ (wants side) ws′ ws″
-  filled-onto x ws″ e asks =
+  pub topped : (x : Bool) (ws″ : List ℕ) → length ws″ ≡ end → Fills t v s (entry side (column 4 t k) k) (start side a) (stop side a c) (a + c + slot side) ws x ws″ →
+      Topped t v s k a c end ws₀ ws side x ws″
+  topped x ws″ last fills =
+      let same : word ws (a + c + slot side) ≡ word (drop (a + c) ws) (slot side) = sym (getD-drop (a + c) ws (slot side) 0) in
+      ⊎-elim
+      (λ e. asked-empty e x ws″ last (fills .none (same ∙ e)))
+      (λ some. let kept = fills .some (rw same some) in had-some some x ws″ (kept .0) (kept .1))
+      (zero-or-some (word (drop (a + c) ws) (slot side)))
+
+-- BOTH BUFFERS
+
+module _ {t v s : List ℕ} {k a c end : ℕ} {ws : List ℕ} where
+  -- left has no more answers: right is not looked at
+  pub left-short : {ws′ : List ℕ} → takes-left (column 0 t k) ≡ true → Topped t v s k a c end ws ws on-left false ws′ → Refills t v s k (a + c) ws false ws′
+  left-short takes top =
       record {
-        stands = filled x ws″ e asks;
-        less = omega (arith, filled-less x ws″ e asks, wanted-rank side (left-to-do v (drop (a + c) ws′)));
+        stands = top .here .stands;
+        less = top .less;
+        full = λ e. absurd (true-and-false e refl);
+        short = λ e φ L g entered never agrees state.
+            inl (has-side t k on-left φ entered takes, top .none refl, top .settled refl φ L g entered never agrees state);
       }
+
+  pub short-top : {x : Bool} {ws′ : List ℕ} → x ≡ false → Topped t v s k a c end ws ws on-left x ws′ → Topped t v s k a c end ws ws on-left false ws′
+  short-top e top = rw e at top
+
+  -- left has answers, or there is no left operand
+  pub right-last : {mid ws′ : List ℕ} {x : Bool} → (takes-left (column 0 t k) ≡ true → 0 < left-count (drop (a + c) mid)) →
+      left-to-do v (drop (a + c) mid) ≤ left-to-do v (drop (a + c) ws) → Topped t v s k a c end ws mid on-right x ws′ → Refills t v s k (a + c) ws x ws′
+  right-last left less top =
+      record {
+        stands = top .here .stands;
+        less = omega (arith, less, top .less);
+        full = λ e. record { left = λ takes. rw (top .beside) (left takes); right = top .some e };
+        short = λ e φ L g entered never agrees state.
+            inr (
+              λ has. rw (top .beside) (left (rw (row φ t k entered .fields .kind) has)),
+              top .none e,
+              top .settled e φ L g entered never agrees state
+            );
+      }
+
+-- A TURN OF THE LOOP
+
+stands-trans : (t v s : List ℕ) (k : ℕ) (ws₀ ws ws′ : List ℕ) → Stands t v s k ws₀ ws → Stands t v s k ws ws′ → Stands t v s k ws₀ ws′
+stands-trans t v s k ws₀ ws ws′ first next = (
+  λ φ entered. all-trans φ ws₀ ws ws′ (first .0 φ entered) (next .0 φ entered),
+  λ φ L g entered never agrees state. next .1 φ L g entered never agrees (first .1 φ L g entered never agrees state),
+)
+
+-- from words ws the buffers were filled, which x says, and a step was made, whose outcome is r: from `mid` on, as they were filled or after a
+-- first step that took positions
+pub record Made (t v s : List ℕ) (k a c end : ℕ) (ws₀ ws : List ℕ) (x : Bool) (r : Step) (ws′ : List ℕ) : Type 0 where
+  pub mid : List ℕ
+  pub turn : Turn t v s k a c end ws₀ mid r ws′
+  pub less : left-to-do v (drop (a + c) mid) ≤ left-to-do v (drop (a + c) ws)
+  pub full : x ≡ true → Full (takes-left (column 0 t k)) (drop (a + c) mid) ⊎ (left-to-do v (drop (a + c) mid) < left-to-do v (drop (a + c) ws))
+  pub short : x ≡ false → (φ : Formula) (L : Log) (g : ℕ) → Has φ t k → NeverFalls L → Agrees v s L (first-read φ g) → State φ L g ws₀ →
+      Short φ L (drop (a + c) mid)
+
+module _ {t v s : List ℕ} {k a c end : ℕ} {ws₀ ws : List ℕ} where
+  pub one-step : {x : Bool} {mid : List ℕ} {r : Step} {ws′ : List ℕ} → Standing t v s k a c end ws₀ ws → length mid ≡ end →
+      Refills t v s k (a + c) ws x mid → Advances t v s k (a + c) mid r ws′ → Made t v s k a c end ws₀ ws x r ws′
+  one-step {mid = mid} here last fills step =
+      record {
+        mid = mid;
+        turn = record {
+          here = record { read = here .read; last = last; stands = stands-trans t v s k ws₀ ws mid (here .stands) (fills .stands) };
+          step = step;
+        };
+        less = fills .less;
+        full = λ e. inl (fills .full e);
+        short = λ e φ L g entered never agrees state.
+            fills .short e φ L g entered never agrees (here .stands .1 φ L g entered never agrees state);
+      }
+
+  pub two-steps : {x : Bool} {ws₁ : List ℕ} {r : Step} {ws′ : List ℕ} → x ≡ true → length ws₁ ≡ end → Made t v s k a c end ws₀ ws x Again ws₁ →
+      Advances t v s k (a + c) ws₁ r ws′ → Made t v s k a c end ws₀ ws x r ws′
+  two-steps {ws₁ = ws₁} filled last made step =
+      let fewer = made .turn .step .ends .0 in
+      let less = made .less in
+      record {
+        mid = ws₁;
+        turn = record {
+          here = record { read = made .turn .here .read; last = last; stands = again-stands (made .turn) };
+          step = step;
+        };
+        less = omega arith;
+        full = λ e. inr (omega arith);
+        short = λ e. absurd (true-and-false filled e);
+      }
+
+  module _ {x : Bool} {ws′ : List ℕ} where
+    pub as-told : {r r′ : Step} → r ≡ r′ → Made t v s k a c end ws₀ ws x r ws′ → Made t v s k a c end ws₀ ws x r′ ws′
+    as-told e made = rw e at made
+
+    -- positions were taken
+    pub again-less : Made t v s k a c end ws₀ ws x Again ws′ → left-to-do v (drop (a + c) ws′) < left-to-do v (drop (a + c) ws)
+    again-less made = omega (arith, made .turn .step .ends .0, made .less)
+
+    -- an operand is wanted: it is open, or it ran out of answers by a first step
+    pub wanted-open : (side : Side) → x ≡ false → Made t v s k a c end ws₀ ws x (wants side) ws′ → Answers t v s k ws₀ Unanswered ws′
+    wanted-open side e made = short-turn side (made .turn) (made .short e)
+
+    pub wanted-less : (side : Side) → x ≡ true → Made t v s k a c end ws₀ ws x (wants side) ws′ → left-to-do v (drop (a + c) ws′) < left-to-do v (drop (a + c) ws)
+    wanted-less side e made =
+        rw (unchanged side (made .turn)) (⊎-elim (λ full. absurd (not-full side (made .turn) full)) (λ less. less) (made .full e))
+
+    pub wanted-stands : (side : Side) → Made t v s k a c end ws₀ ws x (wants side) ws′ → Stands t v s k ws₀ ws′
+    wanted-stands side made = rw (unchanged side (made .turn)) (made .turn .here .stands)
 
 -- an operand's answer, as what was asked for: its words are ys now
 module _ (t v s : List ℕ) (o from to slot : ℕ) (ws ys : List ℕ) (ordered : from ≤ to) (inside : to ≤ length ws) (kept : length ys ≡ length (part from to ws)) where

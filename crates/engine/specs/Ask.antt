@@ -1,13 +1,15 @@
--- One step of an entry, and an operand's buffer filled by asking the operand: the promises that the engine's functions give each other.
-use Prim.Native.Nat.{ℕ, _+_, _-_, _≤_}
+-- One step of an entry, and operands' buffers filled by asking the operands: the promises that the engine's functions give each other.
+use Prim.Native.Nat.{ℕ, _+_, _-_, _≤_, _<_}
 use mathlib.Core.Bool.{Bool, true, false}
+use mathlib.Core.Logic.{_⊎_}
 use mathlib.Core.Path.{_≡_}
 use mathlib.Core.List.{List, _++_}
 use lib.ListN.{length, take, drop, set}
 use Rattle.mtl.specs.Formula.{Formula}
 use Rattle.mtl.specs.Log.{Log, NeverFalls}
 use Rattle.mtl.specs.Progress.{settled-to}
-use Rattle.blocks.specs.Step.{Agrees, Batched, Steps, Ends}
+use Rattle.blocks.specs.Block.{word, taken, left-count, right-count}
+use Rattle.blocks.specs.Step.{Agrees, Batched, Steps, Ends, has-left, has-right, left-of, right-of, left-to-do}
 use Rattle.blocks.specs.Kinds.{takes-left, takes-right}
 use Rattle.blocks.specs.declared.Step.{Step}
 use Rattle.engine.specs.State.{State}
@@ -45,3 +47,33 @@ Filled t v s o from to slot ws false ws′ ys =
 abbrev pub Asks : (t v s : List ℕ) → ℕ → (from to slot : ℕ) → List ℕ → Bool → List ℕ → Type 0
 Asks t v s o from to slot ws r ws′ =
     (ys : List ℕ) × (length ys ≡ to - from) × GoesOn t o (part from to ws) ys × Filled t v s o from to slot ws r ws′ ys
+
+-- the buffer has answers, or the operand is asked
+pub record Fills (t v s : List ℕ) (o from to slot : ℕ) (ws : List ℕ) (r : Bool) (ws′ : List ℕ) : Type 0 where
+  pub some : 0 < word ws slot → (r ≡ true) × (ws′ ≡ ws)
+  pub none : word ws slot ≡ 0 → Asks t v s o from to slot ws r ws′
+
+-- the words stand for whatever formula they stood for, and no head went back
+abbrev pub Stands : (t v s : List ℕ) → ℕ → (ws₀ ws : List ℕ) → Type 0
+Stands t v s k ws₀ ws =
+    GoesOn t k ws₀ ws ×
+    ((φ : Formula) (L : Log) (g : ℕ) → Has φ t k → NeverFalls L → Agrees v s L (first-read φ g) → State φ L g ws₀ → State φ L g ws)
+
+-- block b has answers of both operands
+pub record Full (has-both : Bool) (b : List ℕ) : Type 0 where
+  pub left : has-both ≡ true → 0 < left-count b
+  pub right : 0 < right-count b
+
+-- one of the two operands has no more answers, and its buffer is empty; where it is the right one, left's has answers
+abbrev pub Short : Formula → Log → List ℕ → Type 0
+Short φ L b =
+    ((has-left φ ≡ true) × (left-count b ≡ 0) × (settled-to (left-of φ) L ≡ taken b)) ⊎
+    ((has-left φ ≡ true → 0 < left-count b) × (right-count b ≡ 0) × (settled-to (right-of φ) L ≡ taken b))
+
+-- the empty buffers of entry k's operands filled, as far as they have answers
+pub record Refills (t v s : List ℕ) (k own : ℕ) (ws : List ℕ) (r : Bool) (ws′ : List ℕ) : Type 0 where
+  pub stands : Stands t v s k ws ws′
+  pub less : left-to-do v (drop own ws′) ≤ left-to-do v (drop own ws)
+  pub full : r ≡ true → Full (takes-left (column 0 t k)) (drop own ws′)
+  pub short : r ≡ false → (φ : Formula) (L : Log) (g : ℕ) → Has φ t k → NeverFalls L → Agrees v s L (first-read φ g) → State φ L g ws →
+      Short φ L (drop own ws′)

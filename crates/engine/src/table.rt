@@ -1,6 +1,7 @@
 // The decoded rule: rows of eight numbers.
 ghost use mathlib.Core.Path.{_≡_};
 ghost use Prim.Native.Nat.{_<_};
+ghost use Rattle.blocks.specs.Kinds.{takes-left};
 ghost use Rattle.engine.specs.Table.{column};
 
 // The columns of a row: an entry's fields, the left operand's entry, the operands' words, and all words.
@@ -33,4 +34,11 @@ pub fn field(table: &[u32; 1024], k: usize, j: usize) -> u64
     ensures { λ r. ⌜ r ≡ column j (now (table .entry)) k ⌝ }
 {
     wide(table[k * 8 + j])
+}
+
+// or, since, until.
+pub fn takes_left(kind: u64) -> bool
+    ensures { λ r. ⌜ r ≡ takes-left kind ⌝ }
+{
+    (kind == 2) | ((kind == 5) | (kind == 6))
 }

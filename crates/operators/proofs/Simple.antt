@@ -1,5 +1,5 @@
 -- One step of the letter, not, or, previous and next over their block's words, as the code leaves them. Assumes nothing.
-use Prim.Native.Nat.{ℕ, _+_, _-_, _≤_, _<_, _^_}
+use Prim.Native.Nat.{ℕ, zero, suc, _+_, _-_, _≤_, _<_, _^_}
 use native.Mathlib.Nat.{zero-add, le-refl}
 use native.Mathlib.Omega.{arith}
 use mathlib.Core.Bool.{Bool, true, false, _&&_, _||_, false≢true}
@@ -41,7 +41,13 @@ use Rattle.blocks.specs.declared.Step.the-variants.{Batch, Again}
 use Rattle.blocks.proofs.Words.{Store, put, stores, word-stores, stores-onward, less-to-do, fits}
 use Rattle.blocks.proofs.Taking.{right-stores, both-stores, first-of, taken-right, taken-both}
 use Rattle.blocks.proofs.Reading.{read-time, read-letters, letters-end, head-passed}
+use Rattle.operators.specs.Letter.{stretch-step}
 use Rattle.operators.specs.Neighbour.{Gaps, TookNear}
+
+-- a stretch of some positions is a batch
+pub some-step : (count bits : ℕ) → 0 < count → stretch-step count bits ≡ Batch bits count
+some-step zero bits h = absurd (omega arith)
+some-step (suc n) bits h = refl
 
 -- the stores of a letter that has read n positions, its head behind them being h
 abbrev read-stores : (n h : ℕ) → List ℕ → List Store

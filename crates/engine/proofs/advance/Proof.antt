@@ -6,18 +6,18 @@ use Rattle.engine.proofs.advance.Statement.{statement}
 use Rattle.engine.proofs.advance.Tie as tie
 
 -- the row, once it is read
-reading : (d : tie.After-field4) →
-    let a = d .before .before .before .before .before .before .args in RowRead (a .table .now) (a .k) (d .before .before .before .field .result) (d .before .before .field2 .result) (d .before .field3 .result) (d .field4 .result) (a .own) (a .words .now)
+reading : (d : tie.After-field3) →
+    let a = d .before .before .before .before .before .args in RowRead (a .table .now) (a .k) (d .before .before .field .result) (d .before .field2 .result) (d .field3 .result) (a .own) (a .words .now)
 reading d =
-    let pre = d .before .before .before .before .before .before .pre in
+    let pre = d .before .before .before .before .before .pre in
     record {
-      is-kind = d .before .before .before .field .ensures;
-      is-letter = d .before .before .field2 .ensures;
-      is-low = d .before .field3 .ensures;
-      is-high = d .field4 .ensures;
+      is-kind = d .before .before .field .ensures;
+      is-low = d .before .field2 .ensures;
+      is-high = d .field3 .ensures;
       rows = pre .1;
-      at = pre .2;
-      all = pre .3;
+      some = pre .2;
+      at = pre .3;
+      all = pre .4;
     }
 
 mul-advance : tie.Need-mul-advance
@@ -32,20 +32,19 @@ part-advance-start c = own-inside (reading (c .before .before))
 advance-requires : tie.Need-advance-requires
 advance-requires c κs =
     let may = may-step (reading (c .before .before .before)) in
-    let pre = c .before .before .before .before .before .before .before .before .before .pre in
-    (may .0, may .1, may .2, may .3, pre .4, pre .5, pre .6)
+    let pre = c .before .before .before .before .before .before .before .before .pre in
+    (may .0, may .1, may .2, may .3, pre .5, pre .6, pre .7)
 
 returns : tie.Need-returns
 returns c =
-    let a = c .before .before .before .before .before .before .before .before .before .before .before .before .args in
+    let a = c .before .before .before .before .before .before .before .before .before .before .before .args in
     let step = c .before .before .advance in
-    (advanced (reading (c .before .before .before .before .before .before)) (a .view .now) (a .records .now) (step .result) (step .last .1 .1 .1 .1 .1 .1 .1 .1 .0) (step .ensures .0) (step .ensures .1 .0), step .ensures .1 .1)
+    (advanced (reading (c .before .before .before .before .before .before)) (a .view .now) (a .records .now) (step .result) (step .last .1 .1 .1 .1 .1 .1 .1 .0) (step .ensures .0) (step .ensures .1 .0), step .ensures .1 .1)
 
 pub advance-spec : {M : Type 1} → statement M
 advance-spec =
     tie.close
     (tie.spec
-    (λ c κs. search needs)
     (λ c κs. search needs)
     (λ c κs. search needs)
     (λ c κs. search needs)

@@ -1,21 +1,15 @@
 -- `operators::letter::read_letter` meets its contract. Assumes nothing.
-use Prim.Native.Nat.{ℕ, zero, suc, _+_, _<_}
+use Prim.Native.Nat.{_+_}
 use native.Mathlib.Omega.{arith}
-use mathlib.Core.Path.{_≡_, refl}
+use mathlib.Core.Path.{refl}
 use lib.ListN.{length-set}
 use borrow.Author.Needs.{needs}
 use Rattle.mtl.proofs.Closing.{settled-letter}
 use Rattle.window.specs.View.{slice-first}
 use Rattle.blocks.proofs.Words.{available}
-use Rattle.blocks.specs.declared.Step.the-variants.{Batch}
-use Rattle.operators.specs.Letter.{stretch-step}
-use Rattle.operators.proofs.Simple.{read-onward, letter-batch}
+use Rattle.operators.proofs.Simple.{some-step, read-onward, letter-batch}
 use Rattle.operators.proofs.letter.read_letter.Statement.{statement}
 use Rattle.operators.proofs.letter.read_letter.Tie as tie
-
-some-step : (count bits : ℕ) → 0 < count → stretch-step count bits ≡ Batch bits count
-some-step zero bits h = absurd (omega arith)
-some-step (suc n) bits h = refl
 
 returns : tie.Need-returns
 returns c = (
