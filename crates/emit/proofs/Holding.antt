@@ -20,7 +20,7 @@ use Rattle.blocks.specs.Step.{Agrees, Batched}
 use Rattle.blocks.proofs.Words.{empty-buffer}
 use Rattle.engine.specs.State.{needed-words, own-at, words-before, State, OnwardAll, OnwardFormula}
 use Rattle.engine.proofs.Onward.{formula-refl, formula-trans, all-formula}
-use Rattle.engine.specs.Ask.{part, back, stored, Asks}
+use Rattle.engine.specs.Ask.{part, back, stored, Asks, Fills}
 use Rattle.engine.specs.Tops.{top-column}
 use Rattle.engine.proofs.Parts.{part-back, drop-back}
 use Rattle.engine.proofs.Held.{HeldWords, held-state, formula-held}
@@ -221,10 +221,18 @@ module _ {table tops : List ℕ} {base number : ℕ} {fs : List Formula} (v s : 
       rw e (asked-open ys kept r (rw e at is) (rw (lent-part fits k h ws) at (goes φ has))
       (λ L d never agrees state. means φ L d has never (agrees-later agrees (reads-wanted fs k d h)) (rw (lent-part fits k h ws) state)))
 
-pub asked-holds : {table tops : List ℕ} {base number : ℕ} {fs : List Formula} (v s : List ℕ) (k : ℕ) (ws : List ℕ) (b : Bool) (r : ℕ) (ws′ : List ℕ) →
-    Fits (plan table tops number) base fs (length ws) → k < length fs → word ws (top-column 3 tops k) ≡ 0 → r ≡ word ws′ (top-column 3 tops k) →
-    Asks table v s (top-column 0 tops k) (top-column 1 tops k) (top-column 2 tops k) (top-column 3 tops k) ws b ws′ → HeldOne base fs v s k ws r ws′
-asked-holds v s k ws b r ws′ fits h empty is asks = asked-by v s k ws fits h empty b r ws′ is asks
+-- what it holds already, or what asking promises
+pub filled-holds : {table tops : List ℕ} {base number : ℕ} {fs : List Formula} (v s : List ℕ) (k : ℕ) (ws : List ℕ) (b : Bool) (r : ℕ) (ws′ : List ℕ) →
+    Fits (plan table tops number) base fs (length ws) → k < length fs → r ≡ word ws′ (top-column 3 tops k) →
+    Fills table v s (top-column 0 tops k) (top-column 1 tops k) (top-column 2 tops k) (top-column 3 tops k) ws b ws′ → HeldOne base fs v s k ws r ws′
+filled-holds {tops = tops} v s k ws b r ws′ fits h is fills =
+    ⊎-elim
+    (λ le. let e : word ws (top-column 3 tops k) ≡ 0 = omega arith in asked-by v s k ws fits h e b r ws′ is (fills .none e))
+    (λ some.
+    let kept = fills .some some in
+    let same : r ≡ word ws (top-column 3 tops k) = rw (kept .1) at is in
+    rw (kept .1) (already v s k ws r fits h same (omega arith)))
+    (le-or-lt (word ws (top-column 3 tops k)) 0)
 
 -- ALL FORMULAS
 

@@ -54,13 +54,11 @@ fn hold_one(
     ensures { λ _. ⌜ (length (now (copy .exit)) ≡ 520) × (length (now (waiting .exit)) ≡ 520) ⌝ }
 {
     let held = tops::place(tops, k, tops::HELD);
-    let count = words[held];
-    if count != 0 {
-        return count;
-    }
     let entry = tops::place(tops, k, tops::ENTRY);
     let from = tops::place(tops, k, tops::FROM);
     let to = tops::place(tops, k, tops::TO);
+    // From where the letters stand when a call begins, their words are full ones.
+    let shift = 64 - words[header::SEEN] % 64;
     engine::ask(
         table,
         records,
@@ -68,6 +66,7 @@ fn hold_one(
         copy,
         waiting,
         entry,
+        shift,
         from,
         to,
         held,

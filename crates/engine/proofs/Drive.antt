@@ -11,7 +11,7 @@ use lib.Seq.{length-take-le, take-at, getD-drop}
 use Rattle.mtl.specs.Formula.{Formula}
 use Rattle.mtl.specs.Log.{Log, NeverFalls}
 use Rattle.mtl.specs.Progress.{settled-to}
-use Rattle.mtl.proofs.Bounded.{true-and-false}
+use Rattle.mtl.proofs.Bounded.{le-or-lt, true-and-false}
 use Rattle.window.specs.View.{total}
 use Rattle.rule.specs.Words.{own-words}
 use Rattle.rule.proofs.Spans.{own-least}
@@ -326,10 +326,6 @@ empty-some : (n : ℕ) → 1 ≤ n → empty n ≡ 0
 empty-some zero le = omega arith
 empty-some (suc n) le = refl
 
-zero-or-some : (n : ℕ) → (n ≡ 0) ⊎ (0 < n)
-zero-or-some zero = inl refl
-zero-or-some (suc n) = inr (omega arith)
-
 -- an operator of this kind has the operand
 pub has-side : (t : List ℕ) (k : ℕ) (side : Side) (φ : Formula) → Has φ t k → takes side (column 0 t k) ≡ true → has side φ ≡ true
 has-side t k on-left φ entered e = rw (row φ t k entered .fields .kind) at e
@@ -509,9 +505,9 @@ module _ {t v s : List ℕ} {k a c end : ℕ} {ws₀ ws : List ℕ} (here : Stan
   topped x ws″ last fills =
       let same : word ws (a + c + slot side) ≡ word (drop (a + c) ws) (slot side) = sym (getD-drop (a + c) ws (slot side) 0) in
       ⊎-elim
-      (λ e. asked-empty e x ws″ last (fills .none (same ∙ e)))
+      (λ le. let e : word (drop (a + c) ws) (slot side) ≡ 0 = omega arith in asked-empty e x ws″ last (fills .none (same ∙ e)))
       (λ some. let kept = fills .some (rw same some) in had-some some x ws″ (kept .0) (kept .1))
-      (zero-or-some (word (drop (a + c) ws) (slot side)))
+      (le-or-lt (word (drop (a + c) ws) (slot side)) 0)
 
 -- BOTH BUFFERS
 

@@ -105,7 +105,7 @@ fn ask_all(
     let mut first: u64 = 0;
     let mut after: u64 = 0;
     while done < to {
-        let reply = engine::answer(table, records, view, copy, waiting, k, words);
+        let reply = engine::answer(table, records, view, copy, waiting, k, 0, words);
         let Reply::Batch { bits, count } = reply else {
             return Scan { done, first, after };
         };

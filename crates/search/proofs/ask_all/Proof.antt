@@ -54,7 +54,7 @@ enum-told c = search needs
 same-length : tie.Need-same-length Inv-loop μ-loop
 same-length c =
     let l = c .before .before .before .before .before .before .before .before .before .loop in
-    c .before .before .before .before .answer .kept .1 .1 .1 .1 .1 .1 .0 ∙ l .inv .0 ∙ c .before .before .before .before .before .before .before .before .before .before .before .before .clear .kept .0
+    c .before .before .before .before .answer .kept .1 .1 .1 .1 .1 .1 .1 .0 ∙ l .inv .0 ∙ c .before .before .before .before .before .before .before .before .before .before .before .before .clear .kept .0
 
 -- src/lib.rt:109:13
 returns : tie.Need-returns Inv-loop μ-loop
@@ -62,7 +62,7 @@ returns c =
     let a = c .before .before .before .before .before .before .before .before .before .before .before .before .before .before .before .before .args in
     let l = c .before .before .before .before .before .before .before .before .before .loop in
     let told = c .enum-told .given .1 in
-    (((l .inv .3, l .inv .4, l .inv .5), going-open (a .table .now) (a .view .now) (a .records .now) (a .k) (a .want) (a .from) (a .to) (l .words) (l .done) (l .first) (l .after) (l .inv .6) (c .before .before .before .before .before .before .before .before .loop-test .taken) (c .before .before .before .before .answer .last .1 .1 .1 .1 .1 .1 .0) (rw told at (c .before .before .before .before .answer .ensures .0))), c .before .before .before .before .answer .ensures .1)
+    (((l .inv .3, l .inv .4, l .inv .5), going-open (a .table .now) (a .view .now) (a .records .now) (a .k) (a .want) (a .from) (a .to) (l .words) (l .done) (l .first) (l .after) (l .inv .6) (c .before .before .before .before .before .before .before .before .loop-test .taken) (c .before .before .before .before .answer .last .1 .1 .1 .1 .1 .1 .1 .0) (rw told at (c .before .before .before .before .answer .ensures .0))), c .before .before .before .before .answer .ensures .1)
 
 -- src/lib.rt:111:13
 available-requires : tie.Need-available-requires Inv-loop μ-loop
@@ -72,7 +72,7 @@ available-requires c κs = search needs
 same-length-2 : tie.Need-same-length-2 Inv-loop μ-loop
 same-length-2 c =
     let l = c .before .before .before .before .before .before .before .before .before .before .before .before .loop in
-    c .before .before .before .before .before .before .before .answer .kept .1 .1 .1 .1 .1 .1 .0 ∙ l .inv .0 ∙ c .before .before .before .before .before .before .before .before .before .before .before .before .before .before .before .clear .kept .0
+    c .before .before .before .before .before .before .before .answer .kept .1 .1 .1 .1 .1 .1 .1 .0 ∙ l .inv .0 ∙ c .before .before .before .before .before .before .before .before .before .before .before .before .before .before .before .clear .kept .0
 
 -- src/lib.rt:113:13
 returns-2 : tie.Need-returns-2 Inv-loop μ-loop
@@ -80,7 +80,7 @@ returns-2 c =
     let a = c .before .before .before .before .before .before .before .before .before .before .before .before .before .before .before .before .before .before .before .args in
     let l = c .before .before .before .before .before .before .before .before .before .before .before .before .loop in
     let r = c .before .before .before .reply .given in
-    (((l .inv .3, l .inv .4, l .inv .5), going-some (a .table .now) (a .view .now) (a .records .now) (a .k) (a .want) (a .from) (a .to) (l .words) (l .done) (l .first) (l .after) (l .inv .6) (c .before .before .before .before .before .before .before .before .before .before .before .loop-test .taken) (r .0 .0) (r .0 .1 .0) (c .before .available .result) (c .before .before .before .before .before .before .before .answer .last .1 .1 .1 .1 .1 .1 .0) (rw (r .1) at (c .before .before .before .before .before .before .before .answer .ensures .0)) (c .before .available .ensures .0) (c .if1 .taken)), c .before .before .before .before .before .before .before .answer .ensures .1)
+    (((l .inv .3, l .inv .4, l .inv .5), going-some (a .table .now) (a .view .now) (a .records .now) (a .k) (a .want) (a .from) (a .to) (l .words) (l .done) (l .first) (l .after) (l .inv .6) (c .before .before .before .before .before .before .before .before .before .before .before .loop-test .taken) (r .0 .0) (r .0 .1 .0) (c .before .available .result) (c .before .before .before .before .before .before .before .answer .last .1 .1 .1 .1 .1 .1 .1 .0) (rw (r .1) at (c .before .before .before .before .before .before .before .answer .ensures .0)) (c .before .available .ensures .0) (c .if1 .taken)), c .before .before .before .before .before .before .before .answer .ensures .1)
 
 -- src/lib.rt:115:9
 first-of-requires : tie.Need-first-of-requires Inv-loop μ-loop
@@ -108,13 +108,13 @@ loop-again c =
     let a = c .before .before .before .before .before .before .before .before .before .before .before .before .before .before .before .before .before .before .before .before .before .args in
     let l = c .before .before .before .before .before .before .before .before .before .before .before .before .before .before .loop in
     let r = c .before .before .before .before .before .reply .given in (
-      c .before .before .before .before .before .before .before .before .before .answer .kept .1 .1 .1 .1 .1 .1 .0 ∙ l .inv .0,
+      c .before .before .before .before .before .before .before .before .before .answer .kept .1 .1 .1 .1 .1 .1 .1 .0 ∙ l .inv .0,
       c .before .before .before .before .before .before .before .before .before .answer .ensures .1 .0,
       c .before .before .before .before .before .before .before .before .before .answer .ensures .1 .1,
       omega (arith, c .before .before .before .available .ensures .0, l .inv .3),
       c .before .first-of .ensures .0,
       c .after-no .ensures .0,
-      going-on (a .table .now) (a .view .now) (a .records .now) (a .k) (a .want) (a .from) (a .to) (l .words) (l .done) (l .first) (l .after) (l .inv .6) (c .before .before .before .before .before .before .before .before .before .before .before .before .before .loop-test .taken) (r .0 .0) (r .0 .1 .0) (c .before .before .before .available .result) (c .before .before .before .before .before .before .before .before .before .answer .last .1 .1 .1 .1 .1 .1 .0) (rw (r .1) at (c .before .before .before .before .before .before .before .before .before .answer .ensures .0)) (c .before .before .before .available .ensures .0) (c .before .first-of .result) (c .after-no .result) (c .before .first-of .ensures .1) (c .after-no .ensures .1),
+      going-on (a .table .now) (a .view .now) (a .records .now) (a .k) (a .want) (a .from) (a .to) (l .words) (l .done) (l .first) (l .after) (l .inv .6) (c .before .before .before .before .before .before .before .before .before .before .before .before .before .loop-test .taken) (r .0 .0) (r .0 .1 .0) (c .before .before .before .available .result) (c .before .before .before .before .before .before .before .before .before .answer .last .1 .1 .1 .1 .1 .1 .1 .0) (rw (r .1) at (c .before .before .before .before .before .before .before .before .before .answer .ensures .0)) (c .before .before .before .available .ensures .0) (c .before .first-of .result) (c .after-no .result) (c .before .first-of .ensures .1) (c .after-no .ensures .1),
     )
 
 -- src/lib.rt:86:1
