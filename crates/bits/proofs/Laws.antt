@@ -40,7 +40,7 @@ pub bit-rest : (w n i : ℕ) → bit (w / 2 ^ n) i ≡ bit w (n + i)
 bit-rest w n i = ap (λ (v : ℕ). eqb (v % 2) 1) (shr-shr w n i)
 
 -- the bits behind the first, one place further down
-bit-half : (w i : ℕ) → bit w (suc i) ≡ bit (w / 2) i
+pub bit-half : (w i : ℕ) → bit w (suc i) ≡ bit (w / 2) i
 bit-half w i = ap (bit w) (omega arith) ∙ sym (bit-rest w 1 i)
 
 half : (w : ℕ) (x : Bool) → (w * 2 + number x) / 2 ≡ w

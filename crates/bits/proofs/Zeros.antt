@@ -1,15 +1,16 @@
 -- The bits of a word that are 0, counted and found by what the machine counts of its turned bits. Assumes nothing.
-use Prim.Native.Nat.{ℕ, zero, suc, _+_, _*_, _-_, _%_, _≤_, _<_, _^_}
+use Prim.Native.Nat.{ℕ, zero, suc, _+_, _*_, _-_, _/_, _%_, _≤_, _<_, _^_, min}
 use native.Mathlib.Nat.{eq-or-lt-of-le, mod-lt, pow-suc}
 use native.Mathlib.Omega.{arith}
 use mathlib.Core.Bool.{Bool, true, false, cond}
 use mathlib.Core.Bool.{not as negate}
 use mathlib.Core.Logic.{_⊎_, ⊎-elim}
 use mathlib.Core.Path.{_≡_, refl, sym, ap, _∙_}
-use lib.Count.{ones, ones-cat, ones-le, leadingZeros, leading-unique}
+use borrow.Author.Tests.{eq-eqb, ne-eqb}
+use lib.Count.{ones, ones-cat, ones-le, leadingZeros, leading-unique, under, trailingZeros}
 use lib.Pow.{mod-pow-add, pow-pos}
-use Rattle.bits.specs.Packed.{bit, number, zeros, last-zero}
-use Rattle.bits.proofs.Laws.{number-bit, bit-not}
+use Rattle.bits.specs.Packed.{bit, number, zeros, last-zero, FirstZero}
+use Rattle.bits.proofs.Laws.{number-bit, bit-not, bit-half}
 
 module _ (w : ℕ) (small : w < 2 ^ 64) where
   -- the first n bits, turned
@@ -97,3 +98,47 @@ one-behind-last (suc n) w i h l = by (bit w n) refl (λ a b. one-behind-last n w
     by : (b : Bool) → bit w n ≡ b → (last-zero n w ≤ i → i < n → bit w i ≡ true) → cond b (last-zero n w) (suc n) ≤ i → bit w i ≡ true
     by true e before h = ⊎-elim (λ s. ap (bit w) s ∙ e) (λ m. before h m) (eq-or-lt-of-le {n = i} {m = n} (omega arith))
     by false e before h = absurd (omega arith)
+
+-- the first of k bits that is 1, and those before it are 0
+record FirstOne (w k at : ℕ) : Type 0 where
+  zeros-before : (i : ℕ) → i < at → bit w i ≡ false
+  one : at < k → bit w at ≡ true
+
+-- where bit 0 is 0, by the bits behind it
+behind-zero : (w k at : ℕ) → w % 2 ≡ 0 → FirstOne (w / 2) k at → FirstOne w (suc k) (suc at)
+behind-zero w k at e next = record { zeros-before = before; one = λ h. bit-half w at ∙ next .one (omega arith) }
+  where
+    before : (i : ℕ) → i < suc at → bit w i ≡ false
+    before zero h = ne-eqb (w / 2 ^ 0 % 2) 1 (omega arith)
+    before (suc i) h = bit-half w i ∙ next .zeros-before i (omega arith)
+
+first-one : (k w : ℕ) → FirstOne w k (trailingZeros k w)
+unfolding trailingZeros
+first-one zero w = record { zeros-before = λ i h. absurd (omega arith); one = λ h. absurd (omega arith) }
+first-one (suc k) w = by (w % 2) (omega arith) refl (first-one k (w / 2))
+  where
+    by : (d : ℕ) → d < 2 → w % 2 ≡ d → FirstOne (w / 2) k (trailingZeros k (w / 2)) → FirstOne w (suc k) (under d (trailingZeros k (w / 2)))
+    by zero l e next = behind-zero w k (trailingZeros k (w / 2)) e next
+    by (suc d) l e next = record { zeros-before = λ i h. absurd (omega arith); one = λ h. eq-eqb (w / 2 ^ 0 % 2) 1 (omega arith) }
+
+twice : (b : Bool) → negate (negate b) ≡ b
+twice true = refl
+twice false = refl
+
+-- by what the machine counts of the turned bits
+module _ (w : ℕ) (small : w < 2 ^ 64) where
+  abbrev at : ℕ
+  at = trailingZeros 64 (2 ^ 64 - 1 - w)
+
+  -- a bit by its turned one
+  turned-bit : (i : ℕ) → i < 64 → (x : Bool) → bit (2 ^ 64 - 1 - w) i ≡ x → bit w i ≡ negate x
+  turned-bit i h x e = sym (twice (bit w i)) ∙ ap negate (sym (bit-not 64 w i small h) ∙ e)
+
+  pub first-found : (n first : ℕ) → n ≤ 64 → first ≡ min at n → FirstZero w n first
+  first-found n first few e =
+      let f = first-one 64 (2 ^ 64 - 1 - w) in
+      record {
+        most = omega arith;
+        ones = λ i h. turned-bit i (omega arith) false (f .zeros-before i (omega arith));
+        ends = λ h. let s : first ≡ at = omega arith in ap (bit w) s ∙ turned-bit at (omega arith) true (f .one (omega arith));
+      }

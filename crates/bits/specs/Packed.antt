@@ -27,6 +27,12 @@ unfoldable pub last-zero : (n word : ℕ) → ℕ
 last-zero zero word = 0
 last-zero (suc n) word = cond (bit word n) (last-zero n word) (suc n)
 
+-- the place of the first of the first n bits that is 0; n where none is
+pub record FirstZero (word n at : ℕ) : Type 0 where
+  pub most : at ≤ n
+  pub ones : (i : ℕ) → i < at → bit word i ≡ true
+  pub ends : at < n → bit word at ≡ false
+
 -- the first n bits are what f says of the n positions from p on
 pub record Packed (f : ℕ → Bool) (p n word : ℕ) : Type 0 where
   pub few : n ≤ 64

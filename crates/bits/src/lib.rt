@@ -1,7 +1,7 @@
 // Words of answers: bit i of a word, the one worth 2 to the i, answers the i-th of up to 64 positions.
 ghost use mathlib.Core.Path.{_≡_};
 ghost use Prim.Native.Nat.{ℕ, _+_, _-_, _/_, _%_, _≤_, _<_, _^_};
-ghost use Rattle.bits.specs.Packed.{bit, number, with-bit, zeros, last-zero, FilledDown, FilledUp, Prolonged};
+ghost use Rattle.bits.specs.Packed.{bit, number, with-bit, zeros, last-zero, FirstZero, FilledDown, FilledUp, Prolonged};
 
 pub mod bytes;
 
@@ -57,6 +57,15 @@ pub fn find_last_zero(word: u64, n: u64) -> u64
     ensures { λ r. ⌜ (r ≡ last-zero n word) × (r ≤ n) ⌝ }
 {
     64 - u64::leading_zeros(turned(word, n)) as u64
+}
+
+// The place of the first of the first n bits that is 0; n where none is.
+pub fn find_first_zero(word: u64, n: u64) -> u64
+    requires { ⌜ n ≤ 64 ⌝ }
+    ensures { λ r. ⌜ FirstZero word n r ⌝ }
+{
+    let at = u64::trailing_zeros(!word) as u64;
+    if at < n { at } else { n }
 }
 
 // Bit i where right holds at some j ≥ i, and left from i up to j - 1. With each turn what is found lies up to twice as far.

@@ -281,13 +281,15 @@ module _ {high most : ℕ} {φ ψ : Formula} {L : Log} {g at lead n left right :
   ends-at : most ≡ high
   ends-at = let small = far .small in omega arith
 
-  log : OnLog φ ψ L g at lead n left right start next
-  log = on-log behind reads lefts rights (far .some) (far .few)
+  log : OnLog φ ψ L g at n left right start next
+  log = on-log reads lefts rights
 
   times : Times start next lead n
   times = record {
-    rises = log-rises behind falls log;
-    few-waiting = λ i h. omega (arith, log .waiting-time i h, reads .bound (g + i) (omega arith) (omega (arith, log .inside)));
+    rises = log-rises behind falls log (far .few);
+    few-waiting = λ i h.
+        let few = far .few in
+        omega (arith, log .waiting-time i (omega arith) (omega arith), reads .bound (g + i) (omega arith) (omega (arith, log .inside)));
     few-own = λ i h. omega (arith, log .own-time i h, reads .bound (at + i) (omega arith) (omega (arith, log .inside)));
   }
 
@@ -334,7 +336,7 @@ module _ {high most : ℕ} {φ ψ : Formula} {L : Log} {g at lead n left right :
         let fits = words .most in
         ⊎-elim
         (λ l. heard (seen-own behind log i l (omega arith)) (bit bits i) (words .own i l h few))
-        (λ l. heard (seen-waiting behind log i l) (bit bits i) (words .waiting i l))
+        (λ l. heard (seen-waiting behind log i l few) (bit bits i) (words .waiting i l))
         (le-or-lt lead i)
 
     answers : (count : ℕ) → count ≤ lead + known → count ≤ 64 → Buffer (until 0 high φ ψ) L g count bits
@@ -360,7 +362,7 @@ module _ {high most : ℕ} {φ ψ : Formula} {L : Log} {g at lead n left right :
     reached-all h =
         let fits = words .most in
         record {
-          heads = stands behind log (lead + known) n (far .some) (omega arith) (omega arith) rest near;
+          heads = stands log (lead + known) n (far .some) (omega arith) (omega arith) (λ k a b. rest k a (omega arith)) near;
           answers = answers (lead + known) (omega arith) h;
         }
 
@@ -369,7 +371,7 @@ module _ {high most : ℕ} {φ ψ : Formula} {L : Log} {g at lead n left right :
         let few = far .few in
         let fits = words .most in
         record {
-          heads = stands behind log 64 (64 - lead) (omega arith) (omega arith) (omega arith) (λ k a b. absurd (omega arith)) (λ l. absurd (omega arith));
+          heads = stands log 64 (64 - lead) (omega arith) (omega arith) (omega arith) (λ k a b. absurd (omega arith)) (λ l. absurd (omega arith));
           answers = answers 64 (omega arith) (omega arith);
         }
 

@@ -18,6 +18,7 @@ use Rattle.bits.specs.Packed.{bit, number}
 use Rattle.blocks.specs.Block.{Until, Buffer}
 use Rattle.until.specs.Settle.{take-spec, ReadsTimes, Reached, Walks, Walk}
 use Rattle.until.specs.declared.Last.{Last}
+use Rattle.until.proofs.UntilLogic as logic
 use Rattle.until.proofs.UntilWalk.{is-number}
 
 -- times never fall
@@ -27,10 +28,10 @@ pub record Rises (start time : ℕ → ℕ) (lead n : ℕ) : Type 0 where
   pub own : (i j : ℕ) → i ≤ j → j < n → time i ≤ time j
 
 -- the positions from g on wait, n from `at` on may be taken, and the log has both operands' answers at these
-pub record OnLog (φ ψ : Formula) (L : Log) (g at lead n left right : ℕ) (start next : ℕ → ℕ) : Type 0 where
+pub record OnLog (φ ψ : Formula) (L : Log) (g at n left right : ℕ) (start next : ℕ → ℕ) : Type 0 where
   pub operands : at + n ≤ both-settled φ ψ L
   pub inside : at + n ≤ L .size
-  pub waiting-time : (i : ℕ) → i < lead → start i ≡ L .time (g + i)
+  pub waiting-time : (i : ℕ) → i < 64 → g + i < at + n → start i ≡ L .time (g + i)
   pub own-time : (i : ℕ) → i < n → next i ≡ L .time (at + i)
   -- position k as one of those to take
   pub left-at : (k : ℕ) → at ≤ k → k < at + n → sat φ L k ≡ bit left (k - at)
@@ -47,44 +48,52 @@ pub record Seen (L : Log) (g at i j s : ℕ) : Type 0 where
 abbrev pub Quiet : (low : ℕ) (φ ψ : Formula) (L : Log) (x to : ℕ) → Type 0
 Quiet low φ ψ L x to = (k : ℕ) → x ≤ k → k < to → (sat φ L k ≡ true) × (sat ψ L k ≡ true → L .time k - L .time x < low)
 
-module _ {φ ψ : Formula} {L : Log} {g at lead n left right : ℕ} {start next : ℕ → ℕ} (behind : at ≡ g + lead) where
-  pub on-log : ReadsTimes start next L g at n → Buffer φ L at n left → Buffer ψ L at n right → 0 < n → lead < 64 →
-      OnLog φ ψ L g at lead n left right start next
-  on-log reads lefts rights some few =
-      let x = lefts .within in
-      let y = rights .within in
-      let operands : at + n ≤ both-settled φ ψ L = omega arith in
-      let inside : at + n ≤ L .size = omega (arith, both-fit φ ψ L) in
-      let same : (k : ℕ) → at ≤ k → at + (k - at) ≡ k = λ k a. omega arith in
-      record {
-        operands = operands;
-        inside = inside;
-        waiting-time = λ i h. reads .waiting i (omega arith) (omega arith);
-        own-time = λ i h. reads .ahead i (omega arith) (omega arith);
-        left-at = λ k a b. ap (sat φ L) (sym (same k a)) ∙ lefts .packed .same (k - at) (omega arith);
-        right-at = λ k a b. ap (sat ψ L) (sym (same k a)) ∙ rights .packed .same (k - at) (omega arith);
-        time-at = λ k a b. reads .ahead (k - at) (omega arith) (omega arith) ∙ ap (L .time) (same k a);
-      }
+pub on-log : {φ ψ : Formula} {L : Log} {g at n left right : ℕ} {start next : ℕ → ℕ} → ReadsTimes start next L g at n → Buffer φ L at n left →
+    Buffer ψ L at n right → OnLog φ ψ L g at n left right start next
+on-log {φ} {ψ} {L} {at = at} {n = n} reads lefts rights =
+    let x = lefts .within in
+    let y = rights .within in
+    let operands : at + n ≤ both-settled φ ψ L = omega arith in
+    let inside : at + n ≤ L .size = omega (arith, both-fit φ ψ L) in
+    let same : (k : ℕ) → at ≤ k → at + (k - at) ≡ k = λ k a. omega arith in
+    record {
+      operands = operands;
+      inside = inside;
+      waiting-time = reads .waiting;
+      own-time = λ i h. reads .ahead i (omega arith) (omega arith);
+      left-at = λ k a b. ap (sat φ L) (sym (same k a)) ∙ lefts .packed .same (k - at) (omega arith);
+      right-at = λ k a b. ap (sat ψ L) (sym (same k a)) ∙ rights .packed .same (k - at) (omega arith);
+      time-at = λ k a b. reads .ahead (k - at) (omega arith) (omega arith) ∙ ap (L .time) (same k a);
+    }
 
-  pub log-rises : NeverFalls L → OnLog φ ψ L g at lead n left right start next → Rises start next lead n
-  log-rises falls log =
+module _ {φ ψ : Formula} {L : Log} {g at lead n left right : ℕ} {start next : ℕ → ℕ} (behind : at ≡ g + lead) where
+  -- the times of those that wait never fall, up to the 64th
+  pub waiting-rise : NeverFalls L → OnLog φ ψ L g at n left right start next → (i j : ℕ) → i ≤ j → j < lead → j < 64 → start i ≤ start j
+  waiting-rise falls log i j h l few =
+      let f = falls (g + i) (g + j) (omega arith) (omega (arith, log .inside)) in
+      omega (arith, log .waiting-time i (omega arith) (omega arith), log .waiting-time j few (omega arith))
+
+  pub log-rises : NeverFalls L → OnLog φ ψ L g at n left right start next → lead < 64 → Rises start next lead n
+  log-rises falls log few =
       let inside = log .inside in
       record {
-        waiting = λ i j h l. let f = falls (g + i) (g + j) (omega arith) (omega arith) in omega (arith, log .waiting-time i (omega arith), log .waiting-time j l);
-        later = λ i j h l. let f = falls (g + i) (at + j) (omega arith) (omega arith) in omega (arith, log .waiting-time i h, log .own-time j l);
+        waiting = λ i j h l. waiting-rise falls log i j h l (omega arith);
+        later = λ i j h l.
+            let f = falls (g + i) (at + j) (omega arith) (omega arith) in
+            omega (arith, log .waiting-time i (omega arith) (omega arith), log .own-time j l);
         own = λ i j h l. let f = falls (at + i) (at + j) (omega arith) (omega arith) in omega (arith, log .own-time i (omega arith), log .own-time j l);
       }
 
-  pub seen-waiting : OnLog φ ψ L g at lead n left right start next → (i : ℕ) → i < lead → Seen L g at i 0 (start i)
-  seen-waiting log i h = record { reach = omega arith; begins = log .waiting-time i h; front = λ k a b. omega arith }
+  pub seen-waiting : OnLog φ ψ L g at n left right start next → (i : ℕ) → i < lead → i < 64 → Seen L g at i 0 (start i)
+  seen-waiting log i h few = record { reach = omega arith; begins = log .waiting-time i few (omega arith); front = λ k a b. omega arith }
 
-  pub seen-own : OnLog φ ψ L g at lead n left right start next → (i : ℕ) → lead ≤ i → i < lead + n → Seen L g at i (i - lead) (next (i - lead))
+  pub seen-own : OnLog φ ψ L g at n left right start next → (i : ℕ) → lead ≤ i → i < lead + n → Seen L g at i (i - lead) (next (i - lead))
   seen-own log i l h =
       let e : at + (i - lead) ≡ g + i = omega arith in
       record { reach = omega arith; begins = log .own-time (i - lead) (omega arith) ∙ ap (L .time) e; front = λ k a b. absurd (omega arith) }
 
   -- left holds at those that wait, and right not low after any of them
-  pub waits : {low high : ℕ} {from : Last} → NeverFalls L → OnLog φ ψ L g at lead n left right start next → Reached low high φ ψ L g at 0 0 0 from →
+  pub waits : {low high : ℕ} {from : Last} → NeverFalls L → OnLog φ ψ L g at n left right start next → Reached low high φ ψ L g at 0 0 0 from →
       (0 < lead → (from .left ≡ true) × (from .right ≡ true → from .time - L .time g < low)) → (x : ℕ) → g ≤ x → Quiet low φ ψ L x at
   waits {low} {high} {from} falls log begun quiet x a k b c =
       let begins : Until low high (L .time) (sat φ L) (sat ψ L) g at (number (from .left)) (number (from .right)) (from .time) =
@@ -104,22 +113,6 @@ module _ {φ ψ : Formula} {L : Log} {g at lead n left right : ℕ} {start next 
       ))
       (le-or-lt (k + 2) at)
 
-  -- nothing taken settles the positions from g + count on
-  pub stands : {low high : ℕ} → OnLog φ ψ L g at lead n left right start next → (count took : ℕ) → 0 < took → took ≤ n → g + count ≤ at + took →
-      Quiet low φ ψ L (g + count) (at + took) → (g + count < at + took → L .time (at + took - 1) - L .time (g + count) ≤ high) →
-      Until low high (L .time) (sat φ L) (sat ψ L) (g + count) (at + took) (number (bit left (took - 1))) (number (bit right (took - 1))) (next (took - 1))
-  stands log count took some few ahead quiet near =
-      let e : at + took - 1 - at ≡ took - 1 = omega arith in
-      record {
-        ahead = ahead;
-        last-left = λ h. log .left-at (at + took - 1) (omega arith) (omega arith) ∙ ap (bit left) e ∙ sym (is-number _);
-        last-right = λ h. log .right-at (at + took - 1) (omega arith) (omega arith) ∙ ap (bit right) e ∙ sym (is-number _);
-        last-time = λ h. ap next (sym e) ∙ log .time-at (at + took - 1) (omega arith) (omega arith);
-        left-held = λ k a b. quiet k a (omega arith) .0;
-        right-early = λ k a b r. quiet k a (omega arith) .1 r;
-        not-over = near;
-      }
-
 -- what holds where positions wait, and at those to take from j on, holds from g + i on
 pub all-from : (P : ℕ → Type 0) {L : Log} {g at i j s : ℕ} → Seen L g at i j s → ((k : ℕ) → g + i ≤ k → k < at → P k) → (e : ℕ) →
     ((m : ℕ) → j ≤ m → m < e → P (at + m)) → (k : ℕ) → g + i ≤ k → k < at + e → P k
@@ -128,6 +121,22 @@ all-from P {at = at} {j = j} seen waiting e own k a b =
     (λ l. let t : at + (k - at) ≡ k = omega arith in rw t at (own (k - at) (omega arith) (omega arith)))
     (λ l. waiting k a (seen .front k a l))
     (le-or-lt (at + j) k)
+
+-- nothing taken before the last one settles the positions from g + count on
+pub stands : {low high : ℕ} {φ ψ : Formula} {L : Log} {g at n left right : ℕ} {start next : ℕ → ℕ} → OnLog φ ψ L g at n left right start next →
+    (count took : ℕ) → 0 < took → took ≤ n → g + count ≤ at + took → Quiet low φ ψ L (g + count) (at + took - 1) → (g + count < at + took → L .time (at + took - 1) - L .time (g + count) ≤ high) →
+    Until low high (L .time) (sat φ L) (sat ψ L) (g + count) (at + took) (number (bit left (took - 1))) (number (bit right (took - 1))) (next (took - 1))
+stands {at = at} {left = left} {right = right} {next = next} log count took some few ahead quiet near =
+    let e : at + took - 1 - at ≡ took - 1 = omega arith in
+    record {
+      ahead = ahead;
+      last-left = λ h. log .left-at (at + took - 1) (omega arith) (omega arith) ∙ ap (bit left) e ∙ sym (is-number _);
+      last-right = λ h. log .right-at (at + took - 1) (omega arith) (omega arith) ∙ ap (bit right) e ∙ sym (is-number _);
+      last-time = λ h. ap next (sym e) ∙ log .time-at (at + took - 1) (omega arith) (omega arith);
+      left-held = λ k a b. quiet k a (omega arith) .0;
+      right-early = λ k a b r. quiet k a (omega arith) .1 r;
+      not-over = near;
+    }
 
 -- the answer at x is settled, and is v
 abbrev pub Told : Formula → Log → ℕ → Bool → Type 0
@@ -166,6 +175,16 @@ told-all {g = g} count begun few told =
     record {
       within = ⊎-elim (λ z. let w = begun .within in omega arith) (λ s. let t = told (count - 1) (omega arith) .0 in omega arith) (le-or-lt count 0);
       packed = record { few = few; same = λ i h. told i h .1 };
+    }
+
+-- none is taken, and the first `count` of those that wait are told
+pub untaken : {low high : ℕ} {φ ψ : Formula} {L : Log} {g at bits : ℕ} {from : Last} → NeverFalls L → at ≤ both-settled φ ψ L →
+    Reached low high φ ψ L g at 0 0 0 from → (count : ℕ) → g < at → g + count ≤ at → count ≤ 64 →
+    ((i : ℕ) → i < count → Told (until low high φ ψ) L (g + i) (bit bits i)) → Reached low high φ ψ L g at bits count 0 from
+untaken {φ = φ} {ψ = ψ} {L = L} {g = g} falls operands begun count some waiting few told =
+    record {
+      heads = logic.answered-later (both-fit φ ψ L) falls (omega arith) (begun .heads) (omega arith) (g + count) (omega arith) (omega arith);
+      answers = told-all count (begun .answers) few told;
     }
 
 -- the walk that the code makes where words tell `settled` positions: it takes all n, or those before the 65th position

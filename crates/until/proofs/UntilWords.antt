@@ -47,6 +47,11 @@ still true false e = (refl, refl)
 still true true e = absurd (true≢false (sym e))
 still false r e = absurd (true≢false (sym e))
 
+-- bit by bit, a word without another's bits
+pub and-not : (left found i : ℕ) → found < 2 ^ 64 → i < 64 → bit (bitAnd left (2 ^ 64 - 1 - found)) i ≡ bit left i && negate (bit found i)
+and-not left found i small h =
+    bit-and left (2 ^ 64 - 1 - found) i ∙ ap (λ (x : Bool). bit left i && x) (bit-not 64 found i small h)
+
 -- the place behind the last event of a word: a yes is found at `known` - 1 or left fails there, and behind it left holds and none is found
 module _ (left found n known : ℕ) where
   pub record Known : Type 0 where
@@ -60,13 +65,11 @@ pub known-is : (left found n : ℕ) → n ≤ 64 → found < 2 ^ 64 → {known :
     Known left found n known
 known-is left found n few small {known} (e, most) =
     let w = bitAnd left (2 ^ 64 - 1 - found) in
-    let at : (i : ℕ) → i < 64 → bit w i ≡ bit left i && negate (bit found i) =
-    λ i h. bit-and left (2 ^ 64 - 1 - found) i ∙ ap (λ (x : Bool). bit left i && x) (bit-not 64 found i small h) in
     record {
       most = most;
       few = few;
-      last = λ h. sym (at (known - 1) (omega arith)) ∙ ap (λ (k : ℕ). bit w (k - 1)) e ∙ last-is-zero n w (omega arith);
-      behind = λ i h l. still (bit left i) (bit found i) (sym (at i (omega arith)) ∙ one-behind-last n w i (omega arith) l);
+      last = λ h. sym (and-not left found (known - 1) small (omega arith)) ∙ ap (λ (k : ℕ). bit w (k - 1)) e ∙ last-is-zero n w (omega arith);
+      behind = λ i h l. still (bit left i) (bit found i) (sym (and-not left found i small (omega arith)) ∙ one-behind-last n w i (omega arith) l);
     }
 
 -- what the words tell of a position that begins at time s, by those from i on: ..
@@ -106,14 +109,14 @@ module _ {low high most : ℕ} {φ ψ : Formula} {L : Log} {g at lead n left rig
     (clamp : most ≡ min high unbounded) (behind : at ≡ g + lead) (falls : NeverFalls L) (reads : ReadsTimes start next L g at n)
     (lefts : Buffer φ L at n left) (rights : Buffer ψ L at n right) (begun : Reached low high φ ψ L g at 0 0 0 from)
     (by : ByWords low most start next lead n from) where
-  log : OnLog φ ψ L g at lead n left right start next
-  log = on-log behind reads lefts rights (by .some) (by .few)
+  log : OnLog φ ψ L g at n left right start next
+  log = on-log reads lefts rights
 
   first-time : start 0 ≡ L .time g
   first-time = let some = by .some in reads .waiting 0 (omega arith) (omega arith) ∙ ap (L .time) (add-zero g)
 
   rises : Rises start next lead n
-  rises = log-rises behind falls log
+  rises = log-rises behind falls log (by .few)
 
   near : (x q : ℕ) → g ≤ x → x ≤ q → q < at + n → L .time q - L .time x ≤ high
   near x q a b c =
@@ -165,7 +168,7 @@ module _ {low high most : ℕ} {φ ψ : Formula} {L : Log} {g at lead n left rig
     answer i h few =
         ⊎-elim
         (λ l. heard (seen-own behind log i l (omega arith)) (bit bits i) (words .own i l h few))
-        (λ l. heard (seen-waiting behind log i l) (bit bits i) (words .waiting i l h))
+        (λ l. heard (seen-waiting behind log i l few) (bit bits i) (words .waiting i l h))
         (le-or-lt lead i)
 
     answers : (count : ℕ) → count ≤ settled → count ≤ 64 → Buffer (until low high φ ψ) L g count bits
@@ -186,7 +189,8 @@ module _ {low high most : ℕ} {φ ψ : Formula} {L : Log} {g at lead n left rig
         (log .left-at k l b ∙ w .0, λ r. let x = w .1 (sym (log .right-at k l b) ∙ r) in omega arith))
         (λ m.
         let w = words .next-waits m (k - at) (omega arith) (omega arith) in
-        let s = log .waiting-time settled m in
+        let few = by .few in
+        let s = log .waiting-time settled (omega arith) (omega arith) in
         (log .left-at k l b ∙ w .0, λ r. let x = w .1 (sym (log .right-at k l b) ∙ r) in omega arith))
         (le-or-lt lead settled))
         (λ l. waits-from (g + settled) (omega arith) k a l)
@@ -195,7 +199,7 @@ module _ {low high most : ℕ} {φ ψ : Formula} {L : Log} {g at lead n left rig
     reached-all : settled ≤ 64 → Reached low high φ ψ L g at bits settled n (take-spec next (n - 1) left right)
     reached-all h =
         record {
-          heads = stands behind log settled n (by .some) (omega arith) (omega arith) rest (λ l. near (g + settled) (at + n - 1) (omega arith) (omega arith) (omega arith));
+          heads = stands log settled n (by .some) (omega arith) (omega arith) (λ k a b. rest k a (omega arith)) (λ l. near (g + settled) (at + n - 1) (omega arith) (omega arith) (omega arith));
           answers = answers settled (omega arith) h;
         }
 
@@ -203,7 +207,7 @@ module _ {low high most : ℕ} {φ ψ : Formula} {L : Log} {g at lead n left rig
     reached-full h =
         let few = by .few in
         record {
-          heads = stands behind log 64 (64 - lead) (omega arith) (omega arith) (omega arith) (λ k a b. absurd (omega arith)) (λ l. absurd (omega arith));
+          heads = stands log 64 (64 - lead) (omega arith) (omega arith) (omega arith) (λ k a b. absurd (omega arith)) (λ l. absurd (omega arith));
           answers = answers 64 (omega arith) (omega arith);
         }
 
@@ -220,10 +224,13 @@ settled-walk {settled = settled} by all words count took e t last is bound =
     reached-full clamp behind falls reads a b begun by all (words (rises clamp behind falls reads a b begun by)) h)
 
 -- the tests of `by_words` and of `outreaches`
+pub not-none : (n : ℕ) → eqb n 0 ≡ false → 0 < n
+not-none n e = ⊎-elim (λ z. absurd (true-and-false (eq-eqb n 0 (omega arith)) e)) (λ z. z) (le-or-lt n 0)
+
 pub some-few : (n lead : ℕ) → eqb n 0 || leb 64 lead ≡ false → (0 < n) × (lead < 64)
 some-few n lead e =
     let (a, b) = neither (eqb n 0) (leb 64 lead) e in
-    (⊎-elim (λ z. absurd (true-and-false (eq-eqb n 0 (omega arith)) a)) (λ z. z) (le-or-lt n 0), leb-false 64 lead b)
+    (not-none n a, leb-false 64 lead b)
 
 pub may-go : (n lead low : ℕ) → (eqb n 0 || leb 64 lead) || ltb 4294967295 low ≡ false → (0 < n) × (lead < 64) × (low < 2 ^ 32)
 may-go n lead low e =

@@ -113,11 +113,11 @@ latest-right time left right (suc n) i =
 abbrev pub is-late : (low : ℕ) (time : ℕ → ℕ) (left right n i : ℕ) → Bool
 is-late low time left right n i = leb (time i + low) (latest-right time left right (n - i) i)
 
--- the first `met` of n positions lie at least low before a right, and no more of them from the first on
-pub record Met (low : ℕ) (start : ℕ → ℕ) (right n met : ℕ) : Type 0 where
+-- the first `met` of n positions lie at least low before a time, and no more of them from the first on
+pub record Met (low : ℕ) (start : ℕ → ℕ) (to n met : ℕ) : Type 0 where
   pub most : met ≤ n
-  pub far : (i : ℕ) → i < met → start i + low ≤ right
-  pub next : met < n → right < start met + low
+  pub far : (i : ℕ) → i < met → start i + low ≤ to
+  pub next : met < n → to < start met + low
 
 -- what was taken settles none of those that wait
 abbrev pub Quiet : (low start lead : ℕ) → Last → Type 0
@@ -153,6 +153,19 @@ pub record Outreaches (high : ℕ) (time : ℕ → ℕ) (lead n : ℕ) (from : L
   pub small : high + 1 < 2 ^ 32
   pub quiet : 0 < lead → (from .left ≡ true) × (from .right ≡ false)
   pub longer : high < time (n - 1) - time 0
+
+-- the last position taken settles all that wait: left fails there, or right holds and low is 0; a time and low can be added
+abbrev pub is-told : (low lead : ℕ) → Last → Bool
+is-told low lead last = (ltb 0 lead && leb low 4294967295) && (negate (last .left) || (last .right && eqb low 0))
+
+-- none of n positions settles one that waits: at all of them left holds and right does not, as at the last one taken, and the last of them
+-- lies no more than high after the first that waits
+pub record Calm (high : ℕ) (start time : ℕ → ℕ) (lead n left right : ℕ) (from : Last) : Type 0 where
+  pub waiting : 0 < lead
+  pub some : 0 < n
+  pub quiet : (from .left ≡ true) × (from .right ≡ false)
+  pub still : (i : ℕ) → i < n → (bit left i ≡ true) × (bit right i ≡ false)
+  pub inside : time (n - 1) - start 0 ≤ high
 
 -- a window that has n records
 pub record HasRecords (w : Window) (s copy : List ℕ) (n : ℕ) : Type 0 where

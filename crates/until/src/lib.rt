@@ -1,6 +1,6 @@
 // until: two reading heads and no history.
 ghost use mathlib.Core.Path.{_≡_};
-ghost use mathlib.Core.Bool.{true, cond};
+ghost use mathlib.Core.Bool.{true, false, cond};
 ghost use Prim.Native.Nat.{ℕ, _+_, _-_, _%_, _≤_, _<_, _^_, min};
 ghost use lib.ListN.{length};
 ghost use Rattle.mtl.specs.Formula.{Formula};
@@ -11,7 +11,7 @@ ghost use Rattle.window.specs.Window.{window-of};
 ghost use Rattle.bits.specs.Packed.{Packed};
 ghost use Rattle.blocks.specs.Block.{taken, left-count, left-bits, right-count, right-bits, answered};
 ghost use Rattle.blocks.specs.Step.{Steps, Ends};
-ghost use Rattle.until.specs.Settle.{settle-spec, time-of-none, next-of, look-spec, take-spec, Rising, latest-right, is-late, first-right, is-soon, Met, Far, Walk, ByWords, Outreaches, HasRecords, starts-of, ahead-of, last-taken, walked, Wants, Stuck, FitsRoom};
+ghost use Rattle.until.specs.Settle.{settle-spec, time-of-none, next-of, look-spec, take-spec, Rising, latest-right, is-late, first-right, is-soon, Met, Far, Walk, ByWords, Outreaches, is-told, Calm, HasRecords, starts-of, ahead-of, last-taken, walked, Wants, Stuck, FitsRoom};
 ghost use Rattle.until.specs.declared.Settled.the-variants.{Unknown};
 use blocks::Step;
 use blocks::time;
@@ -67,6 +67,9 @@ const LONGEST_GAP: u64 = 4294967295;
 
 // The time that stands for a right's where there is none: no time and high come to it.
 const TIME_OF_NO_RIGHT: u64 = 8589934592;
+
+// A word of yes.
+const ALL_YES: u64 = 18446744073709551615;
 
 // Whether the last position taken or the time of the next settles the position whose time is `start`.
 fn settle(low: u64, high: u64, start: u64, last: Last, next: u64) -> Settled
@@ -260,14 +263,14 @@ fn find_late(low: u64, ahead: &[u8], n: u64, left: u64, right: u64) -> Late
     }
 }
 
-// How many of n positions, from the first on, lie at least low before a right at this time.
-fn count_met(low: u64, starts: &[u8], n: u64, right: u64) -> u64
-    requires { ⌜ (low < 2 ^ 32) × (n ≤ record-count (now starts)) ⌝ }
-    ensures { λ r. ⌜ Met low (time-at (now (starts .entry))) right n r ⌝ }
+// How many of n positions, from the first on, lie at least low before the time `to`.
+fn count_met(low: u64, starts: &[u8], n: u64, to: u64) -> u64
+    requires { ⌜ (low ≤ 2 ^ 32) × (n ≤ record-count (now starts)) ⌝ }
+    ensures { λ r. ⌜ Met low (time-at (now (starts .entry))) to n r ⌝ }
 {
     let mut i: u64 = 0;
     while i < n {
-        if right < trace::time(starts, i as usize) + low {
+        if to < trace::time(starts, i as usize) + low {
             break;
         }
         i += 1;
@@ -401,6 +404,123 @@ fn by_words(low: u64, high: u64, starts: &[u8], ahead: &[u8], lead: u64, n: u64,
     quiet & (time::gap(start, last) <= high)
 }
 
+// n yes.
+fn yes_for(n: u64) -> u64
+    requires { ⌜ n ≤ 64 ⌝ }
+    ensures { λ r. ⌜ r ≡ 2 ^ n - 1 ⌝ }
+{
+    if n < 64 { (1 << n) - 1 } else { ALL_YES }
+}
+
+// Whether the last position taken settles all that wait: left fails there, or right holds and low is 0. As in `by_words`, a time and low can
+// be added.
+fn is_told(low: u64, lead: u64, last: Last) -> bool
+    ensures { λ r. ⌜ r ≡ is-told low lead last ⌝ }
+{
+    (0 < lead) & (low <= LONGEST_GAP) & (!last.left | (last.right & (low == 0)))
+}
+
+// Answers those that wait, where the last position taken settles them: yes up to the first that lies less than low before its right.
+fn walk_told(low: u64, starts: &[u8], lead: u64, from: Last) -> Walked
+    requires { ⌜ (is-told low lead from ≡ true) × (min lead 64 ≤ record-count (now starts)) ⌝ }
+    ensures { λ r. ⌜ ((high n left right : ℕ) (next : ℕ → ℕ) → Walk low high (time-at (now (starts .entry))) next lead n left right from r) ⌝ }
+{
+    let count = blocks::smaller(lead, 64);
+    let met = if low == 0 {
+        keep_if(from.right, count)
+    } else {
+        count_met(low, starts, count, keep_if(from.right, from.time))
+    };
+    Walked {
+        bits: yes_for(met),
+        count,
+        took: 0,
+        last: from,
+    }
+}
+
+// Whether none of n positions settles one that waits, where a word of these and more do: left holds and right fails at all n and at the last
+// position taken, and the last of the n lies at most high after the first that waits.
+fn is_calm(
+    high: u64,
+    starts: &[u8],
+    ahead: &[u8],
+    lead: u64,
+    n: u64,
+    left: u64,
+    right: u64,
+    from: Last,
+) -> bool
+    requires { ⌜ (n ≤ 64) × (n ≤ record-count (now ahead)) × (min lead 64 ≤ record-count (now starts)) ⌝ }
+    ensures { λ r. ⌜ (r ≡ true → Calm high (time-at (now (starts .entry))) (time-at (now (ahead .entry))) lead n left right from) ⌝ }
+{
+    if (lead < 64) | (n == 0) {
+        return false;
+    }
+    let start = trace::time(starts, 0);
+    let last = trace::time(ahead, n as usize - 1);
+    let quiet = from.left & !from.right & (bits::find_first_zero(left & !right, n) == n);
+    quiet & (time::gap(start, last) <= high)
+}
+
+// Takes n positions that settle none of those that wait.
+fn walk_calm(ahead: &[u8], n: u64, left: u64, right: u64) -> Walked
+    requires { ⌜ (0 < n) × (n ≤ 64) × (n ≤ record-count (now ahead)) ⌝ }
+    ensures { λ r. ⌜ ((low high lead after : ℕ) (start : ℕ → ℕ) (from : Last) → Calm high start (time-at (now (ahead .entry))) lead n left right from → Walk low high start (next-of (time-at (now (ahead .entry))) n after) lead n left right from r) ⌝ }
+{
+    Walked {
+        bits: 0,
+        count: 0,
+        took: n,
+        last: take(ahead, n - 1, left, right),
+    }
+}
+
+// Where low is 0 and the last position taken settles none of those that wait: takes up to the first position at which right holds or left
+// fails, but none more than high behind the last of those that may be answered; and says no to those that lie more than high before the
+// last one taken, or all where the next one lies that far.
+fn walk_over(
+    high: u64,
+    starts: &[u8],
+    ahead: &[u8],
+    lead: u64,
+    n: u64,
+    left: u64,
+    right: u64,
+    from: Last,
+) -> Walked
+    requires { ⌜ (high < 2 ^ 32) × (0 < lead) × (0 < n) × (n ≤ 64) × (n ≤ record-count (now ahead)) × (min lead 64 ≤ record-count (now starts)) × (from .left ≡ true) × (from .right ≡ false) ⌝ }
+    ensures { λ r. ⌜ ((after : ℕ) → Walk 0 high (time-at (now (starts .entry))) (next-of (time-at (now (ahead .entry))) n after) lead n left right from r) ⌝ }
+{
+    let most = blocks::smaller(lead, 64);
+    let event = bits::find_first_zero(left & !right, n);
+    let reach = trace::time(starts, most as usize - 1) + high;
+    let took = count_met(0, ahead, blocks::smaller(event + 1, n), reach);
+    if took == 0 {
+        return Walked {
+            bits: 0,
+            count: most,
+            took,
+            last: from,
+        };
+    }
+    let last = take(ahead, took - 1, left, right);
+    if (took <= event) & (took < n) {
+        return Walked {
+            bits: 0,
+            count: most,
+            took,
+            last,
+        };
+    }
+    Walked {
+        bits: 0,
+        count: count_met(high + 1, starts, most, last.time),
+        took,
+        last,
+    }
+}
+
 // As `walk`, by whole words where that can be.
 fn walk_words(
     low: u64,
@@ -422,6 +542,12 @@ fn walk_words(
         if by_words(low, high, starts, ahead, lead, n, from) {
             return walk_late(low, starts, ahead, lead, n, left, right);
         }
+        if is_told(low, lead, from) {
+            return walk_told(low, starts, lead, from);
+        }
+        if is_calm(high, starts, ahead, lead, n, left, right, from) {
+            return walk_calm(ahead, n, left, right);
+        }
         return walk(low, high, starts, ahead, lead, n, after, left, right, from);
     }
     if by_words(low, high, starts, ahead, lead, n, from) {
@@ -429,6 +555,12 @@ fn walk_words(
     }
     if outreaches(high, ahead, lead, n, from) {
         return walk_far(high, starts, ahead, lead, n, left, right);
+    }
+    if is_told(low, lead, from) {
+        return walk_told(low, starts, lead, from);
+    }
+    if (0 < lead) & (0 < n) & (high <= LONGEST_GAP) {
+        return walk_over(high, starts, ahead, lead, n, left, right, from);
     }
     walk(low, high, starts, ahead, lead, n, after, left, right, from)
 }

@@ -10,10 +10,10 @@ use Rattle.until.proofs.count_met.Statement.{statement}
 use Rattle.until.proofs.count_met.Tie as tie
 
 abbrev Inv-loop : tie.InvT-loop
-Inv-loop low starts n right i₀ i = (i ≤ n) × ((j : ℕ) → j < i → time-at starts j + low ≤ right)
+Inv-loop low starts n to i₀ i = (i ≤ n) × ((j : ℕ) → j < i → time-at starts j + low ≤ to)
 
 abbrev μ-loop : tie.MeasureT-loop
-μ-loop low starts n right i₀ i = n - i
+μ-loop low starts n to i₀ i = n - i
 
 loop-holds : tie.Need-loop-holds Inv-loop μ-loop
 loop-holds c = (omega arith, λ j h. absurd (omega arith))
