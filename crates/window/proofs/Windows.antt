@@ -305,6 +305,12 @@ module _ (skips : Bool) (s : List ℕ) (at n : ℕ) where
   pub dense-fits : dense skips s at n ≡ true → at + n ≤ record-count s
   dense-fits e = leb-iff (at + n) (record-count s) .0 (and-iff (leb (at + n) (record-count s)) (negate (skips && some-service s at n)) .0 e .0)
 
+  -- where none is passed over, it is enough that the records are there
+  pub plain-dense : negate skips && leb (at + n) (record-count s) ≡ true → dense skips s at n ≡ true
+  plain-dense e =
+      let both = and-iff (negate skips) (leb (at + n) (record-count s)) .0 e in
+      rw (not-true skips (both .0), both .1)
+
   dense-plain : dense skips s at n ≡ true → skips ≡ true → (i : ℕ) → i < n → is-service s (at + i) ≡ false
   dense-plain e kind =
       let none = not-true (skips && some-service s at n) (and-iff (leb (at + n) (record-count s)) (negate (skips && some-service s at n)) .0 e .1) in

@@ -1,9 +1,11 @@
 // Positions and windows. A service record, one with letter 31, is no position. A window has the records of the next positions from a
 // reading head on and no others: it is the log's own part where no service record lies among them, else a copy of them.
 ghost use mathlib.Core.Path.{_≡_};
-ghost use mathlib.Core.Bool.{true, false};
+ghost use mathlib.Core.Bool.{true, false, _&&_};
+ghost use mathlib.Core.Bool.{not as negate};
 ghost use mathlib.Core.Logic.{_⊎_};
 ghost use Prim.Native.Nat.{_+_, _*_, _≤_, _<_, _^_, max};
+ghost use lib.Dec.{leb};
 ghost use lib.ListN.{length};
 ghost use Rattle.bits.specs.Packed.{number};
 ghost use Rattle.trace.specs.Format.{record-count};
@@ -309,18 +311,67 @@ fn pick_letters(records: &[u8], from: usize, n: usize, letter: u64) -> Letters
     Letters { bits, end: at }
 }
 
+// Whether the n records from `from` on are all there.
+fn has_room(records: &[u8], from: usize, n: usize) -> bool
+    ensures { λ r. ⌜ r ≡ leb (from + n) (record-count (now (records .entry))) ⌝ }
+{
+    let end = trace::count(records);
+    if end < n { false } else { from <= end - n }
+}
+
+// Whether they are there and the slice has no service record at all: no other look at them is needed.
+fn is_plain(records: &[u8], view: &[u64; 66], from: usize, n: usize) -> bool
+    ensures { λ r. ⌜ r ≡ negate (skips (now (view .entry))) && leb (from + n) (record-count (now (records .entry))) ⌝ }
+{
+    (view[view::SKIPS] != 1) & has_room(records, from, n)
+}
+
+// The letter at each of n positions from `at` on, where service records may lie among them.
+fn read_mixed(records: &[u8], view: &[u64; 66], at: usize, n: usize, letter: u64) -> Letters
+    requires { ⌜ (n ≤ 64) × (letter < 32) × Views (now view) (now records) ⌝ }
+    ensures { λ r. ⌜ Lettered (skips (now (view .entry))) (now (records .entry)) letter at n r ⌝ }
+{
+    if is_dense(records, view, at, n) {
+        let bits = trace::letter_bits(records, at, n, letter);
+        let end = at + n;
+        return Letters { bits, end };
+    }
+    pick_letters(records, at, n, letter)
+}
+
 // The letter at each of n positions from a head on, without a copy of their records.
 pub fn read_letters(records: &[u8], view: &[u64; 66], head: u64, n: u64, letter: u64) -> Letters
     requires { ⌜ (n ≤ 64) × (letter < 32) × Views (now view) (now records) ⌝ }
     ensures { λ r. ⌜ Lettered (skips (now (view .entry))) (now (records .entry)) letter (in-slice (slice-first (now (view .entry))) head) n r ⌝ }
 {
     let at = in_slice(view[view::FIRST], head);
-    if is_dense(records, view, at, n as usize) {
+    if is_plain(records, view, at, n as usize) {
         let bits = trace::letter_bits(records, at, n as usize, letter);
         let end = at + n as usize;
         return Letters { bits, end };
     }
-    pick_letters(records, at, n as usize, letter)
+    read_mixed(records, view, at, n as usize, letter)
+}
+
+// The window of n positions from `at` on, where service records may lie among them.
+fn open_mixed(records: &[u8], view: &[u64; 66], at: usize, n: usize, copy: &mut [u8; 520]) -> Window
+    requires { ⌜ (n ≤ 65) × (length (now copy) ≡ 520) × Views (now view) (now records) ⌝ }
+    ensures { λ r. ⌜ Opened (skips (now (view .entry))) (now (records .entry)) at n r (now (copy .exit)) ⌝ }
+{
+    if is_dense(records, view, at, n) {
+        let end = at + n;
+        return Window {
+            at,
+            end,
+            dense: true,
+        };
+    }
+    let end = gather(records, at, n, copy);
+    Window {
+        at,
+        end,
+        dense: false,
+    }
 }
 
 // The window of n positions from a head on; the copy is written where it is needed.
@@ -329,7 +380,7 @@ pub fn open(records: &[u8], view: &[u64; 66], head: u64, n: u64, copy: &mut [u8;
     ensures { λ r. ⌜ Opened (skips (now (view .entry))) (now (records .entry)) (in-slice (slice-first (now (view .entry))) head) n r (now (copy .exit)) ⌝ }
 {
     let at = in_slice(view[view::FIRST], head);
-    if is_dense(records, view, at, n as usize) {
+    if is_plain(records, view, at, n as usize) {
         let end = at + n as usize;
         return Window {
             at,
@@ -337,12 +388,7 @@ pub fn open(records: &[u8], view: &[u64; 66], head: u64, n: u64, copy: &mut [u8;
             dense: true,
         };
     }
-    let end = gather(records, at, n as usize, copy);
-    Window {
-        at,
-        end,
-        dense: false,
-    }
+    open_mixed(records, view, at, n as usize, copy)
 }
 
 // The window's records.

@@ -1,31 +1,34 @@
--- `trace::window::open` meets its contract, by the laws of proofs/Windows. Assumes nothing.
+-- `window::open` meets its contract, by the laws of proofs/Windows. Assumes nothing.
 use native.Mathlib.Omega.{arith}
-use mathlib.Core.Path.{sym, _∙_}
+use mathlib.Core.Bool.{true}
+use mathlib.Core.Path.{_≡_, sym, _∙_}
 use borrow.Author.Needs.{needs}
 use Rattle.window.specs.View.{skips}
-use Rattle.window.proofs.Windows.{dense-fits, opened-dense, opened-copied}
+use Rattle.window.specs.Window.{dense}
+use Rattle.window.proofs.Windows.{dense-fits, plain-dense, opened-dense}
 use Rattle.window.proofs.open.Statement.{statement}
 use Rattle.window.proofs.open.Tie as tie
+
+-- a plain window is dense
+told : (c : tie.Then1) → let a = c .before .before .before .before .before .args in dense (skips (a .view .now)) (a .records .now) (c .before .before .in-slice .result) (a .n) ≡ true
+told c =
+    let a = c .before .before .before .before .before .args in
+    plain-dense (skips (a .view .now)) (a .records .now) (c .before .before .in-slice .result) (a .n) (sym (c .before .is-plain .ensures) ∙ c .if1 .taken)
 
 add-end : tie.Need-add-end
 add-end c =
     let a = c .before .before .before .before .before .args in
-    let at = c .before .before .in-slice .result in
-    omega (arith, dense-fits (skips (a .view .now)) (a .records .now) at (a .n) (sym (c .before .is-dense .ensures) ∙ c .if1 .taken))
+    omega (arith, dense-fits (skips (a .view .now)) (a .records .now) (c .before .before .in-slice .result) (a .n) (told c))
 
 returns : tie.Need-returns
 returns c =
-    let a = c .before .before .before .before .before .args in
+    let start = c .before .before .before .before .before in
+    let a = start .args in
     let at = c .before .before .in-slice in
-    rw (← at .ensures) (opened-dense (skips (a .view .now)) (a .records .now) (at .result) (a .n) (a .copy .now) (c .before .before .before .before .before .pre .1) (sym (c .before .is-dense .ensures) ∙ c .if1 .taken))
+    rw (← at .ensures) (opened-dense (skips (a .view .now)) (a .records .now) (at .result) (a .n) (a .copy .now) (start .pre .1) (told c))
 
 returns-2 : tie.Need-returns-2
-returns-2 c =
-    let a = c .before .before .before .before .before .before .before .args in
-    let at = c .before .before .before .before .in-slice in
-    rw (← at .ensures)
-    (opened-copied (skips (a .view .now)) (a .records .now) (at .result) (a .n) (c .gather .last .1 .1 .1 .0) (c .gather .result) (omega arith)
-    (sym (c .before .before .before .is-dense .ensures) ∙ c .before .before .if1 .left) (c .gather .ensures))
+returns-2 c = rw (← c .before .before .before .before .in-slice .ensures) (c .open-mixed .ensures)
 
 pub open-spec : {M : Type 1} → statement M
 open-spec =

@@ -1,40 +1,39 @@
--- `trace::window::read_letters` meets its contract. Assumes nothing.
+-- `window::read_letters` meets its contract. Assumes nothing.
 use native.Mathlib.Omega.{arith}
-use mathlib.Core.Path.{sym, _∙_}
+use mathlib.Core.Bool.{true}
+use mathlib.Core.Path.{_≡_, sym, _∙_}
 use borrow.Author.Needs.{needs}
 use Rattle.window.specs.View.{skips}
-use Rattle.window.proofs.Windows.{dense-fits, lettered-dense, lettered-sparse}
+use Rattle.window.specs.Window.{dense}
+use Rattle.window.proofs.Windows.{dense-fits, plain-dense, lettered-dense}
 use Rattle.window.proofs.read_letters.Statement.{statement}
 use Rattle.window.proofs.read_letters.Tie as tie
+
+-- a plain window is dense
+told : (c : tie.Then1) → let a = c .before .before .before .before .before .args in dense (skips (a .view .now)) (a .records .now) (c .before .before .in-slice .result) (a .n) ≡ true
+told c =
+    let a = c .before .before .before .before .before .args in
+    plain-dense (skips (a .view .now)) (a .records .now) (c .before .before .in-slice .result) (a .n) (sym (c .before .is-plain .ensures) ∙ c .if1 .taken)
 
 letter-bits-requires : tie.Need-letter-bits-requires
 letter-bits-requires c κs =
     let start = c .before .before .before .before .before in
     let a = start .args in
-    let at = c .before .before .in-slice .result in
-    (dense-fits (skips (a .view .now)) (a .records .now) at (a .n) (sym (c .before .is-dense .ensures) ∙ c .if1 .taken), start .pre .0, start .pre .1)
+    (dense-fits (skips (a .view .now)) (a .records .now) (c .before .before .in-slice .result) (a .n) (told c), start .pre .0, start .pre .1)
 
 add-end : tie.Need-add-end
 add-end c =
     let a = c .before .before .before .before .before .before .args in
-    let at = c .before .before .before .in-slice .result in
-    omega (arith, dense-fits (skips (a .view .now)) (a .records .now) at (a .n) (sym (c .before .before .is-dense .ensures) ∙ c .before .if1 .taken))
+    omega (arith, dense-fits (skips (a .view .now)) (a .records .now) (c .before .before .before .in-slice .result) (a .n) (told (c .before)))
 
 returns : tie.Need-returns
 returns c =
     let a = c .before .before .before .before .before .before .args in
     let at = c .before .before .before .in-slice in
-    rw (← at .ensures)
-    (lettered-dense (skips (a .view .now)) (a .records .now) (a .letter) (at .result) (a .n) (c .letter-bits .result)
-    (sym (c .before .before .is-dense .ensures) ∙ c .before .if1 .taken) (c .letter-bits .ensures))
+    rw (← at .ensures) (lettered-dense (skips (a .view .now)) (a .records .now) (a .letter) (at .result) (a .n) (c .letter-bits .result) (told (c .before)) (c .letter-bits .ensures))
 
 returns-2 : tie.Need-returns-2
-returns-2 c =
-    let a = c .before .before .before .before .before .before .args in
-    let at = c .before .before .before .in-slice in
-    rw (← at .ensures)
-    (lettered-sparse (skips (a .view .now)) (a .records .now) (a .letter) (at .result) (a .n) (c .pick-letters .result)
-    (sym (c .before .before .is-dense .ensures) ∙ c .before .if1 .left) (c .pick-letters .ensures))
+returns-2 c = rw (← c .before .before .before .in-slice .ensures) (c .read-mixed .ensures)
 
 pub read-letters-spec : {M : Type 1} → statement M
 read-letters-spec =
@@ -42,7 +41,7 @@ read-letters-spec =
     (tie.spec
     (λ c. search needs)
     (λ c κs. search needs)
-    (λ c κs. (omega (arith, c .before .before .before .pre .0), c .before .before .before .pre .2))
+    (λ c κs. search needs)
     letter-bits-requires
     add-end
     returns
