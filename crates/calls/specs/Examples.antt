@@ -1,12 +1,11 @@
 -- Paper 14 worked by hand: P7's first log and P5's open position, each with the two records that settle it and the verdicts then; and logs of
 -- which one condition of the paper is not met; and words lent to a call. Proved by computation.
-use Prim.Native.Nat.{ℕ, zero, suc, _+_, _-_, _*_, _≤_, _<_, _^_}
+use Prim.Native.Nat.{ℕ, suc, _+_, _-_}
 use mathlib.Core.Bool.{Bool, true, false, cond, _&&_, _||_}
 use mathlib.Core.Bool.{not as negate}
 use mathlib.Core.List.{List, [], _∷_, _++_}
 use mathlib.Core.Path.{_≡_, refl}
 use lib.Dec.{eqb, leb, ltb}
-use lib.ListN.{length, getD}
 use Rattle.mtl.specs.Formula.{Formula}
 use Rattle.mtl.specs.Formula.Formula.{letter, next, until}
 use Rattle.mtl.specs.Satisfaction.{any, all, sat}
@@ -23,8 +22,8 @@ use Rattle.trace.specs.Positions.{is-service, passing, spot, positions}
 use Rattle.trace.specs.Order.{falls}
 use Rattle.trace.specs.Making.{log-header, record-bytes}
 use Rattle.verdicts.specs.Bytes.{byte-of}
-use Rattle.emit.specs.Verdicts.{formulas-of, verdicts}
-use Rattle.emit.specs.Verdicts.{first-records, answered-number, all-verdicts}
+use Rattle.emit.specs.Verdicts.{verdicts}
+use Rattle.emit.specs.Verdicts.{answered-number, all-verdicts}
 use Rattle.monitor.specs.Examples.{event-set, same}
 use Rattle.calls.specs.Calls.{Lends, point-after}
 use Rattle.calls.specs.Sooner.{records, settling-record}

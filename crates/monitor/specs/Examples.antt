@@ -1,6 +1,6 @@
 -- Document 01's "Worked by hand", and cases of document 02's requests: one table, from the bytes of rules and logs to numbers, verdicts and refusals, proved by computation;
 -- the counts of no after calls of that table, what a card has to know of a checkpoint, and how many formulas a rule has.
-use Prim.Native.Nat.{ℕ, suc, _+_, _-_, _*_, _/_, _%_, _^_}
+use Prim.Native.Nat.{ℕ, suc, _+_, _-_, _/_, _%_, _^_}
 use mathlib.Core.Bool.{Bool, true, false, cond, _&&_}
 use mathlib.Core.Bool.{not as negate}
 use mathlib.Core.List.{List, [], _∷_, _++_}
@@ -11,14 +11,14 @@ use lib.ListN.{length, take, drop, replicate}
 use Rattle.mtl.specs.Formula.{has-next, reach, largest}
 use Rattle.mtl.specs.Satisfaction.{any, all, sat}
 use Rattle.mtl.specs.Progress.{run, progress, settled-to, joint-progress}
-use Rattle.mtl.specs.Wanted.{depth, deepest}
+use Rattle.mtl.specs.Wanted.{depth}
 use Rattle.rule.specs.declared.Entry.{Entry}
 use Rattle.rule.specs.Entries.{count, first-entries, entries}
 use Rattle.rule.specs.Entries.{version as version-of}
 use Rattle.rule.specs.Words.{own, offset, header-words}
 use Rattle.rule.specs.Postfix.{push-kind, read}
 use Rattle.rule.specs.Refusal.{header-refusal, entries-refusal}
-use Rattle.rule.specs.Measure.{farthest, measured}
+use Rattle.rule.specs.Measure.{measured}
 use Rattle.trace.specs.Format.{record-count, skips-of, dropped, records-of, total-records, records-from}
 use Rattle.trace.specs.Positions.{passing, spot, positions}
 use Rattle.trace.specs.Order.{last-time}

@@ -17,7 +17,6 @@ use Rattle.rule.specs.declared.measuring.Quantity.{Quantity}
 use Rattle.rule.specs.declared.measuring.Quantity.the-variants.{Reach, Depth}
 use Rattle.rule.specs.Entries.{entry}
 use Rattle.rule.specs.Words.{own, offset}
-use Rattle.rule.specs.Postfix.{formulas}
 use Rattle.rule.specs.Refusal.{misshapen, misplaced, misshapen-at, misplaced-at}
 
 -- the list does not begin with the mark
