@@ -18,7 +18,7 @@ use Rattle.mtl.specs.Wanted.{wanted, wanted-record}
 use Rattle.mtl.proofs.Bounded.{true-and-false, or-iff, le-or-lt}
 use Rattle.mtl.proofs.Closing.{settled-open}
 use Rattle.mtl.proofs.Joint.{joint-one, joint-grows}
-use Rattle.sooner.specs.Sooner.{OneTimed, timed-low, timed-high, timed-letter, letter-in, latest, Interval, last-of, settling-time, Adds, Told, BothWays}
+use Rattle.sooner.specs.Sooner.{OneTimed, timed-low, timed-high, timed-letter, letter-in, latest, Interval, last-of, settling-time, Adds, SettledAs, BothWays}
 use Rattle.sooner.specs.Sooner.OneTimed.{one-next, one-until}
 use Rattle.sooner.proofs.Theorem.{both-ways}
 use Rattle.bits.specs.Packed.{number}
@@ -311,7 +311,7 @@ module _ {φ : Formula} (one : OneTimed φ) (rule log : List ℕ) (asked : Condi
           (sym (more-first log r (fine log (asked .untouched)) false (suc (records log)) (longer-length log r (fine log (asked .untouched)) refl (asked .few))))
           (more-adds s (whole log (asked .untouched)) t (timed-letter one) b time-fits letter-fits (skips-of log) not-31 false))
 
-      told : Told φ L i b
+      told : SettledAs φ L i b
       told = both .settles b L adds
 
       settled : i < answered-number false rule (log ++ r) (suc (records log))

@@ -35,7 +35,7 @@ at time letters = record-bytes time (event-set letters)
 abbrev log-of-version : (version : ℕ) → List ℕ → List ℕ
 log-of-version version bytes = log-header version ++ bytes
 
--- the conditions of the paper, in the order of `Asked`
+-- the conditions of the paper, in the order of `Conditions`
 abbrev met : (φ : Formula) (log : List ℕ) → List Bool
 met φ log =
     eqb (refusal (rule-of φ)) 0
@@ -53,8 +53,8 @@ agree (x ∷ xs) [] = false
 agree (x ∷ xs) (y ∷ ys) = cond x y (negate y) && agree xs ys
 
 -- the log with the record that has the letter, or with the one that has none
-abbrev longer : {φ : Formula} → OneTimed φ → (log : List ℕ) (i : ℕ) (holds : Bool) → List ℕ
-longer one log i holds = log ++ settling-record one log i holds
+abbrev lengthened : {φ : Formula} → OneTimed φ → (log : List ℕ) (i : ℕ) (holds : Bool) → List ℕ
+lengthened one log i holds = log ++ settling-record one log i holds
 
 abbrev accepted : List ℕ → Bool
 accepted log = negate (malformed log || falls (records-of log))
@@ -72,17 +72,17 @@ pub record Row (φ : Formula) : Type 0 where
   pub verdicts-with : List ℕ
   pub verdicts-without : List ℕ
 
-unfoldable pub settled : {φ : Formula} → Row φ → Bool
-settled {φ} r =
+unfoldable pub computes : {φ : Formula} → Row φ → Bool
+computes {φ} r =
     agree (met φ (r .log)) (true ∷ true ∷ true ∷ true ∷ true ∷ true ∷ [])
     && (eqb (answered-number false (rule-of φ) (r .log) (records (r .log))) (r .answered-before)
     && (leb (r .answered-before) (r .position)
     && (same (settling-record (r .one) (r .log) (r .position) true) (r .with-letter)
     && (same (settling-record (r .one) (r .log) (r .position) false) (r .without)
-    && (accepted (longer (r .one) (r .log) (r .position) true)
-    && (accepted (longer (r .one) (r .log) (r .position) false)
-    && (same (all-verdicts false (rule-of φ) (longer (r .one) (r .log) (r .position) true) (suc (records (r .log)))) (r .verdicts-with)
-    && same (all-verdicts false (rule-of φ) (longer (r .one) (r .log) (r .position) false) (suc (records (r .log)))) (r .verdicts-without))))))))
+    && (accepted (lengthened (r .one) (r .log) (r .position) true)
+    && (accepted (lengthened (r .one) (r .log) (r .position) false)
+    && (same (all-verdicts false (rule-of φ) (lengthened (r .one) (r .log) (r .position) true) (suc (records (r .log)))) (r .verdicts-with)
+    && same (all-verdicts false (rule-of φ) (lengthened (r .one) (r .log) (r .position) false) (suc (records (r .log)))) (r .verdicts-without))))))))
 
 abbrev yes : ℕ
 yes = 1
@@ -158,8 +158,8 @@ row-latest =
       verdicts-without = no ∷ [];
     }
 
-pub every-row : (settled (row-7 0) ≡ true) × (settled (row-7 1) ≡ true) × (settled row-7-served ≡ true) × (settled row-5 ≡ true) × (settled row-latest ≡ true)
-unfolding settled agree event-set same letter-in postfix body encoded passing spot positions first-entries offset push-kind read header-refusal entries-refusal any all sat run progress settled-to joint-progress byte-of verdicts
+pub every-row : (computes (row-7 0) ≡ true) × (computes (row-7 1) ≡ true) × (computes row-7-served ≡ true) × (computes row-5 ≡ true) × (computes row-latest ≡ true)
+unfolding computes agree event-set same letter-in postfix body encoded passing spot positions first-entries offset push-kind read header-refusal entries-refusal any all sat run progress settled-to joint-progress byte-of verdicts
 every-row = (refl, refl, refl, refl, refl)
 
 -- A CONDITION NOT MET
@@ -172,7 +172,7 @@ fails {φ} one log conditions with-letter without =
     && agree (settles true ∷ settles false ∷ []) (with-letter ∷ without ∷ []))
   where
     settles : Bool → Bool
-    settles holds = accepted (longer one log 0 holds) && ltb 0 (answered-number false (rule-of φ) (longer one log 0 holds) (suc (records log)))
+    settles holds = accepted (lengthened one log 0 holds) && ltb 0 (answered-number false (rule-of φ) (lengthened one log 0 holds) (suc (records log)))
 
 -- behind a service record at second 9 no record comes within 3 seconds; 3,600 seconds after 4,294,963,696 there is no time; a record with
 -- letter 31 is no position, and settles nothing

@@ -5,9 +5,9 @@ use mathlib.Core.List.{List, [], _++_}
 use lib.ListN.{length, getD}
 use lib.Dec.{ltb, eqb}
 use Rattle.bits.specs.Packed.{bit}
-use Rattle.rule.specs.Refusal.{first, or-else, refusal}
-use Rattle.trace.specs.Format.{record-count, dropped, records-of, malformed}
-use Rattle.trace.specs.Order.{disordered}
+use Rattle.rule.specs.Refusal.{or-else, refusal}
+use Rattle.trace.specs.Format.{record-count, records-of}
+use Rattle.checks.specs.Refusal.{whole-log-refusal}
 use Rattle.decimal.specs.Text.{ascii, decimal, verdict-word}
 use Rattle.emit.specs.Verdicts.{formulas-of, columns, all-verdicts}
 
@@ -39,7 +39,7 @@ verdicts-text records columns verdicts = first-line (length verdicts) records ++
 -- "opens, carries on": the first refusal that applies. The checkpoint is fresh, with nothing given, seen or noted, and has room for
 -- every rule that passes 8. So 9, 10, 11, 13, 20 and 22 are never met, and 24 is for any dropped record
 abbrev pub run-refusal : (rule log : List ℕ) → ℕ
-run-refusal rule log = or-else (refusal rule) (first 12 (malformed log) (first 24 (ltb 0 (dropped log)) (first 14 (disordered (records-of log) 0 0) 0)))
+run-refusal rule log = or-else (refusal rule) (whole-log-refusal log)
 
 -- "a file above 65,536 bytes prints `too long` before all else"
 abbrev pub too-long : (rule log : List ℕ) → Bool

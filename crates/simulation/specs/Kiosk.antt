@@ -133,12 +133,12 @@ unfoldable pub events-of : Kiosk → ℕ
 events-of k = letter (is-warm (k .head)) 1 + letter (k .began) 2 + letter (k .joined) 4 + letter (k .ended) 8
 
 -- a simulation on its way: the generator's state, and the kiosk
-pub record Run : Type 0 where
+pub record SoFar : Type 0 where
   pub state : ℕ
   pub kiosk : Kiosk
 
 -- after n seconds, from time 0; "each draw moves the generator on by one step and is its new state"
-unfoldable pub run-after : Settings → (seed n : ℕ) → Run
+unfoldable pub run-after : Settings → (seed n : ℕ) → SoFar
 run-after s seed zero = record { state = seed; kiosk = started }
 run-after s seed (suc n) =
     let before = run-after s seed n in
