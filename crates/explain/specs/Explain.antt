@@ -24,6 +24,7 @@ reason-text rule log k i = text (reason-of rule log k i)
 abbrev pub unexplained-in : List Formula → Log → (formula position room : ℕ) → Bool
 unexplained-in fs L k i room = leb (columns fs) k || (leb (joint-progress fs L) i || ltb room (length (text (reason-in fs k L i))))
 
+-- the same from the bytes of rule and log
 abbrev pub unexplained : (rule log : List ℕ) (formula position room : ℕ) → Bool
 unexplained rule log k i room = unexplained-in (formulas-of rule) (log-in log) k i room
 
@@ -46,6 +47,7 @@ module _ (rule log : List ℕ) (k i room : ℕ) where
   abbrev pub if-written : {A : Type 0} → A → A → A
   if-written x y = cond (eqb (explain-refusal rule log k i room) 0) x y
 
+  -- the length of the text, or the refusal's number
   abbrev pub the-answer : Answer
   the-answer =
       if-written (record { number = 0; length = length (reason-text rule log k i) }) (record { number = explain-refusal rule log k i room; length = 0 })
@@ -55,6 +57,7 @@ abbrev pub text-after : (rule log : List ℕ) (formula position : ℕ) (lent : L
 text-after rule log k i lent =
     if-written rule log k i (length lent) (reason-text rule log k i ++ drop (length (reason-text rule log k i)) lent) lent
 
+-- what the call promises
 pub record Explains (rule log : List ℕ) (k i : ℕ) (lent : List ℕ) (r : Explained) (lent′ : List ℕ) : Type 0 where
   pub answer : answer r ≡ the-answer rule log k i (length lent)
   pub bytes : lent′ ≡ text-after rule log k i lent

@@ -33,6 +33,7 @@ unfoldable pub lines : (columns : ℕ) (verdicts : List ℕ) → ℕ → List �
 lines columns verdicts zero = []
 lines columns verdicts (suc n) = lines columns verdicts n ++ line n columns (getD verdicts n 0)
 
+-- the first line, and a line for each verdict
 abbrev pub verdicts-text : (records columns : ℕ) (verdicts : List ℕ) → List ℕ
 verdicts-text records columns verdicts = first-line (length verdicts) records ++ lines columns verdicts (length verdicts)
 
@@ -52,5 +53,6 @@ run-text rule log =
     (verdicts-text (record-count (records-of log)) (columns (formulas-of rule)) (all-verdicts false rule log (record-count (records-of log))))
     (refused-text (run-refusal rule log))
 
+-- what is printed, all of it
 abbrev pub report : (rule log : List ℕ) → List ℕ
 report rule log = cond (too-long rule log) (ascii "too long\n") (run-text rule log)

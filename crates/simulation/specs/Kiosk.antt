@@ -49,6 +49,7 @@ since-of (Printing since) = since
 abbrev pub is-due : (time now : ℕ) → Head → Bool
 is-due time now head = leb (since-of head + time) now
 
+-- the kiosk with another head
 abbrev pub with-head : Kiosk → Head → Kiosk
 with-head k head = record {
   head = head;
@@ -145,5 +146,6 @@ run-after s seed (suc n) =
     let draw = xorshift (before .state) in
     record { state = draw; kiosk = second-of s n draw (before .kiosk) }
 
+-- the kiosk alone
 abbrev pub kiosk-after : Settings → (seed n : ℕ) → Kiosk
 kiosk-after s seed n = run-after s seed n .kiosk
