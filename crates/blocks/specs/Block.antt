@@ -16,6 +16,7 @@ use Rattle.rule.specs.Words.{ring-words}
 use Rattle.rule.specs.Postfix.{root}
 use Rattle.blocks.specs.Ring.{Ring, Witnesses}
 
+-- word i of a block
 abbrev pub word : List ℕ → ℕ → ℕ
 word b i = getD b i 0
 

@@ -37,6 +37,7 @@ added-by Depth e = cond (eqb (e .kind) 3) 1 0
 abbrev pub joined-by : Quantity → Entry → ℕ → ℕ → ℕ
 joined-by of e left right = cond (eqb (e .kind) 0) 0 (added-by of e + max left right)
 
+-- entry k is a next, and entry k is a previous
 abbrev pub is-next : List Entry → ℕ → Bool
 is-next t k = eqb (entry t k .kind) 4
 

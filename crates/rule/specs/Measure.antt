@@ -48,5 +48,6 @@ abbrev pub answer-by : (number version : ℕ) → List Entry → ℕ → Answer
 answer-by number version t n =
     cond (eqb number 0) (record { number = 0; words = words version t n; reach = reach-of (formulas version t n) }) (refused number)
 
+-- what weighing answers of the bytes of a rule
 abbrev pub measured : List ℕ → Answer
 measured s = answer-by (refusal s) (version s) (decoded s) (count s)
