@@ -16,6 +16,7 @@ use Rattle.rule.specs.Words.{ring-words}
 use Rattle.rule.specs.Postfix.{root}
 use Rattle.blocks.specs.Ring.{Ring, Witnesses}
 
+-- word i of a block
 abbrev pub word : List ℕ → ℕ → ℕ
 word b i = getD b i 0
 
@@ -77,14 +78,6 @@ high-of φ = root φ .high
 pub record FreshBlock (kind : ℕ) (b : List ℕ) : Type 0 where
   pub own : (i : ℕ) → i < 12 → word b i ≡ 0
   pub waiting : kind ≡ 6 → waiting-head b ≡ 0
-
--- words 12 and 13 of the block of a formula's last entry: for how many positions the formula has answered and was not given yet, and
--- the word of those answers
-abbrev pub held-count : List ℕ → ℕ
-held-count b = word b 12
-
-abbrev pub held-bits : List ℕ → ℕ
-held-bits b = word b 13
 
 -- no head goes back. An until's second head, word 16, is the record of `answered`: `Heads` says where it stands.
 pub record Forward (b b′ : List ℕ) : Type 0 where

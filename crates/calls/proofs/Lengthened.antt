@@ -1,5 +1,5 @@
 -- A log with records behind it: its header and check 12, the log of the logic, and what a list of calls may bring of it. Assumes nothing.
-use Prim.Native.Nat.{ℕ, suc, _+_, _-_, _*_, _/_, _%_, _≤_, _<_}
+use Prim.Native.Nat.{ℕ, suc, _+_, _-_, _*_, _≤_, _<_}
 use mathlib.Core.Bool.{Bool, true, false, cond, _&&_}
 use mathlib.Core.Logic.{⊎-elim}
 use mathlib.Core.Path.{_≡_, refl, sym, _∙_, ap, ap₂, subst}
@@ -18,7 +18,7 @@ use Rattle.trace.proofs.Laws.{WellFormed, well-formed-iff, trimmed-long, long-e
 use Rattle.emit.specs.Verdicts.{formulas-of}
 use Rattle.emit.specs.Verdicts.{first-records, wanted-after}
 use Rattle.calls.specs.Calls.{Call, given-by, brought-by}
-use Rattle.calls.specs.Calls.{Untouched, Brings, BringsAfter, OneCall, Calls}
+use Rattle.calls.specs.Calls.{Untouched, Brings, BringsAfter, Calls}
 use Rattle.calls.specs.Calls.OneCall.{refused, accepted, trimming}
 use Rattle.calls.specs.Calls.Calls.{opened, and-then}
 use Rattle.trace.specs.Format.{record-count, time-at, word-at, version-of, skips-of, is-trimmed, dropped, records-of, total-records, wrong-header, malformed, SameRecord}

@@ -1,14 +1,13 @@
 -- Paper 14 of bytes and calls: the theorem of specs/Sooner.antt. Assumes nothing.
-use Prim.Native.Nat.{ℕ, zero, suc, _+_, _-_, _*_, _/_, _≤_, _<_, _^_}
-use mathlib.Core.Bool.{Bool, true, false, cond, _&&_, true≢false}
+use Prim.Native.Nat.{ℕ, zero, suc, _+_, _-_, _*_, _≤_, _<_, _^_}
+use mathlib.Core.Bool.{Bool, true, false, cond, _&&_}
 use mathlib.Core.Logic.{_↔_, inl, inr, ⊎-elim}
 use mathlib.Core.Path.{_≡_, refl, sym, _∙_, ap, subst}
 use mathlib.Core.List.{List, [], _∷_, _++_}
 use native.Mathlib.Nat.{eq-or-lt-of-le}
 use native.Mathlib.Omega.{arith}
 use lib.Dec.{eqb}
-use lib.ListN.{length, getD, take, length-append}
-use lib.Seq.{length-take-le}
+use lib.ListN.{length, getD, take}
 use borrow.Author.Tests.{eq-eqb, lt-ltb, le-ltb}
 use Rattle.mtl.specs.Formula.{Formula}
 use Rattle.mtl.specs.Formula.Formula.{letter, next, until}
@@ -16,10 +15,10 @@ use Rattle.mtl.specs.Log.{Log, closing, NeverFalls, Continues}
 use Rattle.mtl.specs.Satisfaction.{any, sat}
 use Rattle.mtl.specs.Progress.{progress, joint-progress}
 use Rattle.mtl.specs.Wanted.{wanted, wanted-record}
-use Rattle.mtl.proofs.Bounded.{true-and-false, false-iff, or-iff, le-or-lt}
+use Rattle.mtl.proofs.Bounded.{true-and-false, or-iff, le-or-lt}
 use Rattle.mtl.proofs.Closing.{settled-open}
-use Rattle.mtl.proofs.Joint.{joint-one, joint-grows, joint-le-size}
-use Rattle.sooner.specs.Sooner.{OneTimed, timed-low, timed-high, timed-letter, letter-in, latest, Interval, last-of, settling-time, Adds, Told, BothWays}
+use Rattle.mtl.proofs.Joint.{joint-one, joint-grows}
+use Rattle.sooner.specs.Sooner.{OneTimed, timed-low, timed-high, timed-letter, letter-in, latest, Interval, last-of, settling-time, Adds, SettledAs, BothWays}
 use Rattle.sooner.specs.Sooner.OneTimed.{one-next, one-until}
 use Rattle.sooner.proofs.Theorem.{both-ways}
 use Rattle.bits.specs.Packed.{number}
@@ -51,7 +50,7 @@ use Rattle.monitor.proofs.VerdictBytes.{verdict-at}
 use Rattle.monitor.specs.Examples.{event-set}
 use Rattle.monitor.specs.Resume.{Answer, gave, Resumes}
 use Rattle.calls.specs.Calls.{Call, the-call, given-by, brought-by, closed-by, closed-at, laid, Lends, point-after, expected-refusal}
-use Rattle.calls.specs.Calls.{AllWhenCaughtUp, Demand3}
+use Rattle.calls.specs.Calls.{AllWhenCaughtUp}
 use Rattle.calls.specs.Calls.{Untouched, BringsAfter, Calls}
 use Rattle.calls.specs.Calls.OneCall.{accepted as accepted-call}
 use Rattle.calls.specs.Calls.Calls.{and-then}
@@ -59,8 +58,8 @@ use Rattle.calls.specs.Examples.{until-1, log-7, next-5, log-5}
 use Rattle.calls.specs.Sooner.{records, positions-of, Conditions, Accepts, Settles, SettledBothWays, settling-record, ToldSooner}
 use Rattle.calls.proofs.Lending.{given-settled}
 use Rattle.calls.proofs.Demand3.{invariant, demand-3}
-use Rattle.calls.proofs.Appended.{append-count, first-of, more-count, more-keeps, more-adds}
-use Rattle.calls.proofs.Lengthened.{same-skips, same-dropped, more-records, whole-records, more-well-formed, records-keep, all-first, more-first, calls-more, longer-length, brings-after-longer}
+use Rattle.calls.proofs.Appended.{first-of, more-keeps, more-adds}
+use Rattle.calls.proofs.Lengthened.{same-dropped, more-records, whole-records, more-well-formed, records-keep, all-first, more-first, calls-more, longer-length, brings-after-longer}
 
 -- THE RULE
 
@@ -312,7 +311,7 @@ module _ {φ : Formula} (one : OneTimed φ) (rule log : List ℕ) (asked : Condi
           (sym (more-first log r (fine log (asked .untouched)) false (suc (records log)) (longer-length log r (fine log (asked .untouched)) refl (asked .few))))
           (more-adds s (whole log (asked .untouched)) t (timed-letter one) b time-fits letter-fits (skips-of log) not-31 false))
 
-      told : Told φ L i b
+      told : SettledAs φ L i b
       told = both .settles b L adds
 
       settled : i < answered-number false rule (log ++ r) (suc (records log))

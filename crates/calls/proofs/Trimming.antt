@@ -11,7 +11,7 @@ use lib.Seq.{getD-take, getD-drop, getD-append-add, take-at}
 use borrow.Author.Tests.{eq-eqb, eqb-true}
 use Rattle.mtl.proofs.Bounded.{le-or-lt}
 use Rattle.trace.specs.Format.{record-count, skips-of, dropped, records-of, records-from}
-use Rattle.trace.specs.Making.{trimmed-bytes, trimmed}
+use Rattle.trace.specs.Making.{trimmed}
 use Rattle.trace.proofs.Laws.{well-formed-records}
 use Rattle.trace.proofs.Trimming.{trimmed-skips, trimmed-records, trimmed-dropped, trimmed-total, trimmed-well}
 use Rattle.checks.specs.Refusal.{trim-refusal}

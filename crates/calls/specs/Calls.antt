@@ -134,6 +134,7 @@ pub record AsPromised (rule log : List ℕ) (d : ℕ) (c : Call) : Type 0 where
   pub more : c .more ≡ ltb (d + c .count) (answered-number (c .closing) rule log (c .records))
   pub bytes : length (c .bytes) ≡ c .count
 
+-- each of the accepted calls, with the verdicts given before it
 unfoldable pub Each : (rule log : List ℕ) → List Call → Type 0
 Each rule log [] = Unit {0}
 Each rule log (c ∷ older) = AsPromised rule log (given-by older) c × Each rule log older

@@ -1,12 +1,11 @@
 -- Paper 14 worked by hand: P7's first log and P5's open position, each with the two records that settle it and the verdicts then; and logs of
 -- which one condition of the paper is not met; and words lent to a call. Proved by computation.
-use Prim.Native.Nat.{ℕ, zero, suc, _+_, _-_, _*_, _≤_, _<_, _^_}
+use Prim.Native.Nat.{ℕ, suc, _+_, _-_}
 use mathlib.Core.Bool.{Bool, true, false, cond, _&&_, _||_}
 use mathlib.Core.Bool.{not as negate}
 use mathlib.Core.List.{List, [], _∷_, _++_}
 use mathlib.Core.Path.{_≡_, refl}
 use lib.Dec.{eqb, leb, ltb}
-use lib.ListN.{length, getD}
 use Rattle.mtl.specs.Formula.{Formula}
 use Rattle.mtl.specs.Formula.Formula.{letter, next, until}
 use Rattle.mtl.specs.Satisfaction.{any, all, sat}
@@ -23,8 +22,8 @@ use Rattle.trace.specs.Positions.{is-service, passing, spot, positions}
 use Rattle.trace.specs.Order.{falls}
 use Rattle.trace.specs.Making.{log-header, record-bytes}
 use Rattle.verdicts.specs.Bytes.{byte-of}
-use Rattle.emit.specs.Verdicts.{formulas-of, verdicts}
-use Rattle.emit.specs.Verdicts.{first-records, answered-number, all-verdicts}
+use Rattle.emit.specs.Verdicts.{verdicts}
+use Rattle.emit.specs.Verdicts.{answered-number, all-verdicts}
 use Rattle.monitor.specs.Examples.{event-set, same}
 use Rattle.calls.specs.Calls.{Lends, point-after}
 use Rattle.calls.specs.Sooner.{records, settling-record}
@@ -36,7 +35,7 @@ at time letters = record-bytes time (event-set letters)
 abbrev log-of-version : (version : ℕ) → List ℕ → List ℕ
 log-of-version version bytes = log-header version ++ bytes
 
--- the conditions of the paper, in the order of `Asked`
+-- the conditions of the paper, in the order of `Conditions`
 abbrev met : (φ : Formula) (log : List ℕ) → List Bool
 met φ log =
     eqb (refusal (rule-of φ)) 0
@@ -54,8 +53,8 @@ agree (x ∷ xs) [] = false
 agree (x ∷ xs) (y ∷ ys) = cond x y (negate y) && agree xs ys
 
 -- the log with the record that has the letter, or with the one that has none
-abbrev longer : {φ : Formula} → OneTimed φ → (log : List ℕ) (i : ℕ) (holds : Bool) → List ℕ
-longer one log i holds = log ++ settling-record one log i holds
+abbrev lengthened : {φ : Formula} → OneTimed φ → (log : List ℕ) (i : ℕ) (holds : Bool) → List ℕ
+lengthened one log i holds = log ++ settling-record one log i holds
 
 abbrev accepted : List ℕ → Bool
 accepted log = negate (malformed log || falls (records-of log))
@@ -73,17 +72,17 @@ pub record Row (φ : Formula) : Type 0 where
   pub verdicts-with : List ℕ
   pub verdicts-without : List ℕ
 
-unfoldable pub settled : {φ : Formula} → Row φ → Bool
-settled {φ} r =
+unfoldable pub computes : {φ : Formula} → Row φ → Bool
+computes {φ} r =
     agree (met φ (r .log)) (true ∷ true ∷ true ∷ true ∷ true ∷ true ∷ [])
     && (eqb (answered-number false (rule-of φ) (r .log) (records (r .log))) (r .answered-before)
     && (leb (r .answered-before) (r .position)
     && (same (settling-record (r .one) (r .log) (r .position) true) (r .with-letter)
     && (same (settling-record (r .one) (r .log) (r .position) false) (r .without)
-    && (accepted (longer (r .one) (r .log) (r .position) true)
-    && (accepted (longer (r .one) (r .log) (r .position) false)
-    && (same (all-verdicts false (rule-of φ) (longer (r .one) (r .log) (r .position) true) (suc (records (r .log)))) (r .verdicts-with)
-    && same (all-verdicts false (rule-of φ) (longer (r .one) (r .log) (r .position) false) (suc (records (r .log)))) (r .verdicts-without))))))))
+    && (accepted (lengthened (r .one) (r .log) (r .position) true)
+    && (accepted (lengthened (r .one) (r .log) (r .position) false)
+    && (same (all-verdicts false (rule-of φ) (lengthened (r .one) (r .log) (r .position) true) (suc (records (r .log)))) (r .verdicts-with)
+    && same (all-verdicts false (rule-of φ) (lengthened (r .one) (r .log) (r .position) false) (suc (records (r .log)))) (r .verdicts-without))))))))
 
 abbrev yes : ℕ
 yes = 1
@@ -159,8 +158,8 @@ row-latest =
       verdicts-without = no ∷ [];
     }
 
-pub every-row : (settled (row-7 0) ≡ true) × (settled (row-7 1) ≡ true) × (settled row-7-served ≡ true) × (settled row-5 ≡ true) × (settled row-latest ≡ true)
-unfolding settled agree event-set same letter-in postfix body encoded passing spot positions first-entries offset push-kind read header-refusal entries-refusal any all sat run progress settled-to joint-progress byte-of verdicts
+pub every-row : (computes (row-7 0) ≡ true) × (computes (row-7 1) ≡ true) × (computes row-7-served ≡ true) × (computes row-5 ≡ true) × (computes row-latest ≡ true)
+unfolding computes agree event-set same letter-in postfix body encoded passing spot positions first-entries offset push-kind read header-refusal entries-refusal any all sat run progress settled-to joint-progress byte-of verdicts
 every-row = (refl, refl, refl, refl, refl)
 
 -- A CONDITION NOT MET
@@ -173,7 +172,7 @@ fails {φ} one log conditions with-letter without =
     && agree (settles true ∷ settles false ∷ []) (with-letter ∷ without ∷ []))
   where
     settles : Bool → Bool
-    settles holds = accepted (longer one log 0 holds) && ltb 0 (answered-number false (rule-of φ) (longer one log 0 holds) (suc (records log)))
+    settles holds = accepted (lengthened one log 0 holds) && ltb 0 (answered-number false (rule-of φ) (lengthened one log 0 holds) (suc (records log)))
 
 -- behind a service record at second 9 no record comes within 3 seconds; 3,600 seconds after 4,294,963,696 there is no time; a record with
 -- letter 31 is no position, and settles nothing

@@ -13,7 +13,7 @@ use borrow.Author.Tests.{eqb-true, not-false}
 use Rattle.mtl.specs.Satisfaction.{any}
 use Rattle.mtl.proofs.Bounded.{any-false-iff, le-or-lt, and-iff}
 use Rattle.rule.specs.declared.Entry.{Entry}
-use Rattle.rule.specs.Bytes.{byte, word16, word32}
+use Rattle.rule.specs.Bytes.{byte, word32}
 use Rattle.rule.specs.Entries.{version, count, decoded, entry, entry-of}
 use Rattle.rule.specs.Words.{header-words, offset, own}
 use Rattle.rule.specs.Refusal.{marked, unmarked, unknown-version, wrong-size, header-refusal, entries-refusal, refusal}

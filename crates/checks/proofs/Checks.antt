@@ -33,7 +33,6 @@ use Rattle.trace.specs.Order.{disordered}
 use Rattle.trace.specs.Making.{trimmed}
 use Rattle.trace.proofs.Laws.{well-formed-iff}
 use Rattle.checkpoint.specs.Checkpoint.{given, seen, last, closed-with, log-kind, first-wanted, no-count, after-latest, need, foreign, block-at, block-outside, block-in-range, waiting-in-range, room, noes-outside, closed-in-range, kind-in-range, words-outside, header-in-range}
-use Rattle.verdicts.specs.Counts.{noes-in-range}
 use Rattle.checks.specs.Refusal.{open-refusal, resumes-closed, closes-more, other-version, point-refusal, trimming-refusal, words-refusal, summary-refusal}
 use Rattle.checks.specs.Contract.{sized-number, sized-by, sized-of, checked-number, checked-by, Covers, own-checked}
 use Rattle.checks.specs.declared.Sized.{Sized}

@@ -16,6 +16,7 @@ use Rattle.checks.specs.declared.Sized.the-variants.{Words, Stopped}
 use Rattle.checks.specs.declared.Checked.{Checked}
 use Rattle.checks.specs.declared.Checked.the-variants.{Passed, Failed}
 
+-- the number that the answer stands for: 0, or the refusal's
 abbrev pub sized-number : Sized → ℕ
 sized-number (Words n) = 0
 sized-number (Stopped n) = n
@@ -30,6 +31,7 @@ abbrev pub sized-of : List ℕ → ℕ → Sized
 sized-of rule lent =
     cond (eqb (refusal rule) 0) (cond (ltb lent (need rule)) (Stopped 9) (Words (need rule))) (Stopped (refusal rule))
 
+-- the number that the answer stands for: 0, or the refusal's
 abbrev pub checked-number : Checked → ℕ
 checked-number Passed = 0
 checked-number (Failed n) = n

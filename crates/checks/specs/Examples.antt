@@ -19,47 +19,47 @@ table = record { kind = 0; letter = 0; low = 0; high = 0 } ∷ []
 abbrev fresh : (version : ℕ) → List ℕ
 fresh version = set (set (replicate 40 0) 0 format) 4 (copy-start version 1)
 
-abbrev refused : (version : ℕ) → List ℕ → ℕ
-refused version p = words-refusal version table 1 p 0
+abbrev refusal-of : (version : ℕ) → List ℕ → ℕ
+refusal-of version p = words-refusal version table 1 p 0
 
-fresh-points : (refused 1 (fresh 1) ≡ 0) × (refused 2 (fresh 2) ≡ 0)
+fresh-points : (refusal-of 1 (fresh 1) ≡ 0) × (refusal-of 2 (fresh 2) ≡ 0)
 unfolding any offset
 fresh-points = (refl, refl)
 
 -- 10: the entries are the same, the version is not; a copy of two entries; one of the two words of the entry's copy is another
 -- entry's: that of letter 1, and of a high of 1
 other-rules :
-    (refused 2 (fresh 1) ≡ 10) ×
-    (refused 1 (fresh 2) ≡ 10) ×
-    (refused 2 (set (fresh 2) 4 (copy-start 2 2)) ≡ 10) ×
-    (refused 1 (set (fresh 1) 30 1) ≡ 10) ×
-    (refused 1 (set (fresh 1) 31 1) ≡ 10)
+    (refusal-of 2 (fresh 1) ≡ 10) ×
+    (refusal-of 1 (fresh 2) ≡ 10) ×
+    (refusal-of 2 (set (fresh 2) 4 (copy-start 2 2)) ≡ 10) ×
+    (refusal-of 1 (set (fresh 1) 30 1) ≡ 10) ×
+    (refusal-of 1 (set (fresh 1) 31 1) ≡ 10)
 unfolding any offset
 other-rules = (refl, refl, refl, refl, refl)
 
 -- 11: word 15, a count of no that is above the verdicts given, is formula 7's; a rule of version 1 does not use it; a latest no where
 -- none is counted, in the last word of the 24
 counts-of-formula-7 :
-    (refused 2 (set (fresh 2) 15 1) ≡ 11) ×
-    (refused 1 (set (fresh 1) 15 1) ≡ 0) ×
-    (refused 2 (set (set (set (fresh 2) 1 1) 2 1) 23 1) ≡ 11)
+    (refusal-of 2 (set (fresh 2) 15 1) ≡ 11) ×
+    (refusal-of 1 (set (fresh 1) 15 1) ≡ 0) ×
+    (refusal-of 2 (set (set (set (fresh 2) 1 1) 2 1) 23 1) ≡ 11)
 unfolding any offset
 counts-of-formula-7 = (refl, refl, refl)
 
 -- 11: an answer that is held, and no record
-held-past-records : (refused 1 (set (fresh 1) 28 1) ≡ 11) × (refused 2 (set (fresh 2) 36 1) ≡ 11)
+held-past-records : (refusal-of 1 (set (fresh 1) 28 1) ≡ 11) × (refusal-of 2 (set (fresh 2) 36 1) ≡ 11)
 unfolding any offset
 held-past-records = (refl, refl)
 
 -- a closed point of one record, resumed with a log that is no log: 20 comes before 12, and 11 before 20
-abbrev closed : List ℕ
-closed = set (set (set (fresh 1) 2 1) 5 2) 6 1
+abbrev closed-point : List ℕ
+closed-point = set (set (set (fresh 1) 2 1) 5 2) 6 1
 
-closed-before-12 : point-refusal false 1 table 1 [] closed ≡ 20
+closed-before-12 : point-refusal false 1 table 1 [] closed-point ≡ 20
 unfolding any offset
 closed-before-12 = refl
 
-closed-after-11 : point-refusal false 1 table 1 [] (set closed 1 2) ≡ 11
+closed-after-11 : point-refusal false 1 table 1 [] (set closed-point 1 2) ≡ 11
 unfolding any offset
 closed-after-11 = refl
 
@@ -92,28 +92,28 @@ noted-versions = (refl, refl, refl, refl, refl)
 
 -- 11: a record seen and no version noted; a version that is none; the first wanted record behind all seen; a head there
 out-of-range :
-    (refused 1 (given-one 0) ≡ 11) ×
-    (refused 1 (given-one 3) ≡ 11) ×
-    (refused 1 (set (given-one 1) 7 2) ≡ 11) ×
-    (refused 1 (set (given-one 1) 27 2) ≡ 11)
+    (refusal-of 1 (given-one 0) ≡ 11) ×
+    (refusal-of 1 (given-one 3) ≡ 11) ×
+    (refusal-of 1 (set (given-one 1) 7 2) ≡ 11) ×
+    (refusal-of 1 (set (given-one 1) 27 2) ≡ 11)
 unfolding any offset
 out-of-range = (refl, refl, refl, refl)
 
 -- letter 0, letter 1 and an operator of this kind over both, with the interval 0 to 0, and its fresh checkpoint
-abbrev binary : (kind : ℕ) → List Entry
-binary kind =
+abbrev over-letters : (kind : ℕ) → List Entry
+over-letters kind =
     record { kind = 0; letter = 0; low = 0; high = 0 } ∷ record { kind = 0; letter = 1; low = 0; high = 0 }
     ∷ record { kind = kind; letter = 0; low = 0; high = 0 } ∷ []
 
-abbrev fresh-binary : (kind : ℕ) → List ℕ
-fresh-binary kind = set (set (set (set (replicate 66 0) 0 format) 4 (copy-start 1 3)) 46 1) 62 (kind * 256)
+abbrev fresh-over-letters : (kind : ℕ) → List ℕ
+fresh-over-letters kind = set (set (set (set (replicate 66 0) 0 format) 4 (copy-start 1 3)) 46 1) 62 (kind * 256)
 
 -- 11: the second head of an until behind all records; in the same place a since has a cell
-waiting-head-past-records : words-refusal 1 (binary 6) 3 (set (fresh-binary 6) 64 1) 0 ≡ 11
+waiting-head-past-records : words-refusal 1 (over-letters 6) 3 (set (fresh-over-letters 6) 64 1) 0 ≡ 11
 unfolding any offset
 waiting-head-past-records = refl
 
-cell-of-a-since : words-refusal 1 (binary 5) 3 (set (fresh-binary 5) 64 1) 0 ≡ 0
+cell-of-a-since : words-refusal 1 (over-letters 5) 3 (set (fresh-over-letters 5) 64 1) 0 ≡ 0
 unfolding any offset
 cell-of-a-since = refl
 

@@ -8,7 +8,7 @@ use lib.Dec.{leb, ltb, eqb}
 use Rattle.rule.specs.declared.Entry.{Entry}
 use Rattle.rule.specs.Entries.{version, count, decoded}
 use Rattle.rule.specs.Refusal.{first, or-else, refusal}
-use Rattle.trace.specs.Format.{skips-of, dropped, total-records, malformed, records-from}
+use Rattle.trace.specs.Format.{skips-of, dropped, records-of, total-records, malformed, records-from}
 use Rattle.trace.specs.Order.{disordered}
 use Rattle.trace.specs.Making.{trimmed}
 use Rattle.checkpoint.specs.Checkpoint.{seen, last, closed-with, log-kind, kind-of-log, first-wanted, need, foreign, words-outside}
@@ -80,3 +80,8 @@ trim-refusal rule log point lent =
 abbrev pub summary-refusal : (rule point : List ℕ) → ℕ
 summary-refusal rule point =
     or-else (open-refusal rule (length point)) (words-refusal (version rule) (decoded rule) (count rule) point 0)
+
+-- a log that is wanted whole, with a fresh checkpoint or with none: "12, 24 for any dropped record, and 14 from the first record on" (document
+-- 02, paper 13)
+abbrev pub whole-log-refusal : (log : List ℕ) → ℕ
+whole-log-refusal log = first 12 (malformed log) (first 24 (ltb 0 (dropped log)) (first 14 (disordered (records-of log) 0 0) 0))

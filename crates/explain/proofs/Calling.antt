@@ -33,10 +33,11 @@ use Rattle.explain.specs.declared.Reason.{Reason}
 use Rattle.explain.specs.declared.Reason.the-variants.{Ends, Missing}
 use Rattle.explain.specs.declared.Explained.{Explained}
 use Rattle.explain.specs.declared.Explained.the-variants.{Written, Refused}
-use Rattle.explain.specs.Explain.{whole-log-refusal, unexplained-in, explain-refusal, answer, Explains}
+use Rattle.checks.specs.Refusal.{whole-log-refusal}
+use Rattle.explain.specs.Explain.{unexplained-in, explain-refusal, answer, Explains}
 use Rattle.sentences.specs.Said.{Ruled}
 use Rattle.telling.specs.Lines.{Wrote}
-use Rattle.explain.specs.Code.{Prepared, Told-of, Reasoned, EndsInside, Copies}
+use Rattle.explain.specs.Code.{Prepared, Represents, Reasoned, EndsInside, Copies}
 
 -- WHAT IS LENT
 
@@ -69,8 +70,8 @@ module _ (e : List Entry) (n : ℕ) (ends : List ℕ) (number : ℕ) (fs : List 
           let one = some-size (formula fs k) in
           (omega arith, omega arith)
 
-  pub told-of : (skips : Bool) (s v : List ℕ) → WholeView skips s v → falls s ≡ false → Told-of t v s ends number fs (log-of skips s)
-  told-of skips s v made steady =
+  pub represented : (skips : Bool) (s v : List ℕ) → WholeView skips s v → falls s ≡ false → Represents t v s ends number fs (log-of skips s)
+  represented skips s v made steady =
       let keeps = never-falls s steady in
       record {
         entries = e;

@@ -16,7 +16,8 @@ use Rattle.emit.specs.Verdicts.{formulas-of, columns}
 use Rattle.reasons.specs.Text.{text}
 use Rattle.reasons.specs.OfRule.{log-in, reason-of, Claims}
 use Rattle.reasons.proofs.OfRule.{explained}
-use Rattle.explain.specs.Explain.{whole-log-refusal, unexplained, explain-refusal}
+use Rattle.checks.specs.Refusal.{whole-log-refusal}
+use Rattle.explain.specs.Explain.{unexplained, explain-refusal}
 
 -- THEOREM: every fact of the text holds, together they force the verdict, and no other reason of the rule has this text.
 pub accepted-explained : (rule log : List ℕ) (k i room : ℕ) → explain-refusal rule log k i room ≡ 0 → Claims rule log k i

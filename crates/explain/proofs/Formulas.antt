@@ -30,10 +30,10 @@ use Rattle.window.specs.View.{total}
 use Rattle.telling.specs.declared.Told.{Told}
 use Rattle.sentences.specs.Said.{Answering}
 use Rattle.telling.specs.Lines.{Wrote, Tells}
-use Rattle.explain.specs.Code.{Told-of, AllAnswered}
+use Rattle.explain.specs.Code.{Represents, AllAnswered}
 use Rattle.telling.proofs.Writing.{wrote-line}
 
-module _ (t v s ends : List ℕ) (number : ℕ) (fs : List Formula) (L : Log) (told : Told-of t v s ends number fs L) (k : ℕ) (h : k < number) where
+module _ (t v s ends : List ℕ) (number : ℕ) (fs : List Formula) (L : Log) (told : Represents t v s ends number fs L) (k : ℕ) (h : k < number) where
   known : k < length fs
   known = let n = told .ended .number in omega arith
 
@@ -74,7 +74,7 @@ module _ (t v s ends : List ℕ) (number : ℕ) (fs : List Formula) (L : Log) (t
 
 -- the first k formulas have answered position i
 abbrev pub Reached : (t v s ends : List ℕ) (number i k : ℕ) → Type 0
-Reached t v s ends number i k = (fs : List Formula) (L : Log) → Told-of t v s ends number fs L → (j : ℕ) → j < k → i < settled-to (formula fs j) L
+Reached t v s ends number i k = (fs : List Formula) (L : Log) → Represents t v s ends number fs L → (j : ℕ) → j < k → i < settled-to (formula fs j) L
 
 module _ (t v s ends : List ℕ) (number i : ℕ) where
   pub reached-none : Reached t v s ends number i 0
@@ -92,14 +92,14 @@ module _ (t v s ends : List ℕ) (number i : ℕ) where
       (λ (a : j < k). reached fs L told j a)
       (Rattle.mtl.proofs.Bounded.le-or-lt k j)
 
-  pub all-reached : Reached t v s ends number i number → (fs : List Formula) (L : Log) → Told-of t v s ends number fs L → i < L .size → true ≡ ltb i (joint-progress fs L)
+  pub all-reached : Reached t v s ends number i number → (fs : List Formula) (L : Log) → Represents t v s ends number fs L → i < L .size → true ≡ ltb i (joint-progress fs L)
   all-reached reached fs L told inside =
       let n = told .ended .number in
       let most = joint-least fs L (suc i) inside (λ j h. reached fs L told j (omega arith)) in
       sym (lt-ltb i (joint-progress fs L) (omega arith))
 
   pub not-reached : (k : ℕ) → k < number → (r : Scan) → Scans t v s (getD ends k 0 - 1) true 0 (i + 1) r → r .done ≤ i →
-      (fs : List Formula) (L : Log) → Told-of t v s ends number fs L → i < L .size → false ≡ ltb i (joint-progress fs L)
+      (fs : List Formula) (L : Log) → Represents t v s ends number fs L → i < L .size → false ≡ ltb i (joint-progress fs L)
   not-reached k h r scans short fs L told inside =
       let n = told .ended .number in
       let all = last-scanned t v s ends number fs L told k h true 0 (i + 1) r scans .all in
@@ -122,7 +122,7 @@ there-text (φ ∷ fs) k L i some = refl
 module _ (t v s ends : List ℕ) (number k i : ℕ) (text₀ : List ℕ) where
   -- there is no such formula, or no such position
   pub none-there : (columns-are : ℕ) → columns-are ≡ max 1 number → (columns-are ≤ k) ⊎ (total v ≤ i) →
-      (fs : List Formula) (L : Log) → Told-of t v s ends number fs L → (columns fs ≤ k) ⊎ (joint-progress fs L ≤ i)
+      (fs : List Formula) (L : Log) → Represents t v s ends number fs L → (columns fs ≤ k) ⊎ (joint-progress fs L ≤ i)
   none-there c is far fs L told =
       let n = told .ended .number in
       let size = told .shown .whole .size in
@@ -131,20 +131,20 @@ module _ (t v s ends : List ℕ) (number k i : ℕ) (text₀ : List ℕ) where
 
   -- some formula has not answered the position
   pub none-answered : i < total v → AllAnswered t v s ends number i false →
-      (fs : List Formula) (L : Log) → Told-of t v s ends number fs L → (columns fs ≤ k) ⊎ (joint-progress fs L ≤ i)
+      (fs : List Formula) (L : Log) → Represents t v s ends number fs L → (columns fs ≤ k) ⊎ (joint-progress fs L ≤ i)
   none-answered inside answered fs L told =
       let size = told .shown .whole .size in
       inr (ltb-false i (joint-progress fs L) (sym (answered fs L told (omega arith))))
 
   module _ (columns-are : ℕ) (columns-is : columns-are ≡ max 1 number) (one-of : k < columns-are) (inside : i < total v) (answered : AllAnswered t v s ends number i true) where
-    below : (fs : List Formula) (L : Log) → Told-of t v s ends number fs L → (k < columns fs) × (i < joint-progress fs L)
+    below : (fs : List Formula) (L : Log) → Represents t v s ends number fs L → (k < columns fs) × (i < joint-progress fs L)
     below fs L told =
         let n = told .ended .number in
         let size = told .shown .whole .size in
         (omega arith, ltb-true i (joint-progress fs L) (sym (answered fs L told (omega arith))))
 
     pub empty-reasoned : number ≡ 0 → (end : ℕ) (text′ : List ℕ) → Writes text₀ 0 (ascii "empty\n") end text′ →
-        (fs : List Formula) (L : Log) → Told-of t v s ends number fs L →
+        (fs : List Formula) (L : Log) → Represents t v s ends number fs L →
         (k < columns fs) × (i < joint-progress fs L) × Wrote text₀ 0 (text (reason-in fs k L i)) end text′
     empty-reasoned none end text′ writes fs L told =
         let n = told .ended .number in
@@ -152,7 +152,7 @@ module _ (t v s ends : List ℕ) (number k i : ℕ) (text₀ : List ℕ) where
         (one, two, rw (empty-text fs k L i (omega arith)) (wrote-line writes (omega arith)))
 
     pub formula-reasoned : (number ≡ 0 → ⊥) → (r : Told) (text′ : List ℕ) → Tells t v s (getD ends k 0 - 1) i text₀ 0 r text′ →
-        (fs : List Formula) (L : Log) → Told-of t v s ends number fs L →
+        (fs : List Formula) (L : Log) → Represents t v s ends number fs L →
         (k < columns fs) × (i < joint-progress fs L) × Wrote text₀ 0 (text (reason-in fs k L i)) (r .end) text′
     formula-reasoned some r text′ tells fs L told =
         let n = told .ended .number in

@@ -36,7 +36,7 @@ pub record Prepared (t v s words ends : List ℕ) (number : ℕ) : Type 0 where
   pub few-records : record-count s ≤ 1000000
 
 -- the table is that of these formulas, and the view and the records are the log
-pub record Told-of (t v s ends : List ℕ) (number : ℕ) (fs : List Formula) (L : Log) : Type 0 where
+pub record Represents (t v s ends : List ℕ) (number : ℕ) (fs : List Formula) (L : Log) : Type 0 where
   pub entries : List Entry
   pub count : ℕ
   pub ruled : Ruled entries count t
@@ -45,7 +45,7 @@ pub record Told-of (t v s ends : List ℕ) (number : ℕ) (fs : List Formula) (L
 
 -- whether position i is below A, that of all formulas
 abbrev pub AllAnswered : (t v s ends : List ℕ) (number i : ℕ) → Bool → Type 0
-AllAnswered t v s ends number i r = (fs : List Formula) (L : Log) → Told-of t v s ends number fs L → i < L .size → r ≡ ltb i (joint-progress fs L)
+AllAnswered t v s ends number i r = (fs : List Formula) (L : Log) → Represents t v s ends number fs L → i < L .size → r ≡ ltb i (joint-progress fs L)
 
 -- the reason of formula k at position i, written from the text's beginning on; or there is none
 abbrev pub Reasoned : List Formula → Log → (k i : ℕ) (text₀ : List ℕ) → Reason → List ℕ → Type 0
@@ -60,7 +60,7 @@ EndsInside text₀ Missing = Unit {0}
 -- of the formulas whose table this is
 abbrev pub Reasons : (t v s ends : List ℕ) (number k i : ℕ) (text₀ : List ℕ) → Reason → List ℕ → Type 0
 Reasons t v s ends number k i text₀ r text′ =
-    EndsInside text₀ r × ((fs : List Formula) (L : Log) → Told-of t v s ends number fs L → Reasoned fs L k i text₀ r text′)
+    EndsInside text₀ r × ((fs : List Formula) (L : Log) → Represents t v s ends number fs L → Reasoned fs L k i text₀ r text′)
 
 -- the same of a rule's entries and the records, whose times never fall
 abbrev pub ReasonsOf : (e : List Entry) (n : ℕ) (ends : List ℕ) (number : ℕ) (skips : Bool) (s : List ℕ) (k i : ℕ) (text₀ : List ℕ) → Reason → List ℕ → Type 0

@@ -19,8 +19,8 @@ use Rattle.reasons.specs.Text.{spaced-line, text}
 use Rattle.explain.specs.Explain.{explain-refusal, reason-text}
 
 -- an entry of ten bytes whose numbers are below 256
-abbrev entry : (kind letter low high : ℕ) → List ℕ
-entry kind letter low high = kind ∷ letter ∷ 0 ∷ 0 ∷ 0 ∷ low ∷ 0 ∷ 0 ∷ 0 ∷ high ∷ []
+abbrev ten-bytes : (kind letter low high : ℕ) → List ℕ
+ten-bytes kind letter low high = kind ∷ letter ∷ 0 ∷ 0 ∷ 0 ∷ low ∷ 0 ∷ 0 ∷ 0 ∷ high ∷ []
 
 abbrev rule : (version count : ℕ) → List ℕ → List ℕ
 rule version count entries = 0x4B ∷ 0x52 ∷ 0x4C ∷ 0 ∷ version ∷ count ∷ 0 ∷ 0 ∷ entries
@@ -34,7 +34,7 @@ at time letters = 0 ∷ 0 ∷ 0 ∷ time ∷ 0 ∷ 0 ∷ 0 ∷ letters ∷ []
 
 -- P1: letter 0 until 0 to 2 of letter 1, over (10, 0) (11, 0) (11, none) (12, 0) (13, 1) (20, 0): five positions are answered
 abbrev entries-1 : List ℕ
-entries-1 = entry 0 0 0 0 ++ (entry 0 1 0 0 ++ entry 6 0 0 2)
+entries-1 = ten-bytes 0 0 0 0 ++ (ten-bytes 0 1 0 0 ++ ten-bytes 6 0 0 2)
 
 abbrev rule-1 : List ℕ
 rule-1 = rule 1 3 entries-1
@@ -47,10 +47,10 @@ log-1 = log 1 records-1
 
 -- P1's until, and its not behind it; letter 0, and P1's until behind it: letter 0 alone has answered position 5
 abbrev rule-2 : List ℕ
-rule-2 = rule 2 7 (entries-1 ++ (entries-1 ++ entry 1 0 0 0))
+rule-2 = rule 2 7 (entries-1 ++ (entries-1 ++ ten-bytes 1 0 0 0))
 
 abbrev rule-3 : List ℕ
-rule-3 = rule 2 4 (entry 0 0 0 0 ++ entries-1)
+rule-3 = rule 2 4 (ten-bytes 0 0 0 0 ++ entries-1)
 
 abbrev no-entry : List ℕ
 no-entry = rule 1 0 []
@@ -68,8 +68,8 @@ abbrev serviced : List ℕ
 serviced = log 2 (at 10 1 ++ (0 ∷ 0 ∷ 0 ∷ 10 ∷ 0x80 ∷ 0 ∷ 0 ∷ 0 ∷ drop 8 records-1))
 
 -- a text buffer that holds just the text is enough, and one byte less is not
-abbrev Tells : (rule log : List ℕ) (formula position : ℕ) → String → Type 0
-Tells rule log k i told =
+abbrev TellsText : (rule log : List ℕ) (formula position : ℕ) → String → Type 0
+TellsText rule log k i told =
     (reason-text rule log k i ≡ ascii told) × (explain-refusal rule log k i (length (ascii told)) ≡ 0) ×
     (explain-refusal rule log k i (length (drop 1 (ascii told))) ≡ 27)
 
@@ -78,13 +78,13 @@ Stops rule log k i room number = explain-refusal rule log k i room ≡ number
 
 pub calls-worked :
     -- P1
-    Tells rule-1 log-1 0 0 "2 0 until 2 left\n" × Tells rule-1 log-1 0 3 "2 3 until 4\n" ×
+    TellsText rule-1 log-1 0 0 "2 0 until 2 left\n" × TellsText rule-1 log-1 0 3 "2 3 until 4\n" ×
     -- the second formula's entries are counted from the rule's first
-    Tells rule-2 log-1 1 0 "6 0 not\n5 0 until 2 left\n" ×
+    TellsText rule-2 log-1 1 0 "6 0 not\n5 0 until 2 left\n" ×
     -- positions are counted without service records
-    Tells rule-1 serviced 0 3 "2 3 until 4\n" ×
+    TellsText rule-1 serviced 0 3 "2 3 until 4\n" ×
     -- an empty rule
-    Tells no-entry log-1 0 5 "empty\n" ×
+    TellsText no-entry log-1 0 5 "empty\n" ×
     -- 27: the formula does not exist, the position is open, or there is none
     Stops rule-1 log-1 1 0 100 27 × Stops no-entry log-1 1 0 100 27 × Stops rule-1 log-1 0 5 100 27 × Stops no-entry log-1 0 6 100 27 ×
     -- the other formula has not answered position 5

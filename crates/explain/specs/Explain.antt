@@ -9,17 +9,12 @@ use Rattle.mtl.specs.Formula.{Formula}
 use Rattle.mtl.specs.Log.{Log}
 use Rattle.mtl.specs.Progress.{joint-progress}
 use Rattle.rule.specs.Refusal.{first, or-else, refusal}
-use Rattle.trace.specs.Format.{records-of, dropped, malformed}
-use Rattle.trace.specs.Order.{disordered}
+use Rattle.checks.specs.Refusal.{whole-log-refusal}
 use Rattle.emit.specs.Verdicts.{formulas-of, columns}
 use Rattle.reasons.specs.Text.{text}
 use Rattle.reasons.specs.OfRule.{log-in, reason-in, reason-of}
 use Rattle.explain.specs.declared.Explained.{Explained}
 use Rattle.explain.specs.declared.Explained.the-variants.{Written, Refused}
-
--- the checks of the log: "12, 24 for any dropped record, and 14 from the first record on"
-abbrev pub whole-log-refusal : List ℕ → ℕ
-whole-log-refusal log = first 12 (malformed log) (first 24 (ltb 0 (dropped log)) (first 14 (disordered (records-of log) 0 0) 0))
 
 -- the text of "the reason for its yes or no"
 abbrev pub reason-text : (rule log : List ℕ) (formula position : ℕ) → List ℕ
@@ -29,10 +24,11 @@ reason-text rule log k i = text (reason-of rule log k i)
 abbrev pub unexplained-in : List Formula → Log → (formula position room : ℕ) → Bool
 unexplained-in fs L k i room = leb (columns fs) k || (leb (joint-progress fs L) i || ltb room (length (text (reason-in fs k L i))))
 
+-- the same from the bytes of rule and log
 abbrev pub unexplained : (rule log : List ℕ) (formula position room : ℕ) → Bool
 unexplained rule log k i room = unexplained-in (formulas-of rule) (log-in log) k i room
 
--- "Checks are 1 to 8, 12, 24 .., and 14 ... 27 .. after these.": the first that applies, for every rule and log
+-- "Checks are 1 to 8, 12, 24 .., and 14 ..", the log being wanted whole; "27 .., after these": the first that applies, for every rule and log
 abbrev pub explain-refusal : (rule log : List ℕ) (formula position room : ℕ) → ℕ
 explain-refusal rule log k i room = or-else (refusal rule) (or-else (whole-log-refusal log) (first 27 (unexplained rule log k i room) 0))
 
@@ -51,6 +47,7 @@ module _ (rule log : List ℕ) (k i room : ℕ) where
   abbrev pub if-written : {A : Type 0} → A → A → A
   if-written x y = cond (eqb (explain-refusal rule log k i room) 0) x y
 
+  -- the length of the text, or the refusal's number
   abbrev pub the-answer : Answer
   the-answer =
       if-written (record { number = 0; length = length (reason-text rule log k i) }) (record { number = explain-refusal rule log k i room; length = 0 })
@@ -60,6 +57,7 @@ abbrev pub text-after : (rule log : List ℕ) (formula position : ℕ) (lent : L
 text-after rule log k i lent =
     if-written rule log k i (length lent) (reason-text rule log k i ++ drop (length (reason-text rule log k i)) lent) lent
 
+-- what the call promises
 pub record Explains (rule log : List ℕ) (k i : ℕ) (lent : List ℕ) (r : Explained) (lent′ : List ℕ) : Type 0 where
   pub answer : answer r ≡ the-answer rule log k i (length lent)
   pub bytes : lent′ ≡ text-after rule log k i lent

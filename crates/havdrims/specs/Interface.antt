@@ -106,6 +106,7 @@ pub record WorstLogCall (low high n : ℕ) (log : List ℕ) (w r : ℕ) (log′ 
   pub written : w′ ≡ or-kept r w (the-answer low high n (length log) .length)
   pub bytes : log′ ≡ buffer-after low high n log
 
+-- the four settings, as they are handed over one by one
 abbrev pub settings : (warm-up print-time switch-off mean-gap : ℕ) → Settings
 settings w p o g = record { warmup = w; print = p; switchoff = o; gap = g }
 

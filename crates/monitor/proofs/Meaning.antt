@@ -1,6 +1,6 @@
 -- The formulas of an accepted rule: they are its entries, at most as many as its version allows, and where each stands in the words.
 -- Assumes nothing.
-use Prim.Native.Nat.{ℕ, suc, _+_, _-_, _≤_, _<_}
+use Prim.Native.Nat.{ℕ, _+_, _-_, _≤_, _<_}
 use mathlib.Core.Bool.{Bool, true, false, cond}
 use mathlib.Core.Path.{_≡_, sym, ap, subst, _∙_}
 use mathlib.Core.List.{List}
@@ -13,7 +13,7 @@ use Rattle.mtl.specs.Formula.{Formula}
 use Rattle.rule.specs.declared.Entry.{Entry}
 use Rattle.rule.specs.declared.measuring.Ends.{Ends}
 use Rattle.rule.specs.Entries.{version, count, decoded}
-use Rattle.rule.specs.Postfix.{most-formulas, formulas, formulas-or, formula, start}
+use Rattle.rule.specs.Postfix.{most-formulas, formulas, formulas-or, formula}
 use Rattle.rule.specs.Refusal.{refusal}
 use Rattle.rule.specs.Words.{offset}
 use Rattle.rule.specs.Accepted.{WellFormed, Whole}

@@ -1,6 +1,6 @@
 -- Document 01's "Worked by hand", and cases of document 02's requests: one table, from the bytes of rules and logs to numbers, verdicts and refusals, proved by computation;
 -- the counts of no after calls of that table, what a card has to know of a checkpoint, and how many formulas a rule has.
-use Prim.Native.Nat.{ℕ, suc, _+_, _-_, _*_, _/_, _%_, _^_}
+use Prim.Native.Nat.{ℕ, suc, _+_, _-_, _/_, _%_, _^_}
 use mathlib.Core.Bool.{Bool, true, false, cond, _&&_}
 use mathlib.Core.Bool.{not as negate}
 use mathlib.Core.List.{List, [], _∷_, _++_}
@@ -11,14 +11,14 @@ use lib.ListN.{length, take, drop, replicate}
 use Rattle.mtl.specs.Formula.{has-next, reach, largest}
 use Rattle.mtl.specs.Satisfaction.{any, all, sat}
 use Rattle.mtl.specs.Progress.{run, progress, settled-to, joint-progress}
-use Rattle.mtl.specs.Wanted.{depth, deepest}
+use Rattle.mtl.specs.Wanted.{depth}
 use Rattle.rule.specs.declared.Entry.{Entry}
 use Rattle.rule.specs.Entries.{count, first-entries, entries}
 use Rattle.rule.specs.Entries.{version as version-of}
 use Rattle.rule.specs.Words.{own, offset, header-words}
 use Rattle.rule.specs.Postfix.{push-kind, read}
 use Rattle.rule.specs.Refusal.{header-refusal, entries-refusal}
-use Rattle.rule.specs.Measure.{farthest, measured}
+use Rattle.rule.specs.Measure.{measured}
 use Rattle.trace.specs.Format.{record-count, skips-of, dropped, records-of, total-records, records-from}
 use Rattle.trace.specs.Positions.{passing, spot, positions}
 use Rattle.trace.specs.Order.{last-time}
@@ -35,31 +35,31 @@ use Rattle.monitor.specs.Formulas.{formula-count}
 -- BYTES
 
 -- "Numbers wider than a byte are big-endian and unsigned": 32 bits
-abbrev word : ℕ → List ℕ
-word n = n / 16777216 ∷ n / 65536 % 256 ∷ n / 256 % 256 ∷ n % 256 ∷ []
+abbrev four-bytes : ℕ → List ℕ
+four-bytes n = n / 16777216 ∷ n / 65536 % 256 ∷ n / 256 % 256 ∷ n % 256 ∷ []
 
 -- "Each entry has 10 bytes: kind (8 bits), letter (8 bits), low (32 bits), high (32 bits)."
-abbrev entry : (kind letter low high : ℕ) → List ℕ
-entry kind letter low high = kind ∷ letter ∷ word low ++ word high
+abbrev ten-bytes : (kind letter low high : ℕ) → List ℕ
+ten-bytes kind letter low high = kind ∷ letter ∷ four-bytes low ++ four-bytes high
 
 -- the table of kinds: an entry of each, "an unused field is zero"
 abbrev letter : ℕ → List ℕ
-letter k = entry 0 k 0 0
+letter k = ten-bytes 0 k 0 0
 
 abbrev negation : List ℕ
-negation = entry 1 0 0 0
+negation = ten-bytes 1 0 0 0
 
 abbrev previous : (low high : ℕ) → List ℕ
-previous low high = entry 3 0 low high
+previous low high = ten-bytes 3 0 low high
 
 abbrev next : (low high : ℕ) → List ℕ
-next low high = entry 4 0 low high
+next low high = ten-bytes 4 0 low high
 
 abbrev since : (low high : ℕ) → List ℕ
-since low high = entry 5 0 low high
+since low high = ten-bytes 5 0 low high
 
 abbrev until : (low high : ℕ) → List ℕ
-until low high = entry 6 0 low high
+until low high = ten-bytes 6 0 low high
 
 -- "High 4,294,967,295 means no upper end"
 abbrev no-end : ℕ
@@ -75,7 +75,7 @@ event-set [] = 0
 event-set (k ∷ ks) = 2 ^ k + event-set ks
 
 abbrev at : (time : ℕ) → List ℕ → List ℕ
-at time letters = word time ++ word (event-set letters)
+at time letters = four-bytes time ++ four-bytes (event-set letters)
 
 -- "A log opens with KLG (4B 4C 47), a 16-bit version, 1, and three zero bytes."
 abbrev log-of-version : (version : ℕ) → List ℕ → List ℕ
@@ -86,7 +86,7 @@ log records = log-of-version 1 records
 
 -- "a version 3 log ..: the header, a 64-bit count of records dropped, then the records"
 abbrev log-3 : (dropped : ℕ) → List ℕ → List ℕ
-log-3 dropped records = log-of-version 3 (word 0 ++ word dropped ++ records)
+log-3 dropped records = log-of-version 3 (four-bytes 0 ++ four-bytes dropped ++ records)
 
 -- "From log version 2, a record with letter 31 is a service record"
 abbrev log-2 : List ℕ → List ℕ
@@ -228,8 +228,8 @@ stopped r number =
     }
 
 -- a rule that is refused with this number
-abbrev refused : (rule : List ℕ) (number : ℕ) → Row
-refused rule number =
+abbrev refused-rule : (rule : List ℕ) (number : ℕ) → Row
+refused-rule rule number =
     record {
       rule = rule;
       untouched = log [];
@@ -502,25 +502,25 @@ rows =
     ∷ on-fresh rule-1 (log []) 70 2 0 []
     -- 11 and 12: P10 Two untils over three letters, highs 3,600 and 446: 8,192 words; with 447: refusal 8.
     ∷ on-fresh (rule-10 446) (log []) 8192 4046 0 []
-    ∷ refused (rule-10 447) 8
+    ∷ refused-rule (rule-10 447) 8
     -- 13 to 15: High 3,600 passes, 3,601 is refusal 6; two errors, by request 8 version 3 and a wrong length, give 2.
     ∷ on-fresh (rule 1 3 (letter 0 ++ letter 1 ++ until 0 3600)) (log []) 7266 3600 0 []
-    ∷ refused (rule 1 3 (letter 0 ++ letter 1 ++ until 0 3601)) 6
-    ∷ refused (rule 3 1 []) 2
+    ∷ refused-rule (rule 1 3 (letter 0 ++ letter 1 ++ until 0 3601)) 6
+    ∷ refused-rule (rule 3 1 []) 2
     -- 16 to 18: request 6: next, 1 to no end, of letter 0, over gaps 0, 1, 3,601 and 4,294,967,295 to records with letter 0; an
     -- until without upper end is refused
     ∷ on-fresh (rule 1 2 (letter 0 ++ next 1 no-end))
     (log (at 0 [] ++ at 0 (0 ∷ []) ++ at 1 (0 ∷ []) ++ at 3602 (0 ∷ [])))
     48 no-end 3 (no ∷ yes ∷ yes ∷ [])
     ∷ on-fresh (rule 1 2 (letter 0 ++ next 1 no-end)) (log (at 0 [] ++ at 4_294_967_295 (0 ∷ []))) 48 no-end 1 (yes ∷ [])
-    ∷ refused (rule 1 3 (letter 0 ++ letter 1 ++ until 0 no-end)) 6
+    ∷ refused-rule (rule 1 3 (letter 0 ++ letter 1 ++ until 0 no-end)) 6
     -- 19: request 3: an empty rule over no record: 16 words, reach 0
     ∷ on-fresh (rule 1 0 []) (log []) 16 0 0 []
     -- 20 and 21: over three records with a sheet of two bytes, yes, yes, more; then, with those two overwritten, yes, caught up
     ∷ call-20
     ∷ after call-20 2 (log records-20) (log (replicate 16 255 ++ at 7 [])) 3 (yes ∷ [])
     -- 22: a count of 0 with a length of 18 is refusal 4
-    ∷ refused (rule 1 0 (letter 0)) 4
+    ∷ refused-rule (rule 1 0 (letter 0)) 4
     -- 23 and 24: request 2: previous 0 to 9 of P1's until over (10, 0) (12, 0): the until is open, previous says no at 0; with (12, 1)
     -- (12, 0) added the until is open at 3 alone: yes, yes, yes
     ∷ call-23
@@ -540,12 +540,12 @@ rows =
     -- 32: eight formulas over three records
     ∷ on-fresh (rule 2 8 letters) (log (at 5 (0 ∷ 1 ∷ 4 ∷ 7 ∷ []) ++ at 5 [] ++ at 6 (0 ∷ 1 ∷ 2 ∷ 3 ∷ 4 ∷ 5 ∷ 6 ∷ 7 ∷ []))) 152 0 3 (147 ∷ 0 ∷ 255 ∷ [])
     -- 33 to 35: nine formulas, and none, are refusal 7; a version 2 with a wrong length is 4
-    ∷ refused (rule 2 9 (letters ++ letter 8)) 7
-    ∷ refused (rule 2 0 []) 7
-    ∷ refused (rule 2 1 []) 4
+    ∷ refused-rule (rule 2 9 (letters ++ letter 8)) 7
+    ∷ refused-rule (rule 2 0 []) 7
+    ∷ refused-rule (rule 2 1 []) 4
     -- 36 and 37: 8,192 words with the 24, and one more
     ∷ on-fresh (rule-36 869) (log []) 8192 3600 0 []
-    ∷ refused (rule-36 870) 8
+    ∷ refused-rule (rule-36 870) 8
     -- 38 to 40: letter 0 between two of P4's rules: "paper 2's k, are the largest over the formulas", so that record 2 is still wanted, as
     -- in 25 and 26
     ∷ call-38
@@ -801,8 +801,8 @@ every-summary = ((refl, refl), ((refl, refl), ((refl, refl), ((refl, refl), ((re
 -- WHAT A CARD HAS TO KNOW
 
 -- the checkpoint's own words, of version 1, with the count of no and one more than the position of the latest
-abbrev own-words : (d n entries closed-with kind wanted count after : ℕ) → List ℕ
-own-words d n entries closed-with kind wanted count after =
+abbrev words-of-version-1 : (d n entries closed-with kind wanted count after : ℕ) → List ℕ
+words-of-version-1 d n entries closed-with kind wanted count after =
     first-words d n 0 1 entries closed-with kind wanted ++ (count ∷ after ∷ replicate 6 0)
 
 -- P1's rule and P4's, without a no where none is named
@@ -810,13 +810,13 @@ abbrev blocks-1 : List ℕ
 blocks-1 = block 0 0 ++ block 1 0 ++ block 1536 2 ++ replicate 6 0
 
 abbrev point-1-with : (d n closed-with kind wanted count after : ℕ) → List ℕ
-point-1-with d n closed-with kind wanted count after = own-words d n 3 closed-with kind wanted count after ++ blocks-1
+point-1-with d n closed-with kind wanted count after = words-of-version-1 d n 3 closed-with kind wanted count after ++ blocks-1
 
 abbrev point-1 : (d n closed-with kind wanted : ℕ) → List ℕ
 point-1 d n closed-with kind wanted = point-1-with d n closed-with kind wanted 0 0
 
 abbrev point-4 : (d n kind wanted : ℕ) → List ℕ
-point-4 d n kind wanted = own-words d n 2 0 kind wanted 0 0 ++ block 0 0 ++ block 768 0
+point-4 d n kind wanted = words-of-version-1 d n 2 0 kind wanted 0 0 ++ block 0 0 ++ block 768 0
 
 -- P1's until and its not, with the count of each formula and one more than the position of the latest of each
 abbrev point-28 : (d n kind wanted count after count′ after′ : ℕ) → List ℕ
@@ -887,10 +887,10 @@ two-told = (refl, refl, refl, refl)
 
 -- HOW MANY FORMULAS
 
-abbrev Has : List ℕ → (number formulas : ℕ) → Type 0
-Has rule number formulas = formula-count rule ≡ record { number = number; formulas = formulas }
+abbrev CountsAs : List ℕ → (number formulas : ℕ) → Type 0
+CountsAs rule number formulas = formula-count rule ≡ record { number = number; formulas = formulas }
 
 -- one of version 1, the empty rule included; two; eight; and nine are refusal 7
-pub formulas-counted : Has rule-1 0 1 × Has (rule 1 0 []) 0 1 × Has rule-28 0 2 × Has (rule 2 8 letters) 0 8 × Has (rule 2 9 (letters ++ letter 8)) 7 0
+pub formulas-counted : CountsAs rule-1 0 1 × CountsAs (rule 1 0 []) 0 1 × CountsAs rule-28 0 2 × CountsAs (rule 2 8 letters) 0 8 × CountsAs (rule 2 9 (letters ++ letter 8)) 7 0
 unfolding first-entries offset push-kind read header-refusal entries-refusal any
 formulas-counted = (refl, refl, refl, refl, refl)

@@ -39,6 +39,7 @@ Opening false rule p p′ =
     ((L : Log) → L .size ≡ 0 → L .closed ≡ false → Stands rule L 0 0 p′)
 Opening true rule p p′ = p′ ≡ p
 
+-- what the call promises
 pub record Opens (rule p : List ℕ) (a : Answer) (p′ : List ℕ) : Type 0 where
   pub outcome : a ≡ opened rule (length p)
   pub length : length p′ ≡ length p

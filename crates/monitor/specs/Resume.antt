@@ -90,11 +90,13 @@ pub record AcceptedCall (closing : Bool) (rule log p sheet : List ℕ) (c : ℕ)
       Agrees (view-of (first-wanted p) (wanted (formulas-of rule) d) (skips-of log) closing (wanted-records log p)) (wanted-records log p) L (wanted (formulas-of rule) d) →
       Gives rule L (total-records log) d sheet c more p′ sheet′
 
+-- an accepted call, or a refused one
 abbrev pub Resuming : (refused closing : Bool) (rule log p sheet : List ℕ) (c : ℕ) (more : Bool) (p′ sheet′ : List ℕ) → Type 0
 Resuming false closing rule log p sheet c more p′ sheet′ = AcceptedCall closing rule log p sheet c more p′ sheet′
 -- "rule, log, point and sheet keep their bytes"
 Resuming true closing rule log p sheet c more p′ sheet′ = (p′ ≡ p) × (sheet′ ≡ sheet)
 
+-- what both calls promise
 pub record Resumes (closing : Bool) (rule log p sheet : List ℕ) (a : Answer) (p′ sheet′ : List ℕ) : Type 0 where
   pub outcome : a ≡ result-or-refusal (resume-refusal closing rule log p) (a .count) (a .more)
   pub point-length : length p′ ≡ length p

@@ -18,6 +18,7 @@ use Rattle.monitor.specs.declared.Latest.the-variants.{At, Never}
 use Rattle.monitor.specs.declared.Summarized.{Summarized}
 use Rattle.monitor.specs.declared.Summarized.the-variants.{Counted, Refused}
 
+-- the latest no, as the code answers it
 abbrev pub position : Latest → Option ℕ
 position (At i) = some i
 position Never = none
@@ -31,6 +32,7 @@ position-or (some i) other = i
 abbrev pub no-position : ℕ
 no-position = 2 ^ 64 - 1
 
+-- the counts of n formulas, and the words of their latest no
 abbrev pub counts-of : (noes : ℕ → Noes) (n : ℕ) → List ℕ
 counts-of noes n = listed (λ k. noes k .count) n
 
@@ -63,6 +65,7 @@ answer (Refused n) = refused-with n
 abbrev pub summarized : (rule p : List ℕ) → Answer
 summarized rule p = cond (eqb (summary-refusal rule p) 0) (counted (columns (formulas-of rule))) (refused-with (summary-refusal rule p))
 
+-- what the call promises
 pub record Summarizes (rule p nos latest : List ℕ) (a : Answer) (nos′ latest′ : List ℕ) : Type 0 where
   pub outcome : a ≡ summarized rule p
   pub words : TellsNoes (a .number) (a .formulas) (stored-noes (most-formulas (version rule)) p) nos latest nos′ latest′

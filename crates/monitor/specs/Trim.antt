@@ -38,6 +38,7 @@ abbrev pub trimming : (rule log p : List ℕ) (lent : ℕ) → Answer
 trimming rule log p lent =
     cond (eqb (trim-refusal rule log p lent) 0) (wrote (length (trimmed-log log p))) (refused-with (trim-refusal rule log p lent))
 
+-- what the call promises
 pub record Trims (rule log p out : List ℕ) (a : Answer) (out′ : List ℕ) : Type 0 where
   pub outcome : a ≡ trimming rule log p (length out)
   -- the buffer's other bytes are kept, and all of them by a refused call

@@ -2,14 +2,14 @@
 -- (Examples is named first so that the table of worked examples is checked before any theorem.)
 use Rattle.mtl.specs.Examples
 use Prim.Native.Nat.{ℕ, zero, suc, _-_, _≤_, _<_}
-use mathlib.Core.Bool.{Bool, true, false, cond, _&&_, _||_, and-true, true≢false, false≢true}
+use mathlib.Core.Bool.{Bool, true, false, cond, _&&_, _||_, true≢false, false≢true}
 use mathlib.Core.Bool.{not as negate}
 use mathlib.Core.Logic.{_⊎_, inl, inr, ⊎-elim, _↔_}
 use mathlib.Core.Path.{_≡_, refl, sym, _∙_, ap}
 use native.Mathlib.Nat.{eq-or-lt-of-le}
 use native.Mathlib.Omega.{arith}
 use lib.Dec.{leb, ltb, eqb}
-use borrow.Author.Tests.{leb-true, leb-false, ltb-true, ltb-false, le-leb, lt-leb, lt-ltb, le-ltb, eqb-true, eq-eqb, not-true}
+use borrow.Author.Tests.{leb-true, leb-false, ltb-false, le-leb, lt-leb, le-ltb, eqb-true, eq-eqb, not-true}
 use Rattle.mtl.specs.Formula.{unbounded}
 use Rattle.mtl.specs.Satisfaction.{any, all, at-most, within, held-after, held-from, since-by, until-by, since-at, until-at}
 use Rattle.mtl.specs.Progress.{fails-from, over, run}

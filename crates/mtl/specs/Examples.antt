@@ -10,7 +10,7 @@ use Rattle.mtl.specs.Formula.Formula.{letter, not, or, previous, next, s
 use Rattle.mtl.specs.Log.{Log, closing}
 use Rattle.mtl.specs.Satisfaction.{any, all, sat}
 use Rattle.mtl.specs.Progress.{run, progress, settled-to}
-use Rattle.mtl.specs.Wanted.{depth, deepest, wanted, wanted-record}
+use Rattle.mtl.specs.Wanted.{depth, wanted, wanted-record}
 
 -- "time in seconds (32 bits), event set (32 bits, letter k is the bit worth 2 to the k)", from position 0 on
 abbrev pub Records : Type 0

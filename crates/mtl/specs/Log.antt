@@ -35,6 +35,7 @@ pub record Stream : Type 0 where
 abbrev pub NeverFalls : Log → Type 0
 NeverFalls L = (i j : ℕ) → i ≤ j → j < L .size → L .time i ≤ L .time j
 
+-- the same of a stream
 abbrev pub StreamNeverFalls : Stream → Type 0
 StreamNeverFalls σ = (i j : ℕ) → i ≤ j → σ .time i ≤ σ .time j
 

@@ -28,6 +28,7 @@ module _ (low high : ℕ) (time : ℕ → ℕ) (left right : ℕ → Bool) (size
   abbrev pub settled-no : ℕ → Bool
   settled-no i = negate (settled-yes i) && (any m (fails-from left i) || any (min (suc m) size) (over high time i))
 
+  -- settled, yes or no
   abbrev pub settled : ℕ → Bool
   settled i = settled-yes i || settled-no i
 

@@ -12,7 +12,7 @@ use Rattle.mtl.specs.Progress.{fails-from, over}
 use Rattle.mtl.specs.Reading.{Within}
 use Rattle.mtl.proofs.Bounded.{true-or-false, true-and-false, false-iff, and-iff, or-iff, not-iff, le-or-lt, at-most-iff, above-iff, within-iff, since-at-iff, until-at-iff, any-iff}
 use Rattle.mtl.proofs.Until.{Ended}
-use Rattle.reasons.specs.Search.{First}
+use Rattle.reasons.specs.Search.{IsFirst}
 use Rattle.reasons.specs.Reason.{Cause, Says, since-witness, until-witness, first-near, after-failure, since-denied, denied-left, first-end, cause, until-denied}
 use Rattle.reasons.specs.Reason.Cause.{by-left, by-time}
 use Rattle.reasons.specs.Reason.Says.{since-no, until-no}
@@ -26,7 +26,7 @@ refuted b f = false-iff b .1 f
 module _ (low high : ℕ) (time : ℕ → ℕ) (left right : ℕ → Bool) (i : ℕ) where
   -- SINCE, YES: the earliest fitting j
 
-  pub since-witness-is : since-at low high time left right i ≡ true → First (suc i) (since-by low high time left right i) (since-witness low high time left right i)
+  pub since-witness-is : since-at low high time left right i ≡ true → IsFirst (suc i) (since-by low high time left right i) (since-witness low high time left right i)
   since-witness-is met =
       let (j, h, v) = any-iff (suc i) (since-by low high time left right i) .0 met in
       first-is (suc i) (since-by low high time left right i) j h v
@@ -50,7 +50,7 @@ module _ (low high : ℕ) (time : ℕ → ℕ) (left right : ℕ → Bool) (i : 
   -- and it holds
 
   module _ (unmet : since-at low high time left right i ≡ false) where
-    near-is : First (suc i) (λ (q : ℕ). at-most high (time i - time q)) (first-near high time i)
+    near-is : IsFirst (suc i) (λ (q : ℕ). at-most high (time i - time q)) (first-near high time i)
     near-is =
         first-is (suc i) (λ (q : ℕ). at-most high (time i - time q)) i (omega arith)
         (at-most-iff high (time i - time i) .1 (inl (omega arith)))
@@ -101,7 +101,7 @@ module _ (low high : ℕ) (time : ℕ → ℕ) (left right : ℕ → Bool) (i : 
 module _ (low high : ℕ) (time : ℕ → ℕ) (left right : ℕ → Bool) (size i : ℕ) where
   -- UNTIL, YES: the earliest fitting j
 
-  pub until-witness-is : until-at low high time left right size i ≡ true → First size (until-by low high time left right i) (until-witness low high time left right size i)
+  pub until-witness-is : until-at low high time left right size i ≡ true → IsFirst size (until-by low high time left right i) (until-witness low high time left right size i)
   until-witness-is met =
       let (j, h, v) = any-iff size (until-by low high time left right i) .0 met in
       first-is size (until-by low high time left right i) j h v
@@ -155,7 +155,7 @@ module _ (low high : ℕ) (time : ℕ → ℕ) (left right : ℕ → Bool) (size
               (inr (and-iff (leb i q) (negate (at-most high (time q - time i))) .1 (le-leb i q a, above-iff high (time q - time i) .1 v))),
         )
 
-    end-is : First size test end
+    end-is : IsFirst size test end
     end-is = let (q, h, b, e) = ending in first-is size test q h e
 
     end-soon : end ≤ m

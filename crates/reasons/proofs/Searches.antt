@@ -8,7 +8,7 @@ use native.Mathlib.Nat.{eq-or-lt-of-le}
 use native.Mathlib.Omega.{arith}
 use Rattle.mtl.proofs.Bounded.{true-and-false, false-iff, not-iff, run-is}
 use Rattle.mtl.specs.Progress.{run}
-use Rattle.reasons.specs.Search.{first-where, after-last, First, Last}
+use Rattle.reasons.specs.Search.{first-where, after-last, IsFirst, IsLast}
 
 unnegate-true : (b : Bool) → negate b ≡ true → b ≡ false
 unnegate-true b e = false-iff b .1 (not-iff b .0 e)
@@ -18,7 +18,7 @@ unnegate-false true e = refl
 unnegate-false false e = sym e
 
 -- where p holds somewhere below n, `first-where` is the first such position
-pub first-is : (n : ℕ) (p : ℕ → Bool) (q : ℕ) → q < n → p q ≡ true → First n p (first-where n p)
+pub first-is : (n : ℕ) (p : ℕ → Bool) (q : ℕ) → q < n → p q ≡ true → IsFirst n p (first-where n p)
 first-is n p q h e =
     let f : ℕ → Bool = λ (k : ℕ). negate (p k) in
     let r = run-is n f in
@@ -52,7 +52,7 @@ none-after (suc n) p q a h = by (p n) refl a (none-after n p q)
     by false e g ih = ⊎-elim (λ (s : q ≡ n). ap p s ∙ e) (λ (l : q < n). ih g l) (eq-or-lt-of-le {n = q} {m = n} (omega arith))
 
 -- where `after-last` is more than 0, the last such position is one less
-pub last-is : (n : ℕ) (p : ℕ → Bool) → 0 < after-last n p → Last n p (after-last n p - 1)
+pub last-is : (n : ℕ) (p : ℕ → Bool) → 0 < after-last n p → IsLast n p (after-last n p - 1)
 last-is n p h =
     let (few, holds) = last-holds n p h in
     record { inside = omega arith; holds = holds; none-behind = λ q l m. none-after n p q (omega arith) m }

@@ -195,8 +195,8 @@ abbrev texts-of : (rule log : List ℕ) (k : ℕ) → List (List ℕ)
 texts-of rule log k = up-to (joint-progress (formulas-of rule) (log-in log)) (λ i. text (reason-of rule log k i))
 
 -- P1's entries, and its log behind the header
-abbrev entries : List ℕ
-entries =
+abbrev entries-1 : List ℕ
+entries-1 =
     0 ∷ 0 ∷ 0 ∷ 0 ∷ 0 ∷ 0 ∷ 0 ∷ 0 ∷ 0 ∷ 0
     ∷ 0 ∷ 1 ∷ 0 ∷ 0 ∷ 0 ∷ 0 ∷ 0 ∷ 0 ∷ 0 ∷ 0
     ∷ 6 ∷ 0 ∷ 0 ∷ 0 ∷ 0 ∷ 0 ∷ 0 ∷ 0 ∷ 0 ∷ 2
@@ -221,7 +221,7 @@ serviced =
 
 -- P1's until, and its not behind it
 abbrev two : List ℕ
-two = 0x4B ∷ 0x52 ∷ 0x4C ∷ 0 ∷ 2 ∷ 7 ∷ 0 ∷ 0 ∷ entries ++ entries ++ (1 ∷ 0 ∷ 0 ∷ 0 ∷ 0 ∷ 0 ∷ 0 ∷ 0 ∷ 0 ∷ 0 ∷ [])
+two = 0x4B ∷ 0x52 ∷ 0x4C ∷ 0 ∷ 2 ∷ 7 ∷ 0 ∷ 0 ∷ entries-1 ++ entries-1 ++ (1 ∷ 0 ∷ 0 ∷ 0 ∷ 0 ∷ 0 ∷ 0 ∷ 0 ∷ 0 ∷ 0 ∷ [])
 
 -- "an empty rule's reason is the one line empty", at each of the log's six positions
 abbrev none : List ℕ

@@ -73,6 +73,19 @@ until-denied high time left size answered i =
     let p = first-end high time left size answered i in
     until-no p (cause (denied-left left answered i p) (over high time i p))
 
+-- what a since says, yes or no, and what an until says
+abbrev pub since-says : (low high : ℕ) (φ ψ : Formula) → Log → ℕ → Says
+since-says low high φ ψ L i =
+    cond (sat (Formula.since low high φ ψ) L i)
+    (since (since-witness low high (L .time) (sat φ L) (sat ψ L) i))
+    (since-denied high (L .time) (sat φ L) i)
+
+abbrev pub until-says : (low high : ℕ) (φ ψ : Formula) → Log → ℕ → Says
+until-says low high φ ψ L i =
+    cond (sat (Formula.until low high φ ψ) L i)
+    (until (until-witness low high (L .time) (sat φ L) (sat ψ L) (L .size) i))
+    (until-denied high (L .time) (sat φ L) (L .size) (progress φ L) i)
+
 -- "An or that is yes gives its left operand's if that is yes, else its right's; one that is no gives both, left first."
 abbrev pub either : (left right : Bool) (lefts rights : List Line) → List Line
 either true right lefts rights = lefts
@@ -100,13 +113,5 @@ reason (Formula.previous low high φ) k L i =
 reason (Formula.next low high φ) k L i =
     sentence k i (next (L .time (i + 1) - L .time i)) ∷
     if-within (within low high (L .time i) (L .time (i + 1))) (reason φ (k - 1) L (i + 1))
-reason (Formula.since low high φ ψ) k L i =
-    sentence k i
-    (cond (sat (Formula.since low high φ ψ) L i)
-    (since (since-witness low high (L .time) (sat φ L) (sat ψ L) i))
-    (since-denied high (L .time) (sat φ L) i)) ∷ []
-reason (Formula.until low high φ ψ) k L i =
-    sentence k i
-    (cond (sat (Formula.until low high φ ψ) L i)
-    (until (until-witness low high (L .time) (sat φ L) (sat ψ L) (L .size) i))
-    (until-denied high (L .time) (sat φ L) (L .size) (progress φ L) i)) ∷ []
+reason (Formula.since low high φ ψ) k L i = sentence k i (since-says low high φ ψ L i) ∷ []
+reason (Formula.until low high φ ψ) k L i = sentence k i (until-says low high φ ψ L i) ∷ []

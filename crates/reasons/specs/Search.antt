@@ -15,13 +15,13 @@ after-last zero p = 0
 after-last (suc n) p = cond (p n) (suc n) (after-last n p)
 
 -- r is the first position below n at which p holds
-pub record First (n : ℕ) (p : ℕ → Bool) (r : ℕ) : Type 0 where
+pub record IsFirst (n : ℕ) (p : ℕ → Bool) (r : ℕ) : Type 0 where
   pub inside : r < n
   pub holds : p r ≡ true
   pub none-before : (q : ℕ) → q < r → p q ≡ false
 
 -- r is the last
-pub record Last (n : ℕ) (p : ℕ → Bool) (r : ℕ) : Type 0 where
+pub record IsLast (n : ℕ) (p : ℕ → Bool) (r : ℕ) : Type 0 where
   pub inside : r < n
   pub holds : p r ≡ true
   pub none-behind : (q : ℕ) → r < q → q < n → p q ≡ false

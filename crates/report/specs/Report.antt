@@ -5,9 +5,9 @@ use mathlib.Core.List.{List, [], _++_}
 use lib.ListN.{length, getD}
 use lib.Dec.{ltb, eqb}
 use Rattle.bits.specs.Packed.{bit}
-use Rattle.rule.specs.Refusal.{first, or-else, refusal}
-use Rattle.trace.specs.Format.{record-count, dropped, records-of, malformed}
-use Rattle.trace.specs.Order.{disordered}
+use Rattle.rule.specs.Refusal.{or-else, refusal}
+use Rattle.trace.specs.Format.{record-count, records-of}
+use Rattle.checks.specs.Refusal.{whole-log-refusal}
 use Rattle.decimal.specs.Text.{ascii, decimal, verdict-word}
 use Rattle.emit.specs.Verdicts.{formulas-of, columns, all-verdicts}
 
@@ -33,13 +33,14 @@ unfoldable pub lines : (columns : ℕ) (verdicts : List ℕ) → ℕ → List �
 lines columns verdicts zero = []
 lines columns verdicts (suc n) = lines columns verdicts n ++ line n columns (getD verdicts n 0)
 
+-- the first line, and a line for each verdict
 abbrev pub verdicts-text : (records columns : ℕ) (verdicts : List ℕ) → List ℕ
 verdicts-text records columns verdicts = first-line (length verdicts) records ++ lines columns verdicts (length verdicts)
 
 -- "opens, carries on": the first refusal that applies. The checkpoint is fresh, with nothing given, seen or noted, and has room for
 -- every rule that passes 8. So 9, 10, 11, 13, 20 and 22 are never met, and 24 is for any dropped record
 abbrev pub run-refusal : (rule log : List ℕ) → ℕ
-run-refusal rule log = or-else (refusal rule) (first 12 (malformed log) (first 24 (ltb 0 (dropped log)) (first 14 (disordered (records-of log) 0 0) 0)))
+run-refusal rule log = or-else (refusal rule) (whole-log-refusal log)
 
 -- "a file above 65,536 bytes prints `too long` before all else"
 abbrev pub too-long : (rule log : List ℕ) → Bool
@@ -52,5 +53,6 @@ run-text rule log =
     (verdicts-text (record-count (records-of log)) (columns (formulas-of rule)) (all-verdicts false rule log (record-count (records-of log))))
     (refused-text (run-refusal rule log))
 
+-- what is printed, all of it
 abbrev pub report : (rule log : List ℕ) → List ℕ
 report rule log = cond (too-long rule log) (ascii "too long\n") (run-text rule log)

@@ -11,7 +11,7 @@ use Rattle.rule.specs.Words.{offset}
 use Rattle.rule.specs.Postfix.{push-kind, read, postfix, postfixes}
 use Rattle.rule.specs.Encoding.{body, encoded, rule-of}
 use Rattle.rule.specs.Refusal.{header-refusal, entries-refusal}
-use Rattle.rule.specs.Measure.{farthest, measured}
+use Rattle.rule.specs.Measure.{measured}
 
 -- the rule with nothing in it
 abbrev no-entry : List ℕ

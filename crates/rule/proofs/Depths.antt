@@ -2,13 +2,13 @@
 use Prim.Native.Nat.{ℕ, zero, suc, _≤_, max}
 use native.Mathlib.Omega.{arith}
 use mathlib.Core.Path.{_≡_, refl, sym, ap, _∙_}
-use mathlib.Core.Bool.{Bool, true, false, true≢false}
+use mathlib.Core.Bool.{true, false, true≢false}
 use mathlib.Core.List.{List, [], _∷_, reverse}
 use mathlib.Core.Option.{Option, none, some}
 use lib.Dec.{eqb}
 use lib.ListN.{length}
 use Rattle.mtl.specs.Formula.{Formula, largest}
-use Rattle.mtl.specs.Formula.Formula.{letter, not, or, next, since, until}
+use Rattle.mtl.specs.Formula.Formula.{not, or, next, since, until}
 use Rattle.mtl.specs.Satisfaction.{any}
 use Rattle.mtl.specs.Wanted.{depth, deepest}
 use Rattle.mtl.proofs.Bounded.{any-false-iff}

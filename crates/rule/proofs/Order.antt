@@ -10,12 +10,11 @@ use mathlib.Core.List.{List, [], _∷_, _++_, reverse, reverse-cons}
 use mathlib.Core.Option.{some}
 use lib.ListN.{length, drop, length-reverse, List·getD-append}
 use lib.Seq.{getD-at}
-use Rattle.mtl.specs.Formula.{Formula, reach, largest}
+use Rattle.mtl.specs.Formula.{Formula, largest}
 use Rattle.mtl.specs.Formula.{has-next}
 use Rattle.mtl.specs.Formula.Formula.{letter, not, or, previous, next, since, until}
 use Rattle.rule.specs.declared.Entry.{Entry}
 use Rattle.rule.specs.declared.measuring.Quantity.{Quantity}
-use Rattle.rule.specs.declared.measuring.Quantity.the-variants.{Reach}
 use Rattle.rule.specs.Entries.{entry}
 use Rattle.rule.specs.Postfix.{unary, binary, push-kind, stack-after, size, formula, start}
 use Rattle.rule.specs.Operands.{span, FormulaAt}

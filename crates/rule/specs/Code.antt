@@ -17,7 +17,6 @@ use Rattle.rule.specs.declared.measuring.Quantity.{Quantity}
 use Rattle.rule.specs.declared.measuring.Quantity.the-variants.{Reach, Depth}
 use Rattle.rule.specs.Entries.{entry}
 use Rattle.rule.specs.Words.{own, offset}
-use Rattle.rule.specs.Postfix.{formulas}
 use Rattle.rule.specs.Refusal.{misshapen, misplaced, misshapen-at, misplaced-at}
 
 -- the list does not begin with the mark
@@ -38,6 +37,7 @@ added-by Depth e = cond (eqb (e .kind) 3) 1 0
 abbrev pub joined-by : Quantity → Entry → ℕ → ℕ → ℕ
 joined-by of e left right = cond (eqb (e .kind) 0) 0 (added-by of e + max left right)
 
+-- entry k is a next, and entry k is a previous
 abbrev pub is-next : List Entry → ℕ → Bool
 is-next t k = eqb (entry t k .kind) 4
 

@@ -14,6 +14,7 @@ number-bytes n = n / 16777216 ∷ n / 65536 % 256 ∷ n / 256 % 256 ∷ n % 256 
 abbrev pub entry-bytes : Entry → List ℕ
 entry-bytes e = e .kind ∷ e .letter ∷ number-bytes (e .low) ++ number-bytes (e .high)
 
+-- the entries' bytes, one entry behind the other
 unfoldable pub body : List Entry → List ℕ
 body [] = []
 body (e ∷ es) = entry-bytes e ++ body es

@@ -18,6 +18,7 @@ abbrev pub entry-of : List ℕ → ℕ → Entry
 entry-of s k =
     record { kind = byte s (8 + k * 10); letter = byte s (8 + k * 10 + 1); low = word32 s (8 + k * 10 + 2); high = word32 s (8 + k * 10 + 6) }
 
+-- the first n entries
 unfoldable pub first-entries : List ℕ → ℕ → List Entry
 first-entries s zero = []
 first-entries s (suc n) = first-entries s n ++ (entry-of s n ∷ [])
@@ -26,6 +27,7 @@ first-entries s (suc n) = first-entries s n ++ (entry-of s n ∷ [])
 abbrev pub decoded : List ℕ → List Entry
 decoded s = first-entries s 128
 
+-- an entry whose fields are all 0
 abbrev pub blank : Entry
 blank = record { kind = 0; letter = 0; low = 0; high = 0 }
 

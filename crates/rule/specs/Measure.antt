@@ -1,5 +1,5 @@
 -- What the call `measure` (document 01's weigh) answers.
-use Prim.Native.Nat.{ℕ, max}
+use Prim.Native.Nat.{ℕ}
 use mathlib.Core.Bool.{Bool, false, cond, _||_}
 use mathlib.Core.List.{List, [], _∷_}
 use mathlib.Core.Option.{Option, none, some}
@@ -48,5 +48,6 @@ abbrev pub answer-by : (number version : ℕ) → List Entry → ℕ → Answer
 answer-by number version t n =
     cond (eqb number 0) (record { number = 0; words = words version t n; reach = reach-of (formulas version t n) }) (refused number)
 
+-- what weighing answers of the bytes of a rule
 abbrev pub measured : List ℕ → Answer
 measured s = answer-by (refusal s) (version s) (decoded s) (count s)

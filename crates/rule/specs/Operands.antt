@@ -20,6 +20,7 @@ next-span zero before n = 1
 next-span (suc zero) before n = 1 + getD before (n - 1) 0
 next-span (suc (suc more)) before n = 1 + getD before (n - 1) 0 + getD before (n - 1 - getD before (n - 1) 0) 0
 
+-- the spans of the first n entries
 unfoldable pub spans : List Entry → ℕ → List ℕ
 spans t zero = []
 spans t (suc n) = spans t n ++ (next-span (operands (entry t n .kind)) (spans t n) n ∷ [])

@@ -31,6 +31,7 @@ push-kind (suc (suc (suc (suc (suc zero))))) e stack = binary (since (e .low) (e
 push-kind (suc (suc (suc (suc (suc (suc zero)))))) e stack = binary (until (e .low) (e .high)) stack
 push-kind (suc (suc (suc (suc (suc (suc (suc above))))))) e stack = none
 
+-- the stack after one entry more
 abbrev pub push : Entry → Option (List Formula) → Option (List Formula)
 push e none = none
 push e (some stack) = push-kind (e .kind) e stack

@@ -46,6 +46,7 @@ misplaced e =
     || (ltb 3600 (e .high) && not (eqb (e .high) unbounded))
     || (eqb (e .high) unbounded && eqb (e .kind) 6)
 
+-- refusals 5 and 6 of entry k
 abbrev pub misshapen-at : List Entry → ℕ → Bool
 misshapen-at t k = misshapen (entry t k)
 

@@ -15,6 +15,7 @@ ring-words high = cond (eqb high unbounded) 1 (high + 1)
 abbrev pub own-words : (kind high : ℕ) → ℕ
 own-words kind high = cond (eqb kind 5) (16 + ring-words high) (cond (eqb kind 6) (16 + 2 * (high + 1)) 16)
 
+-- those of an entry
 abbrev pub own : Entry → ℕ
 own e = own-words (e .kind) (e .high)
 

@@ -8,7 +8,7 @@ use lib.Dec.{eqb}
 use Rattle.mtl.specs.Formula.{Formula}
 use Rattle.mtl.specs.Log.{Log, NeverFalls}
 use Rattle.mtl.specs.Satisfaction.{within, sat}
-use Rattle.mtl.specs.Progress.{progress, settled-to}
+use Rattle.mtl.specs.Progress.{settled-to}
 use Rattle.bits.specs.Packed.{number}
 use Rattle.rule.specs.declared.Entry.{Entry}
 use Rattle.rule.specs.Operands.{FormulaAt}
@@ -19,8 +19,8 @@ use Rattle.blocks.specs.Kinds.{takes-right}
 use Rattle.blocks.specs.Step.{Agrees}
 use Rattle.engine.specs.Table.{RowsOk, column}
 use Rattle.engine.specs.Layout.{Laid}
-use Rattle.reasons.specs.Reason.{Says, since-witness, until-witness, since-denied, until-denied}
-use Rattle.reasons.specs.Reason.Says.{stands, not, or, prev, next, prev-none, since, until}
+use Rattle.reasons.specs.Reason.{Says, since-says, until-says}
+use Rattle.reasons.specs.Reason.Says.{stands, not, or, prev, next, prev-none}
 use Rattle.search.specs.Times.{WholeLog}
 use Rattle.sentences.specs.declared.saying.Saying.{Saying}
 use Rattle.sentences.specs.Line.{encode}
@@ -34,19 +34,6 @@ beside says is-within at = record { says = encode says; operands = number is-wit
 -- since and until: nothing follows
 abbrev pub alone : Says → Bool → Saying
 alone says holds = record { says = encode says; operands = 0; at = 0; holds = holds }
-
--- a since's line, yes or no, and an until's
-abbrev pub since-says : (low high : ℕ) (φ ψ : Formula) → Log → ℕ → Says
-since-says low high φ ψ L i =
-    cond (sat (Formula.since low high φ ψ) L i)
-    (since (since-witness low high (L .time) (sat φ L) (sat ψ L) i))
-    (since-denied high (L .time) (sat φ L) i)
-
-abbrev pub until-says : (low high : ℕ) (φ ψ : Formula) → Log → ℕ → Says
-until-says low high φ ψ L i =
-    cond (sat (Formula.until low high φ ψ) L i)
-    (until (until-witness low high (L .time) (sat φ L) (sat ψ L) (L .size) i))
-    (until-denied high (L .time) (sat φ L) (L .size) (progress φ L) i)
 
 -- the same by the numbers that the code has
 abbrev pub joining : (kind i : ℕ) → Saying

@@ -46,8 +46,8 @@ follows s seed t (r ∷ rs) =
 abbrev small : Settings
 small = record { warmup = 1; print = 2; switchoff = 1; gap = 3 }
 
-abbrev pub run : List Second
-run =
+abbrev pub nine-seconds : List Second
+nine-seconds =
     -- 0: a customer joins, and warming begins
     second 4 0 0 1
     -- 1: warming ends, and a print begins
@@ -71,7 +71,7 @@ run =
 abbrev pub one-customer : List Second
 one-customer = second 4 0 0 1 ∷ second 3 0 1 0 ∷ second 1 0 1 0 ∷ second 9 1 0 0 ∷ second 0 1 0 0 ∷ []
 
-pub run-computes : (wrong 0 (follows small 6 0 run) ≡ []) × (wrong 0 (follows small 13 0 one-customer) ≡ [])
+pub run-computes : (wrong 0 (follows small 6 0 nine-seconds) ≡ []) × (wrong 0 (follows small 13 0 one-customer) ≡ [])
 unfolding wrong follows run-after second-of end-print join end-warming switch-off begin-print begin-warming events-of xor
 run-computes = (refl, refl)
 

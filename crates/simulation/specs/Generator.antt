@@ -13,6 +13,7 @@ shift-left x by = xor 32 x (x * 2 ^ by % 2 ^ 32)
 abbrev pub shift-right : (x by : ℕ) → ℕ
 shift-right x by = xor 32 x (x / 2 ^ by)
 
+-- "shifts 13 left, 17 right, 5 left"
 abbrev pub xorshift : ℕ → ℕ
 xorshift x = shift-left (shift-right (shift-left x 13) 17) 5
 

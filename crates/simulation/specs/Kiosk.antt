@@ -49,6 +49,7 @@ since-of (Printing since) = since
 abbrev pub is-due : (time now : ℕ) → Head → Bool
 is-due time now head = leb (since-of head + time) now
 
+-- the kiosk with another head
 abbrev pub with-head : Kiosk → Head → Kiosk
 with-head k head = record {
   head = head;
@@ -133,17 +134,18 @@ unfoldable pub events-of : Kiosk → ℕ
 events-of k = letter (is-warm (k .head)) 1 + letter (k .began) 2 + letter (k .joined) 4 + letter (k .ended) 8
 
 -- a simulation on its way: the generator's state, and the kiosk
-pub record Run : Type 0 where
+pub record SoFar : Type 0 where
   pub state : ℕ
   pub kiosk : Kiosk
 
 -- after n seconds, from time 0; "each draw moves the generator on by one step and is its new state"
-unfoldable pub run-after : Settings → (seed n : ℕ) → Run
+unfoldable pub run-after : Settings → (seed n : ℕ) → SoFar
 run-after s seed zero = record { state = seed; kiosk = started }
 run-after s seed (suc n) =
     let before = run-after s seed n in
     let draw = xorshift (before .state) in
     record { state = draw; kiosk = second-of s n draw (before .kiosk) }
 
+-- the kiosk alone
 abbrev pub kiosk-after : Settings → (seed n : ℕ) → Kiosk
 kiosk-after s seed n = run-after s seed n .kiosk

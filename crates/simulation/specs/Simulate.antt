@@ -1,5 +1,5 @@
 -- What `simulate` promises: the log that it writes, the numbers that it gives, and refusal 26.
-use Prim.Native.Nat.{ℕ, suc, _+_, _*_}
+use Prim.Native.Nat.{ℕ, suc, _+_}
 use mathlib.Core.Bool.{Bool, true, false, cond, _||_}
 use mathlib.Core.List.{List, _++_}
 use mathlib.Core.Path.{_≡_}
@@ -12,6 +12,7 @@ use Rattle.simulation.specs.declared.Settings.{Settings}
 use Rattle.simulation.specs.declared.Simulated.{Simulated}
 use Rattle.simulation.specs.declared.Simulated.the-variants.{Refused, Done}
 
+-- x lies outside low to high
 abbrev pub outside : (low high x : ℕ) → Bool
 outside low high x = ltb x low || ltb high x
 
@@ -65,6 +66,7 @@ simulation-answer s seconds seed =
       waiting = k .waiting;
     }
 
+-- what the call answers
 abbrev pub simulated : Settings → (seconds seed room : ℕ) → Answer
 simulated s seconds seed room =
     cond (out-of-range s seconds seed room)
@@ -76,6 +78,7 @@ abbrev pub log-after : Settings → (seconds seed : ℕ) → List ℕ → List �
 log-after s seconds seed log =
     cond (out-of-range s seconds seed (length log)) log (simulated-log s seed seconds ++ drop (log-length seconds) log)
 
+-- what the call promises
 pub record Simulates (s : Settings) (seconds seed : ℕ) (log : List ℕ) (r : Simulated) (log′ : List ℕ) : Type 0 where
   pub outcome : answer r ≡ simulated s seconds seed (length log)
   pub bytes : log′ ≡ log-after s seconds seed log

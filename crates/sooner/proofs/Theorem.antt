@@ -1,5 +1,5 @@
 -- Paper 14: an open position of one next or until over letters is settled yes by one record, and no by another. Assumes nothing.
-use Prim.Native.Nat.{ℕ, suc, _+_, _-_, _≤_, _<_, max}
+use Prim.Native.Nat.{ℕ, _+_, _-_, _≤_, _<_, max}
 use mathlib.Core.Bool.{Bool, true, false}
 use mathlib.Core.Logic.{_⊎_, inl, inr, ⊎-elim}
 use mathlib.Core.Path.{_≡_, refl, sym, _∙_, ap}
@@ -14,7 +14,7 @@ use Rattle.mtl.specs.Progress.{progress}
 use Rattle.mtl.specs.Reading.{AtMost, Within}
 use Rattle.mtl.proofs.Bounded.{true-or-false, true-and-false, le-or-lt, within-iff, at-most-or-above, UntilBy}
 use Rattle.mtl.proofs.Until.{answered-operands, UntilSettledYes, UntilSettledNo, Ended, until-answered, until-settled-iff, ended-settled, until-yes, until-no}
-use Rattle.sooner.specs.Sooner.{OneTimed, timed-low, timed-high, timed-letter, Interval, latest, last-of, settling-time, Adds, Told, BothWays}
+use Rattle.sooner.specs.Sooner.{OneTimed, timed-low, timed-high, timed-letter, Interval, latest, last-of, settling-time, Adds, SettledAs, BothWays}
 use Rattle.sooner.specs.Sooner.OneTimed.{one-next, one-until}
 
 -- a position more, not before the last: the times do not fall
@@ -51,7 +51,7 @@ module _ (low high k : ℕ) (iv : Interval low high) (L : Log) (falls : NeverFal
   unfolding progress
   at-end = omega arith
 
-  next-told : (b : Bool) (K : Log) → Adds L (max (last-of L) (L .time i + low)) k b K → Told (next low high (letter k)) K i b
+  next-told : (b : Bool) (K : Log) → Adds L (max (last-of L) (L .time i + low)) k b K → SettledAs (next low high (letter k)) K i b
   unfolding progress sat
   next-told b K adds =
       let end = at-end in
@@ -148,7 +148,7 @@ module _ (low high k l : ℕ) (iv : Interval low high) (L : Log) (falls : NeverF
   -- a position that is settled is told as it is settled
   told : (b : Bool) (K : Log) → Adds L t l b K →
       UntilSettledYes low high (letter k) (letter l) K i ⊎ UntilSettledNo low high (letter k) (letter l) K i →
-      (NeverFalls K → i < answered-operands (letter k) (letter l) K → sat (until low high (letter k) (letter l)) K i ≡ b) → Told (until low high (letter k) (letter l)) K i b
+      (NeverFalls K → i < answered-operands (letter k) (letter l) K → sat (until low high (letter k) (letter l)) K i ≡ b) → SettledAs (until low high (letter k) (letter l)) K i b
   told b K adds settled says =
       let m = all-answered K in
       let size = adds .size in
@@ -167,7 +167,7 @@ module _ (low high k l : ℕ) (iv : Interval low high) (L : Log) (falls : NeverF
       (omega arith, in-time true K adds, new-right true K adds, old-left true K adds),
     )
 
-    told-yes : Told (until low high (letter k) (letter l)) K i true
+    told-yes : SettledAs (until low high (letter k) (letter l)) K i true
     told-yes = told true K adds (inl met) (λ grow h. until-yes low high (letter k) (letter l) K grow i h met)
 
   module _ (K : Log) (adds : Adds L t l false K) where
@@ -187,10 +187,10 @@ module _ (low high k l : ℕ) (iv : Interval low high) (L : Log) (falls : NeverF
     ended-no : UntilSettledNo low high (letter k) (letter l) K i
     ended-no = (unmet-after, inl (L .size, omega arith, omega (arith, all-answered K, adds .size), left-fails))
 
-    told-no : Told (until low high (letter k) (letter l)) K i false
+    told-no : SettledAs (until low high (letter k) (letter l)) K i false
     told-no = told false K adds (inr ended-no) (λ grow h. until-no low high (letter k) (letter l) K grow i h ended-no)
 
-  until-told : (b : Bool) (K : Log) → Adds L t l b K → Told (until low high (letter k) (letter l)) K i b
+  until-told : (b : Bool) (K : Log) → Adds L t l b K → SettledAs (until low high (letter k) (letter l)) K i b
   until-told true K adds = told-yes K adds
   until-told false K adds = told-no K adds
 
@@ -205,6 +205,6 @@ both-ways one iv L falls last i h open′ =
     }
   where
     told : {φ : Formula} (one : OneTimed φ) → Interval (timed-low one) (timed-high one) → progress φ L ≤ i →
-        (b : Bool) (K : Log) → Adds L (settling-time one L i) (timed-letter one) b K → Told φ K i b
+        (b : Bool) (K : Log) → Adds L (settling-time one L i) (timed-letter one) b K → SettledAs φ K i b
     told (one-next {low} {high} {k}) iv o = next-told low high k iv L falls i h o
     told (one-until {low} {high} {k} {l}) iv o = until-told low high k l iv L falls i h o

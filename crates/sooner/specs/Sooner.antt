@@ -67,7 +67,7 @@ pub record Adds (L : Log) (time letter : ℕ) (holds : Bool) (K : Log) : Type 0 
   pub no-other : holds ≡ false → (k : ℕ) → K .letters (L .size) k ≡ false
 
 -- position i is settled with this verdict on the log K
-pub record Told (φ : Formula) (K : Log) (i : ℕ) (verdict : Bool) : Type 0 where
+pub record SettledAs (φ : Formula) (K : Log) (i : ℕ) (verdict : Bool) : Type 0 where
   pub in-order : NeverFalls K
   pub answered : i < progress φ K
   pub says : sat φ K i ≡ verdict
@@ -77,4 +77,4 @@ pub record Told (φ : Formula) (K : Log) (i : ℕ) (verdict : Bool) : Type 0 whe
 pub record BothWays {φ : Formula} (one : OneTimed φ) (L : Log) (i : ℕ) : Type 0 where
   pub order : last-of L ≤ settling-time one L i
   pub fits : settling-time one L i ≤ 4294967295
-  pub settles : (holds : Bool) (K : Log) → Adds L (settling-time one L i) (timed-letter one) holds K → Told φ K i holds
+  pub settles : (holds : Bool) (K : Log) → Adds L (settling-time one L i) (timed-letter one) holds K → SettledAs φ K i holds

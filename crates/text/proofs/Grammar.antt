@@ -16,7 +16,7 @@ use Rattle.text.proofs.TokenNumbers.{decode, numbered}
 use Rattle.text.specs.Grammar.{Level, Prefix, Infix, Tree, end-token, interval, spell-prefix, spell-infix, spell}
 use Rattle.text.specs.Grammar.Level.{ors, timed, prefixed, atom}
 use Rattle.text.specs.Grammar.Tree.{letter, brackets, tight, one, untimed, two, or}
-use Rattle.text.specs.Reader.{kind, letter-value, number-value, first-token, first-letter, first-number, tail, Timing, end-of, bounded, timing, prefix-of, infix-of, before-operand, between-operands, Phrase, then, joined, bracketed, phrase}
+use Rattle.text.specs.Reader.{letter-value, number-value, first-token, first-letter, first-number, tail, Timing, end-of, bounded, timing, prefix-of, infix-of, before-operand, between-operands, Phrase, then, joined, bracketed, phrase}
 
 -- the first token, once its number is known
 front : (k : ℕ) (ts : List Token) → (k ≡ 15 → ⊥) → first-token ts ≡ k → ts ≡ decode k (first-letter ts) (first-number ts) ∷ tail ts

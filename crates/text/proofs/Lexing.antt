@@ -11,7 +11,7 @@ use Rattle.mtl.proofs.Bounded.{le-or-lt, true-and-false}
 use lib.Dec.{ltb, eqb}
 use lib.ListN.{length, drop, getD, List·getD-eq-default, drop-of-length-le}
 use lib.Seq.{drop-cons}
-use Rattle.text.specs.Tokens.{Token, runs, token-of, sign, ended, signed, tokens-from, tokens, is-unknown, some-unknown}
+use Rattle.text.specs.Tokens.{Token, runs, token-of, sign, ended, signed, tokens-from, tokens, some-unknown}
 use Rattle.text.specs.Reader.{kind, letter-value, number-value, first-token, first-letter, first-number, tail, Marks, Skips, RunsTo, Lexed}
 use Rattle.text.specs.declared.token.Mark.{Mark}
 use Rattle.text.specs.declared.token.Run.{Run}

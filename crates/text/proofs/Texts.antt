@@ -1,5 +1,5 @@
 -- The grammar derives from each worked text (specs/Examples) what its row says, a formula or none.
-use Prim.Native.Nat.{ℕ, _*_}
+use Prim.Native.Nat.{_*_}
 use native.Mathlib.Omega.{arith}
 use mathlib.Core.Path.{_≡_, refl, subst}
 use mathlib.Core.List.{List, [], _∷_}

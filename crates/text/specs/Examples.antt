@@ -24,8 +24,8 @@ pub record Row : Type 0 where
   pub derives : Option Formula
 
 -- a text that is read, with a buffer that holds every rule
-abbrev read : String → Formula → Row
-read s φ = record { text = ascii s; room = 1288; number = 0; derives = some φ }
+abbrev accepted : String → Formula → Row
+accepted s φ = record { text = ascii s; room = 1288; number = 0; derives = some φ }
 
 -- one from which the grammar derives nothing: 16 or 17
 abbrev unread : String → (number : ℕ) → Row
@@ -52,19 +52,19 @@ unfoldable pub rows : List Row
 rows =
     -- 1 to 9: "The words not, prev, next bind tightest, then since and until, grouping to the right, then or, grouping to the left; round
     -- brackets override."
-    read "e0 since[0,1] e1 until[0,2] e2" (since 0 1 (letter 0) (until 0 2 (letter 1) (letter 2)))
-    ∷ read "e0 or e1 or e2" (or (or (letter 0) (letter 1)) (letter 2))
-    ∷ read "not e0 until[0,1] e1" (until 0 1 (not (letter 0)) (letter 1))
-    ∷ read "prev[0,1] not next[0,1] e0" (previous 0 1 (not (next 0 1 (letter 0))))
-    ∷ read "(e0 since[0,1] e1) until[0,2] e2" (until 0 2 (since 0 1 (letter 0) (letter 1)) (letter 2))
-    ∷ read "e0 or (e1 or e2)" (or (letter 0) (or (letter 1) (letter 2)))
-    ∷ read "not(e0 until[0,1] e1)" (not (until 0 1 (letter 0) (letter 1)))
-    ∷ read "e0 or e1 until[0,1] e2" (or (letter 0) (until 0 1 (letter 1) (letter 2)))
-    ∷ read "e0 until[0,1] e1 or e2" (or (until 0 1 (letter 0) (letter 1)) (letter 2))
+    accepted "e0 since[0,1] e1 until[0,2] e2" (since 0 1 (letter 0) (until 0 2 (letter 1) (letter 2)))
+    ∷ accepted "e0 or e1 or e2" (or (or (letter 0) (letter 1)) (letter 2))
+    ∷ accepted "not e0 until[0,1] e1" (until 0 1 (not (letter 0)) (letter 1))
+    ∷ accepted "prev[0,1] not next[0,1] e0" (previous 0 1 (not (next 0 1 (letter 0))))
+    ∷ accepted "(e0 since[0,1] e1) until[0,2] e2" (until 0 2 (since 0 1 (letter 0) (letter 1)) (letter 2))
+    ∷ accepted "e0 or (e1 or e2)" (or (letter 0) (or (letter 1) (letter 2)))
+    ∷ accepted "not(e0 until[0,1] e1)" (not (until 0 1 (letter 0) (letter 1)))
+    ∷ accepted "e0 or e1 until[0,1] e2" (or (letter 0) (until 0 1 (letter 1) (letter 2)))
+    ∷ accepted "e0 until[0,1] e1 or e2" (or (until 0 1 (letter 0) (letter 1)) (letter 2))
     -- 10 to 12: "Spaces separate freely"; the largest need; "inf as high"
-    ∷ read "  e31 since [ 10 , inf ]((e9))" (since 10 4294967295 (letter 31) (letter 9))
-    ∷ read "e0 until[0,3600] e1 until[0,446] e2" (until 0 3600 (letter 0) (until 0 446 (letter 1) (letter 2)))
-    ∷ read "next[0,inf] e0" (next 0 4294967295 (letter 0))
+    ∷ accepted "  e31 since [ 10 , inf ]((e9))" (since 10 4294967295 (letter 31) (letter 9))
+    ∷ accepted "e0 until[0,3600] e1 until[0,446] e2" (until 0 3600 (letter 0) (until 0 446 (letter 1) (letter 2)))
+    ∷ accepted "next[0,inf] e0" (next 0 4294967295 (letter 0))
     -- 13 to 21: "16 when a word, sign or form of number is unknown", also where the grammar derives nothing
     ∷ unread "e0or e1" 16
     ∷ unread "e00" 16

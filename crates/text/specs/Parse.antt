@@ -54,6 +54,7 @@ abbrev pub bytes : Option Formula → List ℕ
 bytes none = []
 bytes (some φ) = rule-of φ
 
+-- what the call answers, by what the grammar derives
 abbrev pub parsed : List ℕ → Option Formula → ℕ → Answer
 parsed text o room =
     cond (eqb (text-refusal text o room) 0) (record { number = 0; written = length (bytes o) }) (record { number = text-refusal text o room; written = 0 })

@@ -43,6 +43,7 @@ kind Token.to = 12
 kind Token.comma = 13
 kind Token.unknown = 14
 
+-- a token's values: the number of a letter, and the value of a number
 abbrev pub letter-value : Token → ℕ
 letter-value (Token.letter k) = k
 letter-value Token.not = 0
@@ -90,6 +91,7 @@ abbrev pub first-number : List Token → ℕ
 first-number [] = 0
 first-number (t ∷ ts) = number-value t
 
+-- the tokens behind the first
 abbrev pub tail : List Token → List Token
 tail [] = []
 tail (t ∷ ts) = ts
@@ -126,6 +128,7 @@ pub record Timing : Type 0 where
   pub high : End
   pub rest : List Token
 
+-- the high end in front of the tokens
 abbrev pub end-of : List Token → End
 end-of ts = cond (eqb (first-token ts) 8) End.inf (at (first-number ts))
 
@@ -136,6 +139,7 @@ bounded ts =
     && (eqb (first-token (tail (tail (tail ts)))) 7 || eqb (first-token (tail (tail (tail ts)))) 8)
     && eqb (first-token (tail (tail (tail (tail ts))))) 12
 
+-- the interval in front of the tokens that a word of kind k carries; not carries none
 unfoldable pub timing : ℕ → List Token → Option Timing
 timing k ts =
     cond (eqb k 1) (some (record { low = 0; high = at 0; rest = ts }))
@@ -143,18 +147,21 @@ timing k ts =
     (some (record { low = first-number (tail ts); high = end-of (tail (tail (tail ts))); rest = tail (tail (tail (tail (tail ts)))) }))
     none)
 
+-- what is found of it at a place of the text
 abbrev pub Timed : ℕ → List ℕ → ℕ → Ends → Type 0
 Timed k text place (Interval low high next) =
     (e : End) × (timing k (tokens (drop place text)) ≡ some (record { low = low; high = e; rest = tokens (drop next text) }))
     × (high ≡ bound e) × (place ≤ next)
 Timed k text place Missing = timing k (tokens (drop place text)) ≡ none
 
+-- the word of kind k, with its interval
 abbrev pub prefix-of : ℕ → Timing → Prefix
 prefix-of k w = cond (eqb k 1) Prefix.not (cond (eqb k 3) (Prefix.prev (w .low) (w .high)) (Prefix.next (w .low) (w .high)))
 
 abbrev pub infix-of : ℕ → Timing → Infix
 infix-of k w = cond (eqb k 5) (Infix.since (w .low) (w .high)) (Infix.until (w .low) (w .high))
 
+-- the kinds of the words that stand before their operand, and between their operands
 abbrev pub before-operand : ℕ → Bool
 before-operand k = eqb k 1 || (eqb k 3 || eqb k 4)
 
@@ -166,6 +173,7 @@ pub record Phrase (l : Level) : Type 0 where
   pub tree : Tree l
   pub rest : List Token
 
+-- what comes after something that was found; nothing where nothing was
 abbrev pub then : {A B : Type 0} → Option A → (A → Option B) → Option B
 then none f = none
 then (some a) f = f a
@@ -175,6 +183,7 @@ abbrev pub joined : Option (Tree ors) → Tree timed → Tree ors
 joined none u = Tree.sole u
 joined (some t) u = Tree.or t u
 
+-- the phrase between brackets, where the closing one follows
 abbrev pub bracketed : Phrase ors → Option (Phrase atom)
 bracketed p = cond (eqb (first-token (p .rest)) 10) (some (record { tree = Tree.brackets (p .tree); rest = tail (p .rest) })) none
 
@@ -246,6 +255,7 @@ pub record Puts (out : List ℕ) (n : ℕ) (e : Entry) (r : ℕ) (out′ : List 
   pub counts : r ≡ cond (ltb n 128) (n + 1) 129
   pub bytes : n < 128 → 8 + n * 10 + 10 ≤ length out → take (8 + n * 10 + 10) out′ ≡ take (8 + n * 10) out ++ entry-bytes e
 
+-- the entry of an or
 abbrev pub or-entry : Entry
 or-entry = record { kind = 2; letter = 0; low = 0; high = 0 }
 
@@ -254,6 +264,7 @@ abbrev pub Joins : Bool → List ℕ → ℕ → ℕ → List ℕ → Type 0
 Joins true out n r out′ = Puts out n or-entry r out′
 Joins false out n r out′ = (r ≡ n) × (out′ ≡ out)
 
+-- the entries of the phrase before this one, and whether there is one
 abbrev pub written : Option (Tree ors) → List Entry
 written none = []
 written (some t) = postfix (meaning t)
@@ -269,6 +280,7 @@ pub record ReadsPhrase (l : Level) (before : Option (Tree ors)) (text out : List
   pub finds : (f : ℕ) → remaining l text place < f → phrase f l before (tokens (drop place text)) ≡ some (record { tree = tree; rest = tokens (drop place′ text) })
   pub holds : (es : List Entry) → Contains out n (es ++ written before) → Contains out′ n′ (es ++ postfix (meaning tree))
 
+-- the same, or there is no such phrase
 abbrev pub ReadsLevel : (l : Level) → Option (Tree ors) → List ℕ → List ℕ → ℕ → ℕ → Read → List ℕ → Type 0
 ReadsLevel l before text out place n (Formula place′ n′) out′ = ReadsPhrase l before text out place n place′ n′ out′
 ReadsLevel l before text out place n Fault out′ = (f : ℕ) → remaining l text place < f → phrase f l before (tokens (drop place text)) ≡ none

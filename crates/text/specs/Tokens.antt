@@ -38,6 +38,7 @@ numeral run = longer run (longer (run / 256) (longer (run / 65536) (single (run 
 abbrev pub lettered : ℕ → Token
 lettered value = cond (ltb value 32) (letter value) unknown
 
+-- a number of at most four digits
 abbrev pub numbered : ℕ → Token
 numbered value = cond (ltb value 10000) (number value) unknown
 
@@ -81,9 +82,11 @@ tokens-from run (b ∷ rest) =
     let off = ended run (signed b (tokens-from 0 rest)) in
     cond (runs b) on off
 
+-- the tokens of a text
 abbrev pub tokens : List ℕ → List Token
 tokens text = tokens-from 0 text
 
+-- the token that 16 looks for, and whether it is among these
 abbrev pub is-unknown : Token → Bool
 is-unknown (letter k) = false
 is-unknown (number n) = false

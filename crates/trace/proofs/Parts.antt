@@ -4,21 +4,13 @@ use native.Mathlib.Omega.{arith}
 use native.Mathlib.Nat.{add-zero}
 use mathlib.Core.Bool.{Bool, true, false, cond}
 use mathlib.Core.List.{List}
-use mathlib.Core.Logic.{_⊎_, inl, inr, ⊎-elim}
 use mathlib.Core.Path.{_≡_, refl, sym, ap, _∙_}
-use lib.Dec.{ltb, eqb}
 use lib.ListN.{getD, take, length-take, length-drop}
 use lib.Seq.{getD-take, getD-drop}
-use borrow.Author.Tests.{le-ltb, ltb-false}
-use Rattle.mtl.specs.Log.{Log, head-of, closing}
-use Rattle.mtl.proofs.Bounded.{le-or-lt, true-or-false}
-use Rattle.bits.specs.Packed.{number}
 use Rattle.trace.specs.Format.{record-count, time-at, has-letter, from-record, SameRecord}
 use Rattle.trace.specs.Positions.{is-service, passing, seek, spot, place, moved, positions, before}
-use Rattle.trace.specs.Log.{log-of}
 use Rattle.trace.proofs.Laws.{Keeps, same-time, same-letter}
-use Rattle.trace.proofs.Counting.{count-few, count-most, count-grows, count-service, seek-high, seek-same, head-counts, head-finds, spot-seek, spot-last}
-use Rattle.trace.proofs.Positions.{seek-past, seek-position, spot-plain, head-moved, head-closing}
+use Rattle.trace.proofs.Counting.{head-counts, head-finds, spot-seek}
 
 -- PARTS OF A LOG'S RECORDS
 

@@ -26,6 +26,7 @@ listed f (suc k) = listed f k ++ (f k ∷ [])
 abbrev pub counts : (x : Bool) (formulas : ℕ) → List ℕ → List ℕ
 counts x formulas s = listed (λ k. count-of x k s (length s)) formulas
 
+-- the count of no and the latest of them
 pub record Noes : Type 0 where
   pub count : ℕ
   pub latest : Option ℕ

@@ -31,6 +31,7 @@ abbrev pub answer : Tallied → Answer
 answer Counted = record { refused = false; number = 0 }
 answer (Refused n) = record { refused = true; number = n }
 
+-- what the call answers
 abbrev pub tallied : (formulas : ℕ) → List ℕ → Answer
 tallied formulas s = record { refused = ltb 0 (tally-refusal formulas s); number = tally-refusal formulas s }
 

@@ -26,6 +26,7 @@ module _ (low high n lent : ℕ) where
   abbrev pub if-written : {A : Type 0} → A → A → A
   if-written x y = cond (eqb (worst-refusal low high n lent) 0) x y
 
+  -- the log's length, or the refusal's number
   abbrev pub the-answer : Answer
   the-answer =
       if-written (record { number = 0; length = log-length n }) (record { number = worst-refusal low high n lent; length = 0 })
@@ -34,6 +35,7 @@ module _ (low high n lent : ℕ) where
 abbrev pub buffer-after : (low high n : ℕ) (log : List ℕ) → List ℕ
 buffer-after low high n log = if-written low high n (length log) (worst-bytes high n ++ drop (log-length n) log) log
 
+-- what the call promises
 pub record WritesWorst (low high n : ℕ) (log : List ℕ) (r : Made) (log′ : List ℕ) : Type 0 where
   pub answer : answer r ≡ the-answer low high n (length log)
   pub bytes : log′ ≡ buffer-after low high n log

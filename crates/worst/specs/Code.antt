@@ -9,6 +9,7 @@ use Rattle.worst.specs.declared.Checked.the-variants.{Passed, Stopped}
 abbrev pub checked : (low high n lent : ℕ) → Checked
 checked low high n lent = if-written low high n lent (Passed n) (Stopped (worst-refusal low high n lent))
 
+-- the number that the answer stands for: 0, or the refusal's
 abbrev pub checked-number : Checked → ℕ
 checked-number (Passed n) = 0
 checked-number (Stopped n) = n

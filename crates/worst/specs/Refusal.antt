@@ -1,6 +1,6 @@
 -- Where the call stops: "Interval faults are refusal 6. 19 when n is above 1,000,000 or the lent buffer is under 8 + 8 × n bytes,
 -- after 6."
-use Prim.Native.Nat.{ℕ, _+_, _*_}
+use Prim.Native.Nat.{ℕ}
 use mathlib.Core.Bool.{Bool, _||_}
 use lib.Dec.{ltb}
 use Rattle.rule.specs.Postfix.{root}

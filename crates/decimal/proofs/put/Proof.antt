@@ -1,5 +1,5 @@
 -- `decimal::put` meets its contract: the bytes are copied, and end behind the last.
-use mathlib.Core.Path.{_≡_, refl, sym, _∙_}
+use mathlib.Core.Path.{refl, sym, _∙_}
 use mathlib.Core.List.{append-assoc}
 use lib.ListN.{take, drop, length}
 use Prim.Native.Nat.{_+_}

@@ -6,7 +6,7 @@ use Rattle.trace.specs.Log.{log-of}
 use Rattle.trace.proofs.Positions.{before-few}
 use Rattle.window.proofs.Marks.{total-told, made-views}
 use Rattle.engine.proofs.Rows.{zeros}
-use Rattle.explain.proofs.Calling.{prepared, told-of}
+use Rattle.explain.proofs.Calling.{prepared, represented}
 use borrow.Author.Needs.{needs}
 use Rattle.explain.proofs.reason_of.Statement.{statement}
 use Rattle.explain.proofs.reason_of.Tie as tie
@@ -58,7 +58,7 @@ returns c =
       r .ensures .0,
       λ fs ended steady.
           r .ensures .1 fs (log-of (a .skips) (a .records .now))
-          (told-of (a .entries) (a .count) (a .t3) (a .number) fs ended (p .0) (laid .last .1 .1 .0) (record { well-formed = p .1; laid = laid .ensures }) (a .skips)
+          (represented (a .entries) (a .count) (a .t3) (a .number) fs ended (p .0) (laid .last .1 .1 .0) (record { well-formed = p .1; laid = laid .ensures }) (a .skips)
           (a .records .now) (view .last .1 .1 .1 .1 .1 .0) (view .ensures) steady),
     )
 

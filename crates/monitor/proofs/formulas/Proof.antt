@@ -2,7 +2,7 @@
 use borrow.Author.Needs.{needs}
 use mathlib.Core.Path.{_≡_, sym, ap, _∙_}
 use native.Mathlib.Omega.{arith}
-use Rattle.rule.specs.Measure.{Answer, measured}
+use Rattle.rule.specs.Measure.{measured}
 use Rattle.rule.specs.Measure.{answer as weighing}
 use Rattle.rule.proofs.Headers.{few-to-decode, measured-once}
 use Rattle.rule.proofs.Outcome.{passes-with, stops-with}

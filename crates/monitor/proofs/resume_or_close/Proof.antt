@@ -1,6 +1,6 @@
 -- `resume_or_close` meets its contract: a refusal has written nothing, and an accepted call lends `emit` the words that the rule needs.
 use borrow.Author.Needs.{needs}
-use mathlib.Core.Path.{_≡_, sym, ap, _∙_}
+use mathlib.Core.Path.{_≡_, sym, _∙_}
 use native.Mathlib.Omega.{arith}
 use lib.ListN.{length}
 use Rattle.rule.specs.Entries.{version, count, decoded}

@@ -1,6 +1,5 @@
 -- `trim` meets its contract: a refusal has written nothing, and what passes the checks has room for the records from the first wanted on.
 use borrow.Author.Needs.{needs}
-use Prim.Native.Nat.{_≤_}
 use mathlib.Core.Path.{_≡_, sym, ap, _∙_}
 use native.Mathlib.Omega.{arith}
 use lib.ListN.{length}

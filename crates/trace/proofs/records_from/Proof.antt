@@ -1,8 +1,8 @@
 -- `trace::records_from` meets its contract: what was dropped is counted.
 -- Assumes nothing.
 use borrow.Author.Needs.{needs}
-use Prim.Native.Nat.{ℕ, zero, _-_}
-use mathlib.Core.Path.{_≡_, refl, sym, ap, ap₂, _∙_}
+use Prim.Native.Nat.{_-_}
+use mathlib.Core.Path.{_≡_, ap, ap₂, _∙_}
 use native.Mathlib.Omega.{arith}
 use Rattle.trace.specs.Format.{dropped, from-record}
 use Rattle.trace.proofs.records_from.Statement.{statement}
