@@ -2,7 +2,7 @@
 
 use crate::beside::is_card;
 use crate::card::{Card, First, SoFar};
-use crate::command::Failure;
+use crate::command::{of_card, Failure};
 use crate::convert;
 use crate::disk::{read_all, Folder};
 use crate::letters::Letters;
@@ -42,7 +42,7 @@ impl Named {
 
     fn of_card(folder: &str) -> Result<Named, Failure> {
         let mut disk = Folder::new(Path::new(folder));
-        let failed = |fault| Failure::fault(folder, fault);
+        let failed = |fault| of_card(folder, &fault);
         let mut card = Card::open(&mut disk, false).map_err(failed)?;
         let letters = card.letters().map_err(failed)?;
         let rule = Rule::new(card.rule()).map_err(|refusal| Failure::fault(folder, refusal))?;
@@ -55,7 +55,7 @@ impl Named {
             return Ok(None);
         }
         let mut disk = Folder::new(Path::new(word));
-        let card = Card::open(&mut disk, false).map_err(|fault| Failure::fault(word, fault))?;
+        let card = Card::open(&mut disk, false).map_err(|fault| of_card(word, &fault))?;
         let mut log = card.own_part(log).map_err(|fault| Failure::fault(path, fault))?.into_owned();
         let SoFar { first, status: Status { closed, seen, .. }, .. } = card.so_far;
         let records = convert::opened(path, &log)?;
@@ -71,7 +71,7 @@ impl Named {
 pub fn read(path: &str) -> Result<Letters, Failure> {
     let bytes = read_all(path).map_err(|fault| convert::unread(path, fault))?;
     let text = convert::text_of(path, bytes)?;
-    Letters::read(&text).map_err(|wrong| Failure::Fault(format!("{path}, {wrong}")))
+    Letters::read(&text).map_err(|wrong| Failure::in_line(path, wrong))
 }
 
 /// The formulas of a rule that the library accepts, with their words where letters have names.

@@ -6,7 +6,7 @@ use crate::card::{Fault, SoFar, RULE};
 use crate::convert;
 use crate::parts::counted;
 use crate::wrong::{self, numbered, Header};
-use havdrims::{Log, Refusal};
+use havdrims::{Log, Refusal, MOST_RECORDS};
 use std::io::{self, ErrorKind};
 use std::path::Path;
 
@@ -70,7 +70,9 @@ impl<'a> Brought<'a> {
         let (says, hint) = match refusal {
             Refusal::PointClosed => {
                 let says = numbered("the card is closed: it takes no further records", refusal);
-                return Failure::fault(self.folder, format!("{says}\n{}{UNCHANGED}", self.next_card()));
+                let next =
+                    if seen < MOST_RECORDS as u64 { self.next_card() } else { with_the_next_log(self.folder) + " " };
+                return Failure::fault(self.folder, format!("{says}\n{next}{UNCHANGED}"));
             }
             Refusal::FewerRecords => (format!("the log has {has}, and the card has seen {seen}"), OLDER.to_string()),
             Refusal::MoreRecords => {
@@ -108,8 +110,15 @@ impl<'a> Brought<'a> {
     }
 }
 
-const OLDER: &str =
-    "Is it an older copy of the log, only a part of it, or another kiosk's? The whole log is wanted, old records too. ";
+/// How the card of the next log is made, where the one that this card has seen is full.
+pub fn with_the_next_log(folder: &str) -> String {
+    let rule = quoted(&format!("{}/{RULE}", folder.trim_end_matches('/')));
+    format!("The kiosk begins a new log, and `havdrims new NEW {rule}` makes the card for it.")
+}
+
+const OLDER: &str = "\
+Is it an older copy of the log, only a part of it, or another kiosk's? The whole log is wanted, old records too.
+A log that the kiosk has begun anew needs a card of its own, made without --after and --from. ";
 const OTHER: &str = "\
 Is this the log of another kiosk? Were more records overwritten than the last evening named? Was the card put back from
 an older copy? ";

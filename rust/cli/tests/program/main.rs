@@ -33,11 +33,14 @@ const CARRY_ON: [&[&str]; 2] = [&["evening"], &["close", "--final"]];
 const OTHER_LOG: &str = "\
 Is this the log of another kiosk? Were more records overwritten than the last evening named? Was the card put back from
 an older copy?";
-const OLDER_LOG: &str =
-    "Is it an older copy of the log, only a part of it, or another kiosk's? The whole log is wanted, old records too.";
+const OLDER_LOG: &str = "\
+Is it an older copy of the log, only a part of it, or another kiosk's? The whole log is wanted, old records too.
+A log that the kiosk has begun anew needs a card of its own, made without --after and --from.";
 /// What is said of a card that is to be made where one is.
 const ALREADY: &str = "card: a card is here already\n\
                        A card keeps its rule: `havdrims new OTHER RULE --after card` goes on from it with another.\n";
+/// Where more is said of a card that is damaged.
+const CHECKED: &str = "`havdrims check card` says what can be done.\n";
 const OTHER_CLOCK: &str = "Is this the log of another kiosk, or did its clock begin anew?";
 
 /// A folder for one test, removed with it.
