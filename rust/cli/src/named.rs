@@ -6,9 +6,11 @@ use crate::command::{of_card, Failure};
 use crate::convert;
 use crate::disk::{read_all, Folder};
 use crate::letters::Letters;
+use crate::page::known::spans;
 use crate::parts;
 use crate::words::in_words;
 use havdrims::{Rule, Status};
+use std::ops::Range;
 use std::path::Path;
 
 /// A rule with the names of its letters.
@@ -27,6 +29,9 @@ pub struct Judged {
     pub log: Vec<u8>,
     /// The records behind that.
     pub further: usize,
+    /// Those of its records, from the card's first one on, that are as the card has seen them, and those that it has not seen. Of a
+    /// card of an earlier program it cannot be told: all.
+    pub known: Vec<Range<u64>>,
 }
 
 impl Named {
@@ -55,15 +60,18 @@ impl Named {
             return Ok(None);
         }
         let mut disk = Folder::new(Path::new(word));
-        let card = Card::open(&mut disk, false).map_err(|fault| of_card(word, &fault))?;
+        let mut card = Card::open(&mut disk, false).map_err(|fault| of_card(word, &fault))?;
+        let rows = card.evenings().map_err(|fault| of_card(word, &fault))?;
         let mut log = card.own_part(log).map_err(|fault| Failure::fault(path, fault))?.into_owned();
         let SoFar { first, status: Status { closed, seen, .. }, .. } = card.so_far;
         let records = convert::opened(path, &log)?;
         let further = records.len().checked_sub(seen as usize).filter(|_| closed);
         let (closed, further) = (further.is_some(), further.unwrap_or(0));
         let kept = records.len() - records.dropped();
+        let unseen = if rows.is_empty() { 0 } else { seen };
+        let known = spans(&records, &rows).into_iter().map(|span| span.records).chain([unseen..u64::MAX]).collect();
         log.truncate(log.len() - 8 * further.min(kept));
-        Ok(Some(Judged { first, verdicts: card.verdicts().to_vec(), closed, log, further }))
+        Ok(Some(Judged { first, verdicts: card.verdicts().to_vec(), closed, log, further, known }))
     }
 }
 

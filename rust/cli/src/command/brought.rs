@@ -101,13 +101,17 @@ impl<'a> Brought<'a> {
 
     /// What can be done with a log that has more records than a log may have.
     fn too_long(&self) -> String {
-        wrong::longest(&self.bytes).map_or(String::new(), |bytes| {
-            format!(
-                "Its first {bytes} bytes end with the last record that a log may have: close the card with these, and begin\n\
-                 a new log and a new card with what follows. "
-            )
-        })
+        let divided = |bytes| format!("Its {}", divided(bytes, "that a log may have"));
+        wrong::longest(&self.bytes).map_or(String::new(), divided)
     }
+}
+
+/// How a log is divided behind this many bytes, with its last record there.
+fn divided(bytes: usize, last: &str) -> String {
+    format!(
+        "first {bytes} bytes end with the last record {last}: close the card with these, and begin\n\
+         a new log and a new card with what follows. "
+    )
 }
 
 /// How the card of the next log is made, where the one that this card has seen is full.
@@ -137,11 +141,16 @@ fn falls(log: &Log<'_>, so_far: &SoFar) -> (String, String) {
     }
     let new = so_far.first.record + so_far.status.seen;
     let early = || format!("record {new}, the first new one, comes before the last one that the card has seen");
-    let hint = match fall.is_some_and(|fall| fall.is_again(log)) {
-        true => "Is this the log of another kiosk, did its clock begin anew, or were records added twice? ",
-        false => "Is this the log of another kiosk, or did its clock begin anew? ",
+    let question = match fall.is_some_and(|fall| fall.is_again(log)) {
+        true => "Is this the log of another kiosk, did its clock begin anew, or were records added twice?",
+        false => "Is this the log of another kiosk, or did its clock begin anew?",
     };
-    (fall.map_or_else(early, |fall| fall.says()), hint.to_string())
+    // What the card has seen is not divided.
+    let hint = match fall.filter(|fall| fall.record as u64 >= new) {
+        Some(fall) => format!("\nIf the clock did, the log's {}", divided(fall.bytes_before(log), "before that")),
+        None => " ".to_string(),
+    };
+    (fall.map_or_else(early, |fall| fall.says()), format!("{question}{hint}"))
 }
 
 fn other_version(log: &Log<'_>) -> String {

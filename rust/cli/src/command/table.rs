@@ -226,7 +226,7 @@ time and its reason. The verdicts are those of the card's sheet; the card is not
 LOG is the kiosk's log, or what is left of it. Times and reasons are taken only from records that are as the card has seen
 them, by the checksums of its evenings; where they were overwritten, dropped or altered, the line says so. So the page is
 made before the records of the week are overwritten, or from a copy of the log. What the card has not seen yet is not on
-the page. A log has no clock: without --start days are counted from its second 0.
+the page, and is said. A log has no clock: without --start days are counted from its second 0.
 
 A file that is there is replaced only with --force, and no file is put into a card.",
         example: "havdrims page card tuesday.klg friday.html --start 2026-11-09T09:00",
@@ -279,7 +279,7 @@ or no there. Positions are numbered over the records that are no service records
 A rule or formula is explained on the log from record 0 on; a card as it has judged: from its first record on, from which
 its positions count, and where it is closed up to its last. A reason that looks back to a first record with others before
 it says that the card has not read them. A verdict that came from closing alone has no reason, and none is given that the
-card's sheet contradicts.",
+card's sheet contradicts. Where the record may not be as the card has seen it, that is said on standard error.",
         example: "havdrims why card/rule.krl day.klg 5 --words",
         run: |given| {
             let [rule, log, record] = given.words();

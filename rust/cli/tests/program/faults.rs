@@ -1,6 +1,6 @@
 //! What can go wrong, each with its words, exit status 1, and the card unchanged.
 
-use crate::{contents, ended, Place, ALREADY, CARRY_ON, CHECKED, OLDER_LOG, OTHER_CLOCK, OTHER_LOG, RULE};
+use crate::{contents, divided, ended, Place, ALREADY, CARRY_ON, CHECKED, OLDER_LOG, OTHER_CLOCK, OTHER_LOG, RULE};
 use evaluator::log;
 use havdrims::save::{checksum, Saved};
 use std::fs::{self, File, Permissions};
@@ -37,7 +37,7 @@ fn logs_that_are_refused() {
     // a new record whose time falls
     let falls = [whole.as_slice(), &[0, 0, 2, 0xd9, 0, 0, 0, 0]].concat();
     let times = "record 14, second 729, comes after record 13, second 730 (refused 14)";
-    evening(&falls, times, &format!("{OTHER_CLOCK} "));
+    evening(&falls, times, &format!("{OTHER_CLOCK}{} ", divided(120)));
     // a log of the other version
     let mut second = whole.clone();
     second[4] = 2;
@@ -356,12 +356,20 @@ fn records_that_were_added_twice() {
     let day = fs::read(place.path("day.klg")).unwrap();
     fs::write(place.path("twice.klg"), [&day, &day[8..]].concat()).unwrap();
     let twice = "twice.klg: record 14, second 0, comes after record 13, second 730 (refused 14)\n\
-                 Is this the log of another kiosk, did its clock begin anew, or were records added twice? Nothing was changed.\n";
-    assert_eq!(place.fails(1, &["evening", "card", "twice.klg"]), twice);
+                 Is this the log of another kiosk, did its clock begin anew, or were records added twice?";
+    let text = format!("{twice}{} Nothing was changed.\n", divided(120));
+    assert_eq!(place.fails(1, &["evening", "card", "twice.klg"]), text);
     // A second that the log does not have.
     fs::write(place.path("falls.klg"), [&day, &[0, 0, 0, 1, 0, 0, 0, 0][..]].concat()).unwrap();
     let said = place.fails(1, &["evening", "card", "falls.klg"]);
-    assert!(said.ends_with(&format!("(refused 14)\n{OTHER_CLOCK} Nothing was changed.\n")), "{said}");
+    assert!(said.ends_with(&format!("(refused 14)\n{OTHER_CLOCK}{} Nothing was changed.\n", divided(120))), "{said}");
+    // what is said can be done
+    let falls = fs::read(place.path("falls.klg")).unwrap();
+    fs::write(place.path("before.klg"), &falls[..120]).unwrap();
+    fs::write(place.path("after.klg"), [&falls[..8], &falls[120..]].concat()).unwrap();
+    place.ok(&["close", "card", "before.klg", "--final"]);
+    place.ok(&["new", "next", "card/rule.krl"]);
+    place.ok(&["evening", "next", "after.klg"]);
 }
 
 /// A formula of several words that the shell hands over one by one.

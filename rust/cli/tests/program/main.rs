@@ -43,6 +43,14 @@ const ALREADY: &str = "card: a card is here already\n\
 const CHECKED: &str = "`havdrims check card` says what can be done.\n";
 const OTHER_CLOCK: &str = "Is this the log of another kiosk, or did its clock begin anew?";
 
+/// What is said besides where the log can be divided, behind this many bytes.
+fn divided(bytes: usize) -> String {
+    format!(
+        "\nIf the clock did, the log's first {bytes} bytes end with the last record before that: \
+         close the card with these, and begin\na new log and a new card with what follows."
+    )
+}
+
 /// A folder for one test, removed with it.
 struct Place(PathBuf);
 
