@@ -10,6 +10,7 @@ use crate::page::known::spans;
 use crate::parts;
 use crate::words::in_words;
 use havdrims::{Rule, Status};
+use std::iter::once;
 use std::ops::Range;
 use std::path::Path;
 
@@ -69,7 +70,7 @@ impl Named {
         let (closed, further) = (further.is_some(), further.unwrap_or(0));
         let kept = records.len() - records.dropped();
         let unseen = if rows.is_empty() { 0 } else { seen };
-        let known = spans(&records, &rows).into_iter().map(|span| span.records).chain([unseen..u64::MAX]).collect();
+        let known = spans(&records, &rows).into_iter().map(|span| span.records).chain(once(unseen..u64::MAX)).collect();
         log.truncate(log.len() - 8 * further.min(kept));
         Ok(Some(Judged { first, verdicts: card.verdicts().to_vec(), closed, log, further, known }))
     }
