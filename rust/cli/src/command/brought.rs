@@ -125,7 +125,7 @@ Is it an older copy of the log, only a part of it, or another kiosk's? The whole
 A log that the kiosk has begun anew needs a card of its own, made without --after and --from. ";
 const OTHER: &str = "\
 Is this the log of another kiosk? Were more records overwritten than the last evening named? Was the card put back from
-an older copy? ";
+an older copy? Behind records that are gone for good `havdrims new --from` begins a new card. ";
 const ANOTHER_CARD: &str =
     "A card keeps to the version of its first log, 2 and 3 counting as one; another needs a card of its own. ";
 const TRIMMED: &str = "\

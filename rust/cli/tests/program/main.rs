@@ -32,7 +32,7 @@ const CARRY_ON: [&[&str]; 2] = [&["evening"], &["close", "--final"]];
 /// What may be the cause where a log is not that of its card.
 const OTHER_LOG: &str = "\
 Is this the log of another kiosk? Were more records overwritten than the last evening named? Was the card put back from
-an older copy?";
+an older copy? Behind records that are gone for good `havdrims new --from` begins a new card.";
 const OLDER_LOG: &str = "\
 Is it an older copy of the log, only a part of it, or another kiosk's? The whole log is wanted, old records too.
 A log that the kiosk has begun anew needs a card of its own, made without --after and --from.";
