@@ -7,10 +7,10 @@ use crate::letters::is_hidden;
 use std::fs;
 use std::path::Path;
 
-/// Whether this names the folder of a card.
+/// Whether this names the folder of a card. `-` is standard input.
 pub fn is_card(path: &str) -> bool {
-    let names = Folder::new(Path::new(path)).names();
-    names.ok().flatten().is_some_and(|names| card::is_card(&names))
+    let names = Folder::new(Path::new(path)).names().ok().filter(|_| path != "-");
+    names.flatten().is_some_and(|names| card::is_card(&names))
 }
 
 /// What to say behind the name of a card that is not there: `; did you mean hall?`, or nothing.
@@ -27,6 +27,12 @@ pub fn or_file(path: &str) -> String {
 pub fn or_rule(path: &str) -> String {
     let is_rule = |path: &str| is_card(path) || path.ends_with(".krl");
     did_you_mean(near(path, is_rule).or_else(|| near(&format!("{path}.krl"), is_rule)))
+}
+
+/// The same of a rule file.
+pub fn or_rule_file(path: &str) -> String {
+    let is_file = |path: &str| path.ends_with(".krl") && Path::new(path).is_file();
+    did_you_mean(near(path, is_file).or_else(|| near(&format!("{path}.krl"), is_file)))
 }
 
 /// The first card in this folder, by name.

@@ -149,7 +149,9 @@ impl fmt::Display for Fault {
                 Unreadable::Version => write!(f, "the file `point` is of another version of this program"),
                 Unreadable::Damaged => write!(f, "the file `point` is damaged: its checksum does not fit"),
             },
-            Fault::PointOfAnotherCard => write!(f, "the file `point` belongs to another card"),
+            Fault::PointOfAnotherCard => {
+                write!(f, "the files `card.txt` and `point` are of two cards, or one is damaged")
+            }
             Fault::PointRefused(refusal @ Refusal::ForeignPoint) => {
                 write!(f, "the file `point` is of another library's format (refused {})", refusal.number())
             }
@@ -218,6 +220,28 @@ impl fmt::Display for Fault {
                 write!(f, "cannot sync the folder: {fault}; the card is made, and the first `evening` syncs it")
             }
         }
+    }
+}
+
+impl Fault {
+    /// Whether the card's files do not fit together, so that there is more to say of each of them.
+    pub fn is_damage(&self) -> bool {
+        use Fault::*;
+        matches!(
+            self,
+            Missing(_)
+                | CardDamaged
+                | PointMissing { .. }
+                | PointUnreadable(_)
+                | PointOfAnotherCard
+                | PointRefused(_)
+                | PointCounts { .. }
+                | PointServices { .. }
+                | AnotherRule
+                | SheetShort { .. }
+                | SheetDamaged
+                | EveningsDamaged
+        )
     }
 }
 

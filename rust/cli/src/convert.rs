@@ -52,10 +52,11 @@ pub fn opened<'a>(path: &str, bytes: &'a [u8]) -> Result<Log<'a>, Failure> {
     Log::new(bytes).map_err(|refusal| Failure::fault(path, wrong::named(refusal, wrong::log(bytes))))
 }
 
-/// The bytes of the rule that some words of the command line say: each is the name of a .krl file, or else a formula.
+/// The bytes of the rule that some words of the command line say: each is the name of a .krl file, `-` for one that comes from
+/// standard input, or else a formula.
 /// One alone is taken as it is; of several, all formulas make a rule of version 2.
 pub fn rule_said(words: &[&str]) -> Result<Vec<u8>, Failure> {
-    let said = |word: &&str| match word.ends_with(".krl") {
+    let said = |word: &&str| match word.ends_with(".krl") || *word == "-" {
         true => read_file(word, MOST_RULE).map_err(|fault| unread(word, fault)),
         false => parsed(word),
     };
@@ -66,7 +67,7 @@ pub fn rule_said(words: &[&str]) -> Result<Vec<u8>, Failure> {
 /// The same of a word that may also be the name of a card, which there is not.
 pub fn rule_of(word: &str) -> Result<Vec<u8>, Failure> {
     let none = || format!("no card or .krl file `{word}` is here{}", beside::or_rule(word));
-    match refused(word).filter(|_| !Path::new(word).exists()) {
+    match refused(word).filter(|_| word != "-" && !Path::new(word).exists()) {
         Some(_) if word.ends_with(".krl") => Err(Failure::Fault(none())),
         Some(refusal) if is_name(word) => Err(Failure::Fault(numbered(&none(), refusal))),
         _ => rule_said(&[word]),
@@ -200,8 +201,8 @@ fn taken_for(word: &str) -> Option<String> {
         true if word.ends_with(".krl") => Some(format!("`{word}` is a rule file, and a formula is wanted here")),
         true => Some(format!("`{word}` is a file, but no rule file: the name of one ends in .krl")),
         false => {
-            let file = format!("{word}.krl");
-            (is_name(word) && is_file(&file)).then(|| format!("`{word}` is no formula; did you mean {file}?"))
+            let meant = beside::or_rule_file(word);
+            (is_name(word) && !meant.is_empty()).then(|| format!("`{word}` is no formula{meant}"))
         }
     }
 }
@@ -218,7 +219,7 @@ pub fn to_log(path: &str, log: &str, force: bool) -> Answer {
     let (mut folder, name) = file::named_apart(log, path)?;
     let bytes = read_all(path).map_err(|fault| unread(path, fault))?;
     let typed = text_of(path, bytes)?;
-    let bytes = text::log_from_text(&typed).map_err(|fault| Failure::Fault(format!("{path}, {fault}")))?;
+    let bytes = text::log_from_text(&typed).map_err(|fault| Failure::in_line(path, fault))?;
     let made = opened(path, &bytes)?;
     file::put(&mut folder, &name, &bytes, force).map_err(|fault| Failure::fault(log, fault))?;
     let services = match made.services(0) {

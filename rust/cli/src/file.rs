@@ -3,6 +3,7 @@
 use crate::card;
 use crate::command::Failure;
 use crate::disk::{Disk, Folder};
+use std::io::ErrorKind;
 use std::path::{Path, PathBuf};
 use std::{fmt, fs, io};
 
@@ -63,7 +64,7 @@ pub fn named(path: &str) -> Result<(Folder, String), Failure> {
         .filter(|name| name.to_str().is_some_and(|name| path.ends_with(name)))
         .ok_or_else(no_name)?;
     let place = match fs::symlink_metadata(path) {
-        Ok(there) if there.is_symlink() => fs::canonicalize(path).map_err(|fault| Failure::fault(path, fault))?,
+        Ok(there) if there.is_symlink() => fs::canonicalize(path).map_err(|fault| of_link(path, fault))?,
         _ => PathBuf::from(path),
     };
     if fs::metadata(&place).is_ok_and(|there| !there.is_file()) {
@@ -75,6 +76,14 @@ pub fn named(path: &str) -> Result<(Folder, String), Failure> {
     };
     let name = place.file_name().and_then(|name| name.to_str()).ok_or_else(no_name)?;
     Ok((Folder::new(folder), name.to_string()))
+}
+
+/// What is wrong with a link where a file is to be written.
+fn of_link(path: &str, fault: io::Error) -> Failure {
+    match fault.kind() {
+        ErrorKind::NotFound => Failure::fault(path, "this link leads to no file; take it away, or choose another name"),
+        _ => Failure::fault(path, fault),
+    }
 }
 
 /// The same of a file that is made from another, which it may replace when it is whole, but not pass over before.

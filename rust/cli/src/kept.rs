@@ -12,8 +12,10 @@ use crate::evenings::{bound_to, rows, Known, Row};
 use crate::followed::Followed;
 use crate::letters::Letters;
 use crate::parts::{counted, verdicts};
+use crate::wrong::numbered;
 use havdrims::save::{checksum, Saved};
-use havdrims::{formulas, measure, status, Summary};
+use havdrims::{formulas, measure, status, Refusal, Status, Summary};
+use std::io::ErrorKind;
 
 /// The verdicts that are vouched for, and how far the card had come with them.
 pub struct Kept {
@@ -82,6 +84,28 @@ impl Files {
         })
     }
 
+    /// What there is to say of the point: whether it is whole, and one of this card that the library takes.
+    fn point(&self) -> Option<String> {
+        let saved = match Saved::decode(self.point.as_ref()?) {
+            Ok(saved) => saved,
+            Err(why) => return Some(why.to_string()),
+        };
+        let label = self.card.as_ref().and_then(|card| Label::decode(card));
+        let status = self.rule.as_ref().map(|rule| status(rule, &saved.words));
+        Some(match status {
+            _ if label.is_some_and(|label| label.number != saved.owner) => {
+                "whole, but not of the card in card.txt".into()
+            }
+            _ if self.rule.as_ref().is_some_and(|rule| checksum(rule) != saved.rule) => {
+                "whole, but not of the rule in rule.krl".into()
+            }
+            Some(Err(refusal @ Refusal::ForeignPoint)) => numbered("whole, but of another library's format", refusal),
+            Some(Err(refusal)) => numbered("whole, but not as this library writes it", refusal),
+            Some(Ok(status)) if !counts(&saved, &status) => "damaged: its numbers do not fit together".into(),
+            _ => "good".into(),
+        })
+    }
+
     /// What the rows and the files of names are bound to.
     fn bound(&self) -> Option<u64> {
         Some(bound_to(self.card.as_ref()?, self.rule.as_ref()?))
@@ -106,10 +130,9 @@ impl Files {
         let rule = self.rule.as_ref()?;
         let saved = Saved::decode(self.point.as_ref()?).ok()?;
         let status = status(rule, &saved.words).ok()?;
-        let fits = (saved.owner, saved.rule, saved.given) == (number, checksum(rule), status.given);
+        let fits = (saved.owner, saved.rule) == (number, checksum(rule)) && counts(&saved, &status);
         let Saved { sheet, services, .. } = saved;
-        let counted = services <= status.seen - status.given;
-        (fits && counted).then_some(Row { status, sheet, services, ..Row::first(Known::none(), None) })
+        fits.then_some(Row { status, sheet, services, ..Row::first(Known::none(), None) })
     }
 
     /// The verdicts that a row counts, if its checksum vouches for them.
@@ -117,6 +140,11 @@ impl Files {
         let given = usize::try_from(row.status.given).ok()?;
         self.sheet.as_ref()?.get(..given).filter(|verdicts| checksum(verdicts) == row.sheet)
     }
+}
+
+/// Whether what a point counts is what its words count.
+fn counts(saved: &Saved, status: &Status) -> bool {
+    saved.given == status.given && saved.services <= status.seen - status.given
 }
 
 /// The row of how far the card had come. Without a point it is the last, but only if nothing stands behind it: records that an
@@ -151,6 +179,14 @@ pub fn kept(disk: &mut impl Disk) -> Option<Kept> {
     Some(Kept { so_far, verdicts: verdicts.to_vec(), after })
 }
 
+/// The names of letters, whatever else is damaged. None where they are damaged themselves, or cannot be read.
+pub fn names(disk: &mut impl Disk) -> Option<Letters> {
+    match disk.read(LETTERS) {
+        Err(fault) if fault.kind() == ErrorKind::NotFound => Some(Letters::default()),
+        read => Letters::decode(&read.ok()?, Files::read(disk).bound()?),
+    }
+}
+
 /// What there is to say of each file, and of others that stand in the folder.
 pub fn looked_at(disk: &mut impl Disk) -> Vec<(String, String)> {
     let files = Files::read(disk);
@@ -171,16 +207,17 @@ pub fn looked_at(disk: &mut impl Disk) -> Vec<(String, String)> {
             format!("{whole}, and {others} damaged, cut, or not of this card and rule")
         }
     });
-    let point = files.point.as_ref().map(|point| match Saved::decode(point) {
-        Ok(_) => "good".to_string(),
-        Err(why) => why.to_string(),
-    });
-    let own = [(CARD, card), (RULE, rule), (SHEET, sheet), (EVENINGS, evenings), (POINT, point)];
-    let mut said: Vec<(String, String)> =
-        own.into_iter().map(|(name, said)| (name.to_string(), said.unwrap_or_else(missing))).collect();
-    said.extend(files.letters().map(|letters| (LETTERS.to_string(), letters)));
-    said.extend(files.followed().map(|followed| (FOLLOWED.to_string(), followed)));
-    for name in disk.names().ok().flatten().unwrap_or_default() {
+    let own = [(CARD, card), (RULE, rule), (SHEET, sheet), (EVENINGS, evenings), (POINT, files.point())];
+    let names = disk.names().ok().flatten().unwrap_or_default();
+    let unread = |name: &str| names.iter().any(|there| there == name).then(|| "cannot be read".to_string());
+    let mut said: Vec<(String, String)> = own
+        .into_iter()
+        .map(|(name, said)| (name.to_string(), said.or_else(|| unread(name)).unwrap_or_else(missing)))
+        .collect();
+    for (name, more) in [(LETTERS, files.letters()), (FOLLOWED, files.followed())] {
+        said.extend(more.or_else(|| unread(name)).map(|more| (name.to_string(), more)));
+    }
+    for name in names {
         match name.as_str() {
             CARD | RULE | SHEET | EVENINGS | POINT | LETTERS | FOLLOWED => {}
             NEW_POINT | NEW_LETTERS | NEW_FOLLOWED => {

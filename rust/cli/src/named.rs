@@ -2,13 +2,16 @@
 
 use crate::beside::is_card;
 use crate::card::{Card, First, SoFar};
-use crate::command::Failure;
+use crate::command::{of_card, Failure};
 use crate::convert;
 use crate::disk::{read_all, Folder};
 use crate::letters::Letters;
+use crate::page::known::spans;
 use crate::parts;
 use crate::words::in_words;
 use havdrims::{Rule, Status};
+use std::iter::once;
+use std::ops::Range;
 use std::path::Path;
 
 /// A rule with the names of its letters.
@@ -27,6 +30,9 @@ pub struct Judged {
     pub log: Vec<u8>,
     /// The records behind that.
     pub further: usize,
+    /// Those of its records, from the card's first one on, that are as the card has seen them, and those that it has not seen. Of a
+    /// card of an earlier program it cannot be told: all.
+    pub known: Vec<Range<u64>>,
 }
 
 impl Named {
@@ -42,7 +48,7 @@ impl Named {
 
     fn of_card(folder: &str) -> Result<Named, Failure> {
         let mut disk = Folder::new(Path::new(folder));
-        let failed = |fault| Failure::fault(folder, fault);
+        let failed = |fault| of_card(folder, &fault);
         let mut card = Card::open(&mut disk, false).map_err(failed)?;
         let letters = card.letters().map_err(failed)?;
         let rule = Rule::new(card.rule()).map_err(|refusal| Failure::fault(folder, refusal))?;
@@ -55,15 +61,18 @@ impl Named {
             return Ok(None);
         }
         let mut disk = Folder::new(Path::new(word));
-        let card = Card::open(&mut disk, false).map_err(|fault| Failure::fault(word, fault))?;
+        let mut card = Card::open(&mut disk, false).map_err(|fault| of_card(word, &fault))?;
+        let rows = card.evenings().map_err(|fault| of_card(word, &fault))?;
         let mut log = card.own_part(log).map_err(|fault| Failure::fault(path, fault))?.into_owned();
         let SoFar { first, status: Status { closed, seen, .. }, .. } = card.so_far;
         let records = convert::opened(path, &log)?;
         let further = records.len().checked_sub(seen as usize).filter(|_| closed);
         let (closed, further) = (further.is_some(), further.unwrap_or(0));
         let kept = records.len() - records.dropped();
+        let unseen = if rows.is_empty() { 0 } else { seen };
+        let known = spans(&records, &rows).into_iter().map(|span| span.records).chain(once(unseen..u64::MAX)).collect();
         log.truncate(log.len() - 8 * further.min(kept));
-        Ok(Some(Judged { first, verdicts: card.verdicts().to_vec(), closed, log, further }))
+        Ok(Some(Judged { first, verdicts: card.verdicts().to_vec(), closed, log, further, known }))
     }
 }
 
@@ -71,7 +80,7 @@ impl Named {
 pub fn read(path: &str) -> Result<Letters, Failure> {
     let bytes = read_all(path).map_err(|fault| convert::unread(path, fault))?;
     let text = convert::text_of(path, bytes)?;
-    Letters::read(&text).map_err(|wrong| Failure::Fault(format!("{path}, {wrong}")))
+    Letters::read(&text).map_err(|wrong| Failure::in_line(path, wrong))
 }
 
 /// The formulas of a rule that the library accepts, with their words where letters have names.

@@ -51,6 +51,9 @@ pub fn answer(question: &Question) -> Result<String, Failure> {
     if given.is_some_and(|yes| yes != says) {
         return Err(Failure::fault(log, altered(record, says)));
     }
+    if judged.as_ref().is_some_and(|judged| !judged.knows(record)) {
+        warn(&unknown(record));
+    }
     if !question.words {
         // The reason has the library's form, in which there is no such line.
         teller.begun_in(&reason).iter().for_each(|begun| warn(begun.trim_start_matches("; ")));
@@ -67,6 +70,11 @@ pub fn answer(question: &Question) -> Result<String, Failure> {
 impl Judged {
     fn is_yes(&self, position: u64, formula: usize) -> Option<bool> {
         self.verdicts.get(position as usize).map(|verdict| verdict >> formula & 1 == 1)
+    }
+
+    /// Whether a record is as the card has seen it, or one that it has not seen.
+    fn knows(&self, record: usize) -> bool {
+        self.known.iter().any(|known| known.contains(&(record as u64 - self.first.record)))
     }
 
     /// Whether a record stands behind this part of the log, in which the card was closed.
@@ -87,6 +95,14 @@ fn altered(record: usize, says: bool) -> String {
     format!(
         "record {record} is {sheet} in the card's sheet, and {log} on this log: records were overwritten or altered since\n\
          A reason needs the log as it was."
+    )
+}
+
+/// The log may be another than the one that the card has judged, though the verdict is the same.
+fn unknown(record: usize) -> String {
+    format!(
+        "record {record} may not be as the card has seen it: it or others of that evening were overwritten or altered since, or \
+         this is another kiosk's log. The reason is that of the log as it is now."
     )
 }
 

@@ -6,7 +6,7 @@ use crate::card::{Fault, SoFar, RULE};
 use crate::convert;
 use crate::parts::counted;
 use crate::wrong::{self, numbered, Header};
-use havdrims::{Log, Refusal};
+use havdrims::{Log, Refusal, MOST_RECORDS};
 use std::io::{self, ErrorKind};
 use std::path::Path;
 
@@ -70,7 +70,9 @@ impl<'a> Brought<'a> {
         let (says, hint) = match refusal {
             Refusal::PointClosed => {
                 let says = numbered("the card is closed: it takes no further records", refusal);
-                return Failure::fault(self.folder, format!("{says}\n{}{UNCHANGED}", self.next_card()));
+                let next =
+                    if seen < MOST_RECORDS as u64 { self.next_card() } else { with_the_next_log(self.folder) + " " };
+                return Failure::fault(self.folder, format!("{says}\n{next}{UNCHANGED}"));
             }
             Refusal::FewerRecords => (format!("the log has {has}, and the card has seen {seen}"), OLDER.to_string()),
             Refusal::MoreRecords => {
@@ -99,20 +101,31 @@ impl<'a> Brought<'a> {
 
     /// What can be done with a log that has more records than a log may have.
     fn too_long(&self) -> String {
-        wrong::longest(&self.bytes).map_or(String::new(), |bytes| {
-            format!(
-                "Its first {bytes} bytes end with the last record that a log may have: close the card with these, and begin\n\
-                 a new log and a new card with what follows. "
-            )
-        })
+        let divided = |bytes| format!("Its {}", divided(bytes, "that a log may have"));
+        wrong::longest(&self.bytes).map_or(String::new(), divided)
     }
 }
 
-const OLDER: &str =
-    "Is it an older copy of the log, only a part of it, or another kiosk's? The whole log is wanted, old records too. ";
+/// How a log is divided behind this many bytes, with its last record there.
+fn divided(bytes: usize, last: &str) -> String {
+    format!(
+        "first {bytes} bytes end with the last record {last}: close the card with these, and begin\n\
+         a new log and a new card with what follows. "
+    )
+}
+
+/// How the card of the next log is made, where the one that this card has seen is full.
+pub fn with_the_next_log(folder: &str) -> String {
+    let rule = quoted(&format!("{}/{RULE}", folder.trim_end_matches('/')));
+    format!("The kiosk begins a new log, and `havdrims new NEW {rule}` makes the card for it.")
+}
+
+const OLDER: &str = "\
+Is it an older copy of the log, only a part of it, or another kiosk's? The whole log is wanted, old records too.
+A log that the kiosk has begun anew needs a card of its own, made without --after and --from. ";
 const OTHER: &str = "\
 Is this the log of another kiosk? Were more records overwritten than the last evening named? Was the card put back from
-an older copy? ";
+an older copy? Behind records that are gone for good `havdrims new --from` begins a new card. ";
 const ANOTHER_CARD: &str =
     "A card keeps to the version of its first log, 2 and 3 counting as one; another needs a card of its own. ";
 const TRIMMED: &str = "\
@@ -128,11 +141,16 @@ fn falls(log: &Log<'_>, so_far: &SoFar) -> (String, String) {
     }
     let new = so_far.first.record + so_far.status.seen;
     let early = || format!("record {new}, the first new one, comes before the last one that the card has seen");
-    let hint = match fall.is_some_and(|fall| fall.is_again(log)) {
-        true => "Is this the log of another kiosk, did its clock begin anew, or were records added twice? ",
-        false => "Is this the log of another kiosk, or did its clock begin anew? ",
+    let question = match fall.is_some_and(|fall| fall.is_again(log)) {
+        true => "Is this the log of another kiosk, did its clock begin anew, or were records added twice?",
+        false => "Is this the log of another kiosk, or did its clock begin anew?",
     };
-    (fall.map_or_else(early, |fall| fall.says()), hint.to_string())
+    // What the card has seen is not divided.
+    let hint = match fall.filter(|fall| fall.record as u64 >= new) {
+        Some(fall) => format!("\nIf the clock did, the log's {}", divided(fall.bytes_before(log), "before that")),
+        None => " ".to_string(),
+    };
+    (fall.map_or_else(early, |fall| fall.says()), format!("{question}{hint}"))
 }
 
 fn other_version(log: &Log<'_>) -> String {

@@ -1,14 +1,16 @@
 //! Making a card, and where it begins.
 
+use super::brought::with_the_next_log;
 use super::reading::{quoted, vouched};
 use super::told::by_formula;
 use super::{of_card, Answer, Failure, Given};
 use crate::back::Back;
+use crate::beside::is_card;
 use crate::card::{self, Begins, Card, First};
 use crate::disk::Folder;
 use crate::followed::Follower;
 use crate::letters::Letters;
-use crate::{convert, named};
+use crate::{convert, kept, named};
 use havdrims::{Rule, MOST_RECORDS};
 use std::hash::{BuildHasher, RandomState};
 use std::path::Path;
@@ -21,17 +23,21 @@ fn card_number() -> u64 {
 /// The words of `new`.
 pub fn new(given: &Given) -> Answer {
     let (folder, rules) = given.all().split_first().expect("the table has a word at the beginning");
+    free(folder)?;
     let begins = match (given.value("--after"), given.number("--from")?) {
         (Some(old), _) => after_card(old)?,
         (None, Some(from)) => from_record(from)?.into(),
         (None, None) => First::default().into(),
     };
     let letters = match (given.value("--letters"), given.value("--after")) {
-        (Some(file), _) => named::read(file)?,
-        (None, Some(old)) => names_of(old),
-        (None, None) => Letters::default(),
+        (Some(file), _) => Some(named::read(file)?),
+        (None, Some(old)) => kept::names(&mut Folder::new(Path::new(old))),
+        (None, None) => Some(Letters::default()),
     };
-    let made = make(folder, rules, begins, &letters)?;
+    let mut made = make(folder, rules, begins, letters.as_ref().unwrap_or(&Letters::default()))?;
+    if letters.is_none() {
+        made.push_str(NO_NAMES);
+    }
     let noted = given.value("--after").map_or(Ok(()), |old| follow(old, folder, begins.first.record));
     noted.map_err(|fault| Failure::Partly { fault, printed: made.clone() })?;
     Ok(made)
@@ -45,26 +51,48 @@ fn follow(old: &str, folder: &str, record: u64) -> Result<(), String> {
     })
 }
 
-/// The names that a card's letters have: none where they cannot be read.
-fn names_of(folder: &str) -> Letters {
-    let mut disk = Folder::new(Path::new(folder));
-    let letters = Card::open(&mut disk, false).and_then(|mut card| card.letters());
-    letters.unwrap_or_default()
+const NO_NAMES: &str = "\
+the old card's names for letters are damaged, or cannot be read, and do not go over: `havdrims letters` gives this card some
+";
+
+/// Whether a card may have this place: it is no file, and in no other card.
+fn free(folder: &str) -> Result<(), Failure> {
+    if folder == "-" {
+        return Err(Failure::Use("`-` is standard input; a folder of this name is ./-".to_string()));
+    }
+    // `.` and `..` have no name: what they are in does not matter.
+    let path = Path::new(folder);
+    let above = path.parent().filter(|_| path.file_name().is_some());
+    let above = above.map(|above| if above == Path::new("") { Path::new(".") } else { above });
+    match above.and_then(Path::to_str).filter(|above| is_card(above)) {
+        Some(_) => Err(Failure::fault(folder, "this would be a folder in a card, which holds its own files alone")),
+        None => Ok(()),
+    }
 }
 
 /// Where a card goes on that takes the place of this one, which may be damaged or of another version of the library.
 fn after_card(folder: &str) -> Result<Begins, Failure> {
     let mut disk = Folder::new(Path::new(folder));
-    let fault = match Card::open(&mut disk, false).and_then(|card| card.after()) {
-        Ok(begins) => return Ok(begins),
-        Err(fault) => fault,
+    let begins = match Card::open(&mut disk, false).and_then(|card| card.after()) {
+        Ok(begins) => begins,
+        Err(fault) => vouched(&mut disk, &fault).and_then(|kept| kept.after).ok_or_else(|| of_card(folder, &fault))?,
     };
-    vouched(&mut disk, &fault).and_then(|kept| kept.after).ok_or_else(|| of_card(folder, &fault))
+    match is_full(begins.first.record) {
+        true => Err(Failure::fault(folder, FULL).and(&with_the_next_log(folder))),
+        false => Ok(begins),
+    }
+}
+
+const FULL: &str = "its log is full, so that no card can go on with it";
+
+/// Whether a log has no record of this number.
+fn is_full(record: u64) -> bool {
+    record >= MOST_RECORDS as u64
 }
 
 fn from_record(record: u64) -> Result<First, Failure> {
-    if record > MOST_RECORDS as u64 {
-        return Err(Failure::Use(format!("a log has at most {MOST_RECORDS} records")));
+    if is_full(record) {
+        return Err(Failure::Use(format!("a log has at most {MOST_RECORDS} records, 0 to {}", MOST_RECORDS - 1)));
     }
     Ok(First { record, position: record })
 }

@@ -154,8 +154,8 @@ fn nearly_full(so_far: &SoFar, paint: Paint) -> String {
         1 => format!("the log is nearly full: 1 more record is left of {MOST_RECORDS}"),
         _ => format!("the log is nearly full: {left} more records are left of {MOST_RECORDS}"),
     };
-    let to_do =
-        "close this card (`havdrims close`), let the kiosk begin a new log, and make a new card (`havdrims new`)";
+    let to_do = "close this card (`havdrims close`), let the kiosk begin a new log, \
+                 and make a card for that (`havdrims new`, without --after)";
     format!("{}\n{to_do}\n", paint.soon(&how_far))
 }
 

@@ -71,6 +71,10 @@ impl<'a> Given<'a> {
         if let Some((name, _)) = fixed.into_iter().find(|(_, word)| word.is_empty()) {
             return Err(format!("{} is empty", name.trim_matches(['[', ']'])));
         }
+        let values = self.options.iter().map(|(_, value)| value);
+        if self.words.iter().chain(values).filter(|word| **word == "-").count() > 1 {
+            return Err("`-` is there twice, and standard input is read once".to_string());
+        }
         for option in command.options {
             if let Some(other) = option.instead_of.filter(|other| self.has(option.name) && self.has(other)) {
                 return Err(format!("{other} and {} exclude each other", option.name));
@@ -249,6 +253,8 @@ mod tests {
         wrong("sheet card --elephant", "`--elephant` is no option of `havdrims sheet`");
         wrong("new card e0 --from 4 --after old", "--after and --from exclude each other");
         wrong("simulate log --seconds 4", "--warm-up is missing");
+        wrong("why - - 5", "`-` is there twice, and standard input is read once");
+        wrong("new card - --letters -", "`-` is there twice, and standard input is read once");
     }
 
     #[test]

@@ -37,8 +37,12 @@ pub fn overview() -> String {
         let _ = write!(text, "\n{}:\n{}", group.heading(), columns(rows));
     }
     let more = "`havdrims help COMMAND` says more of a command, `havdrims help rules` how a rule is written.";
-    text + "\n" + &wrapped(more)
+    text + "\n" + &wrapped(WORDS) + "\n" + &wrapped(more)
 }
+
+/// What holds of the words of every command.
+pub const WORDS: &str = "In place of a file that is read `-` is standard input, once in a command. Behind `--` no word is an option, \
+                         so that a name may begin with strokes. Options stand in any order, as `--from 5` or `--from=5`.";
 
 impl Command {
     pub fn help(&self) -> String {

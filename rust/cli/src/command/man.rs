@@ -1,6 +1,6 @@
 //! The man page, in the language of man(7), made from the table of commands.
 
-use super::help::{capital, FORMULAS};
+use super::help::{capital, FORMULAS, WORDS};
 use super::table::{Command, Group, COMMANDS};
 use std::fmt::Write;
 
@@ -14,6 +14,7 @@ pub fn page() -> String {
         "Checks the log of a kiosk against its rule, evening by evening. What belongs to one kiosk, its rule, its checkpoint and \
          its sheet of verdicts, is kept in a folder, a card.",
     ));
+    let _ = write!(text, ".PP\n{}", plain(WORDS));
     for group in Group::ALL {
         let _ = writeln!(text, ".SH {}", plain(&group.heading().to_uppercase()).trim_end());
         for command in COMMANDS.iter().filter(|command| command.group == group) {

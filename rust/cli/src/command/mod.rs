@@ -39,8 +39,12 @@ pub enum Failure {
 impl Failure {
     /// What is wrong with the thing of this name.
     pub fn fault(name: &str, fault: impl Display) -> Failure {
-        let name = if name == "-" { "standard input" } else { name };
-        Failure::Fault(format!("{name}: {fault}"))
+        Failure::Fault(format!("{}: {fault}", called(name)))
+    }
+
+    /// What is wrong in a line of the file of this name: the fault begins with the line.
+    pub fn in_line(name: &str, fault: impl Display) -> Failure {
+        Failure::Fault(format!("{}, {fault}", called(name)))
     }
 
     /// The same, with a further line.
@@ -52,8 +56,16 @@ impl Failure {
     }
 }
 
+/// What a file is called.
+fn called(name: &str) -> &str {
+    match name {
+        "-" => "standard input",
+        name => name,
+    }
+}
+
 /// What is wrong with a card.
-fn of_card(folder: &str, fault: &card::Fault) -> Failure {
+pub(crate) fn of_card(folder: &str, fault: &card::Fault) -> Failure {
     let path = Path::new(folder);
     match fault {
         _ if path.is_file() => Failure::fault(folder, "this is a file, and a card is a folder"),
@@ -65,8 +77,14 @@ fn of_card(folder: &str, fault: &card::Fault) -> Failure {
             none if none.is_empty() => Failure::fault(folder, fault),
             meant => Failure::fault(folder, format!("no card is here{meant}")),
         },
+        _ if fault.is_damage() => Failure::fault(folder, fault).and(&checked(folder)),
         _ => Failure::fault(folder, fault),
     }
+}
+
+/// Where more is said of a card that is damaged.
+pub(crate) fn checked(folder: &str) -> String {
+    format!("`havdrims check {}` says what can be done.", reading::quoted(folder))
 }
 
 /// Says something besides on standard error. The command goes on.

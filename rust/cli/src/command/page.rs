@@ -7,6 +7,7 @@ use crate::card::Card;
 use crate::disk::Folder;
 use crate::page::clock::Clock;
 use crate::{file, page, parts};
+use std::fmt::Write;
 use std::path::Path;
 
 /// The words of `page`.
@@ -34,7 +35,13 @@ pub fn page(given: &Given) -> Answer {
             format!("{} no in {stretches}{lost}", no.number)
         }
     };
-    Ok(by_formula(out, ": ", page.no.iter().map(no).collect()) + &followed.line())
+    let mut said = by_formula(out, ": ", page.no.iter().map(no).collect()) + &followed.line();
+    // A closed card takes no more of them.
+    if page.further > 0 && !so_far.status.closed {
+        let lacks = parts::counted(page.further as usize, "record that the card has", "records that the card has");
+        let _ = writeln!(said, "the log has {lacks} not seen: run `havdrims evening`, and make the page anew");
+    }
+    Ok(said)
 }
 
 fn start(typed: &str) -> Result<Clock, Failure> {

@@ -2,7 +2,7 @@
 
 use super::json::Json;
 use super::told::{all, as_json, followed_by};
-use super::{of_card, Answer, Failure, Given};
+use super::{checked, of_card, Answer, Failure, Given};
 use crate::card::{self, Begins, Card, Fault, First, SoFar};
 use crate::disk::Folder;
 use crate::followed::Followed;
@@ -55,7 +55,7 @@ impl Told {
             1 => "This is of the first verdict, which a checksum vouches for.".to_string(),
             many => format!("This is of the first {many} verdicts, which a checksum vouches for."),
         };
-        let fault = format!("{folder}: {fault}\n{vouched} `havdrims check` says what can be done.");
+        let fault = format!("{folder}: {fault}\n{vouched} {}", checked(folder));
         Err(Failure::Partly { printed, fault })
     }
 }
@@ -152,6 +152,9 @@ fn advice(folder: &str, fault: &Fault, kept: Option<&Kept>) -> String {
     text.push_str("what can be done:\n");
     if let Fault::PointUnreadable(Unreadable::Version) | Fault::PointRefused(Refusal::ForeignPoint) = fault {
         text.push_str("  the program that wrote the point can carry on with this card\n");
+    }
+    if let Fault::Disk { .. } = fault {
+        text.push_str("  when its files can be read again, the card goes on as it is\n");
     }
     text.push_str("  a copy of the card can be put back, all its files together\n");
     if let Some(Begins { first: First { record, .. }, .. }) = kept.and_then(|kept| kept.after) {

@@ -86,9 +86,10 @@ pub const COMMANDS: [Command; 20] = [
         ],
         does: "make the folder CARD for one kiosk",
         more: "\
-RULE is a .krl file, or a text such as 'not e2 or e0 until[0,90] e1' (`havdrims help rules`). Several of them, with up to
-eight formulas, are judged together: a position has its verdicts when every formula has answered it. The folder must not
-be there yet, or be empty; if making it was cut short, it can be made again with the same words.
+RULE is a text such as 'not e2 or e0 until[0,90] e1' (`havdrims help rules`), a .krl file, or `-` for one that comes from
+standard input. Several of them, with up to eight formulas, are judged together: a position has its verdicts when every
+formula has answered it. The folder must not be there yet, or be empty; if making it was cut short, it can be made again
+with the same words. It is in no other card.
 
 The card begins at record 0 of its log, unless an option says otherwise. What stands before is never read: previous and
 since find nothing there, so that the first verdicts of a rule that looks back may be others than on the whole log; then it
@@ -226,7 +227,7 @@ time and its reason. The verdicts are those of the card's sheet; the card is not
 LOG is the kiosk's log, or what is left of it. Times and reasons are taken only from records that are as the card has seen
 them, by the checksums of its evenings; where they were overwritten, dropped or altered, the line says so. So the page is
 made before the records of the week are overwritten, or from a copy of the log. What the card has not seen yet is not on
-the page. A log has no clock: without --start days are counted from its second 0.
+the page, and is said. A log has no clock: without --start days are counted from its second 0.
 
 A file that is there is replaced only with --force, and no file is put into a card.",
         example: "havdrims page card tuesday.klg friday.html --start 2026-11-09T09:00",
@@ -279,7 +280,7 @@ or no there. Positions are numbered over the records that are no service records
 A rule or formula is explained on the log from record 0 on; a card as it has judged: from its first record on, from which
 its positions count, and where it is closed up to its last. A reason that looks back to a first record with others before
 it says that the card has not read them. A verdict that came from closing alone has no reason, and none is given that the
-card's sheet contradicts.",
+card's sheet contradicts. Where the record may not be as the card has seen it, that is said on standard error.",
         example: "havdrims why card/rule.krl day.klg 5 --words",
         run: |given| {
             let [rule, log, record] = given.words();

@@ -47,6 +47,8 @@ impl No {
 pub struct Page {
     pub html: String,
     pub no: Vec<No>,
+    /// The records of the log that the card has not seen, and that are not on it therefore.
+    pub further: u64,
 }
 
 /// The page of the card in this folder with its log, which is as it was or has lost what was released.
@@ -63,6 +65,7 @@ pub fn page(card: &mut Card<'_, impl Disk>, folder: &str, log: &[u8], clock: Clo
     let no = formulas.iter().map(|formula| No::of(&formula.stretches)).collect();
     let known: u64 = spans.iter().map(|span| span.held.len() as u64).sum();
     let open_from = place(&spans, status.given).zip(spans.last().and_then(Span::ends));
+    let further = whole.len() as u64 - first.record - status.seen;
     let made = SystemTime::now().duration_since(UNIX_EPOCH).map_or(0, |since| since.as_secs());
     let document = Document {
         card: name(folder),
@@ -78,12 +81,12 @@ pub fn page(card: &mut Card<'_, impl Disk>, folder: &str, log: &[u8], clock: Clo
         numbers: Numbers { position: first.position, same: services == 0 && first.record == first.position },
         first: first.record,
         services,
-        further: whole.len() as u64 - first.record - status.seen,
+        further,
         lost: card.so_far.positions() - known,
         record: &|position| place(&spans, position).map(|held| first.record + held.record),
         files: vec![("sheet of verdicts", card.verdicts().to_vec()), ("rule", card.rule().to_vec())],
     };
-    Ok(Page { html: document.write(), no })
+    Ok(Page { html: document.write(), no, further })
 }
 
 /// The formulas of a card, with what their verdicts come to.

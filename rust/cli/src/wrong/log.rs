@@ -126,6 +126,12 @@ impl Fall {
         format!("record {record}, second {seconds}, comes after record {}, second {before}", record - 1)
     }
 
+    /// How many bytes of the log stand before it.
+    pub fn bytes_before(&self, log: &Log<'_>) -> usize {
+        let header = if log.version() == 3 { 16 } else { 8 };
+        header + 8 * (self.record - log.dropped())
+    }
+
     /// Whether an earlier record has its time already, as where records were added twice.
     pub fn is_again(&self, log: &Log<'_>) -> bool {
         let earlier = self.record - log.dropped();

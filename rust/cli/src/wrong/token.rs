@@ -120,7 +120,7 @@ fn not_known(what: &str, found: &str) -> (String, String) {
     let hint = match found {
         "and" | "&" => "; there is no and: `not (not A or not B)` says it".to_string(),
         "|" => "; did you mean or?".to_string(),
-        "-" => "; between two ends stands a comma, as in [0,90]".to_string(),
+        "-" => "; between two ends stands a comma, as in [0,90], and none is below 0".to_string(),
         "!" | "~" => "; did you mean not?".to_string(),
         "previous" => "; did you mean prev?".to_string(),
         "if" | "then" | "implies" => "; `not A or B` says that B is so whenever A is".to_string(),

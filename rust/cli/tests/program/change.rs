@@ -1,6 +1,6 @@
 //! A new rule in the middle of a week: a card that begins where another has come to, or at a given record.
 
-use crate::{contents, example, Place, ALREADY, CARRY_ON, OLDER_LOG, OTHER_LOG, RULE};
+use crate::{contents, ended, example, Place, ALREADY, CARRY_ON, OLDER_LOG, OTHER_LOG, RULE};
 use cli::evenings::bound_to;
 use cli::followed::{Followed, Follower};
 use evaluator::log::{self, Record};
@@ -242,8 +242,19 @@ fn where_no_card_can_begin() {
     ] {
         assert_eq!(place.fails(2, words), format!("{text}\n{expected}"), "{words:?}");
     }
-    let said = place.fails(2, &["new", "more", "e0", "--from", "1000001"]);
-    assert_eq!(said, format!("a log has at most 1000000 records\n{expected}"));
+    for number in ["1000000", "1000001"] {
+        let said = place.fails(2, &["new", "more", "e0", "--from", number]);
+        assert_eq!(said, format!("a log has at most 1000000 records, 0 to 999999\n{expected}"));
+    }
+    let said = place.fails(2, &["new", "-", "e0"]);
+    assert_eq!(said, format!("`-` is standard input; a folder of this name is ./-\n{expected}"));
+    // in a card, as it is typed from there too
+    let before = place.card();
+    let inside = "this would be a folder in a card, which holds its own files alone\n";
+    assert_eq!(place.fails(1, &["new", "card/more", "e0"]), format!("card/more: {inside}"));
+    let said = place.program().args(["new", "more", "e0"]).current_dir(place.path("card")).output().unwrap();
+    assert_eq!(ended(said), (1, String::new(), format!("more: {inside}")));
+    assert_eq!(place.card(), before);
     let said = place.fails(1, &["new", "more", "e0", "--after", "none"]);
     assert_eq!(said, "none: no card is here; `havdrims new` makes one\n");
     assert_eq!(place.fails(1, &["new", "card", "e0", "--after", "card"]), ALREADY);

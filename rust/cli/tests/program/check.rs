@@ -1,6 +1,6 @@
 //! `check`, and how to go on from a card that is damaged or of another version of the library.
 
-use crate::{contents, example, Place, RULE};
+use crate::{contents, example, Place, CHECKED, RULE};
 use havdrims::save::Saved;
 use std::fs;
 
@@ -167,7 +167,7 @@ fn rows_that_are_damaged_too() {
         let (printed, _) = place.partly(&["check", "card"]);
         assert!(printed.contains("the first 12 verdicts") && !printed.contains("can go on"), "{printed}");
         let before = contents(&place.0.join("card"));
-        let text = "card: the file `point` is damaged: its checksum does not fit\n";
+        let text = format!("card: the file `point` is damaged: its checksum does not fit\n{CHECKED}");
         assert_eq!(place.fails(1, &["new", "next", RULE, "--after", "card"]), text);
         assert_eq!(contents(&place.0.join("card")), before);
     }
@@ -185,8 +185,51 @@ fn an_earlier_card_that_is_damaged() {
     let none =
         "no verdict is vouched for\nwhat can be done:\n  a copy of the card can be put back, all its files together\n";
     assert!(printed.ends_with(none), "{printed}");
-    let text = "card: the file `point` is damaged: its checksum does not fit\n";
+    let text = format!("card: the file `point` is damaged: its checksum does not fit\n{CHECKED}");
     assert_eq!(place.fails(1, &["sheet", "card"]), text);
+}
+
+/// A file that is there and cannot be read is not said to be missing.
+#[test]
+fn files_that_cannot_be_read() {
+    let place = Place::with_names();
+    place.ok(&["evening", "card", "day.klg"]);
+    for file in ["point", "letters"] {
+        fs::remove_file(place.path("card").join(file)).unwrap();
+        fs::create_dir(place.path("card").join(file)).unwrap();
+    }
+    let (printed, said) = place.partly(&["check", "card"]);
+    assert!(printed.contains("point: cannot be read\nletters: cannot be read\n"), "{printed}");
+    let again = "what can be done:\n  when its files can be read again, the card goes on as it is\n";
+    assert!(printed.contains(again), "{printed}");
+    assert_eq!(said, "card: cannot read the file `point`: Is a directory (os error 21)\n");
+    assert!(place.ok(&["new", "next", RULE, "--after", "card"]).contains("cannot be read, and do not go over"));
+}
+
+/// What `check` says of a point that is whole and of no use.
+#[test]
+fn the_line_of_the_point() {
+    let place = Place::with_card(1);
+    let good = place.card();
+    let said = |change: fn(&mut Saved), file: &str, bytes: &[u8]| {
+        good.iter().for_each(|(name, bytes)| fs::write(place.path("card").join(name), bytes).unwrap());
+        fs::write(place.path("card").join(file), bytes).unwrap();
+        let mut saved = Saved::decode(&good["point"]).unwrap();
+        change(&mut saved);
+        fs::write(place.path("card/point"), saved.encode()).unwrap();
+        let (_, printed, _) = place.run(&["check", "card"]);
+        printed.lines().find_map(|line| line.strip_prefix("point: ").map(str::to_string)).unwrap()
+    };
+    let changed = |change| said(change, "rule.krl", &good["rule.krl"]);
+    assert_eq!(changed(|_| {}), "good");
+    assert_eq!(changed(|saved| saved.owner ^= 1), "whole, but not of the card in card.txt");
+    assert_eq!(changed(|saved| saved.rule ^= 1), "whole, but not of the rule in rule.krl");
+    assert_eq!(changed(|saved| saved.words[0] ^= 1), "whole, but of another library's format (refused 10)");
+    assert_eq!(changed(|saved| saved.words[2] = 0), "whole, but not as this library writes it (refused 11)");
+    assert_eq!(changed(|saved| saved.given = 4), "damaged: its numbers do not fit together");
+    assert_eq!(changed(|saved| saved.services = 3), "damaged: its numbers do not fit together");
+    // what stands beside it is damaged, and it may be good
+    assert_eq!(said(|_| {}, "card.txt", b"half"), "good");
 }
 
 /// A `new` that was cut.

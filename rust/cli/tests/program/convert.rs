@@ -106,6 +106,8 @@ fn rules_as_formulas() {
     assert_eq!(said, "`typed.krl` is a rule file, and a formula is wanted here (refused 16)\n");
     let said = place.fails(1, &["new", "card", "typed"]);
     assert_eq!(said, "`typed` is no formula; did you mean typed.krl? (refused 16)\n");
+    let said = place.fails(1, &["new", "card", "tpyed.klr"]);
+    assert_eq!(said, "`tpyed.klr` is no formula; did you mean typed.krl? (refused 16)\n");
     let said = place.fails(1, &["new", "card", "day"]);
     assert!(said.starts_with("the word `day` is not known\n") && said.ends_with(" (refused 16)\n"), "{said}");
     fs::write(place.path("day"), "e0").unwrap();
@@ -118,7 +120,12 @@ fn rules_as_formulas() {
     let quotes = "the character ‘ is not known; quotes around a formula are straight ones, '\n  ?e0\n  ^\n";
     assert!(said.starts_with(quotes), "{said}");
     let said = place.fails(1, &["new", "card", "e0 until[0-90] e1"]);
-    assert!(said.starts_with("the sign `-` is not known; between two ends stands a comma, as in [0,90]\n"), "{said}");
+    assert!(
+        said.starts_with(
+            "the sign `-` is not known; between two ends stands a comma, as in [0,90], and none is below 0\n"
+        ),
+        "{said}"
+    );
     assert!(!place.path("none.krl").exists());
     fs::write(place.path("long.krl"), [0; 100_000]).unwrap();
     assert_eq!(
@@ -280,7 +287,8 @@ fn where_files_go() {
     assert!(place.path("other.krl").is_symlink());
     assert_eq!(fs::read(place.path("away/rule.krl")).unwrap(), rule::encode(&[rule::Entry::letter(0)]));
     symlink("none/rule.krl", place.path("nowhere.krl")).unwrap();
-    fails("rule e0 nowhere.krl", "nowhere.krl: No such file or directory (os error 2)\n");
+    let text = "nowhere.krl: this link leads to no file; take it away, or choose another name\n";
+    fails("rule e0 nowhere.krl", text);
     // what a file is made from stays, whatever its name
     let typed = fs::read(place.path("day.txt")).unwrap();
     fs::write(place.path("made.klg.new"), &typed).unwrap();

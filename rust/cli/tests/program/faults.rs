@@ -1,6 +1,6 @@
 //! What can go wrong, each with its words, exit status 1, and the card unchanged.
 
-use crate::{contents, ended, Place, ALREADY, CARRY_ON, OLDER_LOG, OTHER_CLOCK, OTHER_LOG, RULE};
+use crate::{contents, divided, ended, Place, ALREADY, CARRY_ON, CHECKED, OLDER_LOG, OTHER_CLOCK, OTHER_LOG, RULE};
 use evaluator::log;
 use havdrims::save::{checksum, Saved};
 use std::fs::{self, File, Permissions};
@@ -37,7 +37,7 @@ fn logs_that_are_refused() {
     // a new record whose time falls
     let falls = [whole.as_slice(), &[0, 0, 2, 0xd9, 0, 0, 0, 0]].concat();
     let times = "record 14, second 729, comes after record 13, second 730 (refused 14)";
-    evening(&falls, times, &format!("{OTHER_CLOCK} "));
+    evening(&falls, times, &format!("{OTHER_CLOCK}{} ", divided(120)));
     // a log of the other version
     let mut second = whole.clone();
     second[4] = 2;
@@ -356,12 +356,20 @@ fn records_that_were_added_twice() {
     let day = fs::read(place.path("day.klg")).unwrap();
     fs::write(place.path("twice.klg"), [&day, &day[8..]].concat()).unwrap();
     let twice = "twice.klg: record 14, second 0, comes after record 13, second 730 (refused 14)\n\
-                 Is this the log of another kiosk, did its clock begin anew, or were records added twice? Nothing was changed.\n";
-    assert_eq!(place.fails(1, &["evening", "card", "twice.klg"]), twice);
+                 Is this the log of another kiosk, did its clock begin anew, or were records added twice?";
+    let text = format!("{twice}{} Nothing was changed.\n", divided(120));
+    assert_eq!(place.fails(1, &["evening", "card", "twice.klg"]), text);
     // A second that the log does not have.
     fs::write(place.path("falls.klg"), [&day, &[0, 0, 0, 1, 0, 0, 0, 0][..]].concat()).unwrap();
     let said = place.fails(1, &["evening", "card", "falls.klg"]);
-    assert!(said.ends_with(&format!("(refused 14)\n{OTHER_CLOCK} Nothing was changed.\n")), "{said}");
+    assert!(said.ends_with(&format!("(refused 14)\n{OTHER_CLOCK}{} Nothing was changed.\n", divided(120))), "{said}");
+    // what is said can be done
+    let falls = fs::read(place.path("falls.klg")).unwrap();
+    fs::write(place.path("before.klg"), &falls[..120]).unwrap();
+    fs::write(place.path("after.klg"), [&falls[..8], &falls[120..]].concat()).unwrap();
+    place.ok(&["close", "card", "before.klg", "--final"]);
+    place.ok(&["new", "next", "card/rule.krl"]);
+    place.ok(&["evening", "next", "after.klg"]);
 }
 
 /// A formula of several words that the shell hands over one by one.
@@ -476,13 +484,11 @@ fn folders_that_are_no_card_and_cards_that_are_there() {
 fn reads(place: &Place, text: &str, vouched: bool) {
     let before = place.card();
     if !vouched {
-        refuses(place, &["summary", "card"], &format!("card: {text}\n"));
-        refuses(place, &["sheet", "card"], &format!("card: {text}\n"));
+        refuses(place, &["summary", "card"], &format!("card: {text}\n{CHECKED}"));
+        refuses(place, &["sheet", "card"], &format!("card: {text}\n{CHECKED}"));
         return;
     }
-    let hint =
-        "This is of the first 12 verdicts, which a checksum vouches for. `havdrims check` says what can be done.";
-    let err = format!("card: {text}\n{hint}\n");
+    let err = format!("card: {text}\nThis is of the first 12 verdicts, which a checksum vouches for. {CHECKED}");
     let so_far = "so far: 12 verdicts, 2 no, the latest at record 8\nopen: 2 of 14 records\n";
     assert_eq!(place.partly(&["summary", "card"]), (so_far.to_string(), err.clone()));
     assert_eq!(place.partly(&["sheet", "card", "--from", "10"]), ("10 yes\n11 yes\n".to_string(), err));
@@ -495,13 +501,13 @@ fn files_that_are_missing() {
     let place = Place::with_card(1);
     let missing = |text: &str, vouched: bool| {
         reads(&place, text, vouched);
-        refuses(&place, &["evening", "card", "tuesday.klg"], &format!("card: {text}\nNothing was changed.\n"));
+        refuses(&place, &["evening", "card", "tuesday.klg"], &format!("card: {text}\n{CHECKED}Nothing was changed.\n"));
     };
     let point = fs::read(place.path("card/point")).unwrap();
     fs::remove_file(place.path("card/point")).unwrap();
     let text = "the file `point` is missing, but the sheet has 12 verdicts";
     missing(text, true);
-    refuses(&place, &["new", "card", RULE], &format!("card: {text}\n"));
+    refuses(&place, &["new", "card", RULE], &format!("card: {text}\n{CHECKED}"));
     fs::write(place.path("card/point"), point).unwrap();
     let rows = fs::read(place.path("card/evenings")).unwrap();
     fs::remove_file(place.path("card/evenings")).unwrap();
@@ -543,13 +549,20 @@ fn damaged_cards() {
         let mut bytes = fs::read(&path).unwrap();
         change(&mut bytes);
         fs::write(&path, bytes).unwrap();
-        refuses(&place, &["evening", "card", "tuesday.klg"], &format!("card: {text}\nNothing was changed.\n"));
-        refuses(&place, &["close", "card", "tuesday.klg", "--final"], &format!("card: {text}\nNothing was changed.\n"));
+        let refused = format!("card: {text}\n{CHECKED}");
+        for command in CARRY_ON {
+            let words = [command, &["card", "tuesday.klg"]].concat();
+            refuses(&place, &words, &format!("{refused}Nothing was changed.\n"));
+        }
+        for words in [&["open", "card", "tuesday.klg"][..], &["letters", "card"], &["formula", "card"]] {
+            refuses(&place, words, &refused);
+        }
         reads(&place, text, vouched);
         // `check` says it too
         let (printed, said) = place.partly(&["check", "card"]);
         assert_eq!(said, format!("card: {text}\n"));
         assert!(printed.contains("what can be done:\n") && printed.contains(&format!("{file}: ")), "{printed}");
+        assert!(file != "point" || !printed.contains("point: good"), "{printed}");
         assert_eq!(printed.contains("the first 12 verdicts are vouched for"), vouched, "{printed}");
         assert_eq!(printed.contains("no verdict is vouched for"), !vouched, "{printed}");
     };
@@ -564,7 +577,7 @@ fn damaged_cards() {
     damage("point", &|bytes| bytes.clear(), "the file `point` is not that of a card");
     damage("point", &|bytes| bytes[4] = 1, "the file `point` is of another version of this program");
     let digit = |bytes: &mut Vec<u8>| bytes[14] = if bytes[14] == b'0' { b'1' } else { b'0' };
-    damage("card.txt", &digit, "the file `point` belongs to another card");
+    damage("card.txt", &digit, "the files `card.txt` and `point` are of two cards, or one is damaged");
     let card = "the file `card.txt` is damaged: it does not hold the card's number";
     damage("card.txt", &|bytes| bytes[0] ^= 1, card);
     damage("card.txt", &|bytes| bytes.clear(), card);
@@ -602,8 +615,11 @@ fn a_point_of_another_card() {
     place.ok(&["new", "other", RULE]);
     place.ok(&["evening", "other", "day.klg"]);
     fs::copy(place.path("other/point"), place.path("card/point")).unwrap();
-    let text = "card: the file `point` belongs to another card\nNothing was changed.\n";
-    refuses(&place, &["evening", "card", "tuesday.klg"], text);
+    let fault = "card: the files `card.txt` and `point` are of two cards, or one is damaged\n";
+    refuses(&place, &["evening", "card", "tuesday.klg"], &format!("{fault}{CHECKED}Nothing was changed.\n"));
+    let (printed, said) = place.partly(&["check", "card"]);
+    assert!(printed.contains("point: whole, but not of the card in card.txt\n"), "{printed}");
+    assert_eq!(said, fault);
 }
 
 /// What a run that was cut has left behind does not count.

@@ -24,6 +24,10 @@ fn bash(place: &Place, line: &str) -> (i32, String, String) {
     ended(command.args(["-c", line]).env("PATH", path).current_dir(&place.0).output().unwrap())
 }
 
+/// What holds of the words of every command.
+const ALL_WORDS: &str = "In place of a file that is read `-` is standard input, once in a command. Behind `--` no word is an option, \
+                         so that a name may begin with strokes. Options stand in any order, as `--from 5` or `--from=5`.";
+
 #[test]
 fn all_commands() {
     let place = Place::new();
@@ -38,6 +42,7 @@ fn all_commands() {
             "{name}"
         );
     }
+    assert!(in_a_line.contains(ALL_WORDS), "{overview}");
     for heading in ["A card, evening by evening", "Rules and logs", "This program"] {
         assert!(overview.contains(&format!("\n\n{heading}:\n")), "{overview}");
     }
@@ -146,6 +151,7 @@ fn the_man_page() {
     let page = place.ok(&["man"]);
     fs::write(place.path("havdrims.1"), &page).unwrap();
     let plain = page.replace("\\-", "-");
+    assert!(plain.contains(&format!("\n{}\n", ALL_WORDS.replace('`', "\\(ga"))), "{plain}");
     for section in ["NAME", "SYNOPSIS", "DESCRIPTION", "RULES", "ENVIRONMENT", "EXIT STATUS"] {
         assert!(plain.contains(&format!("\n.SH {section}\n")), "{section}");
     }

@@ -77,9 +77,17 @@ fn names_of_a_card_after_another() {
     fs::write(place.path("names.txt"), "0 warm\n").unwrap();
     place.ok(&["new", "other", "e0", "--after", "card", "--letters", "names.txt"]);
     assert_eq!(place.ok(&["letters", "other"]), "0 warm\n");
+    // of a card whose point is damaged too
+    fs::write(place.path("card/point"), b"half").unwrap();
+    let made = place.ok(&["new", "later", "e0", "--after", "card"]);
+    assert!(made.starts_with("later: e0\n    \"head warm\"\n"), "{made}");
     fs::write(place.path("card/letters"), "0 head cold\n").unwrap();
-    place.ok(&["new", "bare", "e0", "--after", "card"]);
+    let made = place.ok(&["new", "bare", "e0", "--after", "card"]);
+    let lost = "the old card's names for letters are damaged, or cannot be read, and do not go over: \
+                `havdrims letters` gives this card some\n";
+    assert!(made.ends_with(&format!("begins at record 12\n{lost}")), "{made}");
     assert_eq!(place.ok(&["letters", "bare"]), "");
+    assert!(!place.ok(&["new", "named", "e0", "--after", "card", "--letters", "names.txt"]).contains("go over"));
 }
 
 #[test]

@@ -32,13 +32,24 @@ const CARRY_ON: [&[&str]; 2] = [&["evening"], &["close", "--final"]];
 /// What may be the cause where a log is not that of its card.
 const OTHER_LOG: &str = "\
 Is this the log of another kiosk? Were more records overwritten than the last evening named? Was the card put back from
-an older copy?";
-const OLDER_LOG: &str =
-    "Is it an older copy of the log, only a part of it, or another kiosk's? The whole log is wanted, old records too.";
+an older copy? Behind records that are gone for good `havdrims new --from` begins a new card.";
+const OLDER_LOG: &str = "\
+Is it an older copy of the log, only a part of it, or another kiosk's? The whole log is wanted, old records too.
+A log that the kiosk has begun anew needs a card of its own, made without --after and --from.";
 /// What is said of a card that is to be made where one is.
 const ALREADY: &str = "card: a card is here already\n\
                        A card keeps its rule: `havdrims new OTHER RULE --after card` goes on from it with another.\n";
+/// Where more is said of a card that is damaged.
+const CHECKED: &str = "`havdrims check card` says what can be done.\n";
 const OTHER_CLOCK: &str = "Is this the log of another kiosk, or did its clock begin anew?";
+
+/// What is said besides where the log can be divided, behind this many bytes.
+fn divided(bytes: usize) -> String {
+    format!(
+        "\nIf the clock did, the log's first {bytes} bytes end with the last record before that: \
+         close the card with these, and begin\na new log and a new card with what follows."
+    )
+}
 
 /// A folder for one test, removed with it.
 struct Place(PathBuf);

@@ -400,9 +400,26 @@ fn standard_input() {
     ok(&["evening", "visited", "-"], "visit.klg");
     assert_eq!(ok(&["trim", "visited", "-", "out.klg"], "visit.klg"), "out.klg: records 0 to 14 dropped, 2 left\n");
     assert!(ok(&["close", "card", "-", "--final"], "tuesday.klg").starts_with("records 12 to 18: "));
+    // a rule, though a card has that name
+    place.ok(&["new", "./-", "e0"]);
+    assert_eq!(ok(&["new", "piped", "-"], "rule.krl"), format!("piped: {RULE}\nwords 294, reach 90 seconds\n"));
+    assert_eq!(ok(&["why", "-", "day.klg", "5"], "rule.krl"), place.ok(&["why", RULE, "day.klg", "5"]));
+    assert_eq!(ok(&["formula", "-"], "rule.krl"), place.ok(&["formula", "rule.krl"]));
+    fs::remove_dir_all(place.path("-")).unwrap();
     // faults name it so
-    let (status, _, err) = run(&["to-text", "-"], "rule.krl");
-    assert_eq!((status, err.as_str()), (1, "standard input: this is a rule, not a log (refused 12)\n"));
+    for (words, text) in [
+        (&["to-text", "-"][..], "standard input: this is a rule, not a log (refused 12)\n"),
+        (&["new", "other", "-"], "standard input: this is no rule file: it does not begin with KRL (refused 1)\n"),
+        (&["to-log", "-", "other.klg"], "standard input, line 1: `x` is no number of seconds up to 4294967295\n"),
+        (
+            &["letters", "card", "-"],
+            "standard input, line 1: `x` is no letter's number: a line has a number, 0 to 31, and a name\n",
+        ),
+    ] {
+        let file = if words[0] == "to-text" { "rule.krl" } else { "wrong.txt" };
+        fs::write(place.path("wrong.txt"), "x e0\n").unwrap();
+        assert_eq!(run(words, file), (1, String::new(), text.to_string()), "{words:?}");
+    }
     for words in
         [&["to-log", "day.txt", "-"][..], &["trim", "visited", "visit.klg", "-"], &["worst", "0", "1", "5", "-"]]
     {
@@ -422,8 +439,8 @@ fn standard_input() {
 #[test]
 fn logs_that_are_nearly_full() {
     let place = Place::new();
-    let to_do =
-        "close this card (`havdrims close`), let the kiosk begin a new log, and make a new card (`havdrims new`)\n";
+    let to_do = "close this card (`havdrims close`), let the kiosk begin a new log, \
+                 and make a card for that (`havdrims new`, without --after)\n";
     place.ok(&["new", "card", "e0"]);
     let mut log = b"KLG\x00\x01\x00\x00\x00".to_vec();
     let mut evening = |records: usize| {
@@ -453,6 +470,13 @@ fn logs_that_are_nearly_full() {
     fs::write(place.path("cut.klg"), &log[..8_000_008]).unwrap();
     let said = place.ok(&["close", "card", "cut.klg", "--final"]);
     assert!(said.contains("and the card is closed\n") && !said.contains("full"), "{said}");
+    // behind it no card goes on
+    let next = "The kiosk begins a new log, and `havdrims new NEW card/rule.krl` makes the card for it.";
+    let closed = "card: the card is closed: it takes no further records (refused 20)\n";
+    assert_eq!(place.fails(1, &["evening", "card", "cut.klg"]), format!("{closed}{next} Nothing was changed.\n"));
+    let full = format!("card: its log is full, so that no card can go on with it\n{next}\n");
+    assert_eq!(place.fails(1, &["new", "NEW", "card/rule.krl", "--after", "card"]), full);
+    place.ok(&["new", "NEW", "card/rule.krl"]);
 
     // a trimmed log counts the dropped ones
     place.ok(&["new", "later", "e0", "--from", "999997"]);

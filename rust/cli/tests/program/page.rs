@@ -269,6 +269,9 @@ fn cards_without_a_no_or_without_records() {
     let text = plain(&place.page("day.klg", &[]));
     let further = "The log has 14 further records that the card has not seen: havdrims evening judges them.";
     assert!(text.contains(further), "{text}");
+    let said = place.ok(&["page", "card", "day.klg", "more.html"]);
+    let run = "run `havdrims evening`, and make the page anew\n";
+    assert_eq!(said, format!("more.html: 0 no\nthe log has 14 records that the card has not seen: {run}"));
     place.ok(&["evening", "card", "day.klg"]);
     assert!(place.lines("day.klg", &[]).is_empty());
     fs::write(place.path("empty.krl"), b"KRL\x00\x01\x00\x00\x00").unwrap();

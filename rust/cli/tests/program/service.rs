@@ -1,6 +1,6 @@
 //! Service visits: records of a version 2 log that are no positions.
 
-use crate::{example, Place, CARRY_ON, OLDER_LOG, OTHER_CLOCK, OTHER_LOG, RULE};
+use crate::{divided, example, Place, CARRY_ON, OLDER_LOG, OTHER_CLOCK, OTHER_LOG, RULE};
 use havdrims::text::log_from_text;
 use std::fs;
 
@@ -169,7 +169,7 @@ fn service_records_are_records() {
     falls[8 + 8 * 2 + 3] = 11;
     fs::write(place.path("other.klg"), &falls).unwrap();
     let falls = "record 2, second 11, comes after record 1, second 12 (refused 14)";
-    let text = format!("other.klg: {falls}\n{OTHER_CLOCK} Nothing was changed.\n");
+    let text = format!("other.klg: {falls}\n{OTHER_CLOCK}{} Nothing was changed.\n", divided(24));
     assert_eq!(place.fails(1, &["evening", "card", "other.klg"]), text);
     let shorter = place.log("other.klg", "10 e0\n");
     let fewer = "the log has 1 record, and the card has seen 2 (refused 13)";

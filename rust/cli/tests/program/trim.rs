@@ -1,7 +1,7 @@
 //! Shorter logs: what a card no longer wants is dropped, and the log goes on from there.
 
 use crate::service::with_visits;
-use crate::{contents, Place, CARRY_ON, OLDER_LOG, OTHER_LOG, RULE};
+use crate::{contents, divided, Place, CARRY_ON, CHECKED, OLDER_LOG, OTHER_LOG, RULE};
 use evaluator::log::{self, Record};
 use evaluator::random::{self, LogShape, Random};
 use evaluator::{linear, rule};
@@ -181,8 +181,8 @@ fn logs_that_are_not_trimmed() {
     let falls = [whole.as_slice(), &[0, 0, 0, 16, 0, 0, 0, 0]].concat();
     fs::write(place.path("falls.klg"), falls).unwrap();
     let falls = "record 4, second 16, comes after record 3, second 17 (refused 14)";
-    let twice = "Is this the log of another kiosk, did its clock begin anew, or were records added twice? ";
-    trim("falls.klg", falls, twice);
+    let twice = "Is this the log of another kiosk, did its clock begin anew, or were records added twice?";
+    trim("falls.klg", falls, &format!("{twice}{} ", divided(40)));
     let mut other = whole.clone();
     other[8 + 8 * 3 + 3] = 18;
     fs::write(place.path("other.klg"), other).unwrap();
@@ -326,8 +326,8 @@ fn a_card_that_is_damaged_or_in_use() {
     let mut sheet = place.bytes("card/sheet");
     sheet[0] ^= 1;
     fs::write(place.path("card/sheet"), sheet).unwrap();
-    let text = "card: the file `sheet` is damaged: its checksum does not fit\nNothing was changed.\n";
-    refuses(&place, &["trim", "card", "day.klg", "out.klg"], text);
+    let text = format!("card: the file `sheet` is damaged: its checksum does not fit\n{CHECKED}Nothing was changed.\n");
+    refuses(&place, &["trim", "card", "day.klg", "out.klg"], &text);
 }
 
 /// A write that fails half way: no file may grow beyond a limit, which stands for a disk that is full.

@@ -143,9 +143,28 @@ fn a_log_that_is_no_longer_as_the_card_saw_it() {
             assert_eq!(place.fails(1, &asked), text);
         }
     }
-    // A verdict that is the same on both, and a rule file, which knows no sheet.
-    place.ok(&["why", "two", "altered.klg", "8", "--formula", "0"]);
+    // A verdict that is the same on both, also where more was overwritten than may be, and a rule file, which knows no sheet.
+    for log in ["altered.klg", "tuesday.klg"] {
+        let (status, reason, said) = place.run(&["why", "two", log, "3", "--formula", "0", "--words"]);
+        let may = "record 3 may not be as the card has seen it: it or others of that evening were overwritten or altered since, \
+                   or this is another kiosk's log. The reason is that of the log as it is now.\n";
+        assert_eq!((status, said.as_str()), (0, may));
+        assert!(reason.starts_with("record 3 is yes under formula 0, by "), "{reason}");
+    }
     place.ok(&["why", "two/rule.krl", "altered.klg", "7", "--formula", "1"]);
+    // What was open, and what the card has not seen yet.
+    let mut grown = fs::read(place.path("day.klg")).unwrap();
+    grown.extend(&fs::read(place.path("tuesday.klg")).unwrap()[grown.len()..]);
+    grown[8..8 + 8 * 11].fill(0);
+    fs::write(place.path("grown.klg"), grown).unwrap();
+    place.ok(&["why", "two", "grown.klg", "12", "--formula", "0"]);
+    place.ok(&["why", "two", "grown.klg", "15", "--formula", "0"]);
+    // An older copy has what was overwritten since; a card of an earlier program cannot tell.
+    place.ok(&["evening", "two", "grown.klg"]);
+    place.ok(&["why", "two", "day.klg", "8", "--formula", "0"]);
+    fs::rename(place.path("two"), place.path("card")).unwrap();
+    place.make_old();
+    place.ok(&["why", "card", "altered.klg", "3", "--formula", "0"]);
 }
 
 /// A card that begins in the middle of a log is told reasons from there on, in the log's own numbers.
