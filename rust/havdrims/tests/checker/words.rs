@@ -5,18 +5,25 @@ use crate::runner::{cases, Counts};
 use evaluator::log::{self, Record};
 use evaluator::model;
 use evaluator::random::{self, Random};
-use evaluator::rule::{self, Entry, NO_END, SINCE, UNTIL};
+use evaluator::rule::{self, Entry, NEXT, NO_END, PREVIOUS, SINCE, UNTIL};
 use havdrims::{close, measure, open, resume};
 
 /// Seconds at and beside those that 64 records span at one a second, and beside those that many a second do.
 const BOUNDS: [u32; 12] = [0, 0, 1, 2, 62, 63, 64, 65, 90, 128, 600, 3600];
 
-/// A since or an until, over letters or over others of them: an operand then answers batches that are no whole words.
+/// A since or an until, over letters or over others of them: an operand then answers batches that are no whole words. Some operands stand
+/// under a previous or next, and answer one position apart from the others.
 fn formula(r: &mut Random, depth: usize) -> Vec<Entry> {
     if depth == 0 {
         return vec![Entry::letter(r.below(3) as u8)];
     }
-    let mut operand = || if r.one_in(4) { formula(r, depth - 1) } else { formula(r, 0) };
+    let mut operand = || {
+        let mut entries = if r.one_in(4) { formula(r, depth - 1) } else { formula(r, 0) };
+        if r.one_in(6) {
+            entries.push(Entry::timed(r.pick(&[PREVIOUS, NEXT]), 0, NO_END));
+        }
+        entries
+    };
     let mut entries = [operand(), operand()].concat();
     let kind = r.pick(&[SINCE, UNTIL]);
     let (a, b) = (r.pick(&BOUNDS), r.pick(&BOUNDS));
@@ -130,6 +137,63 @@ fn since_on_stretches() {
             }
         }
         assert!(yes > 500 && no > 500, "since[{low},{high}]: {yes} yes and {no} no");
+    }
+}
+
+/// Letter 0 holds for a stretch. What ends it is one of four in turn: letter 1 holds there, or letter 0 fails, or both, or neither.
+fn waits(length: usize, a_second: usize, count: usize) -> Vec<Record> {
+    let record = |at: usize| {
+        let letters = if at % length == length - 1 { [3, 0, 2, 1][at / length % 4] } else { 1 };
+        Record { time: 1_000 + (at / a_second) as u32, letters }
+    };
+    (0..count).map(record).collect()
+}
+
+/// An until whose positions wait for longer than a word: told together, run out of time one after the other, or both; by itself, and under
+/// and over a previous and a next.
+#[test]
+fn until_on_long_waits() {
+    let intervals = [
+        (0, 0),
+        (0, 1),
+        (0, 30),
+        (0, 63),
+        (0, 64),
+        (0, 90),
+        (0, 3600),
+        (1, 2),
+        (2, 120),
+        (30, 90),
+        (70, 200),
+        (100, 100),
+        (150, 3600),
+    ];
+    for (low, high) in intervals {
+        let until = [Entry::letter(0), Entry::letter(1), Entry::timed(UNTIL, low, high)];
+        let around = |kind| [until.as_slice(), &[Entry::timed(kind, 0, NO_END)]].concat();
+        let below = |kind| [&[Entry::letter(0), Entry::timed(kind, 0, NO_END)], &until[1..]].concat();
+        let (mut yes, mut no) = (0, 0);
+        for entries in [until.to_vec(), around(PREVIOUS), around(NEXT), below(PREVIOUS), below(NEXT)] {
+            let rule = rule::encode(&entries);
+            let formulas = rule::parse(&rule).unwrap();
+            for (length, a_second) in
+                [(40, 1), (63, 1), (65, 1), (100, 1), (130, 1), (200, 1), (200, 3), (300, 64), (300, 65), (500, 2)]
+            {
+                let records = waits(length, a_second, 4 * length + 70);
+                let expected = model::verdicts(false, &formulas, &log::positions(1, &records));
+                let file = log::encode(&records);
+                for step in [1, 63, 64, 65, 100, 10_000] {
+                    let sheet = run(step, &rule, &file, false);
+                    assert_eq!(
+                        sheet, expected,
+                        "until[{low},{high}], calls of {step}, {length} at {a_second} a second"
+                    );
+                }
+                yes += expected.iter().filter(|&&byte| byte == 1).count();
+                no += expected.iter().filter(|&&byte| byte == 0).count();
+            }
+        }
+        assert!(yes > 20 && no > 500, "until[{low},{high}]: {yes} yes and {no} no");
     }
 }
 
