@@ -182,9 +182,9 @@ fn letter_bit(records: &[u8], i: usize, letter: u64) -> u64
     bits::bytes::wide(byte) & (1 << (letter % 8))
 }
 
-// The letter at each of up to eight positions, as a word of answers, from the last one down.
+// The letter at each of up to 32 positions, as a word of answers, from the last one down.
 pub fn letter_group(records: &[u8], from: usize, n: usize, letter: u64) -> u64
-    requires { ⌜ (from + n ≤ record-count (now records)) × (n ≤ 8) × (letter < 32) ⌝ }
+    requires { ⌜ (from + n ≤ record-count (now records)) × (n ≤ 32) × (letter < 32) ⌝ }
     ensures { λ r. ⌜ (r < 2 ^ n) × Packed (has-letter (now (records .entry)) letter) from n r ⌝ }
 {
     let mut answers: u64 = 0;
@@ -196,7 +196,7 @@ pub fn letter_group(records: &[u8], from: usize, n: usize, letter: u64) -> u64
     answers >> (letter % 8)
 }
 
-// The letter at each of n positions from `from` on, as a word of answers. Eight at a time, since a group of known size is
+// The letter at each of n positions from `from` on, as a word of answers. 32 at a time, since a group of known size is
 // compiled without a loop.
 pub fn letter_bits(records: &[u8], from: usize, n: usize, letter: u64) -> u64
     requires { ⌜ (from + n ≤ record-count (now records)) × (n ≤ 64) × (letter < 32) ⌝ }
@@ -204,9 +204,9 @@ pub fn letter_bits(records: &[u8], from: usize, n: usize, letter: u64) -> u64
 {
     let mut answers: u64 = 0;
     let mut i: usize = 0;
-    while i + 8 <= n {
-        answers = answers + (letter_group(records, from + i, 8, letter) << i as u64);
-        i += 8;
+    while i + 32 <= n {
+        answers = answers + (letter_group(records, from + i, 32, letter) << i as u64);
+        i += 32;
     }
     if i < n {
         answers = answers + (letter_group(records, from + i, n - i, letter) << i as u64);
