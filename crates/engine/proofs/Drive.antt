@@ -303,8 +303,7 @@ module _ {t v s : List ℕ} {k a c end : ℕ} {ws₀ ws ws′ : List ℕ} where
       rw unchanged (turn .here .stands .0),
       λ φ L g entered never agrees state.
           let seen = viewed (turn .here) φ L g entered never agrees state in
-          let st = stepped turn φ L g entered never agrees seen in
-          (
+          let st = stepped turn φ L g entered never agrees seen in (
             short-of side φ L g (drop (a + c) ws) (drop (a + c) ws′) (short φ L g entered never agrees state) st (ended-left φ entered side (turn .step .ends)),
             rw unchanged (turn .here .stands .1 φ L g entered never agrees state),
           ),
@@ -538,7 +537,7 @@ module _ {t v s : List ℕ} {k a c end : ℕ} {ws : List ℕ} where
             inr (
               λ has. rw (top .beside) (left (rw (row φ t k entered .fields .kind) has)),
               top .none e,
-              top .settled e φ L g entered never agrees state
+              top .settled e φ L g entered never agrees state,
             );
       }
 

@@ -155,11 +155,7 @@ fn shifted(kind: u64, shift: u64) -> u64 {
     if kind == 3 {
         return shift % 64 + 1;
     }
-    if kind == 4 {
-        shift % 64 + 63
-    } else {
-        shift
-    }
+    if kind == 4 { shift % 64 + 63 } else { shift }
 }
 
 // Fills the empty buffers of entry k's operands, left's first, whose words end at `split`; false where one has no more answers. Where that is

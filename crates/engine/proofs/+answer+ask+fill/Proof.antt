@@ -182,8 +182,7 @@ fill-mid t d =
     let start = d .before .before .before .before .before .before in
     ⊎-elim
     (λ w.
-    let top = topped (fill-here t start) on-left (fill-takes t (d .before) ∙ w .0 .taken) (w .5 .result) _ (w .5 .kept .1 .1 .1 .1 .1 .1 .1 .1 .1 .1 .0) (rw (w .1 .ensures, start .pre .1 .3, start .pre .1 .4) at (w .5 .ensures .0)) in
-    (
+    let top = topped (fill-here t start) on-left (fill-takes t (d .before) ∙ w .0 .taken) (w .5 .result) _ (w .5 .kept .1 .1 .1 .1 .1 .1 .1 .1 .1 .1 .0) (rw (w .1 .ensures, start .pre .1 .3, start .pre .1 .4) at (w .5 .ensures .0)) in (
       rw (w .11) (top .here),
       ap length (w .9) ∙ w .5 .ensures .1 .0,
       ap length (w .10) ∙ w .5 .ensures .1 .1,
@@ -322,23 +321,33 @@ pub +answer+ask+fill-spec : {M : Type 1} → statement M
     let pre = c .before .before .before .before .before .before .before .before .before .before .before .before .pre .1 in
     let none = c .before .before .before .before .before .before .before .before .if1 .left in
     let y = c .before .before .before .before .answer in
-    let ys = y .last .1 .1 .1 .1 .1 .1 .1 .0 in
-    (record { some = λ some. absurd (omega (arith, some, none)); none = λ e.
-      asked-open (a .table .now) (a .view .now) (a .records .now) (a .operand) (a .from) (a .to) (a .slot) (a .words .now) ys (omega (arith, pre)) (omega (arith, pre))
-          (y .kept .1 .1 .1 .1 .1 .1 .1 .0)
-          (subst (λ (r : Reply). Answers (a .table .now) (a .view .now) (a .records .now) (a .operand) (part (a .from) (a .to) (a .words .now)) r ys) (c .enum-told .given .1) (y .ensures .0)) }, y .ensures .1))
+    let ys = y .last .1 .1 .1 .1 .1 .1 .1 .0 in (
+      record {
+        some = λ some. absurd (omega (arith, some, none));
+        none = λ e.
+            asked-open (a .table .now) (a .view .now) (a .records .now) (a .operand) (a .from) (a .to) (a .slot) (a .words .now) ys (omega (arith, pre)) (omega (arith, pre))
+            (y .kept .1 .1 .1 .1 .1 .1 .1 .0)
+            (subst (λ (r : Reply). Answers (a .table .now) (a .view .now) (a .records .now) (a .operand) (part (a .from) (a .to) (a .words .now)) r ys) (c .enum-told .given .1) (y .ensures .0));
+      },
+      y .ensures .1,
+    ))
     (λ c. c .before .before .before .before .before .words .given .1)
     (λ c.
     let a = c .before .before .before .before .before .before .before .before .before .before .before .before .before .before .args in
     let pre = c .before .before .before .before .before .before .before .before .before .before .before .before .before .before .pre .1 in
     let none = c .before .before .before .before .before .before .before .before .before .before .if1 .left in
     let y = c .before .before .before .before .before .before .answer in
-    let ys = y .last .1 .1 .1 .1 .1 .1 .1 .0 in
-    (record { some = λ some. absurd (omega (arith, some, none)); none = λ e.
-      asked-none (a .table .now) (a .view .now) (a .records .now) (a .operand) (a .from) (a .to) (a .slot) (a .words .now) ys (omega (arith, pre)) (omega (arith, pre))
-          (y .kept .1 .1 .1 .1 .1 .1 .1 .0)
-          (c .before .before .reply .given .0 .0) (c .before .before .reply .given .0 .1 .0) (c .if2 .taken)
-          (subst (λ (r : Reply). Answers (a .table .now) (a .view .now) (a .records .now) (a .operand) (part (a .from) (a .to) (a .words .now)) r ys) (c .before .before .reply .given .1) (y .ensures .0)) }, y .ensures .1))
+    let ys = y .last .1 .1 .1 .1 .1 .1 .1 .0 in (
+      record {
+        some = λ some. absurd (omega (arith, some, none));
+        none = λ e.
+            asked-none (a .table .now) (a .view .now) (a .records .now) (a .operand) (a .from) (a .to) (a .slot) (a .words .now) ys (omega (arith, pre)) (omega (arith, pre))
+            (y .kept .1 .1 .1 .1 .1 .1 .1 .0)
+            (c .before .before .reply .given .0 .0) (c .before .before .reply .given .0 .1 .0) (c .if2 .taken)
+            (subst (λ (r : Reply). Answers (a .table .now) (a .view .now) (a .records .now) (a .operand) (part (a .from) (a .to) (a .words .now)) r ys) (c .before .before .reply .given .1) (y .ensures .0));
+      },
+      y .ensures .1,
+    ))
     (λ c κs. omega (arith, c .before .before .before .before .before .before .before .before .before .before .before .before .before .before .before .pre .1, c .before .before .before .before .before .before .words .given .1))
     (λ c. c .before .before .store .kept .0 ∙ c .before .before .before .before .before .before .before .before .before .words .given .1)
     (λ c.
@@ -346,14 +355,19 @@ pub +answer+ask+fill-spec : {M : Type 1} → statement M
     let pre = c .before .before .before .before .before .before .before .before .before .before .before .before .before .before .before .before .before .before .pre .1 in
     let none = c .before .before .before .before .before .before .before .before .before .before .before .before .before .before .if1 .left in
     let y = c .before .before .before .before .before .before .before .before .before .before .answer in
-    let ys = y .last .1 .1 .1 .1 .1 .1 .1 .0 in
-    (record { some = λ some. absurd (omega (arith, some, none)); none = λ e.
-      asked-batch (a .table .now) (a .view .now) (a .records .now) (a .operand) (a .from) (a .to) (a .slot) (a .words .now) ys (omega (arith, pre)) (omega (arith, pre))
-          (y .kept .1 .1 .1 .1 .1 .1 .1 .0)
-          (c .before .before .before .before .before .before .reply .given .0 .0) (c .before .before .before .before .before .before .reply .given .0 .1 .0) (c .before .before .before .before .if2 .left)
-          (subst (λ (r : Reply). Answers (a .table .now) (a .view .now) (a .records .now) (a .operand) (part (a .from) (a .to) (a .words .now)) r ys) (c .before .before .before .before .before .before .reply .given .1) (y .ensures .0))
-          (c .before .before .store .last .0)
-          (c .before .before .store .ensures) }, y .ensures .1)))
+    let ys = y .last .1 .1 .1 .1 .1 .1 .1 .0 in (
+      record {
+        some = λ some. absurd (omega (arith, some, none));
+        none = λ e.
+            asked-batch (a .table .now) (a .view .now) (a .records .now) (a .operand) (a .from) (a .to) (a .slot) (a .words .now) ys (omega (arith, pre)) (omega (arith, pre))
+            (y .kept .1 .1 .1 .1 .1 .1 .1 .0)
+            (c .before .before .before .before .before .before .reply .given .0 .0) (c .before .before .before .before .before .before .reply .given .0 .1 .0) (c .before .before .before .before .if2 .left)
+            (subst (λ (r : Reply). Answers (a .table .now) (a .view .now) (a .records .now) (a .operand) (part (a .from) (a .to) (a .words .now)) r ys) (c .before .before .before .before .before .before .reply .given .1) (y .ensures .0))
+            (c .before .before .store .last .0)
+            (c .before .before .store .ensures);
+      },
+      y .ensures .1,
+    )))
     (λ t.
     fill-lts.spec
     (field-reads.Asked, field-reads.Learnt, shifted-reads.Asked, shifted-reads.Learnt, takes-left-reads.Asked, takes-left-reads.Learnt, ask-below t, ask.Post)
