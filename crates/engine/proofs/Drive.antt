@@ -21,7 +21,7 @@ use Rattle.engine.specs.State.{State}
 use Rattle.blocks.specs.Kinds.{takes-left, takes-right, Fields}
 use Rattle.engine.specs.Table.{Has, RowOk, RowsOk, column}
 use Rattle.engine.specs.Answer.{GoesOn, first-read, Answers}
-use Rattle.engine.specs.Ask.{part, back, stored, Advances, Asks, Fills, Stands, Full, Short, Refills}
+use Rattle.engine.specs.Ask.{part, back, stored, Advances, Asks, Fills, StillStands, Full, Short, Refills}
 use Rattle.blocks.specs.declared.Step.{Step}
 use Rattle.blocks.specs.declared.Step.the-variants.{Batch, Left, Right, Again, Open}
 use Rattle.engine.specs.declared.Reply.the-variants.{Batch as Answered, Open as Unanswered}
@@ -93,7 +93,7 @@ module _ {t : List ℕ} {k kind low high own : ℕ} {ws : List ℕ} (read : RowR
 
 -- THE LOOP
 
-pub stands-first : (t v s : List ℕ) (k : ℕ) (ws : List ℕ) → Stands t v s k ws ws
+pub stands-first : (t v s : List ℕ) (k : ℕ) (ws : List ℕ) → StillStands t v s k ws ws
 stands-first t v s k ws = (λ φ entered. all-refl φ ws, λ φ L g entered never agrees state. state)
 
 -- the row of entry k as `answer` and `fill` read it: its operands have a and c words, and it has `end` in all
@@ -108,7 +108,7 @@ pub record Reading (t : List ℕ) (k a c end : ℕ) : Type 0 where
 pub record Standing (t v s : List ℕ) (k a c end : ℕ) (ws₀ ws : List ℕ) : Type 0 where
   pub read : Reading t k a c end
   pub last : length ws ≡ end
-  pub stands : Stands t v s k ws₀ ws
+  pub stands : StillStands t v s k ws₀ ws
 
 -- one step of entry k, from words ws to words ws′
 pub record Turn (t v s : List ℕ) (k a c end : ℕ) (ws₀ ws : List ℕ) (r : Step) (ws′ : List ℕ) : Type 0 where
@@ -257,7 +257,7 @@ module _ {t v s : List ℕ} {k a c end : ℕ} {ws₀ ws ws′ : List ℕ} where
             absurd none,
       )
 
-  pub again-stands : Turn t v s k a c end ws₀ ws Again ws′ → Stands t v s k ws₀ ws′
+  pub again-stands : Turn t v s k a c end ws₀ ws Again ws′ → StillStands t v s k ws₀ ws′
   again-stands turn = (
     goes-on turn (turn .step .ends .1),
     λ φ L g entered never agrees state.
@@ -543,7 +543,7 @@ module _ {t v s : List ℕ} {k a c end : ℕ} {ws : List ℕ} where
 
 -- A TURN OF THE LOOP
 
-stands-trans : (t v s : List ℕ) (k : ℕ) (ws₀ ws ws′ : List ℕ) → Stands t v s k ws₀ ws → Stands t v s k ws ws′ → Stands t v s k ws₀ ws′
+stands-trans : (t v s : List ℕ) (k : ℕ) (ws₀ ws ws′ : List ℕ) → StillStands t v s k ws₀ ws → StillStands t v s k ws ws′ → StillStands t v s k ws₀ ws′
 stands-trans t v s k ws₀ ws ws′ first next = (
   λ φ entered. all-trans φ ws₀ ws ws′ (first .0 φ entered) (next .0 φ entered),
   λ φ L g entered never agrees state. next .1 φ L g entered never agrees (first .1 φ L g entered never agrees state),
@@ -607,7 +607,7 @@ module _ {t v s : List ℕ} {k a c end : ℕ} {ws₀ ws : List ℕ} where
     wanted-less side e made =
         rw (unchanged side (made .turn)) (⊎-elim (λ full. absurd (not-full side (made .turn) full)) (λ less. less) (made .full e))
 
-    pub wanted-stands : (side : Side) → Made t v s k a c end ws₀ ws x (wants side) ws′ → Stands t v s k ws₀ ws′
+    pub wanted-stands : (side : Side) → Made t v s k a c end ws₀ ws x (wants side) ws′ → StillStands t v s k ws₀ ws′
     wanted-stands side made = rw (unchanged side (made .turn)) (made .turn .here .stands)
 
 -- an operand's answer, as what was asked for: its words are ys now

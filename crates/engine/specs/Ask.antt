@@ -54,8 +54,8 @@ pub record Fills (t v s : List ℕ) (o from to slot : ℕ) (ws : List ℕ) (r : 
   pub none : word ws slot ≡ 0 → Asks t v s o from to slot ws r ws′
 
 -- the words stand for whatever formula they stood for, and no head went back
-abbrev pub Stands : (t v s : List ℕ) → ℕ → (ws₀ ws : List ℕ) → Type 0
-Stands t v s k ws₀ ws =
+abbrev pub StillStands : (t v s : List ℕ) → ℕ → (ws₀ ws : List ℕ) → Type 0
+StillStands t v s k ws₀ ws =
     GoesOn t k ws₀ ws ×
     ((φ : Formula) (L : Log) (g : ℕ) → Has φ t k → NeverFalls L → Agrees v s L (first-read φ g) → State φ L g ws₀ → State φ L g ws)
 
@@ -72,7 +72,7 @@ Short φ L b =
 
 -- the empty buffers of entry k's operands filled, as far as they have answers
 pub record Refills (t v s : List ℕ) (k own : ℕ) (ws : List ℕ) (r : Bool) (ws′ : List ℕ) : Type 0 where
-  pub stands : Stands t v s k ws ws′
+  pub stands : StillStands t v s k ws ws′
   pub less : left-to-do v (drop own ws′) ≤ left-to-do v (drop own ws)
   pub full : r ≡ true → Full (takes-left (column 0 t k)) (drop own ws′)
   pub short : r ≡ false → (φ : Formula) (L : Log) (g : ℕ) → Has φ t k → NeverFalls L → Agrees v s L (first-read φ g) → State φ L g ws →

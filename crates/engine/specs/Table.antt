@@ -33,7 +33,7 @@ pub record Row (φ : Formula) (t : List ℕ) (k : ℕ) : Type 0 where
   pub left-words : column 5 t k ≡ left-words φ
   pub right-words : column 6 t k ≡ right-words φ
 
--- the table has the formula at entry k: "the right operand is the entry before"
+-- the table has the formula at entry k; the right operand is the entry before
 unfoldable pub Has : Formula → List ℕ → ℕ → Type 0
 Has (letter c) t k = Row (letter c) t k
 Has (not φ) t k = Row (not φ) t k × Has φ t (k - 1)

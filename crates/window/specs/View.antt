@@ -1,4 +1,4 @@
--- What a call knows of its log, and the part of the records that the reading heads are handed: those from record `first` on. Records
+-- What a call knows of its log, and the part of the records that the reading heads are handed: those from record `from` on. Records
 -- before it may have been overwritten or dropped.
 use Prim.Native.Nat.{ℕ, _+_, _-_, _*_, _/_, _%_, _<_, _^_, max}
 use mathlib.Core.Bool.{Bool, true, _||_}
@@ -25,11 +25,11 @@ skips v = eqb (getD v 2 0) 1
 abbrev pub closed : List ℕ → Bool
 closed v = eqb (getD v 3 0) 1
 
--- these numbers of a slice that begins with record `first`, before which stand q positions
+-- these numbers of a slice that begins with record `from`, before which stand q positions
 abbrev pub view-of : (from q : ℕ) (skips closed : Bool) → List ℕ → List ℕ
 view-of from q skipping ended s = from ∷ (q + before skipping s (record-count s)) ∷ number skipping ∷ number ended ∷ []
 
--- a head at record r, in a slice that begins with record `first`: what lies before was passed, or is service records
+-- a head at record r, in a slice that begins with record `from`: what lies before was passed, or is service records
 abbrev pub in-slice : (from r : ℕ) → ℕ
 in-slice from r = max r from - from
 

@@ -19,7 +19,7 @@ use Rattle.blocks.specs.Kinds.{takes-left, takes-right}
 use Rattle.blocks.specs.Step.{left-to-do}
 use Rattle.engine.specs.Table.{column}
 use Rattle.engine.specs.Answer.{Answers}
-use Rattle.engine.specs.Ask.{part, Stands}
+use Rattle.engine.specs.Ask.{part, StillStands}
 use Rattle.engine.specs.declared.Reply.{Reply}
 use Rattle.engine.proofs.Parts.{length-part}
 use Rattle.engine.proofs.Parts.Side.{on-left, on-right}
@@ -80,7 +80,7 @@ fill-below t = and 6 fill-kinds.ps (falls 6 fill-kinds.ps _<_ μ-fill t) fill.Pr
 
 abbrev answer-Inv-loop : answer-lts.InvT-loop
 answer-Inv-loop table records view copy₀ waiting₀ k shift words₀ left-words right-words own copy waiting words =
-    (length words ≡ length words₀) × (length copy ≡ 520) × (length waiting ≡ 520) × Stands table view records k words₀ words
+    (length words ≡ length words₀) × (length copy ≡ 520) × (length waiting ≡ 520) × StillStands table view records k words₀ words
 
 abbrev answer-μ-loop : answer-lts.MeasureT-loop
 answer-μ-loop table records view copy₀ waiting₀ k shift words₀ left-words right-words own copy waiting words =

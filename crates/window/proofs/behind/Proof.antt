@@ -1,4 +1,4 @@
--- `trace::window::behind` meets its contract, by the laws of proofs/Windows on passing positions.
+-- `window::behind` meets its contract, by the laws of proofs/Windows on passing positions.
 -- Assumes nothing.
 use Prim.Native.Nat.{ℕ, _+_, _-_, _≤_}
 use native.Mathlib.Omega.{arith}

@@ -1,4 +1,4 @@
--- `trace::window::can_take` meets its contract. Assumes nothing.
+-- `window::can_take` meets its contract. Assumes nothing.
 use Prim.Native.Nat.{ℕ, _+_, _-_, _≤_, _<_}
 use native.Mathlib.Omega.{arith}
 use mathlib.Core.Bool.{true, false, _&&_, false≢true}

@@ -1,4 +1,4 @@
--- `trace::window::copy_group` meets its contract. Assumes nothing.
+-- `window::copy_group` meets its contract. Assumes nothing.
 use mathlib.Core.Path.{sym, _∙_}
 use borrow.Author.Needs.{needs}
 use Rattle.window.proofs.copy_group.Statement.{statement}

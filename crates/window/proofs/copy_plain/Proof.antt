@@ -1,4 +1,4 @@
--- `trace::window::copy_plain` meets its contract: the first i are copied. Assumes nothing.
+-- `window::copy_plain` meets its contract: the first i are copied. Assumes nothing.
 use Prim.Native.Nat.{_+_, _-_, _≤_}
 use native.Mathlib.Nat.{le-antisymm}
 use native.Mathlib.Omega.{arith}

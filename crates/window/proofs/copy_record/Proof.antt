@@ -1,4 +1,4 @@
--- `trace::window::copy_record` meets its contract: the eight stores are the record's bytes.
+-- `window::copy_record` meets its contract: the eight stores are the record's bytes.
 -- Assumes nothing.
 use Prim.Native.Nat.{suc, _+_, _*_}
 use mathlib.Core.Path.{_≡_}

@@ -1,4 +1,4 @@
--- `trace::window::count_many` meets its contract: the first i are counted. Assumes nothing.
+-- `window::count_many` meets its contract: the first i are counted. Assumes nothing.
 use Prim.Native.Nat.{_+_, _-_, _≤_}
 use native.Mathlib.Omega.{arith}
 use mathlib.Core.Path.{_≡_}

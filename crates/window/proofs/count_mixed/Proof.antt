@@ -1,4 +1,4 @@
--- `trace::window::count_mixed` meets its contract: the first i are counted. Assumes nothing.
+-- `window::count_mixed` meets its contract: the first i are counted. Assumes nothing.
 use Prim.Native.Nat.{_-_, _≤_}
 use native.Mathlib.Nat.{le-antisymm}
 use native.Mathlib.Omega.{arith}

@@ -1,4 +1,4 @@
--- `trace::window::find` meets its contract. Assumes nothing.
+-- `window::find` meets its contract. Assumes nothing.
 use Prim.Native.Nat.{_+_, _-_, _≤_}
 use native.Mathlib.Omega.{arith}
 use borrow.Author.Needs.{needs}

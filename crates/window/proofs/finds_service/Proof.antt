@@ -1,4 +1,4 @@
--- `trace::window::finds_service` meets its contract: a service record's block is marked. Assumes nothing.
+-- `window::finds_service` meets its contract: a service record's block is marked. Assumes nothing.
 use mathlib.Core.Path.{_≡_, sym, _∙_, ap₂}
 use mathlib.Core.Bool.{Bool, _||_}
 use borrow.Author.Needs.{needs}

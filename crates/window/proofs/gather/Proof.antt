@@ -1,4 +1,4 @@
--- `trace::window::gather` meets its contract, by the laws of proofs/Windows on passing and copying.
+-- `window::gather` meets its contract, by the laws of proofs/Windows on passing and copying.
 -- Assumes nothing.
 use Prim.Native.Nat.{_+_, _-_, _≤_}
 use native.Mathlib.Omega.{arith}

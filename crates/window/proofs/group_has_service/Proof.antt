@@ -1,4 +1,4 @@
--- `trace::window::group_has_service` meets its contract: the highest bit of `joined` says whether one of the first i is a service record.
+-- `window::group_has_service` meets its contract: the highest bit of `joined` says whether one of the first i is a service record.
 -- Assumes nothing.
 use Prim.Native.Nat.{ℕ, _+_, _-_, _*_, _/_, _%_, _≤_, _<_}
 use native.Mathlib.Omega.{arith}

@@ -1,4 +1,4 @@
--- `trace::window::has_service` meets its contract: no group before is one of service records. Assumes nothing.
+-- `window::has_service` meets its contract: no group before is one of service records. Assumes nothing.
 use Prim.Native.Nat.{ℕ, _+_, _-_, _≤_, _<_}
 use native.Mathlib.Omega.{arith}
 use mathlib.Core.Bool.{false}

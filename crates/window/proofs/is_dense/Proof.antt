@@ -1,4 +1,4 @@
--- `trace::window::is_dense` meets its contract: the tests on the count decide whether the records are there.
+-- `window::is_dense` meets its contract: the tests on the count decide whether the records are there.
 -- Assumes nothing.
 use Prim.Native.Nat.{_+_}
 use native.Mathlib.Omega.{arith}

@@ -1,4 +1,4 @@
--- `trace::window::pass` meets its contract, by the laws of proofs/Windows. Assumes nothing.
+-- `window::pass` meets its contract, by the laws of proofs/Windows. Assumes nothing.
 use Prim.Native.Nat.{_+_, _≤_}
 use native.Mathlib.Omega.{arith}
 use borrow.Author.Needs.{needs}

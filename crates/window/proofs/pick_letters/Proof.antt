@@ -1,4 +1,4 @@
--- `trace::window::pick_letters` meets its contract, by the laws of proofs/Picking.
+-- `window::pick_letters` meets its contract, by the laws of proofs/Picking.
 -- Assumes nothing.
 use Prim.Native.Nat.{_+_, _-_, _≤_}
 use native.Mathlib.Omega.{arith}

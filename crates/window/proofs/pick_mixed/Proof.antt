@@ -1,4 +1,4 @@
--- `trace::window::pick_mixed` meets its contract: the letter at the first i is picked. Assumes nothing.
+-- `window::pick_mixed` meets its contract: the letter at the first i is picked. Assumes nothing.
 use Prim.Native.Nat.{ℕ, _+_, _-_, _*_, _%_, _^_, _≤_, _<_}
 use native.Mathlib.Nat.{le-antisymm}
 use native.Mathlib.Omega.{arith}

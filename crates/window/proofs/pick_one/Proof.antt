@@ -1,4 +1,4 @@
--- `trace::window::pick_one` meets its contract. Assumes nothing.
+-- `window::pick_one` meets its contract. Assumes nothing.
 use native.Mathlib.Omega.{arith}
 use borrow.Author.Needs.{needs}
 use Rattle.window.proofs.Picking.{picks-one, picks-fit}

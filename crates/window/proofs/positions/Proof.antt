@@ -1,4 +1,4 @@
--- `trace::window::positions` meets its contract: the count of the log's kind. Assumes nothing.
+-- `window::positions` meets its contract: the count of the log's kind. Assumes nothing.
 use mathlib.Core.Path.{ap, _∙_}
 use borrow.Author.Needs.{needs}
 use Rattle.trace.specs.Positions.{positions}

@@ -1,4 +1,4 @@
--- `trace::window::read` meets its contract: the rest of the records from where the window begins, or the copy.
+-- `window::read` meets its contract: the rest of the records from where the window begins, or the copy.
 -- Assumes nothing.
 use Prim.Native.Nat.{_-_, _*_}
 use native.Mathlib.Omega.{arith}

@@ -1,4 +1,4 @@
--- `trace::window::service` meets its contract: the byte read is the first of the event set, and letter 31 the first bit of that.
+-- `window::service` meets its contract: the byte read is the first of the event set, and letter 31 the first bit of that.
 -- Assumes nothing.
 use Prim.Native.Nat.{_+_, _*_}
 use native.Mathlib.Omega.{arith}

@@ -1,4 +1,4 @@
--- `trace::window::step_back` meets its contract: from record `at` on stand as many positions as were counted, and the last one
+-- `window::step_back` meets its contract: from record `at` on stand as many positions as were counted, and the last one
 -- counted stands there. Assumes nothing.
 use Prim.Native.Nat.{ℕ, _+_, _-_, _≤_, _<_}
 use native.Mathlib.Omega.{arith}

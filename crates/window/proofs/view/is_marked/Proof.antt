@@ -1,4 +1,4 @@
--- `trace::view::is_marked` meets its contract: a block has a mark, or lies behind them all. Assumes nothing.
+-- `window::view::is_marked` meets its contract: a block has a mark, or lies behind them all. Assumes nothing.
 use borrow.Author.Needs.{needs}
 use borrow.Author.Tests.{le-leb, lt-leb}
 use Rattle.window.proofs.view.is_marked.Statement.{statement}

@@ -1,4 +1,4 @@
--- `trace::view::mark_blocks` meets its contract, by the laws of proofs/Marks. Assumes nothing.
+-- `window::view::mark_blocks` meets its contract, by the laws of proofs/Marks. Assumes nothing.
 use Prim.Native.Nat.{_+_, _-_}
 use native.Mathlib.Omega.{arith}
 use borrow.Author.Needs.{needs}

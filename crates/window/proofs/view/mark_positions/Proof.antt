@@ -1,4 +1,4 @@
--- `trace::view::mark_positions` meets its contract: the count of the log's kind. Assumes nothing.
+-- `window::view::mark_positions` meets its contract: the count of the log's kind. Assumes nothing.
 use borrow.Author.Needs.{needs}
 use Rattle.mtl.proofs.Bounded.{true-and-false}
 use Rattle.window.proofs.view.mark_positions.Statement.{statement}

@@ -1,4 +1,4 @@
--- `trace::view::write_view` meets its contract: the marks, and its four numbers put before them. Assumes nothing.
+-- `window::view::write_view` meets its contract: the marks, and its four numbers put before them. Assumes nothing.
 use native.Mathlib.Omega.{arith}
 use borrow.Author.Needs.{needs}
 use Rattle.trace.specs.Format.{record-count}
