@@ -599,16 +599,22 @@ module _ {t v s : List ℕ} {k a c end : ℕ} {ws₀ ws : List ℕ} where
     pub again-less : Made t v s k a c end ws₀ ws x Again ws′ → left-to-do v (drop (a + c) ws′) < left-to-do v (drop (a + c) ws)
     again-less made = omega (arith, made .turn .step .ends .0, made .less)
 
-    -- an operand is wanted: it is open, or it ran out of answers by a first step
-    pub wanted-open : (side : Side) → x ≡ false → Made t v s k a c end ws₀ ws x (wants side) ws′ → Answers t v s k ws₀ Unanswered ws′
-    wanted-open side e made = short-turn side (made .turn) (made .short e)
+    -- an operand is wanted: it is open, or it ran out of answers by a first step; beside it stand A, B and C, which are kept
+    module _ {r : Step} (side : Side) (told : r ≡ wants side) where
+      pub wanted-open : {A B C : Type 0} → x ≡ false → A × B × C × Made t v s k a c end ws₀ ws x r ws′ → Answers t v s k ws₀ Unanswered ws′ × (B × C)
+      wanted-open e made =
+          let made′ = as-told told (made .3) in
+          (short-turn side (made′ .turn) (made′ .short e), (made .1, made .2))
 
-    pub wanted-less : (side : Side) → x ≡ true → Made t v s k a c end ws₀ ws x (wants side) ws′ → left-to-do v (drop (a + c) ws′) < left-to-do v (drop (a + c) ws)
-    wanted-less side e made =
-        rw (unchanged side (made .turn)) (⊎-elim (λ full. absurd (not-full side (made .turn) full)) (λ less. less) (made .full e))
+      pub wanted-less : x ≡ true → Made t v s k a c end ws₀ ws x r ws′ → left-to-do v (drop (a + c) ws′) < left-to-do v (drop (a + c) ws)
+      wanted-less e made =
+          let made′ = as-told told made in
+          rw (unchanged side (made′ .turn)) (⊎-elim (λ full. absurd (not-full side (made′ .turn) full)) (λ less. less) (made′ .full e))
 
-    pub wanted-stands : (side : Side) → Made t v s k a c end ws₀ ws x (wants side) ws′ → StillStands t v s k ws₀ ws′
-    wanted-stands side made = rw (unchanged side (made .turn)) (made .turn .here .stands)
+      pub wanted-stands : {A B C : Type 0} → A × B × C × Made t v s k a c end ws₀ ws x r ws′ → A × B × C × StillStands t v s k ws₀ ws′
+      wanted-stands made =
+          let turn = as-told told (made .3) .turn in
+          (made .0, made .1, made .2, rw (unchanged side turn) (turn .here .stands))
 
 -- an operand's answer, as what was asked for: its words are ys now
 module _ (t v s : List ℕ) (o from to slot : ℕ) (ws ys : List ℕ) (ordered : from ≤ to) (inside : to ≤ length ws) (kept : length ys ≡ length (part from to ws)) where

@@ -273,23 +273,15 @@ pub +answer+ask+fill-spec : {M : Type 1} → statement M
     -- it wants the left operand
     (λ c. search needs)
     (λ c. answer-made t (c .before .before .before) .0)
-    (λ c.
-    let made = answer-made t (c .before .before .before) in
-    (wanted-open on-left (false-of (c .if4 .taken)) (as-told (c .before .enum-told4 .given .1) (made .3)), (made .1, made .2)))
-    (λ c. wanted-less on-left (true-of (c .if4 .left)) (as-told (c .before .enum-told4 .given .1) (answer-made t (c .before .before .before) .3)))
-    (λ c.
-    let made = answer-made t (c .before .before .before) in
-    (made .0, made .1, made .2, wanted-stands on-left (as-told (c .before .enum-told4 .given .1) (made .3))))
+    (λ c. wanted-open on-left (c .before .enum-told4 .given .1) (false-of (c .if4 .taken)) (answer-made t (c .before .before .before)))
+    (λ c. wanted-less on-left (c .before .enum-told4 .given .1) (true-of (c .if4 .left)) (answer-made t (c .before .before .before) .3))
+    (λ c. wanted-stands on-left (c .before .enum-told4 .given .1) (answer-made t (c .before .before .before)))
     -- or the right one
     (λ c. search needs)
     (λ c. answer-made t (c .before .before .before) .0)
-    (λ c.
-    let made = answer-made t (c .before .before .before) in
-    (wanted-open on-right (false-of (c .if5 .taken)) (as-told (c .before .enum-told5 .given .1) (made .3)), (made .1, made .2)))
-    (λ c. wanted-less on-right (true-of (c .if5 .left)) (as-told (c .before .enum-told5 .given .1) (answer-made t (c .before .before .before) .3)))
-    (λ c.
-    let made = answer-made t (c .before .before .before) in
-    (made .0, made .1, made .2, wanted-stands on-right (as-told (c .before .enum-told5 .given .1) (made .3)))))
+    (λ c. wanted-open on-right (c .before .enum-told5 .given .1) (false-of (c .if5 .taken)) (answer-made t (c .before .before .before)))
+    (λ c. wanted-less on-right (c .before .enum-told5 .given .1) (true-of (c .if5 .left)) (answer-made t (c .before .before .before) .3))
+    (λ c. wanted-stands on-right (c .before .enum-told5 .given .1) (answer-made t (c .before .before .before))))
     (λ t.
     ask-lts.spec
     (answer-below t, answer.Post, store-reads.Asked, store-reads.Learnt)
