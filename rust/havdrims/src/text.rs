@@ -10,7 +10,8 @@
 //! ```
 //!
 //! A letter is `e0` to `e31`, or its number alone. `none`, or nothing behind the seconds, is a record without
-//! letters. Empty lines, and what follows a `#`, are passed over.
+//! letters, and `none` beside a letter is refused. Numbers are digits alone: `+5` could be meant as five seconds later.
+//! Empty lines, and what follows a `#`, are passed over.
 //!
 //! A line `version 2` before the first record says that the log is of version 2, which knows service records. The word
 //! `service` makes a record one: it is letter 31, and is shown so.
@@ -79,6 +80,8 @@ pub enum TextFault {
         /// The word.
         word: String,
     },
+    /// `none` beside a letter.
+    None,
     /// A service record in a log of version 1.
     Service,
     /// A time below the one before it.
@@ -104,6 +107,7 @@ impl fmt::Display for TextError {
             TextFault::Dropped => write!(f, "`dropped` wants a number of records up to 1000000"),
             TextFault::Seconds { word, .. } => write!(f, "`{word}` is no number of seconds up to 4294967295"),
             TextFault::Letter { word } => write!(f, "`{word}` is no letter: letters are e0 to e31"),
+            TextFault::None => write!(f, "`none` says that a record has no letters, and stands alone"),
             TextFault::Service => {
                 write!(f, "`service` needs the line `version 2` or `version 3` before the first record")
             }
@@ -189,7 +193,7 @@ impl Typed {
             return Err(TextFault::DroppedPlace);
         }
         let [number] = words else { return Err(TextFault::Dropped) };
-        let number: u64 = number.parse().map_err(|_| TextFault::Dropped)?;
+        let number = u64::from(digits(number).map_err(|_| TextFault::Dropped)?);
         if number > MOST_RECORDS as u64 {
             return Err(TextFault::Dropped);
         }
@@ -210,13 +214,15 @@ impl Typed {
 
 /// A record's time and event set, in a log that has service records or not.
 fn record(seconds: &str, words: &[&str], services: bool) -> Result<(u32, u32), TextFault> {
-    let time = seconds.parse().map_err(|source| TextFault::Seconds { word: seconds.to_string(), source })?;
+    let time = digits(seconds).map_err(|source| TextFault::Seconds { word: seconds.to_string(), source })?;
     let mut letters = 0;
-    for &word in words.iter().filter(|&&word| word != "none") {
-        let number: u32 = match word {
+    for &word in words {
+        let number = match word {
+            "none" if words.len() == 1 => break,
+            "none" => return Err(TextFault::None),
             "service" if services => SERVICE,
             "service" => return Err(TextFault::Service),
-            _ => word.strip_prefix('e').unwrap_or(word).parse().unwrap_or(32),
+            _ => digits(word.strip_prefix('e').unwrap_or(word)).unwrap_or(32),
         };
         if number > 31 {
             return Err(TextFault::Letter { word: word.to_string() });
@@ -224,6 +230,11 @@ fn record(seconds: &str, words: &[&str], services: bool) -> Result<(u32, u32), T
         letters |= 1 << number;
     }
     Ok((time, letters))
+}
+
+/// A number without a sign, which `parse` alone would take.
+fn digits(word: &str) -> Result<u32, ParseIntError> {
+    word.strip_prefix('+').map_or(word, |_| "+").parse()
 }
 
 /// A log as text, or refusal 12.

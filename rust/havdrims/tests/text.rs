@@ -17,7 +17,7 @@ fn p1_log_both_ways() {
 
 #[test]
 fn other_ways_to_type_a_log() {
-    let typed = "# the morning\n\n10 0   # warm\n 11 e0\r\n11\n12 0 none 0\n13\te1\n20 e0";
+    let typed = "# the morning\n\n10 0   # warm\n 11 e0\r\n11\n12 0 0\n13\te1\n20 e0";
     assert_eq!(log_to_text(&log_from_text(typed).unwrap()).unwrap(), P1);
     assert_eq!(log_from_text("").unwrap(), log::HEADER);
     assert_eq!(log_from_text("4294967295 e31 0").unwrap()[8..], [255, 255, 255, 255, 128, 0, 0, 1]);
@@ -31,6 +31,13 @@ fn faults_name_their_line() {
     assert!(fault("-1 e0").starts_with("line 1: `-1`"));
     assert_eq!(fault("1 e32"), "line 1: `e32` is no letter: letters are e0 to e31");
     assert_eq!(fault("1 warm"), "line 1: `warm` is no letter: letters are e0 to e31");
+    for text in ["1 none e0", "1 e0 none", "1 none none"] {
+        assert_eq!(fault(text), "line 1: `none` says that a record has no letters, and stands alone", "{text}");
+    }
+    assert_eq!(fault("1\n+5 e0"), "line 2: `+5` is no number of seconds up to 4294967295");
+    for word in ["+5", "e+5"] {
+        assert_eq!(fault(&format!("1 {word}")), format!("line 1: `{word}` is no letter: letters are e0 to e31"));
+    }
     assert_eq!(fault("5\n\n4\n"), "line 3: second 4 comes after second 5");
     assert_eq!(
         fault(&"1\n".repeat(1_000_001)),
@@ -124,7 +131,7 @@ fn faults_of_a_trimmed_log() {
     }
     assert_eq!(fault("version 3\ndropped 1\ndropped 1\n"), format!("line 3: {place}"));
     assert_eq!(fault("dropped 1\nversion 3\n"), format!("line 1: {place}"));
-    for number in ["", "1000001", "18446744073709551616", "-1", "two", "1 2", "e1"] {
+    for number in ["", "1000001", "18446744073709551616", "-1", "+1", "two", "1 2", "e1"] {
         let said = "line 2: `dropped` wants a number of records up to 1000000";
         assert_eq!(fault(&format!("version 3\ndropped {number}\n")), said, "{number}");
     }

@@ -15,14 +15,14 @@ pub fn asked(given: &Given) -> Answer {
     match given.all() {
         [] => Ok(overview()),
         ["rules"] => Ok(rules()),
-        [name, ..] => Ok(named(name)?.help()),
+        [name, ..] => Ok(named(name, ["rules"])?.help()),
     }
 }
 
-/// The command of this name.
-pub fn named(name: &str) -> Result<&'static Command, Failure> {
+/// The command of this name. The other words could have been meant too, and before a command that is as near.
+pub fn named<const N: usize>(name: &str, others: [&str; N]) -> Result<&'static Command, Failure> {
     COMMANDS.iter().find(|command| command.name == name).ok_or_else(|| {
-        let hint = did_you_mean(name, COMMANDS.iter().map(|command| command.name).chain(["--help", "--version"]));
+        let hint = did_you_mean(name, others.into_iter().chain(COMMANDS.iter().map(|command| command.name)));
         Failure::Use(format!("`{name}` is no command{hint}\n`havdrims help` prints all commands."))
     })
 }

@@ -103,7 +103,7 @@ pub fn run(words: &[&str], paint: Paint) -> Answer {
         "--version" => return Ok(help::version()),
         _ => {}
     }
-    let command = help::named(name)?;
+    let command = help::named(name, ["--help", "--version"])?;
     if rest.iter().take_while(|&&word| word != "--").any(|word| ["--help", "-h"].contains(word)) {
         return Ok(command.help());
     }

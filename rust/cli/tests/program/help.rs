@@ -108,6 +108,11 @@ fn how_a_rule_is_written() {
 fn words_that_are_no_command() {
     let place = Place::new();
     let all = "\n`havdrims help` prints all commands.\n";
+    assert_eq!(
+        place.fails(2, &["help", "rulez"]),
+        format!("`rulez` is no command; did you mean rules?{all}expected: havdrims help [COMMAND]\n")
+    );
+    assert_eq!(place.fails(2, &["rulez"]), format!("`rulez` is no command; did you mean rule?{all}"));
     assert_eq!(place.fails(2, &["evenings"]), format!("`evenings` is no command; did you mean evening?{all}"));
     assert_eq!(place.fails(2, &["sumary", "card"]), format!("`sumary` is no command; did you mean summary?{all}"));
     assert_eq!(place.fails(2, &["version"]), format!("`version` is no command; did you mean --version?{all}"));
