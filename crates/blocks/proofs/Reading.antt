@@ -28,7 +28,7 @@ module _ (v : List ℕ) (h : ℕ) {s : List ℕ} {n : ℕ} {w : Window} {copy : 
       let at = in-slice (slice-first v) h in
       let start = opened .start in
       let all = leb (at + n) (record-count s) in
-      let inside = leb-true (at + n) (record-count s) (and-iff all (negate (skips v && some-service s at n)) .0 (sym (opened .kind) ∙ e) .0) in
+      let inside = leb-true (at + n) (record-count s) (and-iff all (negate (skips v && some-service s at n)) .0 (opened .own e) .0) in
       omega arith
 
   pub end-fits : Views v s → h < 2 ^ 64 → slice-first v + w .end < 2 ^ 64

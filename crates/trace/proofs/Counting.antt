@@ -11,7 +11,7 @@ use mathlib.Core.Path.{_≡_, refl, sym, ap, _∙_}
 use Rattle.mtl.proofs.Bounded.{le-or-lt}
 use Rattle.bits.specs.Packed.{number}
 use Rattle.trace.specs.Format.{record-count}
-use Rattle.trace.specs.Positions.{is-service, passing, seek, spot, moved, positions}
+use Rattle.trace.specs.Positions.{is-service, passing, seek, spot, moved, positions, Inside}
 
 module _ (s : List ℕ) where
   -- one record more
@@ -142,6 +142,18 @@ module _ (s : List ℕ) where
   unfolding spot moved
   spot-seek r zero = refl
   spot-seek r (suc i) = refl
+
+  -- a head has as many positions more before it as it has passed
+  pub moved-counts : (r n : ℕ) → r ≤ all → Inside true s r n → (moved true s r n ≤ all) × (positions s (moved true s r n) ≡ positions s r + n)
+  unfolding moved
+  moved-counts r zero h inside = (h, omega arith)
+  moved-counts r (suc n) h inside =
+      let before = moved-counts r n h (λ i l. inside i (omega arith)) in
+      let here = inside n (omega arith) in
+      let p = spot s r n in
+      let plain : is-service s p ≡ false = rw (spot-seek r n) (seek-plain (moved true s r n) (before .0) (rw (spot-seek r n) at here)) in
+      let same : positions s p ≡ positions s (moved true s r n) = rw (spot-seek r n) (seek-same (moved true s r n) (before .0)) in
+      (omega arith, omega (arith, count-position p plain, before .1))
 
   -- the record of position i
   pub record Holds (i p : ℕ) : Type 0 where

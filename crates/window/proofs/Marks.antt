@@ -2,6 +2,7 @@
 use Prim.Native.Nat.{ℕ, suc, _+_, _-_, _*_, _/_, _%_, _^_, _≤_, _<_, min}
 use native.Mathlib.Omega.{arith}
 use mathlib.Core.Bool.{Bool, true, false, _&&_, _||_}
+use mathlib.Core.Bool.{not as negate}
 use mathlib.Core.List.{List, [], _∷_, _++_}
 use mathlib.Core.Logic.{inl, inr, ⊎-elim}
 use mathlib.Core.Path.{_≡_, refl, sym, ap, _∙_}
@@ -10,15 +11,16 @@ use lib.Dec.{leb, ltb, eqb}
 use lib.ListN.{length, getD, set, drop, length-set}
 use lib.Pow.{shl-shr}
 use lib.Seq.{getD-set-same, getD-set-other}
-use borrow.Author.Tests.{eqb-true, eqb-false, lt-ltb, le-leb}
-use Rattle.mtl.proofs.Bounded.{le-or-lt, true-or-false, true-and-false, false-iff, and-iff, or-iff, any-false-iff}
+use borrow.Author.Tests.{eqb-true, eqb-false, lt-ltb, le-leb, not-true}
+use Rattle.mtl.proofs.Bounded.{le-or-lt, true-or-false, true-and-false, false-iff, and-iff, or-iff, leb-iff, any-false-iff}
 use Rattle.bits.specs.Packed.{bit, number}
 use Rattle.bits.proofs.Laws.{bit-or}
 use Rattle.trace.specs.Format.{record-count}
 use Rattle.trace.specs.Positions.{is-service, positions, before}
 use Rattle.window.specs.View.{slice-first, total, skips, closed, block-marked, BlockMarks, MarkedToo, Views, served, ViewOf}
-use Rattle.window.specs.Window.{some-service}
+use Rattle.window.specs.Window.{some-service, dense}
 use Rattle.trace.proofs.Counting.{count-service, count-most}
+use Rattle.window.proofs.Windows.{clear-dense}
 use Rattle.window.proofs.Slices.{served-before, served-skips, flag-told}
 
 -- A BLOCK IS MARKED
@@ -101,6 +103,22 @@ none-marked v s from n inside few marks none =
     (λ l. let e : (from + i) / 256 ≡ (from + n) / 256 = omega arith in inr (rw e at here))
     (le-or-lt ((from + i) / 256) (from / 256))))
     none))
+
+-- so they are read without another look, where they are there and service records are passed over or not
+module _ (v s : List ℕ) (from n : ℕ) (few : n ≤ 65) (views : Views v s) (a b : Bool) (first : a ≡ block-marked v (from / 256)) (last : b ≡ block-marked v ((from + n) / 256)) where
+  pub clear : leb (from + n) (record-count s) ≡ true → negate (skips v) || negate (a || b) ≡ true → dense (skips v) s from n ≡ true
+  clear fits e =
+      clear-dense (skips v) s from n fits
+      (λ kind.
+      let none = not-true (a || b) (rw kind at e) in
+      none-marked v s from n (leb-iff (from + n) (record-count s) .0 fits) few (views .marks kind) (rw (first, last) at none))
+
+  pub not-clear : negate (skips v) || negate (a || b) ≡ false → skips v ≡ true
+  not-clear e = by (skips v) refl
+    where
+      by : (kind : Bool) → skips v ≡ kind → skips v ≡ true
+      by true kind = kind
+      by false kind = absurd (true-and-false refl (rw kind at e))
 
 -- ALL BLOCKS
 

@@ -20,11 +20,11 @@ use Rattle.trace.specs.Format.{record-count, events-at, has-letter, SameRecord}
 use Rattle.trace.specs.Positions.{is-service, seek, spot, place, moved, positions, Inside}
 use Rattle.trace.specs.Making.{put}
 use Rattle.window.specs.View.{slice-first, skips, in-slice}
-use Rattle.window.specs.Window.{some-service, dense, record-of, letter-at, Counted, Copied, Lettered, Opened, Behind, Gathered, Windowed, Passed, Found}
+use Rattle.window.specs.Window.{some-service, dense, record-of, letter-at, Counted, Copied, Mixed, Lettered, Opened, Behind, BehindBut, Gathered, Windowed, Passed, Found}
 use Rattle.window.specs.declared.Letters.{Letters}
 use Rattle.window.specs.declared.Window.{Window}
 use Rattle.trace.proofs.Making.{byte-behind, length-put}
-use Rattle.trace.proofs.Counting.{spot-last, head-finds, count-one, count-grows, count-most}
+use Rattle.trace.proofs.Counting.{spot-last, head-finds, moved-counts, count-one, count-grows, count-most}
 use Rattle.trace.proofs.Positions.{seek-position, spot-service, spot-position, spot-past, spot-plain}
 
 -- what a loop's test of two parts says, and what it says when the loop ends
@@ -47,14 +47,9 @@ top-bit s i byte =
     let at = i * 8 + 4 in
     sym (number-bit (events-at s i) 31 ∙ omega (arith, byte at, byte (at + 1), byte (at + 2), byte (at + 3)))
 
--- where none of the first i is a service record, those behind them decide
-pub some-further : (s : List ℕ) (from i n : ℕ) → some-service s from i ≡ false → some-service s from (i + n) ≡ some-service s (from + i) n
-unfolding any
-some-further s from i zero none = rw (add-zero i) none
-some-further s from i (suc n) none =
-    let next : i + suc n ≡ suc (i + n) = omega arith in
-    let here : from + (i + n) ≡ from + i + n = omega arith in
-    rw (next, some-further s from i n none, here)
+no-number : (b : Bool) → number b ≡ 0 → b ≡ false
+no-number true e = absurd (omega arith)
+no-number false e = refl
 
 -- PASSING
 
@@ -298,6 +293,69 @@ module _ (s : List ℕ) (from n : ℕ) where
         behind = going-behind s from n k at (g .going) ended;
       }
 
+-- BACK FROM AN END
+
+-- of n positions before `end` all but `left` are passed, down to record `at`
+pub record Down (s : List ℕ) (from end n left at : ℕ) : Type 0 where
+  pub few : left ≤ n
+  pub low : from ≤ at
+  pub high : at ≤ end
+  pub counted : positions s at + (n - left) ≡ positions s end
+
+module _ (s : List ℕ) (from end n : ℕ) where
+  pub down-none : from ≤ end → Down s from end n n end
+  down-none h = record { few = omega arith; low = h; high = omega arith; counted = omega arith }
+
+  module _ (left at : ℕ) (d : Down s from end n left at) where
+    pub down-on : (x : ℕ) → from < at → x ≡ number (is-service s (at - 1)) → x ≤ 1 → 1 - x ≤ left → Down s from end n (left - (1 - x)) (at - 1)
+    down-on x inside is small some =
+        let few = d .few in
+        let high = d .high in
+        let counted = d .counted in
+        let here : (at - 1) + 1 ≡ at = omega arith in
+        let one = rw here at (count-one s (at - 1) x is) in
+        record { few = omega arith; low = omega arith; high = omega arith; counted = omega arith }
+
+    -- so many positions stand before the end as the head had passed
+    ended-behind : end ≤ max from (record-count s) → (m : ℕ) → 0 < m → Inside true s from (m + n) → end ≡ moved true s from (m + n) → positions s end ≡ positions s from + (m + n)
+    ended-behind bound m some inside is =
+        let room : from ≤ record-count s = ⊎-elim (λ l. l) (λ l. absurd (omega (arith, inside 0 (omega arith), spot-past s from (omega arith) 0))) (le-or-lt from (record-count s)) in
+        ap (positions s) is ∙ moved-counts s from (m + n) room inside .1
+
+    -- nothing before it is left
+    pub down-all : end ≤ max from (record-count s) → at ≤ from → BehindBut s from end n at
+    down-all bound none =
+        record {
+          onward = d .low;
+          bounded = d .high;
+          at = λ m some inside is.
+              let here : at ≡ from = omega (arith, d .low) in
+              absurd (omega (arith, ended-behind bound m some inside is, rw here at (d .counted)));
+        }
+
+    -- the record before it is a position, and none is left to pass
+    pub down-here : end ≤ max from (record-count s) → (x : ℕ) → from < at → x ≡ number (is-service s (at - 1)) → x ≤ 1 → left < 1 - x → BehindBut s from end n at
+    unfolding moved
+    down-here bound x inside is small none =
+        record {
+          onward = d .low;
+          bounded = d .high;
+          at = λ m some inside′ is′.
+              let i = at - 1 - from in
+              let j = m - 1 in
+              let high = d .high in
+              let here : from + i ≡ at - 1 = omega arith in
+              let next : (at - 1) + 1 ≡ at = omega arith in
+              let plain : is-service s (from + i) ≡ false = rw here (no-number (is-service s (at - 1)) (omega arith)) in
+              let all = ended-behind bound m some inside′ is′ in
+              let one = rw next at (count-one s (at - 1) x is) in
+              let most = count-most s from (from + i) (omega arith) in
+              let sum : positions s from + j ≡ positions s (from + i) = rw here (omega (arith, d .counted)) in
+              let spotted = counted-here s from i j (record { few = omega arith; sum = sum }) (omega arith) plain in
+              let last : m ≡ suc j = omega arith in
+              rw last (omega arith);
+        }
+
 -- OPENING
 
 module _ (skips : Bool) (s : List ℕ) (at n : ℕ) where
@@ -325,26 +383,35 @@ module _ (skips : Bool) (s : List ℕ) (at n : ℕ) where
   moved-dense e zero h = sym (add-zero at)
   moved-dense e (suc m) h = let here = place-dense skips refl e m h in omega arith
 
-  -- where a window is not, though the log has its positions, service records are passed over
-  sparse-skips : dense skips s at n ≡ false → Inside skips s at n → 0 < n → skips ≡ true
-  sparse-skips e inside some = by skips refl
+  -- where the records are not all there, the log has these positions only if service records are passed over, which it then has not either
+  pub short-mixed : leb (at + n) (record-count s) ≡ false → Mixed skips s at n
+  short-mixed e inside some = by skips refl
     where
       by : (kind : Bool) → skips ≡ kind → skips ≡ true
       by true kind = kind
       by false kind =
           let last : at + (n - 1) < record-count s = rw kind at (inside (n - 1) (omega arith)) in
-          let fits : leb (at + n) (record-count s) ≡ true = le-leb (at + n) (record-count s) (omega arith) in
-          absurd (true-and-false (and-iff (leb (at + n) (record-count s)) true .1 (fits, refl)) (rw kind at e))
+          absurd (true-and-false (le-leb (at + n) (record-count s) (omega arith)) e)
+
+  -- records that are there, of which none is passed over or none is marked
+  pub clear-dense : leb (at + n) (record-count s) ≡ true → (skips ≡ true → some-service s at n ≡ false) → dense skips s at n ≡ true
+  clear-dense fits none = by skips refl
+    where
+      by : (kind : Bool) → skips ≡ kind → dense kind s at n ≡ true
+      by true kind = rw (fits, none kind)
+      by false kind = rw fits
 
   abbrev window : (end : ℕ) (dense : Bool) → Window
-  window end dense = record { at = at; end = end; dense = dense }
+  window end dense = record { at = at; end = end; count = n; dense = dense }
 
   pub opened-dense : (copy : List ℕ) → length copy ≡ 520 → dense skips s at n ≡ true → Opened skips s at n (window (at + n) true) copy
   opened-dense copy room e =
       let fits = dense-fits e in
       record {
         start = refl;
-        kind = sym e;
+        size = refl;
+        own = λ told. e;
+        mixed = λ told. absurd (true-and-false refl told);
         long = let rest = length-drop (at * 8) s in omega arith;
         room = room;
         shows = λ inside i h b few.
@@ -364,24 +431,26 @@ module _ (skips : Bool) (s : List ℕ) (at n : ℕ) where
       rw none (rw none at here)
 
   -- the head behind
-  sparse-end : (r : ℕ) → dense skips s at n ≡ false → Behind s at n r → Inside skips s at n → r ≡ moved skips s at n
-  sparse-end r e behind inside =
+  mixed-end : (r : ℕ) → Mixed skips s at n → Behind s at n r → Inside skips s at n → r ≡ moved skips s at n
+  mixed-end r mixed behind inside =
       ⊎-elim
       (λ none. stays r behind none)
-      (λ some. let kind = sparse-skips e inside some in rw kind (behind .end (rw kind at inside)))
+      (λ some. let kind = mixed inside some in rw kind (behind .end (rw kind at inside)))
       (le-or-lt n 0)
 
-  pub opened-copied : (copy : List ℕ) (r : ℕ) → n ≤ 65 → dense skips s at n ≡ false → Gathered s at n copy r → Opened skips s at n (window r false) copy
-  opened-copied copy r few e g =
+  pub opened-copied : (copy : List ℕ) (r : ℕ) → n ≤ 65 → Mixed skips s at n → Gathered s at n copy r → Opened skips s at n (window r false) copy
+  opened-copied copy r few mixed g =
       record {
         start = refl;
-        kind = sym e;
+        size = refl;
+        own = λ told. absurd (true-and-false told refl);
+        mixed = λ told. mixed;
         long = let long = g .long in omega arith;
         room = g .long;
-        shows = λ inside i h. let kind = sparse-skips e inside (omega arith) in rw kind (g .at (rw kind at inside) i h);
+        shows = λ inside i h. let kind = mixed inside (omega arith) in rw kind (g .at (rw kind at inside) i h);
         onward = g .behind .onward;
         bounded = g .behind .bounded;
-        end = sparse-end r e (g .behind);
+        end = mixed-end r mixed (g .behind);
       }
 
 -- LETTERS WITHOUT A WINDOW
@@ -401,17 +470,17 @@ module _ (skips : Bool) (s : List ℕ) (letter at n : ℕ) where
         end = λ inside. sym (moved-dense skips s at n e n (omega arith));
       }
 
-  pub lettered-sparse : (r : Letters) → dense skips s at n ≡ false → Lettered true s letter at n r → Lettered skips s letter at n r
-  lettered-sparse r e l =
+  pub lettered-mixed : (r : Letters) → Mixed skips s at n → Lettered true s letter at n r → Lettered skips s letter at n r
+  lettered-mixed r mixed l =
       record {
         answers = λ inside.
             ⊎-elim
             (λ none. let zero : n ≡ 0 = omega arith in rw zero (packed-none (letter-at skips s letter at) 0 (r .bits)))
-            (λ some. let kind = sparse-skips skips s at n e inside some in rw kind (l .answers (rw kind at inside)))
+            (λ some. let kind = mixed inside some in rw kind (l .answers (rw kind at inside)))
             (le-or-lt n 0);
         onward = l .onward;
         bounded = l .bounded;
-        end = sparse-end skips s at n (r .end) e (record { onward = l .onward; bounded = l .bounded; end = l .end });
+        end = mixed-end skips s at n (r .end) mixed (record { onward = l .onward; bounded = l .bounded; end = l .end });
       }
 
 -- AFTER SOME OF ITS POSITIONS
@@ -432,7 +501,7 @@ module _ (v s : List ℕ) (head n : ℕ) (w : Window) where
     passed-fits e =
         let m = windowed .0 in
         let start = begins in
-        omega (arith, windowed .2, dense-fits (skips v) s at m (sym (windowed .3 .kind) ∙ e))
+        omega (arith, windowed .2, dense-fits (skips v) s at m (windowed .3 .own e))
 
     pub passed-dense : w .dense ≡ true → Passed v s head n w (slice-first v + w .at + n)
     passed-dense e =
@@ -441,7 +510,7 @@ module _ (v s : List ℕ) (head n : ℕ) (w : Window) where
           onward = omega arith;
           still = λ none. absurd (omega arith);
           behind = λ m copy few opened inside more.
-              let here = moved-dense (skips v) s at m (sym (opened .kind) ∙ e) n few in
+              let here = moved-dense (skips v) s at m (opened .own e) n few in
               omega arith;
         }
 
@@ -453,9 +522,25 @@ module _ (v s : List ℕ) (head n : ℕ) (w : Window) where
           onward = omega arith;
           still = λ none. absurd (omega arith);
           behind = λ m copy few opened inside more.
-              let kind = sparse-skips (skips v) s at m (sym (opened .kind) ∙ e) inside (omega arith) in
+              let kind = opened .mixed e inside (omega arith) in
               let from : Behind s at n r = rw begins at behind in
               rw kind (ap (λ (x : ℕ). slice-first v + x) (from .end (λ i h. (rw kind at inside) i (omega arith))));
+        }
+
+    -- the same from its end
+    pub passed-but : w .dense ≡ false → (r : ℕ) → BehindBut s (w .at) (w .end) (w .count - n) r → Passed v s head n w (slice-first v + r)
+    passed-but e r but =
+        let start = begins in
+        let low = but .onward in
+        record {
+          onward = omega arith;
+          still = λ none. absurd (omega arith);
+          behind = λ m copy few opened inside more.
+              let kind = opened .mixed e inside (omega arith) in
+              let all : n + (w .count - n) ≡ m = omega (arith, opened .size) in
+              let from : BehindBut s at (w .end) (w .count - n) r = rw begins at but in
+              let end : w .end ≡ moved true s at m = rw kind at (opened .end inside) in
+              rw kind (ap (λ (x : ℕ). slice-first v + x) (from .at n more (rw all (rw kind at inside)) (rw all end)));
         }
 
 -- THE FIRST RECORD WANTED
@@ -485,10 +570,6 @@ back-on s n left p x b some inside is small =
       counted = omega arith;
       plain = λ none h. no-number (is-service s (p - 1)) (omega arith);
     }
-  where
-    no-number : (b : Bool) → number b ≡ 0 → b ≡ false
-    no-number true e = absurd (omega arith)
-    no-number false e = refl
 
 pub back-found : (s : List ℕ) (n left p : ℕ) → Back s n left p → (left ≤ 0) ⊎ (p ≤ 0) → Found true s n p
 unfolding positions

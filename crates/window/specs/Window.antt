@@ -1,6 +1,6 @@
 -- A window: the records of the next positions from a reading head on, and no others.
 use Prim.Native.Nat.{ℕ, _+_, _-_, _*_, _≤_, _<_, _^_, max}
-use mathlib.Core.Bool.{Bool, true, cond, _&&_}
+use mathlib.Core.Bool.{Bool, true, false, cond, _&&_}
 use mathlib.Core.Bool.{not as negate}
 use mathlib.Core.Path.{_≡_}
 use mathlib.Core.List.{List}
@@ -22,6 +22,10 @@ some-service s from n = any n (λ i. is-service s (from + i))
 -- the n records from `from` on are all there, and all positions
 abbrev pub dense : (skips : Bool) → List ℕ → (from n : ℕ) → Bool
 dense skips s from n = leb (from + n) (record-count s) && negate (skips && some-service s from n)
+
+-- where the log has these positions, service records are passed over
+abbrev pub Mixed : (skips : Bool) → List ℕ → (at n : ℕ) → Type 0
+Mixed skips s at n = Inside skips s at n → 0 < n → skips ≡ true
 
 -- the bytes of a window: the records' own part, or the copy
 abbrev pub window-of : Window → (s copy : List ℕ) → List ℕ
@@ -63,7 +67,10 @@ pub record Lettered (skips : Bool) (s : List ℕ) (letter at n : ℕ) (r : Lette
 -- a window of n positions from record `at` of the slice on
 pub record Opened (skips : Bool) (s : List ℕ) (at n : ℕ) (w : Window) (copy : List ℕ) : Type 0 where
   pub start : w .at ≡ at
-  pub kind : w .dense ≡ dense skips s at n
+  pub size : w .count ≡ n
+  -- the log's own part has no service records that are passed over; a copy is made only where there are some
+  pub own : w .dense ≡ true → dense skips s at n ≡ true
+  pub mixed : w .dense ≡ false → Mixed skips s at n
   -- it has n records, whatever the words hold from which the head was taken; they are the log's where the log has them
   pub long : n ≤ record-count (window-of w s copy)
   pub room : length copy ≡ 520
@@ -78,6 +85,12 @@ pub record Behind (s : List ℕ) (from n r : ℕ) : Type 0 where
   pub onward : from ≤ r
   pub bounded : r ≤ max from (record-count s)
   pub end : Inside true s from n → r ≡ moved true s from n
+
+-- where `end` stands behind m + n positions from `from` on, the record behind the first m of them
+pub record BehindBut (s : List ℕ) (from end n r : ℕ) : Type 0 where
+  pub onward : from ≤ r
+  pub bounded : r ≤ end
+  pub at : (m : ℕ) → 0 < m → Inside true s from (m + n) → end ≡ moved true s from (m + n) → r ≡ moved true s from m
 
 -- the records of these positions copied, one behind the other
 pub record Gathered (s : List ℕ) (from n : ℕ) (copy : List ℕ) (r : ℕ) : Type 0 where

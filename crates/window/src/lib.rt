@@ -12,14 +12,16 @@ ghost use Rattle.trace.specs.Format.{record-count};
 ghost use Rattle.trace.specs.Positions.{is-service, before};
 ghost use Rattle.trace.specs.Making.{put};
 ghost use Rattle.window.specs.View.{slice-first, skips, in-slice, BlockMarks, Views};
-ghost use Rattle.window.specs.Window.{some-service, dense, window-of, record-of, Counted, Copied, Picks, Lettered, Gathered, Opened, Behind, Windowed, Passed, Found};
+ghost use Rattle.window.specs.Window.{some-service, dense, window-of, record-of, Counted, Copied, Picks, Lettered, Gathered, Mixed, Opened, Behind, BehindBut, Windowed, Passed, Found};
 
 pub mod view;
 
-// Where a window begins in the slice of records, the record behind its last, and whether its records stand there one after the other.
+// Where a window begins in the slice of records, the record behind its last, how many positions it has, and whether their records stand there
+// one after the other.
 pub struct Window {
     pub at: usize,
     pub end: usize,
+    pub count: usize,
     pub dense: bool,
 }
 
@@ -97,21 +99,6 @@ pub fn count_many(records: &[u8], from: usize, n: usize) -> usize
     found + count_mixed(records, from + i, n - i)
 }
 
-// Whether one of the n records from `from` on is a service record, eight at a time.
-fn has_service(records: &[u8], from: usize, n: usize) -> bool
-    requires { ⌜ from + n ≤ record-count (now records) ⌝ }
-    ensures { λ r. ⌜ r ≡ some-service (now (records .entry)) from n ⌝ }
-{
-    let mut i: usize = 0;
-    while i + 8 <= n {
-        if group_has_service(records, from + i, 8) {
-            return true;
-        }
-        i += 8;
-    }
-    group_has_service(records, from + i, n - i)
-}
-
 // Where a head at this record stands in a slice that begins with record `first`.
 fn in_slice(first: u64, head: u64) -> usize
     ensures { λ r. ⌜ r ≡ in-slice first head ⌝ }
@@ -120,36 +107,6 @@ fn in_slice(first: u64, head: u64) -> usize
         0
     } else {
         (head - first) as usize
-    }
-}
-
-// The same of so few records that they lie in two blocks at most: where neither is marked, no record is looked at.
-fn finds_service(records: &[u8], view: &[u64; 66], from: usize, n: usize) -> bool
-    requires { ⌜ (from + n ≤ record-count (now records)) × (n ≤ 65) × BlockMarks (now view) (now records) ⌝ }
-    ensures { λ r. ⌜ r ≡ some-service (now (records .entry)) from n ⌝ }
-{
-    if view::is_marked(view, from / 256) | view::is_marked(view, (from + n) / 256) {
-        return has_service(records, from, n);
-    }
-    false
-}
-
-// The n records from `from` on are all there, and none of them is a service record that is passed over.
-fn is_dense(records: &[u8], view: &[u64; 66], from: usize, n: usize) -> bool
-    requires { ⌜ (n ≤ 65) × Views (now view) (now records) ⌝ }
-    ensures { λ r. ⌜ r ≡ dense (skips (now (view .entry))) (now (records .entry)) from n ⌝ }
-{
-    let end = trace::count(records);
-    if end < n {
-        return false;
-    }
-    if end - n < from {
-        return false;
-    }
-    if view[view::SKIPS] == 1 {
-        !finds_service(records, view, from, n)
-    } else {
-        true
     }
 }
 
@@ -326,12 +283,25 @@ fn is_plain(records: &[u8], view: &[u64; 66], from: usize, n: usize) -> bool
     (view[view::SKIPS] != 1) & has_room(records, from, n)
 }
 
+// Whether so few records are there and lie in blocks, two at most, of which none is marked: no record is looked at. Where one is marked it is
+// as dear to look for its service records as to copy the others.
+fn is_clear(records: &[u8], view: &[u64; 66], from: usize, n: usize) -> bool
+    requires { ⌜ (n ≤ 65) × Views (now view) (now records) ⌝ }
+    ensures { λ r. ⌜ (r ≡ true → dense (skips (now (view .entry))) (now (records .entry)) from n ≡ true) × (r ≡ false → Mixed (skips (now (view .entry))) (now (records .entry)) from n) ⌝ }
+{
+    if has_room(records, from, n) {
+        let marked = view::is_marked(view, from / 256) | view::is_marked(view, (from + n) / 256);
+        return (view[view::SKIPS] != 1) | !marked;
+    }
+    false
+}
+
 // The letter at each of n positions from `at` on, where service records may lie among them.
 fn read_mixed(records: &[u8], view: &[u64; 66], at: usize, n: usize, letter: u64) -> Letters
     requires { ⌜ (n ≤ 64) × (letter < 32) × Views (now view) (now records) ⌝ }
     ensures { λ r. ⌜ Lettered (skips (now (view .entry))) (now (records .entry)) letter at n r ⌝ }
 {
-    if is_dense(records, view, at, n) {
+    if is_clear(records, view, at, n) {
         let bits = trace::letter_bits(records, at, n, letter);
         let end = at + n;
         return Letters { bits, end };
@@ -358,11 +328,12 @@ fn open_mixed(records: &[u8], view: &[u64; 66], at: usize, n: usize, copy: &mut 
     requires { ⌜ (n ≤ 65) × (length (now copy) ≡ 520) × Views (now view) (now records) ⌝ }
     ensures { λ r. ⌜ Opened (skips (now (view .entry))) (now (records .entry)) at n r (now (copy .exit)) ⌝ }
 {
-    if is_dense(records, view, at, n) {
+    if is_clear(records, view, at, n) {
         let end = at + n;
         return Window {
             at,
             end,
+            count: n,
             dense: true,
         };
     }
@@ -370,6 +341,7 @@ fn open_mixed(records: &[u8], view: &[u64; 66], at: usize, n: usize, copy: &mut 
     Window {
         at,
         end,
+        count: n,
         dense: false,
     }
 }
@@ -385,6 +357,7 @@ pub fn open(records: &[u8], view: &[u64; 66], head: u64, n: u64, copy: &mut [u8;
         return Window {
             at,
             end,
+            count: n as usize,
             dense: true,
         };
     }
@@ -421,6 +394,25 @@ fn behind(records: &[u8], from: usize, n: usize) -> usize
     at
 }
 
+// The record behind all but the last n of the positions from `from` on that `end` stands behind: from there down, over these n and over the
+// service records before them.
+fn behind_but(records: &[u8], from: usize, end: usize, n: usize) -> usize
+    requires { ⌜ (from ≤ end) × (end ≤ max from (record-count (now records))) ⌝ }
+    ensures { λ r. ⌜ BehindBut (now (records .entry)) from end n r ⌝ }
+{
+    let mut at = end;
+    let mut left = n;
+    while from < at {
+        let here = 1 - service(records, at - 1);
+        if left < here {
+            break;
+        }
+        at -= 1;
+        left -= here;
+    }
+    at
+}
+
 // Where a head stands after all positions of its window, of which there is one at least.
 pub fn pass_all(window: Window, view: &[u64; 66]) -> u64
     requires { ⌜ slice-first (now view) + window .end < 2 ^ 64 ⌝ }
@@ -429,7 +421,7 @@ pub fn pass_all(window: Window, view: &[u64; 66]) -> u64
     view[view::FIRST] + window.end as u64
 }
 
-// Where a head stands after n positions of its window; where it stood if there are none.
+// Where a head stands after n positions of its window, counted from its end where that is near; where it stood if there are none.
 pub fn pass(head: u64, window: Window, records: &[u8], view: &[u64; 66], n: u64) -> u64
     requires { ⌜ Views (now view) (now records) × Windowed (now view) (now records) head n window ⌝ }
     ensures { λ r. ⌜ Passed (now (view .entry)) (now (records .entry)) head n window r ⌝ }
@@ -439,6 +431,10 @@ pub fn pass(head: u64, window: Window, records: &[u8], view: &[u64; 66], n: u64)
     }
     if window.dense {
         return view[view::FIRST] + window.at as u64 + n;
+    }
+    let left = window.count - n as usize;
+    if left < 8 {
+        return view[view::FIRST] + behind_but(records, window.at, window.end, left) as u64;
     }
     view[view::FIRST] + behind(records, window.at, n as usize) as u64
 }

@@ -1,6 +1,5 @@
 -- `window::open_mixed` meets its contract, by the laws of proofs/Windows. Assumes nothing.
 use native.Mathlib.Omega.{arith}
-use mathlib.Core.Path.{sym, _∙_}
 use borrow.Author.Needs.{needs}
 use Rattle.window.specs.View.{skips}
 use Rattle.window.proofs.Windows.{dense-fits, opened-dense, opened-copied}
@@ -10,18 +9,18 @@ use Rattle.window.proofs.open_mixed.Tie as tie
 add-end : tie.Need-add-end
 add-end c =
     let a = c .before .before .before .args in
-    omega (arith, dense-fits (skips (a .view .now)) (a .records .now) (a .at) (a .n) (sym (c .before .is-dense .ensures) ∙ c .if1 .taken))
+    omega (arith, dense-fits (skips (a .view .now)) (a .records .now) (a .at) (a .n) (c .before .is-clear .ensures .0 (c .if1 .taken)))
 
 returns : tie.Need-returns
 returns c =
     let a = c .before .before .before .args in
-    opened-dense (skips (a .view .now)) (a .records .now) (a .at) (a .n) (a .copy .now) (c .before .before .before .pre .1) (sym (c .before .is-dense .ensures) ∙ c .if1 .taken)
+    opened-dense (skips (a .view .now)) (a .records .now) (a .at) (a .n) (a .copy .now) (c .before .before .before .pre .1) (c .before .is-clear .ensures .0 (c .if1 .taken))
 
 returns-2 : tie.Need-returns-2
 returns-2 c =
     let a = c .before .before .before .before .before .args in
     opened-copied (skips (a .view .now)) (a .records .now) (a .at) (a .n) (c .gather .last .1 .1 .1 .0) (c .gather .result) (omega arith)
-    (sym (c .before .before .before .is-dense .ensures) ∙ c .before .before .if1 .left) (c .gather .ensures)
+    (c .before .before .before .is-clear .ensures .1 (c .before .before .if1 .left)) (c .gather .ensures)
 
 pub open-mixed-spec : {M : Type 1} → statement M
 open-mixed-spec = tie.close (tie.spec (λ c κs. search needs) add-end returns (λ c κs. search needs) returns-2)

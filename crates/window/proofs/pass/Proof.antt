@@ -3,7 +3,7 @@ use Prim.Native.Nat.{_+_, _≤_}
 use native.Mathlib.Omega.{arith}
 use borrow.Author.Needs.{needs}
 use Rattle.trace.specs.Format.{record-count}
-use Rattle.window.proofs.Windows.{begins, passed-none, passed-fits, passed-dense, passed-behind}
+use Rattle.window.proofs.Windows.{passed-none, passed-fits, passed-dense, passed-but, passed-behind}
 use Rattle.window.proofs.pass.Statement.{statement}
 use Rattle.window.proofs.pass.Tie as tie
 
@@ -18,9 +18,6 @@ fits c =
     let a = c .before .before .before .before .args in
     passed-fits (a .view .now) (a .records .now) (a .head) (a .n) (a .window) (c .before .before .before .before .pre .1) (omega arith) (c .before .if2 .taken)
 
-add-result : tie.Need-add-result
-add-result c = omega (arith, fits c)
-
 add-result-2 : tie.Need-add-result-2
 add-result-2 c = omega (arith, fits c)
 
@@ -29,16 +26,18 @@ returns-2 c =
     let a = c .before .before .before .before .args in
     passed-dense (a .view .now) (a .records .now) (a .head) (a .n) (a .window) (c .before .before .before .before .pre .1) (omega arith) (c .before .if2 .taken)
 
-add-result-3 : tie.Need-add-result-3
-add-result-3 c =
-    let a = c .before .before .before .before .before .args in
-    let start = begins (a .view .now) (a .records .now) (a .head) (a .n) (a .window) (c .before .before .before .before .before .pre .1) (omega arith) in
-    omega (arith, c .behind .ensures .bounded)
-
 returns-3 : tie.Need-returns-3
 returns-3 c =
-    let a = c .before .before .before .before .before .args in
-    passed-behind (a .view .now) (a .records .now) (a .head) (a .n) (a .window) (c .before .before .before .before .before .pre .1) (omega arith) (c .before .before .if2 .left)
+    let start = c .before .before .before .before .before .before .before in
+    let a = start .args in
+    passed-but (a .view .now) (a .records .now) (a .head) (a .n) (a .window) (start .pre .1) (omega arith) (c .before .before .before .before .if2 .left)
+    (c .behind-but .result) (c .behind-but .ensures)
+
+returns-4 : tie.Need-returns-4
+returns-4 c =
+    let start = c .before .before .before .before .before .before .before in
+    let a = start .args in
+    passed-behind (a .view .now) (a .records .now) (a .head) (a .n) (a .window) (start .pre .1) (omega arith) (c .before .before .before .before .if2 .left)
     (c .behind .result) (c .behind .ensures)
 
 pub pass-spec : {M : Type 1} → statement M
@@ -47,10 +46,15 @@ pass-spec =
     (tie.spec
     returns
     (λ c. search needs)
-    add-result
+    (λ c. search needs)
     add-result-2
     returns-2
     (λ c. search needs)
+    (λ c. search needs)
     (λ c κs. search needs)
-    add-result-3
-    returns-3)
+    (λ c. search needs)
+    returns-3
+    (λ c. search needs)
+    (λ c κs. search needs)
+    (λ c. search needs)
+    returns-4)

@@ -1,9 +1,8 @@
 -- `window::read_mixed` meets its contract. Assumes nothing.
 use native.Mathlib.Omega.{arith}
-use mathlib.Core.Path.{sym, _∙_}
 use borrow.Author.Needs.{needs}
 use Rattle.window.specs.View.{skips}
-use Rattle.window.proofs.Windows.{dense-fits, lettered-dense, lettered-sparse}
+use Rattle.window.proofs.Windows.{dense-fits, lettered-dense, lettered-mixed}
 use Rattle.window.proofs.read_mixed.Statement.{statement}
 use Rattle.window.proofs.read_mixed.Tie as tie
 
@@ -11,24 +10,24 @@ letter-bits-requires : tie.Need-letter-bits-requires
 letter-bits-requires c κs =
     let start = c .before .before .before in
     let a = start .args in
-    (dense-fits (skips (a .view .now)) (a .records .now) (a .at) (a .n) (sym (c .before .is-dense .ensures) ∙ c .if1 .taken), start .pre .0, start .pre .1)
+    (dense-fits (skips (a .view .now)) (a .records .now) (a .at) (a .n) (c .before .is-clear .ensures .0 (c .if1 .taken)), start .pre .0, start .pre .1)
 
 add-end : tie.Need-add-end
 add-end c =
     let a = c .before .before .before .before .args in
-    omega (arith, dense-fits (skips (a .view .now)) (a .records .now) (a .at) (a .n) (sym (c .before .before .is-dense .ensures) ∙ c .before .if1 .taken))
+    omega (arith, dense-fits (skips (a .view .now)) (a .records .now) (a .at) (a .n) (c .before .before .is-clear .ensures .0 (c .before .if1 .taken)))
 
 returns : tie.Need-returns
 returns c =
     let a = c .before .before .before .before .args in
     lettered-dense (skips (a .view .now)) (a .records .now) (a .letter) (a .at) (a .n) (c .letter-bits .result)
-    (sym (c .before .before .is-dense .ensures) ∙ c .before .if1 .taken) (c .letter-bits .ensures)
+    (c .before .before .is-clear .ensures .0 (c .before .if1 .taken)) (c .letter-bits .ensures)
 
 returns-2 : tie.Need-returns-2
 returns-2 c =
     let a = c .before .before .before .before .args in
-    lettered-sparse (skips (a .view .now)) (a .records .now) (a .letter) (a .at) (a .n) (c .pick-letters .result)
-    (sym (c .before .before .is-dense .ensures) ∙ c .before .if1 .left) (c .pick-letters .ensures)
+    lettered-mixed (skips (a .view .now)) (a .records .now) (a .letter) (a .at) (a .n) (c .pick-letters .result)
+    (c .before .before .is-clear .ensures .1 (c .before .if1 .left)) (c .pick-letters .ensures)
 
 pub read-mixed-spec : {M : Type 1} → statement M
 read-mixed-spec =
