@@ -8,10 +8,10 @@ use mathlib.Core.Bool.{not as negate}
 use mathlib.Core.List.{List, [], _∷_}
 use mathlib.Core.Logic.{_⊎_, inl, inr, ⊎-elim}
 use mathlib.Core.Path.{_≡_, refl, sym, ap, subst, _∙_}
-use lib.Dec.{ltb, leb}
+use lib.Dec.{ltb, leb, eqb}
 use lib.ListN.{length, getD, take, drop, length-drop, List·getD-append}
 use lib.Seq.{getD-take, getD-drop, drop-cons, length-take-le}
-use borrow.Author.Tests.{lt-ltb, ltb-true, le-leb, not-true}
+use borrow.Author.Tests.{lt-ltb, ltb-true, le-leb, eqb-true, not-true}
 use Rattle.mtl.proofs.Bounded.{le-or-lt, true-or-false, true-and-false, and-iff, leb-iff, any-false-iff}
 use Rattle.mtl.specs.Satisfaction.{any}
 use Rattle.bits.specs.Packed.{number, Packed}
@@ -20,7 +20,7 @@ use Rattle.trace.specs.Format.{record-count, events-at, has-letter, SameRecord}
 use Rattle.trace.specs.Positions.{is-service, seek, spot, place, moved, positions, Inside}
 use Rattle.trace.specs.Making.{put}
 use Rattle.window.specs.View.{slice-first, skips, in-slice}
-use Rattle.window.specs.Window.{some-service, dense, record-of, letter-at, Counted, Copied, Mixed, Lettered, Opened, Behind, BehindBut, Gathered, Windowed, Passed, Found}
+use Rattle.window.specs.Window.{some-service, dense, record-of, letter-at, Clear, Counted, Copied, Mixed, Lettered, Opened, Behind, BehindBut, Gathered, Windowed, Passed, Found}
 use Rattle.window.specs.declared.Letters.{Letters}
 use Rattle.window.specs.declared.Window.{Window}
 use Rattle.trace.proofs.Making.{byte-behind, length-put}
@@ -46,6 +46,15 @@ pub top-bit : (s : List ℕ) (i : ℕ) → ((k : ℕ) → getD s k 0 < 256) → 
 top-bit s i byte =
     let at = i * 8 + 4 in
     sym (number-bit (events-at s i) 31 ∙ omega (arith, byte at, byte (at + 1), byte (at + 2), byte (at + 3)))
+
+-- where none of the first i is a service record, those behind them decide
+pub some-further : (s : List ℕ) (from i n : ℕ) → some-service s from i ≡ false → some-service s from (i + n) ≡ some-service s (from + i) n
+unfolding any
+some-further s from i zero none = rw (add-zero i) none
+some-further s from i (suc n) none =
+    let next : i + suc n ≡ suc (i + n) = omega arith in
+    let here : from + (i + n) ≡ from + i + n = omega arith in
+    rw (next, some-further s from i n none, here)
 
 no-number : (b : Bool) → number b ≡ 0 → b ≡ false
 no-number true e = absurd (omega arith)
@@ -285,6 +294,16 @@ module _ (s : List ℕ) (from n : ℕ) where
           let place = rw same at (g .going .left (j - k)) in
           rw place (rw same at (copied .here (j - k) (omega arith)))
 
+  -- the first of them at once
+  pub gathering-clear : (clear : ℕ) (copy copy′ : List ℕ) → length copy ≡ 520 → Clear s from n clear → Copied s from clear copy 0 copy′ clear →
+      Gathering s from n clear (from + clear) copy′
+  gathering-clear clear copy copy′ long is copied =
+      ⊎-elim
+      (λ h. let none : clear ≡ 0 = omega arith in rw (none, add-zero from) (gathering-none copy′ (copied .long ∙ long)))
+      (λ some.
+      rw zero-add at (gathering-group 0 from clear clear copy copy′ (gathering-none copy long) (omega (arith, is .few)) (is .inside some) copied))
+      (le-or-lt clear 0)
+
   pub gathered : (k at : ℕ) (copy : List ℕ) → Gathering s from n k at copy → (n ≤ k) ⊎ (record-count s ≤ at) → Gathered s from n copy at
   gathered k at copy g ended =
       record {
@@ -400,6 +419,13 @@ module _ (skips : Bool) (s : List ℕ) (at n : ℕ) where
       by : (kind : Bool) → skips ≡ kind → dense kind s at n ≡ true
       by true kind = rw (fits, none kind)
       by false kind = rw fits
+
+  -- or of which all are looked at
+  pub clear-all : (clear : ℕ) → Clear s at n clear → ltb 0 clear && eqb clear n ≡ true → dense skips s at n ≡ true
+  clear-all clear is e =
+      let both = and-iff (ltb 0 clear) (eqb clear n) .0 e in
+      let all = eqb-true clear n (both .1) in
+      clear-dense (le-leb (at + n) (record-count s) (rw all at (is .inside (ltb-true 0 clear (both .0))))) (λ kind. rw all at (is .none))
 
   abbrev window : (end : ℕ) (dense : Bool) → Window
   window end dense = record { at = at; end = end; count = n; dense = dense }

@@ -35,6 +35,12 @@ window-of w s copy = cond (w .dense) (drop (w .at * 8) s) copy
 abbrev pub record-of : List ℕ → ℕ → List ℕ
 record-of s i = take 8 (drop (i * 8) s)
 
+-- of n records from `from` on the first r are there and are no service records
+pub record Clear (s : List ℕ) (from n r : ℕ) : Type 0 where
+  pub few : r ≤ n
+  pub inside : 0 < r → from + r ≤ record-count s
+  pub none : some-service s from r ≡ false
+
 -- of n records from `from` on, r are positions
 pub record Counted (s : List ℕ) (from n r : ℕ) : Type 0 where
   pub few : r ≤ n

@@ -12,7 +12,7 @@ ghost use Rattle.trace.specs.Format.{record-count};
 ghost use Rattle.trace.specs.Positions.{is-service, before};
 ghost use Rattle.trace.specs.Making.{put};
 ghost use Rattle.window.specs.View.{slice-first, skips, in-slice, BlockMarks, Views};
-ghost use Rattle.window.specs.Window.{some-service, dense, window-of, record-of, Counted, Copied, Picks, Lettered, Gathered, Mixed, Opened, Behind, BehindBut, Windowed, Passed, Found};
+ghost use Rattle.window.specs.Window.{some-service, dense, window-of, record-of, Clear, Counted, Copied, Picks, Lettered, Gathered, Mixed, Opened, Behind, BehindBut, Windowed, Passed, Found};
 
 pub mod view;
 
@@ -99,6 +99,24 @@ pub fn count_many(records: &[u8], from: usize, n: usize) -> usize
     found + count_mixed(records, from + i, n - i)
 }
 
+// How many of n records from `from` on stand before the first eight with a service record; n where none has one.
+fn count_clear(records: &[u8], from: usize, n: usize) -> usize
+    requires { ⌜ from + n ≤ record-count (now records) ⌝ }
+    ensures { λ r. ⌜ (r ≤ n) × (some-service (now (records .entry)) from r ≡ false) ⌝ }
+{
+    let mut i: usize = 0;
+    while i + 8 <= n {
+        if group_has_service(records, from + i, 8) {
+            return i;
+        }
+        i += 8;
+    }
+    if group_has_service(records, from + i, n - i) {
+        return i;
+    }
+    n
+}
+
 // Where a head at this record stands in a slice that begins with record `first`.
 fn in_slice(first: u64, head: u64) -> usize
     ensures { λ r. ⌜ r ≡ in-slice first head ⌝ }
@@ -137,7 +155,7 @@ fn copy_record(records: &[u8], i: usize, copy: &mut [u8; 520], k: usize)
 
 // Copies n records from `from` on, none of which is a service record, as those from number k on.
 fn copy_plain(records: &[u8], from: usize, n: usize, copy: &mut [u8; 520], k: usize)
-    requires { ⌜ (from + n ≤ record-count (now records)) × (k + n ≤ 65) × (length (now copy) ≡ 520) × (some-service (now records) from n ≡ false) ⌝ }
+    requires { ⌜ (0 < n → from + n ≤ record-count (now records)) × (k + n ≤ 65) × (length (now copy) ≡ 520) × (some-service (now records) from n ≡ false) ⌝ }
     ensures { λ _. ⌜ Copied (now (records .entry)) from n (now (copy .entry)) k (now (copy .exit)) n ⌝ }
 {
     let mut i: usize = 0;
@@ -186,14 +204,16 @@ fn can_take(m: usize, left: usize, at: usize, end: usize) -> bool
     }
 }
 
-// Copies the records of n positions from `from` on, as many as there are, eight at a time. Gives the record behind them.
-fn gather(records: &[u8], from: usize, n: usize, copy: &mut [u8; 520]) -> usize
-    requires { ⌜ (n ≤ 65) × (length (now copy) ≡ 520) ⌝ }
+// Copies the records of n positions from `from` on, as many as there are: the first `clear` of them at once, since they are no service records,
+// and then eight at a time. Gives the record behind them.
+fn gather(records: &[u8], from: usize, n: usize, clear: usize, copy: &mut [u8; 520]) -> usize
+    requires { ⌜ (n ≤ 65) × (length (now copy) ≡ 520) × Clear (now records) from n clear ⌝ }
     ensures { λ r. ⌜ Gathered (now (records .entry)) from n (now (copy .exit)) r ⌝ }
 {
     let end = trace::count(records);
-    let mut at = from;
-    let mut k: usize = 0;
+    copy_plain(records, from, clear, copy, 0);
+    let mut at = from + clear;
+    let mut k = clear;
     while can_take(8, n - k, at, end) {
         k += copy_group(records, at, 8, copy, k);
         at += 8;
@@ -283,8 +303,7 @@ fn is_plain(records: &[u8], view: &[u64; 66], from: usize, n: usize) -> bool
     (view[view::SKIPS] != 1) & has_room(records, from, n)
 }
 
-// Whether so few records are there and lie in blocks, two at most, of which none is marked: no record is looked at. Where one is marked it is
-// as dear to look for its service records as to copy the others.
+// Whether so few records are there and lie in blocks, two at most, of which none is marked: no record is looked at.
 fn is_clear(records: &[u8], view: &[u64; 66], from: usize, n: usize) -> bool
     requires { ⌜ (n ≤ 65) × Views (now view) (now records) ⌝ }
     ensures { λ r. ⌜ (r ≡ true → dense (skips (now (view .entry))) (now (records .entry)) from n ≡ true) × (r ≡ false → Mixed (skips (now (view .entry))) (now (records .entry)) from n) ⌝ }
@@ -294,6 +313,16 @@ fn is_clear(records: &[u8], view: &[u64; 66], from: usize, n: usize) -> bool
         return (view[view::SKIPS] != 1) | !marked;
     }
     false
+}
+
+// How many of n records from `from` on are found to be no service records before one may be; none where they are not all there.
+fn find_clear(records: &[u8], from: usize, n: usize) -> usize
+    ensures { λ r. ⌜ Clear (now (records .entry)) from n r ⌝ }
+{
+    if has_room(records, from, n) {
+        return count_clear(records, from, n);
+    }
+    0
 }
 
 // The letter at each of n positions from `at` on, where service records may lie among them.
@@ -337,7 +366,17 @@ fn open_mixed(records: &[u8], view: &[u64; 66], at: usize, n: usize, copy: &mut 
             dense: true,
         };
     }
-    let end = gather(records, at, n, copy);
+    let clear = find_clear(records, at, n);
+    if (0 < clear) & (clear == n) {
+        let end = at + n;
+        return Window {
+            at,
+            end,
+            count: n,
+            dense: true,
+        };
+    }
+    let end = gather(records, at, n, clear, copy);
     Window {
         at,
         end,

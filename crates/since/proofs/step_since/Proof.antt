@@ -1,7 +1,6 @@
 -- `since::step_since` meets its contract, by the laws of proofs/Turn.
 use Prim.Native.Nat.{_≤_, _<_, min}
 use native.Mathlib.Nat.{pos-of-ne-zero}
-use native.Mathlib.Nat.{pos-of-ne-zero}
 use native.Mathlib.Omega.{arith}
 use mathlib.Core.Path.{refl, _∙_}
 use lib.ListN.{length, length-set}
@@ -101,7 +100,8 @@ pass-all-requires c κs =
     end-fits (a .view .now) (head (a .block .now)) (c .before .before .before .before .before .before .before .before .before .before .«open» .ensures) (c .before .before .before .before .before .before .before .before .before .before .before .before .before .before .before .before .before .before .before .before .before .before .before .before .before .before .pre .3) (c .before .before .before .before .before .before .before .before .before .before .before .before .before .before .before .before .before .before .before .before .before .before .before .before .slice-known .given 11 .fits)
 
 slice-write-block : tie.Need-slice-write-block
-slice-write-block c = search needs
+slice-write-block c =
+    omega (arith, c .before .before .before .take-both .kept .0, c .before .before .before .before .before .before .before .take-window .kept .1 .1 .1 .1 .1 .1 .0, c .before .before .before .before .before .before .before .before .before .before .before .before .before .before .before .before .before .before .before .before .before .before .before .before .before .before .before .pre .1)
 
 same-length : tie.Need-same-length
 same-length c = length-set (c .before .before .before .take-both .last .0) 11 (c .pass-all .result) ∙ c .before .before .before .take-both .kept .0 ∙ c .before .before .before .before .before .before .before .take-window .kept .1 .1 .1 .1 .1 .1 .0

@@ -7,7 +7,7 @@ use Rattle.window.proofs.copy_group.Tie as tie
 copy-plain-requires : tie.Need-copy-plain-requires
 copy-plain-requires c κs =
     let pre = c .before .before .before .before .pre in
-    (pre .0, pre .1, pre .2, sym (c .before .before .group-has-service .ensures) ∙ c .before .if1 .left)
+    (λ some. pre .0, pre .1, pre .2, sym (c .before .before .group-has-service .ensures) ∙ c .before .if1 .left)
 
 pub copy-group-spec : {M : Type 1} → statement M
 copy-group-spec =
