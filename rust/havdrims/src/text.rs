@@ -9,9 +9,9 @@
 //! 12 e0 e3
 //! ```
 //!
-//! A letter is `e0` to `e31`, or its number alone. `none`, or nothing behind the seconds, is a record without
-//! letters, and `none` beside a letter is refused. Numbers are digits alone: `+5` could be meant as five seconds later.
-//! Empty lines, and what follows a `#`, are passed over.
+//! A letter is `e0` to `e31`, or its number alone, in one of these ways throughout a line: in `09 30 e0` the 30 is rather a part of
+//! the time. `none`, or nothing behind the seconds, is a record without letters, and `none` beside a letter is refused. Numbers are
+//! digits alone: `+5` could be meant as five seconds later. Empty lines, and what follows a `#`, are passed over.
 //!
 //! A line `version 2` before the first record says that the log is of version 2, which knows service records. The word
 //! `service` makes a record one: it is letter 31, and is shown so.
@@ -80,6 +80,13 @@ pub enum TextFault {
         /// The word.
         word: String,
     },
+    /// A number alone beside a letter as `e0`.
+    Mixed {
+        /// The first such number.
+        number: String,
+        /// The first such letter.
+        letter: String,
+    },
     /// `none` beside a letter.
     None,
     /// A service record in a log of version 1.
@@ -107,6 +114,10 @@ impl fmt::Display for TextError {
             TextFault::Dropped => write!(f, "`dropped` wants a number of records up to 1000000"),
             TextFault::Seconds { word, .. } => write!(f, "`{word}` is no number of seconds up to 4294967295"),
             TextFault::Letter { word } => write!(f, "`{word}` is no letter: letters are e0 to e31"),
+            TextFault::Mixed { number, letter } => {
+                write!(f, "`{number}` stands beside `{letter}`: letters are written all as e0 or all as 0; ")?;
+                write!(f, "is a line end missing, or is the time not one number?")
+            }
             TextFault::None => write!(f, "`none` says that a record has no letters, and stands alone"),
             TextFault::Service => {
                 write!(f, "`service` needs the line `version 2` or `version 3` before the first record")
@@ -215,6 +226,9 @@ impl Typed {
 /// A record's time and event set, in a log that has service records or not.
 fn record(seconds: &str, words: &[&str], services: bool) -> Result<(u32, u32), TextFault> {
     let time = digits(seconds).map_err(|source| TextFault::Seconds { word: seconds.to_string(), source })?;
+    if let Some(fault) = mixed(words) {
+        return Err(fault);
+    }
     let mut letters = 0;
     for &word in words {
         let number = match word {
@@ -230,6 +244,14 @@ fn record(seconds: &str, words: &[&str], services: bool) -> Result<(u32, u32), T
         letters |= 1 << number;
     }
     Ok((time, letters))
+}
+
+/// What is wrong where letters stand there in both ways.
+fn mixed(words: &[&str]) -> Option<TextFault> {
+    let is_number = |word: &str| !word.is_empty() && word.bytes().all(|byte| byte.is_ascii_digit());
+    let number = words.iter().find(|word| is_number(word))?;
+    let letter = words.iter().find(|word| word.strip_prefix('e').is_some_and(is_number))?;
+    Some(TextFault::Mixed { number: number.to_string(), letter: letter.to_string() })
 }
 
 /// A number without a sign, which `parse` alone would take.

@@ -20,7 +20,10 @@ fn other_ways_to_type_a_log() {
     let typed = "# the morning\n\n10 0   # warm\n 11 e0\r\n11\n12 0 0\n13\te1\n20 e0";
     assert_eq!(log_to_text(&log_from_text(typed).unwrap()).unwrap(), P1);
     assert_eq!(log_from_text("").unwrap(), log::HEADER);
-    assert_eq!(log_from_text("4294967295 e31 0").unwrap()[8..], [255, 255, 255, 255, 128, 0, 0, 1]);
+    for letters in ["e31 e0", "31 0"] {
+        let file = log_from_text(&format!("4294967295 {letters}")).unwrap();
+        assert_eq!(file[8..], [255, 255, 255, 255, 128, 0, 0, 1], "{letters}");
+    }
 }
 
 #[test]
@@ -43,6 +46,35 @@ fn faults_name_their_line() {
         fault(&"1\n".repeat(1_000_001)),
         "line 1000001: a log has at most 1,000,000 records, dropped ones included"
     );
+}
+
+/// Letters are written in one way throughout a line: what is not may be a time of several words, or two lines.
+#[test]
+fn both_ways_in_one_line() {
+    let fault = |text: &str| log_from_text(text).unwrap_err().to_string();
+    let said = |number: &str, letter: &str| {
+        format!(
+            "line 2: `{number}` stands beside `{letter}`: letters are written all as e0 or all as 0; \
+             is a line end missing, or is the time not one number?"
+        )
+    };
+    for (line, number, letter) in [
+        ("09 30 e0", "30", "e0"),
+        ("1 000 e0", "000", "e0"),
+        ("2026 11 09 e1 e0", "11", "e1"),
+        ("10 e0 20 e1", "20", "e0"),
+        ("10 e0 500", "500", "e0"),
+        ("10 0 e40", "0", "e40"),
+        ("10 service 3 e0", "3", "e0"),
+    ] {
+        assert_eq!(fault(&format!("version 2\n{line}\n")), said(number, letter), "{line}");
+    }
+    // a word of its own may stand beside either
+    let [named, numbers] = ["10 e0 service e3", "10 service 3 0"].map(|line| format!("version 2\n{line}\n"));
+    assert_eq!(log_from_text(&named), log_from_text(&numbers));
+    assert_eq!(log_to_text(&log_from_text(&numbers).unwrap()).unwrap(), "version 2\n10 e0 e3 service\n");
+    // each line in its own way
+    assert_eq!(log_from_text("10 0 3\n11 e0 e3\n"), log_from_text("10 e0 e3\n11 0 3\n"));
 }
 
 #[test]
@@ -74,7 +106,7 @@ fn logs_of_version_2() {
     let services = |from| Log::new(&file).unwrap().services(from);
     assert_eq!((services(0), services(2), services(3), services(9)), (2, 1, 0, 0));
     // other ways to type it; letter 31 by its name too
-    let typed = "\n# the visit\n version  2 # of the log\n10 0\n10 31\n11 service 3 service e0\n12\n";
+    let typed = "\n# the visit\n version  2 # of the log\n10 0\n10 31\n11 service 3 service 0\n12\n";
     assert_eq!(log_from_text(typed).unwrap(), file);
     // the same records as version 1, where letter 31 is a letter
     let plain = SERVED.replace("version 2", "version 1").replace("service", "e31");

@@ -34,6 +34,21 @@ fn logs_as_text() {
     assert_eq!(place.fails(1, &["to-text", "day.txt"]), format!("day.txt: {no_log}\n"));
 }
 
+/// What looks like a slip in a log that is typed is refused, and nothing is written.
+#[test]
+fn slips_in_a_log_as_text() {
+    let place = Place::new();
+    let mixed = "letters are written all as e0 or all as 0; is a line end missing, or is the time not one number?";
+    for (text, said) in [
+        ("09 00 e0\n", format!("line 1: `00` stands beside `e0`: {mixed}")),
+        ("1 e0\n10 e0 20 e1\n", format!("line 2: `20` stands beside `e0`: {mixed}")),
+    ] {
+        fs::write(place.path("slip.txt"), text).unwrap();
+        assert_eq!(place.fails(1, &["to-log", "slip.txt", "slip.klg"]), format!("slip.txt, {said}\n"), "{text:?}");
+        assert!(!place.path("slip.klg").exists());
+    }
+}
+
 #[test]
 fn logs_of_version_2_as_text() {
     let place = Place::new();
