@@ -10,8 +10,9 @@
 //! ```
 //!
 //! A letter is `e0` to `e31`, or its number alone, in one of these ways throughout a line: in `09 30 e0` the 30 is rather a part of
-//! the time. `none`, or nothing behind the seconds, is a record without letters, and `none` beside a letter is refused. Numbers are
-//! digits alone: `+5` could be meant as five seconds later. Empty lines, and what follows a `#`, are passed over.
+//! the time. No letter stands twice in a line, or has a needless 0, as `e01`. `none`, or nothing behind the seconds, is a record without
+//! letters, and `none` beside a letter is refused. Numbers are digits alone: `+5` could be meant as five seconds later. Empty lines, and
+//! what follows a `#`, are passed over.
 //!
 //! A line `version 2` before the first record says that the log is of version 2, which knows service records. The word
 //! `service` makes a record one: it is letter 31, and is shown so.
@@ -38,6 +39,7 @@ use alloc::string::{String, ToString};
 use alloc::vec::Vec;
 use core::error::Error;
 use core::fmt::{self, Write};
+use core::mem;
 use core::num::ParseIntError;
 
 /// The header of a version 2 rule, but for its number of entries.
@@ -80,6 +82,13 @@ pub enum TextFault {
         /// The word.
         word: String,
     },
+    /// A letter that stands there already.
+    Twice {
+        /// The word.
+        word: String,
+        /// The word before it that is the same letter.
+        before: String,
+    },
     /// A number alone beside a letter as `e0`.
     Mixed {
         /// The first such number.
@@ -114,6 +123,8 @@ impl fmt::Display for TextError {
             TextFault::Dropped => write!(f, "`dropped` wants a number of records up to 1000000"),
             TextFault::Seconds { word, .. } => write!(f, "`{word}` is no number of seconds up to 4294967295"),
             TextFault::Letter { word } => write!(f, "`{word}` is no letter: letters are e0 to e31"),
+            TextFault::Twice { word, before } if word == before => write!(f, "`{word}` is there twice"),
+            TextFault::Twice { word, before } => write!(f, "`{before}` and `{word}` are the same letter"),
             TextFault::Mixed { number, letter } => {
                 write!(f, "`{number}` stands beside `{letter}`: letters are written all as e0 or all as 0; ")?;
                 write!(f, "is a line end missing, or is the time not one number?")
@@ -229,21 +240,29 @@ fn record(seconds: &str, words: &[&str], services: bool) -> Result<(u32, u32), T
     if let Some(fault) = mixed(words) {
         return Err(fault);
     }
-    let mut letters = 0;
+    let (mut letters, mut typed) = (0, [""; 32]);
     for &word in words {
         let number = match word {
             "none" if words.len() == 1 => break,
             "none" => return Err(TextFault::None),
             "service" if services => SERVICE,
             "service" => return Err(TextFault::Service),
-            _ => digits(word.strip_prefix('e').unwrap_or(word)).unwrap_or(32),
+            _ => letter(word).ok_or_else(|| TextFault::Letter { word: word.to_string() })?,
         };
-        if number > 31 {
-            return Err(TextFault::Letter { word: word.to_string() });
+        let before = mem::replace(&mut typed[number as usize], word);
+        if !before.is_empty() {
+            return Err(TextFault::Twice { word: word.to_string(), before: before.to_string() });
         }
         letters |= 1 << number;
     }
     Ok((time, letters))
+}
+
+/// The number of a letter, as rules have it too: with no 0 before other digits.
+fn letter(word: &str) -> Option<u32> {
+    let number = word.strip_prefix('e').unwrap_or(word);
+    let formed = number == "0" || !number.starts_with('0');
+    digits(number).ok().filter(|&number| formed && number < 32)
 }
 
 /// What is wrong where letters stand there in both ways.

@@ -17,7 +17,7 @@ fn p1_log_both_ways() {
 
 #[test]
 fn other_ways_to_type_a_log() {
-    let typed = "# the morning\n\n10 0   # warm\n 11 e0\r\n11\n12 0 0\n13\te1\n20 e0";
+    let typed = "# the morning\n\n10 0   # warm\n 11 e0\r\n11\n12 0\n13\te1\n20 e0";
     assert_eq!(log_to_text(&log_from_text(typed).unwrap()).unwrap(), P1);
     assert_eq!(log_from_text("").unwrap(), log::HEADER);
     for letters in ["e31 e0", "31 0"] {
@@ -46,6 +46,26 @@ fn faults_name_their_line() {
         fault(&"1\n".repeat(1_000_001)),
         "line 1000001: a log has at most 1,000,000 records, dropped ones included"
     );
+}
+
+#[test]
+fn letters_that_are_there_twice_or_have_a_needless_zero() {
+    let fault = |line: &str| log_from_text(&format!("version 2\n{line}\n")).unwrap_err().to_string();
+    for (line, word) in
+        [("10 e0 e0", "e0"), ("10 0 3 0", "0"), ("10 e31 e31", "e31"), ("10 service service", "service")]
+    {
+        assert_eq!(fault(line), format!("line 2: `{word}` is there twice"), "{line}");
+    }
+    assert_eq!(fault("10 e31 service"), "line 2: `e31` and `service` are the same letter");
+    assert_eq!(fault("10 service 3 31"), "line 2: `service` and `31` are the same letter");
+    for word in ["e00", "e01", "e031", "00", "000", "07", "e", "e0x"] {
+        assert_eq!(fault(&format!("10 {word}")), format!("line 2: `{word}` is no letter: letters are e0 to e31"));
+    }
+    // every letter once, in any order
+    for prefix in ["e", ""] {
+        let letters: String = (0..32).rev().map(|letter| format!(" {prefix}{letter}")).collect();
+        assert_eq!(log_from_text(&format!("07{letters}")).unwrap()[8..], [0, 0, 0, 7, 255, 255, 255, 255]);
+    }
 }
 
 /// Letters are written in one way throughout a line: what is not may be a time of several words, or two lines.
@@ -106,7 +126,7 @@ fn logs_of_version_2() {
     let services = |from| Log::new(&file).unwrap().services(from);
     assert_eq!((services(0), services(2), services(3), services(9)), (2, 1, 0, 0));
     // other ways to type it; letter 31 by its name too
-    let typed = "\n# the visit\n version  2 # of the log\n10 0\n10 31\n11 service 3 service 0\n12\n";
+    let typed = "\n# the visit\n version  2 # of the log\n10 0\n10 31\n11 3 service 0\n12\n";
     assert_eq!(log_from_text(typed).unwrap(), file);
     // the same records as version 1, where letter 31 is a letter
     let plain = SERVED.replace("version 2", "version 1").replace("service", "e31");

@@ -42,6 +42,9 @@ fn slips_in_a_log_as_text() {
     for (text, said) in [
         ("09 00 e0\n", format!("line 1: `00` stands beside `e0`: {mixed}")),
         ("1 e0\n10 e0 20 e1\n", format!("line 2: `20` stands beside `e0`: {mixed}")),
+        ("1 e0 e0\n", "line 1: `e0` is there twice".to_string()),
+        ("version 2\n1 e31 service\n", "line 2: `e31` and `service` are the same letter".to_string()),
+        ("1 e01\n", "line 1: `e01` is no letter: letters are e0 to e31".to_string()),
     ] {
         fs::write(place.path("slip.txt"), text).unwrap();
         assert_eq!(place.fails(1, &["to-log", "slip.txt", "slip.klg"]), format!("slip.txt, {said}\n"), "{text:?}");
