@@ -12,7 +12,8 @@
 //! A letter is `e0` to `e31`, or its number alone, in one of these ways throughout a line: in `09 30 e0` the 30 is rather a part of
 //! the time. No letter stands twice in a line, or has a needless 0, as `e01`. `none`, or nothing behind the seconds, is a record without
 //! letters, and `none` beside a letter is refused. Numbers are digits alone: `+5` could be meant as five seconds later. Empty lines, and
-//! what follows a `#`, are passed over.
+//! what follows a `#`, are passed over. A line ends with a line feed, before which a carriage return may stand, and no other end of a line
+//! is taken; spaces and tabs stand between words, and no other character that looks like them.
 //!
 //! A line `version 2` before the first record says that the log is of version 2, which knows service records. The word
 //! `service` makes a record one: it is letter 31, and is shown so.
@@ -70,6 +71,16 @@ pub enum TextFault {
     DroppedPlace,
     /// A count of records dropped that is no number up to [`MOST_RECORDS`].
     Dropped,
+    /// A character inside a line that ends one elsewhere: what stands behind it would belong to this one.
+    LineEnd {
+        /// The character.
+        character: char,
+    },
+    /// A character that looks like a space, and is none.
+    Space {
+        /// The character.
+        character: char,
+    },
     /// A first word that is no number of seconds.
     Seconds {
         /// The word.
@@ -121,6 +132,17 @@ impl fmt::Display for TextError {
                 write!(f, "`dropped` stands once, behind the line `version 3` and before the first record")
             }
             TextFault::Dropped => write!(f, "`dropped` wants a number of records up to 1000000"),
+            TextFault::LineEnd { character } => {
+                let number = u32::from(*character);
+                write!(
+                    f,
+                    "the character U+{number:04X} stands inside the line: lines end with U+000A, or U+000D and U+000A"
+                )
+            }
+            TextFault::Space { character } => {
+                let number = u32::from(*character);
+                write!(f, "the character U+{number:04X} is no plain space: spaces and tabs stand between words")
+            }
             TextFault::Seconds { word, .. } => write!(f, "`{word}` is no number of seconds up to 4294967295"),
             TextFault::Letter { word } => write!(f, "`{word}` is no letter: letters are e0 to e31"),
             TextFault::Twice { word, before } if word == before => write!(f, "`{word}` is there twice"),
@@ -164,9 +186,9 @@ pub fn log_from_text(text: &str) -> Result<Vec<u8>, TextError> {
     let mut log = Typed { bytes: HEADERS[0].to_vec(), version: None, dropped: None };
     let mut before = 0;
     for (at, line) in text.lines().enumerate() {
-        let words: Vec<&str> = line.split('#').next().unwrap_or("").split_whitespace().collect();
-        let Some((&first, words)) = words.split_first() else { continue };
         let faulty = |fault: TextFault| TextError { line: at + 1, fault };
+        let words = words(line).map_err(faulty)?;
+        let Some((&first, words)) = words.split_first() else { continue };
         match first {
             "version" => log.set_version(words).map_err(faulty)?,
             "dropped" => log.set_dropped(words).map_err(faulty)?,
@@ -181,6 +203,20 @@ pub fn log_from_text(text: &str) -> Result<Vec<u8>, TextError> {
         }
     }
     Ok(log.bytes)
+}
+
+/// The words of a line, before what is a remark. Where lines end otherwise, a remark would hide the lines behind it.
+fn words(line: &str) -> Result<Vec<&str>, TextFault> {
+    let is_end = |character| matches!(character, '\r' | '\u{B}' | '\u{C}' | '\u{85}' | '\u{2028}' | '\u{2029}');
+    if let Some(character) = line.chars().find(|&character| is_end(character)) {
+        return Err(TextFault::LineEnd { character });
+    }
+    let typed = line.split('#').next().unwrap_or("");
+    let is_plain = |character| matches!(character, ' ' | '\t');
+    if let Some(character) = typed.chars().find(|&other| other.is_whitespace() && !is_plain(other)) {
+        return Err(TextFault::Space { character });
+    }
+    Ok(typed.split(is_plain).filter(|word| !word.is_empty()).collect())
 }
 
 /// A log as far as it was read.

@@ -68,6 +68,35 @@ fn letters_that_are_there_twice_or_have_a_needless_zero() {
     }
 }
 
+/// Lines end in one way: what else looks like an end, or like a space, is named.
+#[test]
+fn line_ends_and_spaces() {
+    let fault = |text: &str| log_from_text(text).unwrap_err().to_string();
+    for end in ['\r', '\u{B}', '\u{C}', '\u{85}', '\u{2028}', '\u{2029}'] {
+        let said = format!(
+            "line 2: the character U+{:04X} stands inside the line: lines end with U+000A, or U+000D and U+000A",
+            u32::from(end)
+        );
+        for line in [format!("10 e0{end}11 e1"), format!("10 e0{end}"), format!("# warm{end}10 e0"), end.to_string()] {
+            assert_eq!(fault(&format!("1\n{line}\n20\n").replace("\r\n", "\r \n")), said, "{line:?}");
+        }
+    }
+    assert!(fault("10 e0\r").starts_with("line 1: the character U+000D "));
+    assert!(fault("10 e0\r\r\n").starts_with("line 1: the character U+000D "));
+    for space in ['\u{A0}', '\u{2003}', '\u{202F}', '\u{3000}'] {
+        let number = u32::from(space);
+        let said =
+            format!("line 1: the character U+{number:04X} is no plain space: spaces and tabs stand between words");
+        for line in [format!("10{space}e0"), format!("{space}10 e0"), format!("10 e0{space}# warm")] {
+            assert_eq!(fault(&line), said, "{line:?}");
+        }
+        // in a remark it does no harm
+        assert_eq!(log_from_text(&format!("10 e0 # head{space}warm")), log_from_text("10 e0"));
+    }
+    assert_eq!(log_from_text("\t10 \t e0\t\r\n\r\n \t\r\n11"), log_from_text("10 e0\n11 none\n"));
+    assert!(fault("\u{feff}10 e0").contains("is no number of seconds"));
+}
+
 /// Letters are written in one way throughout a line: what is not may be a time of several words, or two lines.
 #[test]
 fn both_ways_in_one_line() {

@@ -44,6 +44,15 @@ fn slips_in_a_log_as_text() {
         ("1 e0\n10 e0 20 e1\n", format!("line 2: `20` stands beside `e0`: {mixed}")),
         ("1 e0 e0\n", "line 1: `e0` is there twice".to_string()),
         ("version 2\n1 e31 service\n", "line 2: `e31` and `service` are the same letter".to_string()),
+        (
+            "1 e0\r2 e1\r",
+            "line 1: the character U+000D stands inside the line: lines end with U+000A, or U+000D and U+000A"
+                .to_string(),
+        ),
+        (
+            "1 e0\n2\u{a0}e1\n",
+            "line 2: the character U+00A0 is no plain space: spaces and tabs stand between words".to_string(),
+        ),
         ("1 e01\n", "line 1: `e01` is no letter: letters are e0 to e31".to_string()),
     ] {
         fs::write(place.path("slip.txt"), text).unwrap();
