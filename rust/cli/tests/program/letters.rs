@@ -124,6 +124,34 @@ fn names_that_are_wrong() {
     assert_eq!(place.fails(1, &["letters", "none", "names.txt"]), none);
 }
 
+/// A file without any name is rather what a command left that failed: names are not taken away by it, or left out.
+#[test]
+fn no_name_at_all() {
+    let place = Place::with_names();
+    place.ok(&["evening", "card", "day.klg"]);
+    let before = place.card();
+    let said = "there is no name in it: a line has a letter's number, 0 to 31, and a name\n";
+    for text in ["", "\n \n", "# 0 head warm\n", "\u{feff}", "# all\r0 head warm\r"] {
+        fs::write(place.path("names.txt"), text).unwrap();
+        let kept = "Nothing was changed. To go without names, take the file `letters` in the card away.\n";
+        assert_eq!(place.fails(1, &["letters", "card", "names.txt"]), format!("names.txt: {said}{kept}"), "{text:?}");
+        let none = "No card was made. Without --letters it has no names.\n";
+        let new = ["new", "other", RULE, "--letters", "names.txt"];
+        assert_eq!(place.fails(1, &new), format!("names.txt: {said}{none}"), "{text:?}");
+        let old = "No card was made. Without --letters OLD's names go over.\n";
+        let after = [&new[..], &["--after", "card"]].concat();
+        assert_eq!(place.fails(1, &after), format!("names.txt: {said}{old}"), "{text:?}");
+        assert_eq!((place.card(), place.path("other").exists()), (before.clone(), false));
+    }
+    assert!(place.fails(1, &["letters", "card", "-"]).starts_with(&format!("standard input: {said}")));
+    // what is said can be done
+    fs::remove_file(place.path("card/letters")).unwrap();
+    assert_eq!(place.ok(&["letters", "card"]), "");
+    assert!(place.ok(&["check", "card"]).contains("\nall files fit together\n"));
+    place.ok(&["evening", "card", "tuesday.klg"]);
+    assert!(place.help("letters").contains("to go without names, take the file `letters` in the card away."));
+}
+
 /// Names that are damaged, or another card's, are not shown; verdicts do not depend on them, and they can be given anew.
 #[test]
 fn names_that_are_damaged() {
