@@ -205,6 +205,9 @@ the records that are no service records, from 0, or from N for a card made with 
 records, a position is the record of the same number. A card made with --after goes on with the old card's numbers.
 With --csv each of several formulas has its column, as in `position,formula 0,formula 1`. The card is not changed.
 
+Where positions are asked for that have no verdict yet, or stand before the card's first one, that is said on standard
+error: no line of --no is no all-clear there.
+
 Of a card that is damaged the verdicts are printed that a checksum vouches for; what is wrong is said besides, and the
 exit status is 1.",
         example: "havdrims sheet card --from 10 --csv",
