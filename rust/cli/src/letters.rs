@@ -1,5 +1,6 @@
 //! Names for letters, typed in a file: what a letter of the log stands for in the shop.
 
+use crate::convert::digits;
 use havdrims::save::checksum_from;
 use std::fmt;
 
@@ -78,8 +79,7 @@ impl Letters {
 
     fn add(&mut self, line: &str) -> Result<(), Fault> {
         let (word, name) = line.split_once([' ', '\t']).unwrap_or((line, ""));
-        let digits = !word.is_empty() && word.bytes().all(|byte| byte.is_ascii_digit());
-        let number = word.parse().ok().filter(|&number: &usize| digits && number < 32);
+        let number = digits(word).filter(|&number: &usize| number < 32);
         let letter = number.ok_or_else(|| Fault::Number { word: word.to_string() })?;
         let name = name.trim();
         if self.names[letter].is_some() {
