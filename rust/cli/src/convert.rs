@@ -40,6 +40,7 @@ pub fn text_of(path: &str, bytes: Vec<u8>) -> Result<String, Failure> {
     let says = match bytes.get(..3) {
         Some(b"KLG") => "this is a log, and a text is wanted here",
         Some(b"KRL") => "this is a rule, and a text is wanted here",
+        _ if bytes.contains(&0) => "this is no text: it has a zero byte",
         _ => "this is no text in UTF-8",
     };
     let text = String::from_utf8(bytes).ok().filter(|text| !text.contains('\0'));

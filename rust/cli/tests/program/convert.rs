@@ -23,6 +23,12 @@ fn logs_as_text() {
     assert!(!place.path("bad.klg").exists());
     fs::write(place.path("bad.txt"), [0xff, 0xfe]).unwrap();
     assert_eq!(place.fails(1, &["to-log", "bad.txt", "bad.klg"]), "bad.txt: this is no text in UTF-8\n");
+    for bytes in [&b"1 e0\n2 \0\n"[..], b"1\0 \0e\x000\0\n\0", &[0xff, 0xfe, b'1', 0]] {
+        fs::write(place.path("bad.txt"), bytes).unwrap();
+        let said = place.fails(1, &["to-log", "bad.txt", "bad.klg"]);
+        assert_eq!(said, "bad.txt: this is no text: it has a zero byte\n", "{bytes:?}");
+        assert!(!place.path("bad.klg").exists());
+    }
     let said = place.fails(1, &["to-log", "day.klg", "bad.klg"]);
     assert_eq!(said, "day.klg: this is a log, and a text is wanted here\n");
     // as some editors write it

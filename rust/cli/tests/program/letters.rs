@@ -115,6 +115,9 @@ fn names_that_are_wrong() {
     assert_eq!(place.fails(1, &["letters", "card", "names.txt"]), long);
     fs::write(place.path("names.txt"), [b'0', b' ', 0xFF]).unwrap();
     assert_eq!(place.fails(1, &["letters", "card", "names.txt"]), "names.txt: this is no text in UTF-8\n");
+    fs::write(place.path("names.txt"), b"0 a\n1 \0\n").unwrap();
+    let said = place.fails(1, &["letters", "card", "names.txt"]);
+    assert_eq!(said, "names.txt: this is no text: it has a zero byte\n");
     let said = place.fails(1, &["letters", "card", "card/rule.krl"]);
     assert_eq!(said, "card/rule.krl: this is a rule, and a text is wanted here\n");
     assert!(place.fails(1, &["letters", "card", "none.txt"]).starts_with("none.txt: "));
