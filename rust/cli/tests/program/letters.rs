@@ -94,7 +94,7 @@ fn names_of_a_card_after_another() {
 fn names_that_are_wrong() {
     let place = Place::with_card(1);
     let before = place.card();
-    let cases: [(&[u8], &str); 8] = [
+    let cases: [(&[u8], &str); 10] = [
         (b"0 a\nlamp\n", "line 2: `lamp` is no letter's number: a line has a number, 0 to 31, and a name"),
         (b"32 a\n", "line 1: `32` is no letter's number: a line has a number, 0 to 31, and a name"),
         (b"0 a\n0 b\n", "line 2: letter 0 has a name already"),
@@ -102,6 +102,8 @@ fn names_that_are_wrong() {
         (b"7\n", "line 1: letter 7 has no name here: a line has a number and a name"),
         (b"7 a\x1b[2J\n", "line 1: the name has a character that is not seen, or turns the text round: U+001B"),
         (b"7 \xe2\x80\xae\n", "line 1: the name has a character that is not seen, or turns the text round: U+202E"),
+        (b"7 a\xc2\xa0b\n", "line 1: the name has a space that is no plain one, and may look like it: U+00A0"),
+        (b"7 a  b\n", "line 1: the name has two spaces in a row, which may look like one"),
         (b"7 a\"b\n", "line 1: the name has a double quote: names are shown between them"),
     ];
     for (bytes, wrong) in cases {
