@@ -244,9 +244,9 @@ A file that is there is replaced only with --force, and no file is put into a ca
         does: "give the letters of a card names, or print them",
         more: "\
 FILE has a line for each letter, its number and its name, as `0 head warm`. A name has up to 80 characters, with one plain
-space between its words, and no two letters have the same. Empty lines, and those that begin with a #, are passed over. The names take the place of those that
-the card has. Without FILE those are printed, in the form of such a file. A FILE without any name is refused: to go without
-names, take the file `letters` in the card away.
+space between its words, and no two letters have the same. Empty lines, and those that begin with a #, are passed over.
+The names take the place of those that the card has. Without FILE those are printed, in the form of such a file. A FILE
+without any name is refused: to go without names, take the file `letters` in the card away.
 
 Names are for people: `new`, `formula`, `why`, `open` and `page` show them where they are given the card. Verdicts do not
 depend on them.",
