@@ -40,6 +40,7 @@ pub fn text_of(path: &str, bytes: Vec<u8>) -> Result<String, Failure> {
     let says = match bytes.get(..3) {
         Some(b"KLG") => "this is a log, and a text is wanted here",
         Some(b"KRL") => "this is a rule, and a text is wanted here",
+        _ if bytes.contains(&0) => "this is no text: it has a zero byte",
         _ => "this is no text in UTF-8",
     };
     let text = String::from_utf8(bytes).ok().filter(|text| !text.contains('\0'));
@@ -257,9 +258,18 @@ pub fn formula(path: &str) -> Answer {
     Ok(format!("{}\n{needs}", formulas.join("\n")))
 }
 
+/// A number in digits alone: `+5` could be meant as five more.
+pub fn digits<T: FromStr>(word: &str) -> Option<T> {
+    word.parse().ok().filter(|_| word.bytes().all(|byte| byte.is_ascii_digit()))
+}
+
 /// A number of the command line.
 pub fn number<T: FromStr>(word: &str) -> Result<T, Failure> {
-    word.parse().map_err(|_| Failure::Use(format!("`{word}` is no number, or too large a one")))
+    digits(word).ok_or_else(|| Failure::Use(no_number(word)))
+}
+
+pub fn no_number(word: &str) -> String {
+    format!("`{word}` is no number, or too large a one")
 }
 
 pub fn worst(low: &str, high: &str, records: &str, log: &str, force: bool) -> Answer {

@@ -1,5 +1,6 @@
 //! Names for letters, typed in a file: what a letter of the log stands for in the shop.
 
+use crate::convert::digits;
 use havdrims::save::checksum_from;
 use std::fmt;
 
@@ -21,6 +22,8 @@ pub enum Fault {
     NoName { letter: usize },
     Long { characters: usize },
     Hidden { character: char },
+    Space { character: char },
+    TwoSpaces,
     Quote,
 }
 
@@ -48,6 +51,11 @@ impl fmt::Display for Wrong {
                 let number = u32::from(*character);
                 write!(f, "the name has a character that is not seen, or turns the text round: U+{number:04X}")
             }
+            Fault::Space { character } => {
+                let number = u32::from(*character);
+                write!(f, "the name has a space that is no plain one, and may look like it: U+{number:04X}")
+            }
+            Fault::TwoSpaces => write!(f, "the name has two spaces in a row, which may look like one"),
             Fault::Quote => write!(f, "the name has a double quote: names are shown between them"),
         }
     }
@@ -62,24 +70,38 @@ pub fn is_hidden(character: char) -> bool {
         || ('\u{2066}'..='\u{2069}').contains(&character)
 }
 
+/// Whether one plain space stands between two words of a name: two names that differ in spaces alone look the same.
+fn spaced(name: &str) -> Result<(), Fault> {
+    match name.chars().find(|&character| character.is_whitespace() && character != ' ') {
+        Some(character) => Err(Fault::Space { character }),
+        None if name.contains("  ") => Err(Fault::TwoSpaces),
+        None => Ok(()),
+    }
+}
+
 impl Letters {
     /// The names in a text: a line for each letter, its number and its name, as `0 head warm`. Empty lines, and those that begin
     /// with #, are passed over.
     pub fn read(text: &str) -> Result<Letters, Wrong> {
+        Letters::of(text, spaced)
+    }
+
+    /// The same, where each name passes this besides.
+    fn of(text: &str, passes: fn(&str) -> Result<(), Fault>) -> Result<Letters, Wrong> {
         let mut letters = Letters::default();
         for (at, line) in text.lines().enumerate() {
             let line = line.trim();
             if !line.is_empty() && !line.starts_with('#') {
-                letters.add(line).map_err(|fault| Wrong { line: at + 1, fault })?;
+                let added = letters.add(line, passes);
+                added.map_err(|fault| Wrong { line: at + 1, fault })?;
             }
         }
         Ok(letters)
     }
 
-    fn add(&mut self, line: &str) -> Result<(), Fault> {
+    fn add(&mut self, line: &str, passes: fn(&str) -> Result<(), Fault>) -> Result<(), Fault> {
         let (word, name) = line.split_once([' ', '\t']).unwrap_or((line, ""));
-        let digits = !word.is_empty() && word.bytes().all(|byte| byte.is_ascii_digit());
-        let number = word.parse().ok().filter(|&number: &usize| digits && number < 32);
+        let number = digits(word).filter(|&number: &usize| number < 32);
         let letter = number.ok_or_else(|| Fault::Number { word: word.to_string() })?;
         let name = name.trim();
         if self.names[letter].is_some() {
@@ -91,6 +113,7 @@ impl Letters {
         if let Some(character) = name.chars().find(|&character| is_hidden(character)) {
             return Err(Fault::Hidden { character });
         }
+        passes(name)?;
         if name.contains('"') {
             return Err(Fault::Quote);
         }
@@ -157,7 +180,8 @@ impl Letters {
     pub fn decode(bytes: &[u8], bound: u64) -> Option<Letters> {
         let text = std::str::from_utf8(bytes).ok()?;
         let (lines, _) = text.split_at(text.rfind("checksum ")?);
-        let letters = Letters::read(lines).ok()?;
+        // An earlier program took any spaces.
+        let letters = Letters::of(lines, |_| Ok(())).ok()?;
         (letters.encode(bound) == bytes).then_some(letters)
     }
 }
@@ -208,6 +232,24 @@ mod tests {
             assert_eq!(wrong(&format!("3 a{character}b")), format!("{hidden}{:04X}", u32::from(character)));
         }
         assert!(!"aä字–'<&\u{200D}".chars().any(is_hidden));
+        let space = "line 1: the name has a space that is no plain one, and may look like it: U+";
+        for character in ['\u{A0}', '\u{2003}', '\u{202F}', '\u{3000}'] {
+            assert_eq!(wrong(&format!("3 head{character}warm")), format!("{space}{:04X}", u32::from(character)));
+            // at its ends no space counts
+            assert_eq!(named(&format!("3 {character}warm{character}")), named("3 warm"));
+        }
+        assert_eq!(wrong("3   head  warm"), "line 1: the name has two spaces in a row, which may look like one");
+    }
+
+    /// Names that an earlier program took are kept, though they are no longer taken.
+    #[test]
+    fn spaces_of_an_earlier_program() {
+        for name in ["head  warm", "head\u{A0}warm"] {
+            let letters = Letters::of(&format!("0 {name}\n"), |_| Ok(())).unwrap();
+            assert!(Letters::read(&letters.lines()).is_err());
+            assert_eq!(letters.name(0), format!("\"{name}\""));
+            assert_eq!(Letters::decode(&letters.encode(17), 17), Some(letters));
+        }
     }
 
     #[test]

@@ -76,12 +76,18 @@ impl Named {
     }
 }
 
-/// The names in a file.
-pub fn read(path: &str) -> Result<Letters, Failure> {
+/// The names in a file. One without any is rather what a command left that failed: the line behind says how to go without names.
+pub fn read(path: &str, without: &str) -> Result<Letters, Failure> {
     let bytes = read_all(path).map_err(|fault| convert::unread(path, fault))?;
     let text = convert::text_of(path, bytes)?;
-    Letters::read(&text).map_err(|wrong| Failure::in_line(path, wrong))
+    let letters = Letters::read(&text).map_err(|wrong| Failure::in_line(path, wrong))?;
+    match letters.is_empty() {
+        true => Err(Failure::fault(path, NO_NAME).and(without)),
+        false => Ok(letters),
+    }
 }
+
+const NO_NAME: &str = "there is no name in it: a line has a letter's number, 0 to 31, and a name";
 
 /// The formulas of a rule that the library accepts, with their words where letters have names.
 pub fn with_words(formulas: Vec<String>, rule: &[u8], letters: &Letters) -> Vec<String> {

@@ -9,9 +9,11 @@
 //! 12 e0 e3
 //! ```
 //!
-//! A letter is `e0` to `e31`, or its number alone. `none`, or nothing behind the seconds, is a record without
-//! letters, and `none` beside a letter is refused. Numbers are digits alone: `+5` could be meant as five seconds later.
-//! Empty lines, and what follows a `#`, are passed over.
+//! A letter is `e0` to `e31`, or its number alone, in one of these ways throughout a line: in `09 30 e0` the 30 is rather a part of
+//! the time. No letter stands twice in a line, or has a needless 0, as `e01`. `none`, or nothing behind the seconds, is a record without
+//! letters, and `none` beside a letter is refused. Numbers are digits alone: `+5` could be meant as five seconds later. Empty lines, and
+//! what follows a `#`, are passed over. A line ends with a line feed, before which a carriage return may stand, and no other end of a line
+//! is taken; spaces and tabs stand between words, and no other character that looks like them.
 //!
 //! A line `version 2` before the first record says that the log is of version 2, which knows service records. The word
 //! `service` makes a record one: it is letter 31, and is shown so.
@@ -38,6 +40,7 @@ use alloc::string::{String, ToString};
 use alloc::vec::Vec;
 use core::error::Error;
 use core::fmt::{self, Write};
+use core::mem;
 use core::num::ParseIntError;
 
 /// The header of a version 2 rule, but for its number of entries.
@@ -68,6 +71,16 @@ pub enum TextFault {
     DroppedPlace,
     /// A count of records dropped that is no number up to [`MOST_RECORDS`].
     Dropped,
+    /// A character inside a line that ends one elsewhere: what stands behind it would belong to this one.
+    LineEnd {
+        /// The character.
+        character: char,
+    },
+    /// A character that looks like a space, and is none.
+    Space {
+        /// The character.
+        character: char,
+    },
     /// A first word that is no number of seconds.
     Seconds {
         /// The word.
@@ -79,6 +92,20 @@ pub enum TextFault {
     Letter {
         /// The word.
         word: String,
+    },
+    /// A letter that stands there already.
+    Twice {
+        /// The word.
+        word: String,
+        /// The word before it that is the same letter.
+        before: String,
+    },
+    /// A number alone beside a letter as `e0`.
+    Mixed {
+        /// The first such number.
+        number: String,
+        /// The first such letter.
+        letter: String,
     },
     /// `none` beside a letter.
     None,
@@ -105,8 +132,25 @@ impl fmt::Display for TextError {
                 write!(f, "`dropped` stands once, behind the line `version 3` and before the first record")
             }
             TextFault::Dropped => write!(f, "`dropped` wants a number of records up to 1000000"),
+            TextFault::LineEnd { character } => {
+                let number = u32::from(*character);
+                write!(
+                    f,
+                    "the character U+{number:04X} stands inside the line: lines end with U+000A, or U+000D and U+000A"
+                )
+            }
+            TextFault::Space { character } => {
+                let number = u32::from(*character);
+                write!(f, "the character U+{number:04X} is no plain space: spaces and tabs stand between words")
+            }
             TextFault::Seconds { word, .. } => write!(f, "`{word}` is no number of seconds up to 4294967295"),
             TextFault::Letter { word } => write!(f, "`{word}` is no letter: letters are e0 to e31"),
+            TextFault::Twice { word, before } if word == before => write!(f, "`{word}` is there twice"),
+            TextFault::Twice { word, before } => write!(f, "`{before}` and `{word}` are the same letter"),
+            TextFault::Mixed { number, letter } => {
+                write!(f, "`{number}` stands beside `{letter}`: letters are written all as e0 or all as 0; ")?;
+                write!(f, "is a line end missing, or is the time not one number?")
+            }
             TextFault::None => write!(f, "`none` says that a record has no letters, and stands alone"),
             TextFault::Service => {
                 write!(f, "`service` needs the line `version 2` or `version 3` before the first record")
@@ -142,9 +186,9 @@ pub fn log_from_text(text: &str) -> Result<Vec<u8>, TextError> {
     let mut log = Typed { bytes: HEADERS[0].to_vec(), version: None, dropped: None };
     let mut before = 0;
     for (at, line) in text.lines().enumerate() {
-        let words: Vec<&str> = line.split('#').next().unwrap_or("").split_whitespace().collect();
-        let Some((&first, words)) = words.split_first() else { continue };
         let faulty = |fault: TextFault| TextError { line: at + 1, fault };
+        let words = words(line).map_err(faulty)?;
+        let Some((&first, words)) = words.split_first() else { continue };
         match first {
             "version" => log.set_version(words).map_err(faulty)?,
             "dropped" => log.set_dropped(words).map_err(faulty)?,
@@ -159,6 +203,20 @@ pub fn log_from_text(text: &str) -> Result<Vec<u8>, TextError> {
         }
     }
     Ok(log.bytes)
+}
+
+/// The words of a line, before what is a remark. Where lines end otherwise, a remark would hide the lines behind it.
+fn words(line: &str) -> Result<Vec<&str>, TextFault> {
+    let is_end = |character| matches!(character, '\r' | '\u{B}' | '\u{C}' | '\u{85}' | '\u{2028}' | '\u{2029}');
+    if let Some(character) = line.chars().find(|&character| is_end(character)) {
+        return Err(TextFault::LineEnd { character });
+    }
+    let typed = line.split('#').next().unwrap_or("");
+    let is_plain = |character| matches!(character, ' ' | '\t');
+    if let Some(character) = typed.chars().find(|&other| other.is_whitespace() && !is_plain(other)) {
+        return Err(TextFault::Space { character });
+    }
+    Ok(typed.split(is_plain).filter(|word| !word.is_empty()).collect())
 }
 
 /// A log as far as it was read.
@@ -215,21 +273,40 @@ impl Typed {
 /// A record's time and event set, in a log that has service records or not.
 fn record(seconds: &str, words: &[&str], services: bool) -> Result<(u32, u32), TextFault> {
     let time = digits(seconds).map_err(|source| TextFault::Seconds { word: seconds.to_string(), source })?;
-    let mut letters = 0;
+    if let Some(fault) = mixed(words) {
+        return Err(fault);
+    }
+    let (mut letters, mut typed) = (0, [""; 32]);
     for &word in words {
         let number = match word {
             "none" if words.len() == 1 => break,
             "none" => return Err(TextFault::None),
             "service" if services => SERVICE,
             "service" => return Err(TextFault::Service),
-            _ => digits(word.strip_prefix('e').unwrap_or(word)).unwrap_or(32),
+            _ => letter(word).ok_or_else(|| TextFault::Letter { word: word.to_string() })?,
         };
-        if number > 31 {
-            return Err(TextFault::Letter { word: word.to_string() });
+        let before = mem::replace(&mut typed[number as usize], word);
+        if !before.is_empty() {
+            return Err(TextFault::Twice { word: word.to_string(), before: before.to_string() });
         }
         letters |= 1 << number;
     }
     Ok((time, letters))
+}
+
+/// The number of a letter, as rules have it too: with no 0 before other digits.
+fn letter(word: &str) -> Option<u32> {
+    let number = word.strip_prefix('e').unwrap_or(word);
+    let formed = number == "0" || !number.starts_with('0');
+    digits(number).ok().filter(|&number| formed && number < 32)
+}
+
+/// What is wrong where letters stand there in both ways.
+fn mixed(words: &[&str]) -> Option<TextFault> {
+    let is_number = |word: &str| !word.is_empty() && word.bytes().all(|byte| byte.is_ascii_digit());
+    let number = words.iter().find(|word| is_number(word))?;
+    let letter = words.iter().find(|word| word.strip_prefix('e').is_some_and(is_number))?;
+    Some(TextFault::Mixed { number: number.to_string(), letter: letter.to_string() })
 }
 
 /// A number without a sign, which `parse` alone would take.

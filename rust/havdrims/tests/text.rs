@@ -17,10 +17,13 @@ fn p1_log_both_ways() {
 
 #[test]
 fn other_ways_to_type_a_log() {
-    let typed = "# the morning\n\n10 0   # warm\n 11 e0\r\n11\n12 0 0\n13\te1\n20 e0";
+    let typed = "# the morning\n\n10 0   # warm\n 11 e0\r\n11\n12 0\n13\te1\n20 e0";
     assert_eq!(log_to_text(&log_from_text(typed).unwrap()).unwrap(), P1);
     assert_eq!(log_from_text("").unwrap(), log::HEADER);
-    assert_eq!(log_from_text("4294967295 e31 0").unwrap()[8..], [255, 255, 255, 255, 128, 0, 0, 1]);
+    for letters in ["e31 e0", "31 0"] {
+        let file = log_from_text(&format!("4294967295 {letters}")).unwrap();
+        assert_eq!(file[8..], [255, 255, 255, 255, 128, 0, 0, 1], "{letters}");
+    }
 }
 
 #[test]
@@ -43,6 +46,84 @@ fn faults_name_their_line() {
         fault(&"1\n".repeat(1_000_001)),
         "line 1000001: a log has at most 1,000,000 records, dropped ones included"
     );
+}
+
+#[test]
+fn letters_that_are_there_twice_or_have_a_needless_zero() {
+    let fault = |line: &str| log_from_text(&format!("version 2\n{line}\n")).unwrap_err().to_string();
+    for (line, word) in
+        [("10 e0 e0", "e0"), ("10 0 3 0", "0"), ("10 e31 e31", "e31"), ("10 service service", "service")]
+    {
+        assert_eq!(fault(line), format!("line 2: `{word}` is there twice"), "{line}");
+    }
+    assert_eq!(fault("10 e31 service"), "line 2: `e31` and `service` are the same letter");
+    assert_eq!(fault("10 service 3 31"), "line 2: `service` and `31` are the same letter");
+    for word in ["e00", "e01", "e031", "00", "000", "07", "e", "e0x"] {
+        assert_eq!(fault(&format!("10 {word}")), format!("line 2: `{word}` is no letter: letters are e0 to e31"));
+    }
+    // every letter once, in any order
+    for prefix in ["e", ""] {
+        let letters: String = (0..32).rev().map(|letter| format!(" {prefix}{letter}")).collect();
+        assert_eq!(log_from_text(&format!("07{letters}")).unwrap()[8..], [0, 0, 0, 7, 255, 255, 255, 255]);
+    }
+}
+
+/// Lines end in one way: what else looks like an end, or like a space, is named.
+#[test]
+fn line_ends_and_spaces() {
+    let fault = |text: &str| log_from_text(text).unwrap_err().to_string();
+    for end in ['\r', '\u{B}', '\u{C}', '\u{85}', '\u{2028}', '\u{2029}'] {
+        let said = format!(
+            "line 2: the character U+{:04X} stands inside the line: lines end with U+000A, or U+000D and U+000A",
+            u32::from(end)
+        );
+        for line in [format!("10 e0{end}11 e1"), format!("10 e0{end}"), format!("# warm{end}10 e0"), end.to_string()] {
+            assert_eq!(fault(&format!("1\n{line}\n20\n").replace("\r\n", "\r \n")), said, "{line:?}");
+        }
+    }
+    assert!(fault("10 e0\r").starts_with("line 1: the character U+000D "));
+    assert!(fault("10 e0\r\r\n").starts_with("line 1: the character U+000D "));
+    for space in ['\u{A0}', '\u{2003}', '\u{202F}', '\u{3000}'] {
+        let number = u32::from(space);
+        let said =
+            format!("line 1: the character U+{number:04X} is no plain space: spaces and tabs stand between words");
+        for line in [format!("10{space}e0"), format!("{space}10 e0"), format!("10 e0{space}# warm")] {
+            assert_eq!(fault(&line), said, "{line:?}");
+        }
+        // in a remark it does no harm
+        assert_eq!(log_from_text(&format!("10 e0 # head{space}warm")), log_from_text("10 e0"));
+    }
+    assert_eq!(log_from_text("\t10 \t e0\t\r\n\r\n \t\r\n11"), log_from_text("10 e0\n11 none\n"));
+    assert!(fault("\u{feff}10 e0").contains("is no number of seconds"));
+}
+
+/// Letters are written in one way throughout a line: what is not may be a time of several words, or two lines.
+#[test]
+fn both_ways_in_one_line() {
+    let fault = |text: &str| log_from_text(text).unwrap_err().to_string();
+    let said = |number: &str, letter: &str| {
+        format!(
+            "line 2: `{number}` stands beside `{letter}`: letters are written all as e0 or all as 0; \
+             is a line end missing, or is the time not one number?"
+        )
+    };
+    for (line, number, letter) in [
+        ("09 30 e0", "30", "e0"),
+        ("1 000 e0", "000", "e0"),
+        ("2026 11 09 e1 e0", "11", "e1"),
+        ("10 e0 20 e1", "20", "e0"),
+        ("10 e0 500", "500", "e0"),
+        ("10 0 e40", "0", "e40"),
+        ("10 service 3 e0", "3", "e0"),
+    ] {
+        assert_eq!(fault(&format!("version 2\n{line}\n")), said(number, letter), "{line}");
+    }
+    // a word of its own may stand beside either
+    let [named, numbers] = ["10 e0 service e3", "10 service 3 0"].map(|line| format!("version 2\n{line}\n"));
+    assert_eq!(log_from_text(&named), log_from_text(&numbers));
+    assert_eq!(log_to_text(&log_from_text(&numbers).unwrap()).unwrap(), "version 2\n10 e0 e3 service\n");
+    // each line in its own way
+    assert_eq!(log_from_text("10 0 3\n11 e0 e3\n"), log_from_text("10 e0 e3\n11 0 3\n"));
 }
 
 #[test]
@@ -74,7 +155,7 @@ fn logs_of_version_2() {
     let services = |from| Log::new(&file).unwrap().services(from);
     assert_eq!((services(0), services(2), services(3), services(9)), (2, 1, 0, 0));
     // other ways to type it; letter 31 by its name too
-    let typed = "\n# the visit\n version  2 # of the log\n10 0\n10 31\n11 service 3 service e0\n12\n";
+    let typed = "\n# the visit\n version  2 # of the log\n10 0\n10 31\n11 3 service 0\n12\n";
     assert_eq!(log_from_text(typed).unwrap(), file);
     // the same records as version 1, where letter 31 is a letter
     let plain = SERVED.replace("version 2", "version 1").replace("service", "e31");

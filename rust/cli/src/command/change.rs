@@ -30,7 +30,8 @@ pub fn new(given: &Given) -> Answer {
         (None, None) => First::default().into(),
     };
     let letters = match (given.value("--letters"), given.value("--after")) {
-        (Some(file), _) => Some(named::read(file)?),
+        (Some(file), None) => Some(named::read(file, "No card was made. Without --letters it has no names.")?),
+        (Some(file), Some(_)) => Some(named::read(file, "No card was made. Without --letters OLD's names go over.")?),
         (None, Some(old)) => kept::names(&mut Folder::new(Path::new(old))),
         (None, None) => Some(Letters::default()),
     };

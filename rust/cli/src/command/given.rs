@@ -3,7 +3,7 @@
 use super::near::did_you_mean;
 use super::table::{Command, Opt, COMMANDS};
 use super::{Failure, Paint};
-use crate::convert::{between_quotes, is_formula};
+use crate::convert::{between_quotes, digits, is_formula, no_number};
 use std::path::Path;
 use std::str::FromStr;
 
@@ -136,10 +136,7 @@ impl<'a> Given<'a> {
 
     /// The number behind an option.
     pub fn number<T: FromStr>(&self, option: &str) -> Result<Option<T>, Failure> {
-        let number = |word: &str| {
-            let no_number = format!("{option}: `{word}` is no number, or too large a one");
-            word.parse().map_err(|_| Failure::Use(no_number))
-        };
+        let number = |word: &str| digits(word).ok_or_else(|| Failure::Use(format!("{option}: {}", no_number(word))));
         self.value(option).map(number).transpose()
     }
 }

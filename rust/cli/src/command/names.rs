@@ -17,10 +17,12 @@ pub fn letters(given: &Given) -> Answer {
         let letters = Card::open(&mut disk, false).and_then(|mut card| card.letters()).map_err(failed)?;
         return Ok(letters.lines());
     };
-    let letters = named::read(path)?;
+    let letters = named::read(path, WITHOUT)?;
     Card::open(&mut disk, true).and_then(|mut card| card.name_letters(&letters)).map_err(failed)?;
     Ok(format!("{folder}: {}\n", parts::counted(letters.count(), "name", "names")))
 }
+
+const WITHOUT: &str = "Nothing was changed. To go without names, take the file `letters` in the card away.";
 
 /// The words of `formula`.
 pub fn formula(given: &Given) -> Answer {

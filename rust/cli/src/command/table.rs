@@ -205,6 +205,9 @@ the records that are no service records, from 0, or from N for a card made with 
 records, a position is the record of the same number. A card made with --after goes on with the old card's numbers.
 With --csv each of several formulas has its column, as in `position,formula 0,formula 1`. The card is not changed.
 
+Where positions are asked for that have no verdict yet, or stand before the card's first one, that is said on standard
+error: no line of --no is no all-clear there.
+
 Of a card that is damaged the verdicts are printed that a checksum vouches for; what is wrong is said besides, and the
 exit status is 1.",
         example: "havdrims sheet card --from 10 --csv",
@@ -240,9 +243,10 @@ A file that is there is replaced only with --force, and no file is put into a ca
         options: &[],
         does: "give the letters of a card names, or print them",
         more: "\
-FILE has a line for each letter, its number and its name, as `0 head warm`. A name has up to 80 characters, and no two
-letters have the same. Empty lines, and those that begin with a #, are passed over. The names take the place of those that
-the card has. Without FILE those are printed, in the form of such a file.
+FILE has a line for each letter, its number and its name, as `0 head warm`. A name has up to 80 characters, with one plain
+space between its words, and no two letters have the same. Empty lines, and those that begin with a #, are passed over.
+The names take the place of those that the card has. Without FILE those are printed, in the form of such a file. A FILE
+without any name is refused: to go without names, take the file `letters` in the card away.
 
 Names are for people: `new`, `formula`, `why`, `open` and `page` show them where they are given the card. Verdicts do not
 depend on them.",

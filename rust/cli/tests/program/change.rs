@@ -51,7 +51,8 @@ fn a_card_after_another() {
     let whole = place.ok(&["sheet", "whole"]);
     assert_eq!(place.ok(&["sheet", "strict"]), from(&whole, 12));
     assert_eq!(place.ok(&["sheet", "strict", "--from", "15"]), from(&whole, 15));
-    assert_eq!(place.ok(&["sheet", "strict", "--from", "3"]), from(&whole, 12));
+    let not_there = "strict: records 3 to 11 are before the card's first one, 12\n".to_string();
+    assert_eq!(place.run(&["sheet", "strict", "--from", "3"]), (0, from(&whole, 12), not_there));
     // all that is new in the old card is that another goes on from it
     let mut after = place.card();
     assert!(after.remove("followed").is_some());

@@ -23,6 +23,12 @@ fn logs_as_text() {
     assert!(!place.path("bad.klg").exists());
     fs::write(place.path("bad.txt"), [0xff, 0xfe]).unwrap();
     assert_eq!(place.fails(1, &["to-log", "bad.txt", "bad.klg"]), "bad.txt: this is no text in UTF-8\n");
+    for bytes in [&b"1 e0\n2 \0\n"[..], b"1\0 \0e\x000\0\n\0", &[0xff, 0xfe, b'1', 0]] {
+        fs::write(place.path("bad.txt"), bytes).unwrap();
+        let said = place.fails(1, &["to-log", "bad.txt", "bad.klg"]);
+        assert_eq!(said, "bad.txt: this is no text: it has a zero byte\n", "{bytes:?}");
+        assert!(!place.path("bad.klg").exists());
+    }
     let said = place.fails(1, &["to-log", "day.klg", "bad.klg"]);
     assert_eq!(said, "day.klg: this is a log, and a text is wanted here\n");
     // as some editors write it
@@ -32,6 +38,33 @@ fn logs_as_text() {
     assert!(place.fails(1, &["to-text", "none.klg"]).starts_with("none.klg: "));
     let no_log = "this is no log: it does not begin with KLG; of a text `havdrims to-log` makes one (refused 12)";
     assert_eq!(place.fails(1, &["to-text", "day.txt"]), format!("day.txt: {no_log}\n"));
+}
+
+/// What looks like a slip in a log that is typed is refused, and nothing is written.
+#[test]
+fn slips_in_a_log_as_text() {
+    let place = Place::new();
+    let mixed = "letters are written all as e0 or all as 0; is a line end missing, or is the time not one number?";
+    for (text, said) in [
+        ("09 00 e0\n", format!("line 1: `00` stands beside `e0`: {mixed}")),
+        ("1 e0\n10 e0 20 e1\n", format!("line 2: `20` stands beside `e0`: {mixed}")),
+        ("1 e0 e0\n", "line 1: `e0` is there twice".to_string()),
+        ("version 2\n1 e31 service\n", "line 2: `e31` and `service` are the same letter".to_string()),
+        (
+            "1 e0\r2 e1\r",
+            "line 1: the character U+000D stands inside the line: lines end with U+000A, or U+000D and U+000A"
+                .to_string(),
+        ),
+        (
+            "1 e0\n2\u{a0}e1\n",
+            "line 2: the character U+00A0 is no plain space: spaces and tabs stand between words".to_string(),
+        ),
+        ("1 e01\n", "line 1: `e01` is no letter: letters are e0 to e31".to_string()),
+    ] {
+        fs::write(place.path("slip.txt"), text).unwrap();
+        assert_eq!(place.fails(1, &["to-log", "slip.txt", "slip.klg"]), format!("slip.txt, {said}\n"), "{text:?}");
+        assert!(!place.path("slip.klg").exists());
+    }
 }
 
 #[test]

@@ -149,6 +149,32 @@ fn wrong_use() {
     }
 }
 
+/// Numbers are digits alone: `+5` could be meant as five more.
+#[test]
+fn numbers_with_a_sign() {
+    let place = Place::with_card(1);
+    let before = place.card();
+    let settings = "--warm-up 45 --print-time 30 --switch-off 60 --mean-gap 120 --seed 7";
+    for (line, option, number) in [
+        ("sheet card --from +5", "--from: ", "+5"),
+        ("sheet card --to=+5", "--to: ", "+5"),
+        ("new more e0 --from +5", "--from: ", "+5"),
+        ("why card day.klg +5", "", "+5"),
+        ("why card day.klg 5 --formula +0", "", "+0"),
+        ("worst +0 90 200 made.klg", "", "+0"),
+        ("worst 0 +90 200 made.klg", "", "+90"),
+        ("worst 0 90 +200 made.klg", "", "+200"),
+        (&format!("simulate made.klg --seconds +36 {settings}"), "--seconds: ", "+36"),
+    ] {
+        let words: Vec<&str> = line.split(' ').collect();
+        let said = place.fails(2, &words);
+        let text = format!("{option}`{number}` is no number, or too large a one\nexpected: havdrims {} ", words[0]);
+        assert!(said.starts_with(&text), "{line}: {said}");
+    }
+    assert_eq!((place.card(), place.path("more").exists(), place.path("made.klg").exists()), (before, false, false));
+    assert_eq!(place.ok(&["sheet", "card", "--from", "004", "--to", "5"]), "4 yes\n5 no\n");
+}
+
 /// The man page has every command, option and formula, and the programs that print it find nothing wrong.
 #[test]
 fn the_man_page() {

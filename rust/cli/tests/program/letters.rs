@@ -94,7 +94,7 @@ fn names_of_a_card_after_another() {
 fn names_that_are_wrong() {
     let place = Place::with_card(1);
     let before = place.card();
-    let cases: [(&[u8], &str); 8] = [
+    let cases: [(&[u8], &str); 10] = [
         (b"0 a\nlamp\n", "line 2: `lamp` is no letter's number: a line has a number, 0 to 31, and a name"),
         (b"32 a\n", "line 1: `32` is no letter's number: a line has a number, 0 to 31, and a name"),
         (b"0 a\n0 b\n", "line 2: letter 0 has a name already"),
@@ -102,6 +102,8 @@ fn names_that_are_wrong() {
         (b"7\n", "line 1: letter 7 has no name here: a line has a number and a name"),
         (b"7 a\x1b[2J\n", "line 1: the name has a character that is not seen, or turns the text round: U+001B"),
         (b"7 \xe2\x80\xae\n", "line 1: the name has a character that is not seen, or turns the text round: U+202E"),
+        (b"7 a\xc2\xa0b\n", "line 1: the name has a space that is no plain one, and may look like it: U+00A0"),
+        (b"7 a  b\n", "line 1: the name has two spaces in a row, which may look like one"),
         (b"7 a\"b\n", "line 1: the name has a double quote: names are shown between them"),
     ];
     for (bytes, wrong) in cases {
@@ -115,6 +117,9 @@ fn names_that_are_wrong() {
     assert_eq!(place.fails(1, &["letters", "card", "names.txt"]), long);
     fs::write(place.path("names.txt"), [b'0', b' ', 0xFF]).unwrap();
     assert_eq!(place.fails(1, &["letters", "card", "names.txt"]), "names.txt: this is no text in UTF-8\n");
+    fs::write(place.path("names.txt"), b"0 a\n1 \0\n").unwrap();
+    let said = place.fails(1, &["letters", "card", "names.txt"]);
+    assert_eq!(said, "names.txt: this is no text: it has a zero byte\n");
     let said = place.fails(1, &["letters", "card", "card/rule.krl"]);
     assert_eq!(said, "card/rule.krl: this is a rule, and a text is wanted here\n");
     assert!(place.fails(1, &["letters", "card", "none.txt"]).starts_with("none.txt: "));
@@ -122,6 +127,34 @@ fn names_that_are_wrong() {
     fs::write(place.path("names.txt"), "0 a\n").unwrap();
     let none = "none: no card is here; `havdrims new` makes one\n";
     assert_eq!(place.fails(1, &["letters", "none", "names.txt"]), none);
+}
+
+/// A file without any name is rather what a command left that failed: names are not taken away by it, or left out.
+#[test]
+fn no_name_at_all() {
+    let place = Place::with_names();
+    place.ok(&["evening", "card", "day.klg"]);
+    let before = place.card();
+    let said = "there is no name in it: a line has a letter's number, 0 to 31, and a name\n";
+    for text in ["", "\n \n", "# 0 head warm\n", "\u{feff}", "# all\r0 head warm\r"] {
+        fs::write(place.path("names.txt"), text).unwrap();
+        let kept = "Nothing was changed. To go without names, take the file `letters` in the card away.\n";
+        assert_eq!(place.fails(1, &["letters", "card", "names.txt"]), format!("names.txt: {said}{kept}"), "{text:?}");
+        let none = "No card was made. Without --letters it has no names.\n";
+        let new = ["new", "other", RULE, "--letters", "names.txt"];
+        assert_eq!(place.fails(1, &new), format!("names.txt: {said}{none}"), "{text:?}");
+        let old = "No card was made. Without --letters OLD's names go over.\n";
+        let after = [&new[..], &["--after", "card"]].concat();
+        assert_eq!(place.fails(1, &after), format!("names.txt: {said}{old}"), "{text:?}");
+        assert_eq!((place.card(), place.path("other").exists()), (before.clone(), false));
+    }
+    assert!(place.fails(1, &["letters", "card", "-"]).starts_with(&format!("standard input: {said}")));
+    // what is said can be done
+    fs::remove_file(place.path("card/letters")).unwrap();
+    assert_eq!(place.ok(&["letters", "card"]), "");
+    assert!(place.ok(&["check", "card"]).contains("\nall files fit together\n"));
+    place.ok(&["evening", "card", "tuesday.klg"]);
+    assert!(place.help("letters").contains("to go without names, take the file `letters` in the card away."));
 }
 
 /// Names that are damaged, or another card's, are not shown; verdicts do not depend on them, and they can be given anew.

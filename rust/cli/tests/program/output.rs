@@ -257,7 +257,9 @@ fn sheets_for_other_programs() {
         })
         .collect();
     assert_eq!(said, place.ok(&["sheet", "card"]));
-    let none = Reader::all(&place.ok(&["sheet", "card", "--json", "--from", "100"]));
+    let (status, none, said) = place.run(&["sheet", "card", "--json", "--from", "100"]);
+    assert_eq!((status, said.as_str()), (0, "card: records from 100 on have no verdict yet\n"));
+    let none = Reader::all(&none);
     assert_eq!((none.at("verdicts"), none.number("formulas")), (&Json::List(Vec::new()), 1));
     place.ok(&["new", "two", RULE, "e0"]);
     place.ok(&["evening", "two", "day.klg"]);
@@ -299,6 +301,63 @@ fn the_names_that_are_documented() {
     assert_eq!(documented, printed);
 }
 
+/// Of positions that have no verdict it is said, so that no line of --no is not taken for an all-clear.
+#[test]
+fn parts_of_a_sheet_without_a_verdict() {
+    let place = Place::with_card(1);
+    let says = |line: &str, printed: &str, said: &str| {
+        let words: Vec<&str> = line.split(' ').collect();
+        assert_eq!(place.run(&words), (0, printed.to_string(), said.to_string()), "{line}");
+    };
+    // 12 have one
+    says("sheet card --no --from 9", "", "");
+    says("sheet card --from 11 --to 11", "11 yes\n", "");
+    says("sheet card --no --from 12", "", "card: records from 12 on have no verdict yet\n");
+    says("sheet card --no --from 12 --to 13", "", "card: records 12 to 13 have no verdict yet\n");
+    says("sheet card --no --from 9 --to 20", "", "card: records 12 to 20 have no verdict yet\n");
+    says("sheet card --to 12 --csv --from 11", "position,verdict\n11,yes\n", "card: record 12 has no verdict yet\n");
+    says("sheet card --no --to 12", "5 no\n8 no\n", "card: record 12 has no verdict yet\n");
+    // before the first
+    place.ok(&["new", "next", RULE, "--after", "card"]);
+    says("sheet next --no", "", "next: records from 12 on have no verdict yet\n");
+    let both =
+        "next: records 3 to 11 are before the card's first one, 12\nnext: records from 12 on have no verdict yet\n";
+    says("sheet next --no --from 3", "", both);
+    place.ok(&["evening", "next", "tuesday.klg"]);
+    says("sheet next --no", "15 no\n", "");
+    says("sheet next --no --to 12", "", "");
+    says("sheet next --from 11 --to 12", "12 yes\n", "next: record 11 is before the card's first one, 12\n");
+    for line in ["sheet next --no --to 11", "sheet next --no --from 0 --to 11"] {
+        says(line, "", "next: records 0 to 11 are before the card's first one, 12\n");
+    }
+    let both =
+        "next: records 9 to 11 are before the card's first one, 12\nnext: records 18 to 19 have no verdict yet\n";
+    says("sheet next --no --from 9 --to 19", "15 no\n", both);
+    // behind the last
+    place.ok(&["close", "next", "tuesday.klg", "--final"]);
+    says("sheet next --no --from 18 --to 18", "18 no\n", "");
+    says("sheet next --no --from 19", "", "next: records from 19 on have no verdict: the card is closed\n");
+    says(
+        "sheet next --no --from 17 --to 20",
+        "18 no\n",
+        "next: records 19 to 20 have no verdict: the card is closed\n",
+    );
+    // where positions are no records
+    place.ok(&["new", "visited", RULE]);
+    fs::copy(example("visit.klg"), place.path("visit.klg")).unwrap();
+    place.ok(&["evening", "visited", "visit.klg"]);
+    says("sheet visited --no --from 12 --to 14", "", "visited: positions 12 to 14 have no verdict yet\n");
+    // of a card that is damaged it is said what is vouched for
+    fs::write(place.path("card/point"), b"half").unwrap();
+    let (printed, said) = place.partly(&["sheet", "card", "--no", "--from", "12"]);
+    assert_eq!(
+        (printed.as_str(), said.contains("yet"), said.contains("first 12 verdicts")),
+        ("", false, true),
+        "{said}"
+    );
+    assert!(place.help("sheet").contains("no line of --no is no all-clear there"));
+}
+
 /// Which positions are printed.
 #[test]
 fn parts_of_a_sheet() {
@@ -307,7 +366,10 @@ fn parts_of_a_sheet() {
     assert_eq!(place.ok(&["sheet", "card", "--no", "--csv", "--from", "6"]), "position,verdict\n8,no\n");
     assert_eq!(place.ok(&["sheet", "card", "--to", "1"]), "0 yes\n1 yes\n");
     assert_eq!(place.ok(&["sheet", "card", "--from", "4", "--to", "5"]), "4 yes\n5 no\n");
-    assert_eq!(place.ok(&["sheet", "card", "--from", "5", "--to", "4"]), "");
+    for more in [&[][..], &["--no"], &["--csv"], &["--json", "--no"]] {
+        let said = place.fails(2, &[&["sheet", "card", "--from", "5", "--to", "4"], more].concat());
+        assert!(said.starts_with("--from 5 is above --to 4\nexpected: havdrims sheet CARD "), "{said}");
+    }
     // of several formulas one is enough
     place.ok(&["new", "two", RULE, "not e1"]);
     place.ok(&["evening", "two", "day.klg"]);

@@ -35,7 +35,8 @@ fn evenings_in_plain_words() {
     assert_eq!(place.ok(&["summary", "card"]), so_far);
     assert_eq!(place.ok(&["sheet", "card", "--from", "7"]), "7 yes\n8 no\n9 yes\n10 yes\n11 yes\n");
     assert_eq!(place.ok(&["sheet", "--from", "10", "--csv", "card"]), "position,verdict\n10,yes\n11,yes\n");
-    assert_eq!(place.ok(&["sheet", "card", "--from", "12"]), "");
+    let open = "card: records from 12 on have no verdict yet\n".to_string();
+    assert_eq!(place.run(&["sheet", "card", "--from", "12"]), (0, String::new(), open));
     assert_eq!(fs::read(place.path("card/sheet")).unwrap(), [1, 1, 1, 1, 1, 0, 1, 1, 0, 1, 1, 1]);
 }
 
