@@ -229,7 +229,7 @@ them, by the checksums of its evenings; where they were overwritten, dropped or 
 made before the records of the week are overwritten, or from a copy of the log. What the card has not seen yet is not on
 the page, and is said. A log has no clock: without --start days are counted from its second 0.
 
-A file that is there is replaced only with --force, and no file is put into a card.",
+A file that is there is replaced only with --force, a log or a rule not even then, and no file is put into a card.",
         example: "havdrims page card tuesday.klg friday.html --start 2026-11-09T09:00",
         run: page::page,
     },
@@ -327,7 +327,7 @@ TEXT is a file with a line for each record, the seconds and then the letters, as
 What follows a # is passed over. The line `version 2` before the first record says that the log is of version 2: then
 `12 service` is a service record, which is no position. A trimmed log has `version 3` and a line as `dropped 40` there.
 
-A file that is there is replaced only with --force, and no file is put into a card.",
+A file that is there is replaced only with --force, TEXT itself not even then, and no file is put into a card.",
         example: "havdrims to-log day.txt made.klg",
         run: |given| {
             let [text, log] = given.words();

@@ -1,6 +1,6 @@
 //! Rules and logs as text and back, and logs to try a kiosk with.
 
-use crate::Place;
+use crate::{ended, Place};
 use cli::command::table::COMMANDS;
 use cli::convert::SETTINGS;
 use evaluator::{cases, log, rule};
@@ -298,6 +298,19 @@ fn where_files_go() {
     let text = "made.klg: until it is whole this file has the name of what it is made from; choose another name\n";
     fails("to-log .made.klg.havdrims-new made.klg --force", text);
     assert_eq!(fs::read(place.path(".made.klg.havdrims-new")).unwrap(), typed);
+    symlink("day.txt", place.path("link.txt")).unwrap();
+    fs::hard_link(place.path("day.txt"), place.path("hard.klg")).unwrap();
+    for log in ["day.txt", "./day.txt", "link.txt", "hard.klg"] {
+        let text = format!("{log}: this is the file that it is made from, and is not replaced; choose another name\n");
+        for line in [format!("to-log day.txt {log}"), format!("to-log link.txt {log} --force")] {
+            fails(&line, &text);
+        }
+        // what standard input comes from is such a file too
+        let day = fs::File::open(place.path("day.txt")).unwrap();
+        let said = place.program().args(["to-log", "-", log, "--force"]).stdin(day).output().unwrap();
+        assert_eq!(ended(said), (1, String::new(), text));
+    }
+    assert_eq!(fs::read(place.path("day.txt")).unwrap(), typed);
     for command in ["rule", "to-log", "worst", "simulate", "trim"] {
         let help = place.help(command);
         assert!(help.contains("replaced only with --force") && help.contains("card"), "{help}");
