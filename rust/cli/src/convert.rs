@@ -21,6 +21,11 @@ pub fn log(path: &str) -> io::Result<Vec<u8>> {
     read_file(path, MOST_LOG)
 }
 
+/// How many records the log of this name has, dropped ones included. None where no log is there.
+pub fn records_there(path: &str) -> Option<u64> {
+    wrong::count(&read_file(path, 15).ok()?, fs::metadata(path).ok()?.len())
+}
+
 /// What is wrong where a file could not be read.
 pub fn unread(path: &str, fault: io::Error) -> Failure {
     match fs::read_dir(path) {

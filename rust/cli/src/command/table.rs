@@ -153,7 +153,8 @@ the log by. From then on OUT may be brought in place of LOG, with new records be
 card is not changed. It is synced before OUT is written.
 
 OUT is written beside and renamed, so that it is whole or not there. A file that is there is replaced only with --force;
-so OUT may be LOG itself, to which the kiosk must then add nothing meanwhile. OUT is never a file in a card.",
+so OUT may be LOG itself, to which the kiosk must then add nothing meanwhile. A log with more records than LOG, dropped
+ones included, is not replaced even then: the card may not have seen them. OUT is never a file in a card.",
         example: "havdrims trim visited visit.klg trimmed.klg",
         run: evening::trim,
     },
