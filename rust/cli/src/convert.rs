@@ -89,6 +89,11 @@ pub fn is_formula(text: &str) -> bool {
     refused(text).is_none()
 }
 
+/// Whether a word says a rule or names a rule file: it is none that names a card.
+pub fn is_rule(word: &str) -> bool {
+    word.ends_with(".krl") || is_formula(word)
+}
+
 /// Whether a word that is no formula looks like a name: of several words, or with brackets, it is a formula that is wrong.
 fn is_name(word: &str) -> bool {
     !word.is_empty() && !word.contains([' ', '(', ')', '[', ']']) && refused(word) == Some(Refusal::UnknownWord)

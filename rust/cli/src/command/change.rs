@@ -7,6 +7,7 @@ use super::{of_card, Answer, Failure, Given};
 use crate::back::Back;
 use crate::beside::is_card;
 use crate::card::{self, Begins, Card, First};
+use crate::convert::{between_quotes, is_formula};
 use crate::disk::Folder;
 use crate::followed::Follower;
 use crate::letters::Letters;
@@ -23,6 +24,9 @@ fn card_number() -> u64 {
 /// The words of `new`.
 pub fn new(given: &Given) -> Answer {
     let (folder, rules) = given.all().split_first().expect("the table has a word at the beginning");
+    if let Some(says) = no_card(folder, rules) {
+        return Err(Failure::Use(format!("CARD seems to be missing: {says}")));
+    }
     free(folder)?;
     let begins = match (given.value("--after"), given.number("--from")?) {
         (Some(old), _) => after_card(old)?,
@@ -54,6 +58,27 @@ fn follow(old: &str, folder: &str, record: u64) -> Result<(), String> {
 const NO_NAMES: &str = "\
 the old card's names for letters are damaged, or cannot be read, and do not go over: `havdrims letters` gives this card some
 ";
+
+/// What the first word is where it is no name of a card, which was forgotten: the formulas behind it would be judged without the first.
+/// `./NAME` says that a folder is meant, as it does where a card may be a formula.
+fn no_card(folder: &str, rules: &[&str]) -> Option<String> {
+    let is = match folder {
+        _ if folder.starts_with("./") || folder.contains("/./") => return None,
+        _ if is_formula(folder) => "is a formula",
+        _ if folder.ends_with(".krl") => "is the name of a rule file",
+        _ if folder.ends_with(".klg") => "is the name of a log",
+        _ => {
+            let all = [&[folder], rules].concat().join(" ");
+            return is_formula(&all).then(|| between_quotes(&all));
+        }
+    };
+    let (above, name) = folder.split_at(folder.rfind('/').map_or(0, |at| at + 1));
+    let meant = match Path::new(folder).is_file() {
+        true => String::new(),
+        false => format!("; a folder of this name is {}", quoted(&format!("{above}./{name}"))),
+    };
+    Some(format!("`{folder}` {is}{meant}"))
+}
 
 /// Whether a card may have this place: it is no file, and in no other card.
 fn free(folder: &str) -> Result<(), Failure> {

@@ -3,7 +3,7 @@
 use super::near::did_you_mean;
 use super::table::{Command, Opt, COMMANDS};
 use super::{Failure, Paint};
-use crate::convert::{between_quotes, is_formula};
+use crate::convert::{between_quotes, is_formula, is_rule};
 use std::path::Path;
 use std::str::FromStr;
 
@@ -62,6 +62,9 @@ impl<'a> Given<'a> {
     fn complete(&self, command: &Command) -> Result<(), String> {
         let (needed, many) = (command.needed_words(), command.takes_many());
         if let Some(missing) = needed.get(self.words.len()) {
+            // The rule may be there, and the word before it not.
+            let before = self.words.last().filter(|word| *missing == "RULE.." && is_rule(word));
+            let missing = before.map_or(*missing, |_| needed[self.words.len() - 1]);
             return Err(format!("{} is missing", missing.trim_end_matches("..")));
         }
         if self.words.len() > command.words.len() && !many {
@@ -232,6 +235,10 @@ mod tests {
         let wrong = |line: &str, text: &str| assert_eq!(read(line), Err(text.to_string()), "{line}");
         wrong("sheet", "CARD is missing");
         wrong("new card", "RULE is missing");
+        wrong("new e0", "CARD is missing");
+        wrong("new rule.krl", "CARD is missing");
+        wrong("new --from 3 e0", "CARD is missing");
+        wrong("new ./e0", "RULE is missing");
         wrong("evening card", "LOG is missing");
         wrong("evening  log", "CARD is empty");
         wrong("evening card ", "LOG is empty");

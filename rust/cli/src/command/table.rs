@@ -89,7 +89,8 @@ pub const COMMANDS: [Command; 20] = [
 RULE is a text such as 'not e2 or e0 until[0,90] e1' (`havdrims help rules`), a .krl file, or `-` for one that comes from
 standard input. Several of them, with up to eight formulas, are judged together: a position has its verdicts when every
 formula has answered it. The folder must not be there yet, or be empty; if making it was cut short, it can be made again
-with the same words. It is in no other card.
+with the same words. It is in no other card. Where CARD is a formula, or ends in .krl or .klg, its name seems to be
+forgotten: such a folder is typed as ./e0.
 
 The card begins at record 0 of its log, unless an option says otherwise. What stands before is never read: previous and
 since find nothing there, so that the first verdicts of a rule that looks back may be others than on the whole log; then it

@@ -276,6 +276,44 @@ fn where_no_card_can_begin() {
     assert!(said.ends_with("begins at record 15, position 12\n"), "{said}");
 }
 
+/// Without the card's name the first formula would become it, and the others be judged alone.
+#[test]
+fn a_card_whose_name_is_forgotten() {
+    let place = Place::new();
+    let expected = "expected: havdrims new CARD RULE.. [--after OLD | --from N] [--letters FILE]\n";
+    let before = "not e1 or prev[0,inf] e0";
+    for (words, says) in [
+        (&[RULE, before][..], format!("`{RULE}` is a formula; a folder of this name is './{RULE}'")),
+        (&["e0", "e1"], "`e0` is a formula; a folder of this name is ./e0".to_string()),
+        (&["(e0)", "rule.krl"], "`(e0)` is a formula; a folder of this name is './(e0)'".to_string()),
+        (
+            &["nothere.krl", "e0"],
+            "`nothere.krl` is the name of a rule file; a folder of this name is ./nothere.krl".to_string(),
+        ),
+        (&["hall.klg", "e0"], "`hall.klg` is the name of a log; a folder of this name is ./hall.klg".to_string()),
+        (
+            &["logs/hall.klg", "e0", "--from", "3"],
+            "`logs/hall.klg` is the name of a log; a folder of this name is logs/./hall.klg".to_string(),
+        ),
+        (&["not", "e2", "or", "e0"], "put the formula between quotes: 'not e2 or e0'".to_string()),
+    ] {
+        let said = place.fails(2, &[&["new"], words].concat());
+        assert_eq!(said, format!("CARD seems to be missing: {says}\n{expected}"), "{words:?}");
+    }
+    for rule in [RULE, "e0", "rule.krl"] {
+        assert_eq!(place.fails(2, &["new", rule]), format!("CARD is missing\n{expected}"), "{rule}");
+    }
+    assert_eq!(fs::read_dir(&place.0).unwrap().count(), 0);
+    // a folder that is meant, and a name that is nearly a formula
+    fs::create_dir(place.path("logs")).unwrap();
+    for card in ["./e0", "./hall.klg", "./rule.krl", "logs/./hall.klg", "logs/e0", "./not e1", "e32", "not", "krl"] {
+        assert!(place.ok(&["new", card, "e0", "e1"]).starts_with(&format!("{card}: 2 formulas\n")));
+        place.ok(&["check", card]);
+    }
+    place.ok(&["evening", "--help"]);
+    assert!(place.help("new").contains("such a folder is typed as ./e0."));
+}
+
 /// A since looks back over the record at which a card begins, and finds nothing there: it is said before a verdict is given.
 #[test]
 fn a_since_that_looks_back_over_the_beginning() {

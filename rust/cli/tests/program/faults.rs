@@ -451,10 +451,12 @@ fn folders_that_are_no_card_and_cards_that_are_there() {
     assert_eq!(place.fails(1, &["new", ".", RULE]), ".: this folder holds other files\n");
     // a file for a card, and a card for a file
     let file = "day.klg: this is a file, and a card is a folder\n";
-    for words in [&["summary", "day.klg"][..], &["sheet", "day.klg"], &["check", "day.klg"], &["new", "day.klg", RULE]]
-    {
+    for words in [&["summary", "day.klg"][..], &["sheet", "day.klg"], &["check", "day.klg"]] {
         assert_eq!(place.fails(1, words), file, "{words:?}");
     }
+    assert_eq!(place.fails(1, &["new", "./day.klg", RULE]), format!("./{file}"));
+    let said = place.fails(2, &["new", "day.klg", RULE]);
+    assert!(said.starts_with("CARD seems to be missing: `day.klg` is the name of a log\nexpected: "), "{said}");
     assert_eq!(place.fails(1, &["open", "day.klg", "day.klg"]), file);
     assert_eq!(place.fails(1, &["new", "other", RULE, "--after", "day.klg"]), file);
     assert_eq!(place.fails(1, &["evening", "day.klg", "day.klg"]), format!("{file}Nothing was changed.\n"));
