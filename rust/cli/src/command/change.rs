@@ -9,7 +9,7 @@ use crate::beside::is_card;
 use crate::card::{self, Begins, Card, First};
 use crate::convert::{between_quotes, is_formula};
 use crate::disk::Folder;
-use crate::followed::Follower;
+use crate::followed::{Followed, Follower};
 use crate::letters::Letters;
 use crate::{convert, kept, named};
 use havdrims::{Rule, MOST_RECORDS};
@@ -28,10 +28,10 @@ pub fn new(given: &Given) -> Answer {
         return Err(Failure::Use(format!("CARD seems to be missing: {says}")));
     }
     free(folder)?;
-    let begins = match (given.value("--after"), given.number("--from")?) {
-        (Some(old), _) => after_card(old)?,
-        (None, Some(from)) => from_record(from)?.into(),
-        (None, None) => First::default().into(),
+    let (begins, followed) = match (given.value("--after"), given.number("--from")?) {
+        (Some(old), _) => (after_card(old)?, followed_by(old)?),
+        (None, Some(from)) => (from_record(from)?.into(), Followed::default()),
+        (None, None) => (First::default().into(), Followed::default()),
     };
     let letters = match (given.value("--letters"), given.value("--after")) {
         (Some(file), _) => Some(named::read(file)?),
@@ -42,15 +42,26 @@ pub fn new(given: &Given) -> Answer {
     if letters.is_none() {
         made.push_str(NO_NAMES);
     }
-    let noted = given.value("--after").map_or(Ok(()), |old| follow(old, folder, begins.first.record));
-    noted.map_err(|fault| Failure::Partly { fault, printed: made.clone() })?;
+    if let Some(old) = given.value("--after") {
+        let follower = Follower::new(folder, begins.first.record);
+        made.push_str(&followed.already(old, &follower));
+        follow(old, folder, follower).map_err(|fault| Failure::Partly { fault, printed: made.clone() })?;
+    }
     Ok(made)
 }
 
+/// The cards that go on from the old one already. Where that is not known, no further one does.
+fn followed_by(old: &str) -> Result<Followed, Failure> {
+    card::followed(&mut Folder::new(Path::new(old))).map_err(|fault| match fault {
+        // It says to take the file away.
+        card::Fault::FollowedDamaged => of_card(old, &fault).and("Then repeat the command. No card was made."),
+        _ => of_card(old, &fault).and("No card was made. When the cause is gone, repeat the command."),
+    })
+}
+
 /// Writes down in the old card that this one goes on from it, last of all: a cut before leaves both cards whole.
-fn follow(old: &str, folder: &str, record: u64) -> Result<(), String> {
-    let written = card::follow(&mut Folder::new(Path::new(old)), Follower::new(folder, record));
-    written.map_err(|fault| {
+fn follow(old: &str, folder: &str, follower: Follower) -> Result<(), String> {
+    card::follow(&mut Folder::new(Path::new(old)), follower).map_err(|fault| {
         format!("{old}: {fault}\nThe card {folder} is made. That it goes on from {old} is not written there: give the log to {folder} alone.")
     })
 }

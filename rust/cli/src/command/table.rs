@@ -98,7 +98,9 @@ is said how far it looks. Where those records still stand as they were, --from w
 All commands go on speaking of the log's own records.
 
 With --after it is written down in OLD that this card goes on from it: evening, close and trim of OLD are refused from then
-on, unless --both says that they are meant. The file `followed` in OLD has it, and may be taken away with the new card.",
+on, unless --both says that they are meant. The file `followed` in OLD has it, and may be taken away with the new card.
+Where another card goes on from OLD already it is said: what one of them releases the other may still want. Where that
+file is damaged no card is made.",
         example: "havdrims new shop 'not e2 or e0 until[0,90] e1'",
         run: change::new,
     },

@@ -377,7 +377,10 @@ fn a_card_that_another_goes_on_from() {
     assert!(!place.path("strict/followed").exists());
     assert!(place.ok(&["evening", "strict", "day.klg"]).ends_with("records 0 to 11 may be overwritten\n"));
 
-    place.ok(&["new", "third", "e0", "--after", "card"]);
+    let said = place.ok(&["new", "third", "e0", "--after", "card"]);
+    let already =
+        "`strict` goes on from card already, at record 12: a record may be overwritten only if both cards name it";
+    assert!(said.ends_with(&format!("begins at record 12\n{already}\n")), "{said}");
     let both = "`strict` goes on from this card at record 12, `third` at record 12";
     refused(&format!("{both}: give the log to them. With --both this card takes it too."));
     let json = place.ok(&["summary", "card", "--json"]);
@@ -424,11 +427,31 @@ fn what_goes_on_from_a_card_is_damaged() {
         assert!(place.ok(&["sheet", "card"]).ends_with("11 yes\n"));
         place.ok(&["page", "card", "day.klg", "page.html", "--force"]);
     }
-    // it is written anew
+    // nor does another card go on from it: what it held would be forgotten
+    let before = place.card();
+    let said = place.fails(1, &["new", "third", STRICT, "--after", "card"]);
+    assert_eq!(said, format!("{fault}Then repeat the command. No card was made.\n"));
+    // that holds of a card that is damaged otherwise too
+    let point = fs::read(place.path("card/point")).unwrap();
+    fs::write(place.path("card/point"), b"half").unwrap();
+    assert_eq!(place.fails(1, &["new", "third", STRICT, "--after", "card"]), said);
+    fs::write(place.path("card/point"), point).unwrap();
+    assert_eq!(place.card(), before);
+    // and where it cannot be read
+    fs::remove_file(place.path("card/followed")).unwrap();
+    fs::create_dir(place.path("card/followed")).unwrap();
+    let said = place.fails(1, &["new", "third", STRICT, "--after", "card"]);
+    assert!(said.starts_with("card: cannot read the file `followed`: "), "{said}");
+    assert!(said.ends_with("\nNo card was made. When the cause is gone, repeat the command.\n"), "{said}");
+    fs::remove_dir(place.path("card/followed")).unwrap();
+    fs::write(place.path("card/followed"), &before["followed"]).unwrap();
+    assert!(!place.path("third").exists());
+    // once it is taken away it is written anew
     fs::remove_dir_all(place.path("next")).unwrap();
     fs::write(place.path("card/followed.new"), b"half").unwrap();
     let said = place.partly(&["check", "card"]).0;
     assert!(said.contains("followed.new: left by a run that was cut; it does not count\n"), "{said}");
+    fs::remove_file(place.path("card/followed")).unwrap();
     place.ok(&["new", "next", STRICT, "--after", "card"]);
     assert_eq!(fs::read(place.path("card/followed")).unwrap(), good);
     assert!(!place.path("card/followed.new").exists());
