@@ -182,7 +182,8 @@ impl fmt::Display for Fault {
                 write!(f, "the file `evenings` is damaged, or not of this card: it lacks the evening of the point")
             }
             Fault::LettersDamaged => {
-                write!(f, "the file `letters` is damaged, or not of this card: `havdrims letters` writes it anew")
+                write!(f, "the file `letters` is damaged, or not of this card: ")?;
+                write!(f, "`havdrims letters CARD FILE` writes it anew, from a file of names")
             }
             Fault::Followed(followed) => {
                 let whom = if followed.cards().len() == 1 { "it" } else { "them" };

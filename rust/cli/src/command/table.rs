@@ -173,7 +173,7 @@ and the latest no is a position. The card is not changed. Commands that only rea
 one is at work that writes it, they wait, for up to two seconds.
 
 Of a card that is damaged it tells what the verdicts come to that a checksum vouches for, says what is wrong, and ends
-with status 1.",
+with status 1. These are all of them where only names of letters, or the cards that go on from it, cannot be read.",
         example: "havdrims summary card",
         run: reading::summary,
     },

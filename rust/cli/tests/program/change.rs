@@ -423,8 +423,17 @@ fn what_goes_on_from_a_card_is_damaged() {
         let (printed, said) = place.partly(&["check", "card"]);
         assert!(printed.ends_with("point: good\nfollowed: damaged, or not of this card\n"), "{printed}");
         assert_eq!(said, fault);
-        // the verdicts do not depend on it
-        assert!(place.ok(&["sheet", "card"]).ends_with("11 yes\n"));
+        // the verdicts do not depend on it, and it is said all the same
+        let (printed, said) = place.partly(&["sheet", "card"]);
+        assert!(printed.ends_with("11 yes\n") && said == fault, "{printed}{said}");
+        let so_far = "so far: 12 verdicts, 2 no, the latest at record 8\nopen: 2 of 14 records\n";
+        assert_eq!(place.partly(&["summary", "card"]), (so_far.to_string(), fault.to_string()));
+        for command in ["summary", "sheet"] {
+            let (printed, said) = place.partly(&[command, "card", "--json"]);
+            let named = format!("\"fault\": \"{}\"", fault.trim_start_matches("card: ").trim_end());
+            assert!(printed.contains(&named) && said == fault, "{printed}");
+        }
+        assert!(place.partly(&["summary", "card", "--json"]).0.contains("\"followed_by\": [],\n"));
         place.ok(&["page", "card", "day.klg", "page.html", "--force"]);
     }
     // nor does another card go on from it: what it held would be forgotten
