@@ -67,7 +67,7 @@ fn follow(old: &str, folder: &str, follower: Follower) -> Result<(), String> {
 }
 
 const NO_NAMES: &str = "\
-the old card's names for letters are damaged, or cannot be read, and do not go over: `havdrims letters` gives this card some
+the old card's names for letters are damaged, or cannot be read, and do not go over: `havdrims letters CARD FILE` gives this card some
 ";
 
 /// What the first word is where it is no name of a card, which was forgotten: the formulas behind it would be judged without the first.
@@ -133,11 +133,25 @@ fn from_record(record: u64) -> Result<First, Failure> {
     Ok(First { record, position: record })
 }
 
+/// What can be done where a card is already: another goes on from it, or it is said why none can.
+fn beside_a_card(folder: &str) -> String {
+    let other = format!("havdrims new OTHER RULE --after {}", quoted(folder));
+    let other = format!("A card keeps its rule: `{other}` goes on from it with another.");
+    let mut disk = Folder::new(Path::new(folder));
+    let followed = card::followed(&mut disk).map_err(|fault| of_card(folder, &fault));
+    // Without a lock: a card at which another command is at work is not waited for.
+    let begins = kept::kept(&mut disk).and_then(|kept| kept.after).filter(|begins| !is_full(begins.first.record));
+    let goes_on = if begins.is_some() { Ok(()) } else { after_card(folder).map(|_| ()) };
+    match goes_on.and(followed) {
+        Err(Failure::Fault(why)) => why,
+        _ => other,
+    }
+}
+
 /// Why there is no card.
 fn unmade(folder: &str, fault: &card::Fault) -> Failure {
     if let card::Fault::AlreadyThere = fault {
-        let other = format!("havdrims new OTHER RULE --after {}", quoted(folder));
-        return of_card(folder, fault).and(&format!("A card keeps its rule: `{other}` goes on from it with another."));
+        return of_card(folder, fault).and(&beside_a_card(folder));
     }
     match Path::new(folder).parent().filter(|above| *above != Path::new("") && !above.exists()) {
         Some(above) => Failure::fault(folder, format!("the folder {} is not there", above.display())),

@@ -26,6 +26,10 @@ impl<'a> Given<'a> {
                 // Behind it nothing is an option.
                 "--" => given.words.extend(typed.by_ref()),
                 _ if word.starts_with("--") => given.take_option(command, word, &mut typed)?,
+                // It would be taken for a name.
+                _ if has_one_stroke(command, word) => {
+                    return Err(format!("`{word}` is no option of `havdrims {}`; did you mean -{word}?", command.name))
+                }
                 _ => given.words.push(word),
             }
         }
@@ -147,6 +151,12 @@ impl<'a> Given<'a> {
     }
 }
 
+/// Whether this is an option of the command but for its second stroke, as `-force`.
+fn has_one_stroke(command: &Command, word: &str) -> bool {
+    let name = word.split_once('=').map_or(word, |(name, _)| name);
+    name.starts_with('-') && command.options.iter().any(|option| option.name == format!("-{name}"))
+}
+
 fn unknown(command: &Command, name: &str) -> String {
     let hint = match did_you_mean(name, command.options.iter().map(|option| option.name).chain(["--help"])) {
         none if none.is_empty() => {
@@ -223,6 +233,9 @@ mod tests {
         ok("sheet -- --csv", "--csv", "");
         ok("sheet --csv -- --", "--", "--csv:");
         ok("sheet -", "-", "");
+        ok("page card log ./-force", "card log ./-force", "");
+        ok("page card log -- -force", "card log -force", "");
+        ok("page card log -forced", "card log -forced", "");
         ok("new card e0 e1 e2 --after old", "card e0 e1 e2", "--after:old");
         ok("rule e0 e1 --force out.krl", "e0 e1 out.krl", "--force:");
         ok("help", "", "");
@@ -244,7 +257,10 @@ mod tests {
         wrong("evening card ", "LOG is empty");
         wrong("sheet card more", "`more` is one word too many");
         wrong("help sheet more", "`more` is one word too many");
-        wrong("sheet card -no", "`-no` is one word too many; did you mean --no?");
+        wrong("sheet card -no", "`-no` is no option of `havdrims sheet`; did you mean --no?");
+        wrong("page card log -force", "`-force` is no option of `havdrims page`; did you mean --force?");
+        wrong("close card -final", "`-final` is no option of `havdrims close`; did you mean --final?");
+        wrong("new card e0 -from=5", "`-from=5` is no option of `havdrims new`; did you mean --from=5?");
         wrong("close card log final", "`final` is one word too many; did you mean --final?");
         wrong("why not e2 or e0 log 5", "put the formula between quotes: 'not e2 or e0'");
         wrong("why e0 log 5 --words more", "`more` is one word too many");

@@ -310,7 +310,6 @@ fn a_card_whose_name_is_forgotten() {
         assert!(place.ok(&["new", card, "e0", "e1"]).starts_with(&format!("{card}: 2 formulas\n")));
         place.ok(&["check", card]);
     }
-    place.ok(&["evening", "--help"]);
     assert!(place.help("new").contains("such a folder is typed as ./e0."));
 }
 

@@ -104,6 +104,19 @@ fn rules_as_formulas() {
     // a formula alone, not the name of a rule file
     let said = place.fails(1, &["rule", "typed.krl", "none.krl"]);
     assert_eq!(said, "`typed.krl` is a rule file, and a formula is wanted here (refused 16)\n");
+    // and so none is proposed, nor the file to be written
+    fs::write(place.path("notes"), "e0").unwrap();
+    for (word, is) in [("notes", "a file"), (".", "a folder")] {
+        let said = place.fails(1, &["rule", word, "none.krl"]);
+        assert_eq!(said, format!("`{word}` is {is}, and a formula is wanted here (refused 16)\n"));
+    }
+    for out in ["none.krl", "typed.krl"] {
+        let said = place.fails(1, &["rule", "typed.kr", out, "--force"]);
+        assert!(said.starts_with("the word `typed` is not known\n  typed.kr\n"), "{said}");
+    }
+    place.ok(&["new", "judged", "e0"]);
+    let said = place.fails(1, &["rule", "judged", "none.krl"]);
+    assert_eq!(said, "`judged` is a card, and a formula is wanted here (refused 16)\n");
     let said = place.fails(1, &["new", "card", "typed"]);
     assert_eq!(said, "`typed` is no formula; did you mean typed.krl? (refused 16)\n");
     let said = place.fails(1, &["new", "card", "tpyed.klr"]);
@@ -126,7 +139,25 @@ fn rules_as_formulas() {
         ),
         "{said}"
     );
-    assert!(!place.path("none.krl").exists());
+    // an arrow is no minus
+    for arrow in ["->", "=>", "-->"] {
+        let said = place.fails(1, &["new", "card", &format!("e0 {arrow} e1")]);
+        let whenever = "`not A or B` says that B is so whenever A is";
+        let text = format!("the sign `{arrow}` is not known; {whenever}\n  e0 {arrow} e1\n     ");
+        assert!(said.starts_with(&format!("{text}{}\n", "^".repeat(arrow.len()))), "{said}");
+        assert!(said.ends_with("(refused 16)\n") && !said.contains("comma"), "{said}");
+    }
+    // a variable that is not set
+    let empty =
+        "the formula is empty\n  \n  ^\nhere could stand a letter as e0, `not`, `prev`, `next` or `(` (refused 17)\n";
+    for words in
+        [&["rule", "e0", "", "none.krl"][..], &["rule", "", "e0", "e1", "none.krl"], &["new", "card", "e0", ""]]
+    {
+        assert_eq!(place.fails(1, words), empty, "{words:?}");
+    }
+    assert_eq!(place.ok(&["rule", "e0", "one.krl"]), "one.krl: 1 entry\n");
+    assert_eq!(place.ok(&["rule", "e0", "e1", "two.krl"]), "two.krl: 2 formulas, 2 entries\n");
+    assert!(!place.path("none.krl").exists() && !place.path("card").exists());
     fs::write(place.path("long.krl"), [0; 100_000]).unwrap();
     assert_eq!(
         place.fails(1, &["formula", "long.krl"]),

@@ -84,7 +84,7 @@ fn names_of_a_card_after_another() {
     fs::write(place.path("card/letters"), "0 head cold\n").unwrap();
     let made = place.ok(&["new", "bare", "e0", "--after", "card"]);
     let lost = "the old card's names for letters are damaged, or cannot be read, and do not go over: \
-                `havdrims letters` gives this card some\n";
+                `havdrims letters CARD FILE` gives this card some\n";
     assert!(made.contains(&format!("begins at record 12\n{lost}")), "{made}");
     assert_eq!(place.ok(&["letters", "bare"]), "");
     assert!(!place.ok(&["new", "named", "e0", "--after", "card", "--letters", "names.txt"]).contains("go over"));

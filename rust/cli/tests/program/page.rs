@@ -351,8 +351,13 @@ fn pages_that_are_not_made() {
         );
         assert!(said.starts_with(&wrong), "{said}");
     }
-    assert!(!place.path("new.html").exists());
+    // an option with one stroke is no page
+    let said = page(2, &["card", "day.klg", "-force"]);
+    assert!(said.starts_with("`-force` is no option of `havdrims page`; did you mean --force?\nexpected: "), "{said}");
+    assert!(!place.path("new.html").exists() && !place.path("-force").exists());
     assert_eq!(place.card(), before);
+    place.ok(&["page", "card", "day.klg", "./-force"]);
+    place.ok(&["page", "card", "day.klg", "--force", "--", "-force"]);
 }
 
 /// A page takes the place of no log and no rule, with --force either: neither can be had again.
