@@ -360,7 +360,7 @@ fn pages_that_are_not_made() {
     place.ok(&["page", "card", "day.klg", "--force", "--", "-force"]);
 }
 
-/// A page takes the place of no log and no rule, with --force either: neither can be had again.
+/// A page takes the place of no log and no rule, not even with --force: neither can be had again.
 #[test]
 fn logs_and_rules_that_stay() {
     let place = Place::with_names();
