@@ -182,7 +182,8 @@ impl fmt::Display for Fault {
                 write!(f, "the file `evenings` is damaged, or not of this card: it lacks the evening of the point")
             }
             Fault::LettersDamaged => {
-                write!(f, "the file `letters` is damaged, or not of this card: `havdrims letters` writes it anew")
+                write!(f, "the file `letters` is damaged, or not of this card: ")?;
+                write!(f, "`havdrims letters CARD FILE` writes it anew, from a file of names")
             }
             Fault::Followed(followed) => {
                 let whom = if followed.cards().len() == 1 { "it" } else { "them" };
@@ -429,14 +430,24 @@ fn read_followed(disk: &mut impl Disk, bound: u64) -> Result<Followed, Fault> {
     }
 }
 
+/// What the files of a card, which may be damaged, are bound to.
+fn bound_of(disk: &mut impl Disk) -> Result<u64, Fault> {
+    let card = disk.read(CARD).map_err(failed("read the file `card.txt`"))?;
+    Ok(bound_to(&card, &disk.read(RULE).map_err(failed("read the file `rule.krl`"))?))
+}
+
+/// The cards that go on from a card, which may be damaged otherwise.
+pub fn followed(disk: &mut impl Disk) -> Result<Followed, Fault> {
+    let bound = bound_of(disk)?;
+    read_followed(disk, bound)
+}
+
 /// Writes down in a card, which may be damaged, that another goes on from it. A cut leaves the file as it was, or with that one in it.
 pub fn follow(disk: &mut impl Disk, follower: Follower) -> Result<(), Fault> {
     let doing = "write the file `followed`";
     take(disk, Lock::Alone)?;
-    let card = disk.read(CARD).map_err(failed("read the file `card.txt`"))?;
-    let bound = bound_to(&card, &disk.read(RULE).map_err(failed("read the file `rule.krl`"))?);
-    // What is damaged is written anew.
-    let bytes = read_followed(disk, bound).unwrap_or_default().with(follower).encode(bound);
+    let bound = bound_of(disk)?;
+    let bytes = read_followed(disk, bound)?.with(follower).encode(bound);
     let written = disk.write(NEW_FOLLOWED, 0, &bytes).and_then(|()| disk.sync(NEW_FOLLOWED));
     if written.is_err() {
         let _ = disk.remove(NEW_FOLLOWED);

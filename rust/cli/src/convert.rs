@@ -21,6 +21,11 @@ pub fn log(path: &str) -> io::Result<Vec<u8>> {
     read_file(path, MOST_LOG)
 }
 
+/// How many records the log of this name has, dropped ones included. None where no log is there.
+pub fn records_there(path: &str) -> Option<u64> {
+    wrong::count(&read_file(path, 15).ok()?, fs::metadata(path).ok()?.len())
+}
+
 /// What is wrong where a file could not be read.
 pub fn unread(path: &str, fault: io::Error) -> Failure {
     match fs::read_dir(path) {
@@ -59,7 +64,7 @@ pub fn opened<'a>(path: &str, bytes: &'a [u8]) -> Result<Log<'a>, Failure> {
 pub fn rule_said(words: &[&str]) -> Result<Vec<u8>, Failure> {
     let said = |word: &&str| match word.ends_with(".krl") || *word == "-" {
         true => read_file(word, MOST_RULE).map_err(|fault| unread(word, fault)),
-        false => parsed(word),
+        false => parsed(word, taken_for),
     };
     let rules: Result<Vec<Vec<u8>>, Failure> = words.iter().map(said).collect();
     joined(words, rules.map_err(|fault| unquoted(words).unwrap_or(fault))?)
@@ -85,6 +90,11 @@ pub fn is_formula(text: &str) -> bool {
     refused(text).is_none()
 }
 
+/// Whether a word says a rule or names a rule file: it is none that names a card.
+pub fn is_rule(word: &str) -> bool {
+    word.ends_with(".krl") || is_formula(word)
+}
+
 /// Whether a word that is no formula looks like a name: of several words, or with brackets, it is a formula that is wrong.
 fn is_name(word: &str) -> bool {
     !word.is_empty() && !word.contains([' ', '(', ')', '[', ']']) && refused(word) == Some(Refusal::UnknownWord)
@@ -93,7 +103,8 @@ fn is_name(word: &str) -> bool {
 /// What is wrong where the words of a formula stand alone, because nothing stands around them.
 fn unquoted(words: &[&str]) -> Option<Failure> {
     let parts: Vec<&str> = words.iter().copied().filter(|word| !word.ends_with(".krl")).collect();
-    if parts.len() < 2 {
+    // What is empty is no part of a formula: a variable may not be set.
+    if parts.len() < 2 || parts.iter().any(|part| part.trim().is_empty()) {
         return None;
     }
     let (refusal, typed) = (parts.iter().find_map(|part| refused(part))?, parts.join(" "));
@@ -174,8 +185,8 @@ fn measured(name: &str, rule: &[u8]) -> Result<Needs, Failure> {
     measure(rule).map_err(|refusal| Failure::fault(name, wrong::named(refusal, wrong::rule(rule))))
 }
 
-/// The bytes of the rule that a formula says.
-fn parsed(formula: &str) -> Result<Vec<u8>, Failure> {
+/// The bytes of the rule that a formula says. What else a word may name is said where it is none.
+fn parsed(formula: &str, taken_for: fn(&str) -> Option<String>) -> Result<Vec<u8>, Failure> {
     let mut bytes = vec![0; MOST_RULE];
     let size = parse(formula.as_bytes(), &mut bytes).map_err(|refusal| {
         Failure::Fault(match taken_for(formula) {
@@ -187,9 +198,21 @@ fn parsed(formula: &str) -> Result<Vec<u8>, Failure> {
     Ok(bytes)
 }
 
+/// What a word names where a formula alone is wanted: a rule file would not be taken, and so none is proposed.
+fn no_formula(word: &str) -> Option<String> {
+    let path = Path::new(word);
+    let is = match path.is_file() {
+        _ if beside::is_card(word) => "a card",
+        true if word.ends_with(".krl") => "a rule file",
+        true => "a file",
+        false if path.is_dir() => "a folder",
+        false => return None,
+    };
+    Some(format!("`{word}` is {is}, and a formula is wanted here"))
+}
+
 /// What a word that is no formula names instead.
 fn taken_for(word: &str) -> Option<String> {
-    let is_file = |path: &str| Path::new(path).is_file();
     if beside::is_card(word) {
         let rule = format!("{}/{}", word.trim_end_matches('/'), card::RULE);
         return Some(format!("`{word}` is a card; its rule is {rule}"));
@@ -198,8 +221,7 @@ fn taken_for(word: &str) -> Option<String> {
         let holds = beside::first_card(word).map_or(String::new(), |card| format!("; it holds cards, as {card}"));
         return Some(format!("`{word}` is a folder, and no card{holds}"));
     }
-    match is_file(word) {
-        true if word.ends_with(".krl") => Some(format!("`{word}` is a rule file, and a formula is wanted here")),
+    match Path::new(word).is_file() {
         true => Some(format!("`{word}` is a file, but no rule file: the name of one ends in .krl")),
         false => {
             let meant = beside::or_rule_file(word);
@@ -217,7 +239,7 @@ pub fn described(name: &str, rule: &[u8]) -> Result<(Vec<String>, String), Failu
 }
 
 pub fn to_log(path: &str, log: &str, force: bool) -> Answer {
-    let (mut folder, name) = file::named_apart(log, path)?;
+    let (mut folder, name) = file::named_other(log, path)?;
     let bytes = read_all(path).map_err(|fault| unread(path, fault))?;
     let typed = text_of(path, bytes)?;
     let bytes = text::log_from_text(&typed).map_err(|fault| Failure::in_line(path, fault))?;
@@ -245,11 +267,11 @@ pub fn rule(formulas: &[&str], path: &str, force: bool) -> Answer {
         // It may be a formula, with the file's name forgotten.
         return Err(Failure::Use(format!("`{path}` is no name of a rule file: that ends in .krl")));
     }
-    let rules: Result<Vec<Vec<u8>>, Failure> = formulas.iter().map(|formula| parsed(formula)).collect();
+    let rules: Result<Vec<Vec<u8>>, Failure> = formulas.iter().map(|formula| parsed(formula, no_formula)).collect();
     let bytes = joined(formulas, rules.map_err(|fault| unquoted(formulas).unwrap_or(fault))?)?;
     file::write(path, &bytes, force)?;
     let number = if formulas.len() == 1 { String::new() } else { format!("{} formulas, ", formulas.len()) };
-    Ok(format!("{path}: {number}{} entries\n", (bytes.len() - 8) / 10))
+    Ok(format!("{path}: {number}{}\n", counted((bytes.len() - 8) / 10, "entry", "entries")))
 }
 
 pub fn formula(path: &str) -> Answer {

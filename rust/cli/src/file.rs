@@ -2,8 +2,9 @@
 
 use crate::card;
 use crate::command::Failure;
-use crate::disk::{Disk, Folder};
+use crate::disk::{read_file, Disk, Folder};
 use std::io::ErrorKind;
+use std::os::unix::fs::MetadataExt;
 use std::path::{Path, PathBuf};
 use std::{fmt, fs, io};
 
@@ -18,6 +19,10 @@ pub enum Fault {
     InCard,
     /// It would be written, as long as it is not whole, over a file that it is made from.
     OverItsSource,
+    /// It would replace the file that it is made from.
+    Itself,
+    /// A log or a rule is here, which is not replaced by another kind of file.
+    LogOrRule(&'static str),
     NoFolder,
     /// An operation failed: there is no new file.
     Disk {
@@ -40,6 +45,10 @@ impl fmt::Display for Fault {
             Fault::OverItsSource => {
                 write!(f, "until it is whole this file has the name of what it is made from; choose another name")
             }
+            Fault::Itself => {
+                write!(f, "this is the file that it is made from, and is not replaced; choose another name")
+            }
+            Fault::LogOrRule(what) => write!(f, "a {what} is here, and is not replaced; choose another name"),
             Fault::NoFolder => write!(f, "its folder is not there"),
             Fault::Disk { doing, fault } => write!(f, "cannot {doing}: {fault}; nothing was changed"),
             Fault::Unsure { doing, fault } => write!(f, "cannot {doing}: {fault}; it may be as it was before"),
@@ -95,6 +104,32 @@ pub fn named_apart(path: &str, source: &str) -> Result<(Folder, String), Failure
         return Err(Failure::fault(path, Fault::OverItsSource));
     }
     Ok((folder, name))
+}
+
+/// The same of a file that is of another kind than its source, and so never takes its place, under whatever name.
+pub fn named_other(path: &str, source: &str) -> Result<(Folder, String), Failure> {
+    let named = named_apart(path, source)?;
+    // Who redirects standard input has named a file too.
+    let source = if source == "-" { "/dev/stdin" } else { source };
+    let number = |path: &str| fs::metadata(path).ok().map(|there| (there.dev(), there.ino()));
+    match number(path).filter(|&there| Some(there) == number(source)) {
+        Some(_) => Err(Failure::fault(path, Fault::Itself)),
+        None => Ok(named),
+    }
+}
+
+/// That no log or rule is here: nobody means to lose one for a page.
+pub fn no_log_or_rule(path: &str) -> Result<(), Failure> {
+    let begins = match read_file(path, 2) {
+        Err(fault) if fault.kind() == ErrorKind::NotFound => return Ok(()),
+        read => read.map_err(|fault| Failure::fault(path, fault))?,
+    };
+    let what = match begins.as_slice() {
+        b"KLG" => "log",
+        b"KRL" => "rule",
+        _ => return Ok(()),
+    };
+    Err(Failure::fault(path, Fault::LogOrRule(what)))
 }
 
 /// The file as long as it is not whole: a name that nobody types, since it is replaced without a question.

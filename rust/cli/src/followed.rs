@@ -50,11 +50,28 @@ impl Followed {
 
     /// Who goes on from the card, and where.
     pub fn says(&self) -> String {
+        self.going_on("from this card")
+    }
+
+    fn going_on(&self, from: &str) -> String {
         let card = |(at, Follower { name, record }): (usize, &Follower)| match at {
-            0 => format!("`{name}` goes on from this card at record {record}"),
+            0 => format!("`{name}` goes on {from} at record {record}"),
             _ => format!(", `{name}` at record {record}"),
         };
         self.0.iter().enumerate().map(card).collect()
+    }
+
+    /// What is said to a further card, which goes on from the old one beside these.
+    pub fn already(mut self, old: &str, new: &Follower) -> String {
+        self.0.retain(|other| other.name != new.name);
+        if self.is_empty() {
+            return String::new();
+        }
+        let all = if self.0.len() == 1 { "both cards" } else { "all these cards" };
+        format!(
+            "{}: a record may be overwritten only if {all} name it\n",
+            self.going_on(&format!("from {old} already,"))
+        )
     }
 
     /// The same as a line, if there is anyone.
@@ -98,6 +115,18 @@ mod tests {
         let two = one.with(Follower::new("Anna's\ncard/", 40));
         assert_eq!(two.says(), "`window2` goes on from this card at record 26, `Anna's\\ncard` at record 40");
         assert_eq!(two.names(), "`window2` and `Anna's\\ncard`");
+        let new = |name: &str| two.clone().already("hall", &Follower::new(name, 50));
+        let overwritten = "a record may be overwritten only if";
+        assert_eq!(
+            new("third"),
+            format!("`window2` goes on from hall already, at record 26, `Anna's\\ncard` at record 40: {overwritten} all these cards name it\n")
+        );
+        // one of the same name was taken away, and is made again
+        assert_eq!(
+            new("Anna's\ncard"),
+            format!("`window2` goes on from hall already, at record 26: {overwritten} both cards name it\n")
+        );
+        assert_eq!(Followed::default().already("hall", &Follower::new("third", 50)), "");
     }
 
     #[test]

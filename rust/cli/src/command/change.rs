@@ -7,8 +7,9 @@ use super::{of_card, Answer, Failure, Given};
 use crate::back::Back;
 use crate::beside::is_card;
 use crate::card::{self, Begins, Card, First};
+use crate::convert::{between_quotes, is_formula};
 use crate::disk::Folder;
-use crate::followed::Follower;
+use crate::followed::{Followed, Follower};
 use crate::letters::Letters;
 use crate::{convert, kept, named};
 use havdrims::{Rule, MOST_RECORDS};
@@ -23,11 +24,14 @@ fn card_number() -> u64 {
 /// The words of `new`.
 pub fn new(given: &Given) -> Answer {
     let (folder, rules) = given.all().split_first().expect("the table has a word at the beginning");
+    if let Some(says) = no_card(folder, rules) {
+        return Err(Failure::Use(format!("CARD seems to be missing: {says}")));
+    }
     free(folder)?;
-    let begins = match (given.value("--after"), given.number("--from")?) {
-        (Some(old), _) => after_card(old)?,
-        (None, Some(from)) => from_record(from)?.into(),
-        (None, None) => First::default().into(),
+    let (begins, followed) = match (given.value("--after"), given.number("--from")?) {
+        (Some(old), _) => (after_card(old)?, followed_by(old)?),
+        (None, Some(from)) => (from_record(from)?.into(), Followed::default()),
+        (None, None) => (First::default().into(), Followed::default()),
     };
     let letters = match (given.value("--letters"), given.value("--after")) {
         (Some(file), None) => Some(named::read(file, "No card was made. Without --letters it has no names.")?),
@@ -39,22 +43,54 @@ pub fn new(given: &Given) -> Answer {
     if letters.is_none() {
         made.push_str(NO_NAMES);
     }
-    let noted = given.value("--after").map_or(Ok(()), |old| follow(old, folder, begins.first.record));
-    noted.map_err(|fault| Failure::Partly { fault, printed: made.clone() })?;
+    if let Some(old) = given.value("--after") {
+        let follower = Follower::new(folder, begins.first.record);
+        made.push_str(&followed.already(old, &follower));
+        follow(old, folder, follower).map_err(|fault| Failure::Partly { fault, printed: made.clone() })?;
+    }
     Ok(made)
 }
 
+/// The cards that go on from the old one already. Where that is not known, no further one does.
+fn followed_by(old: &str) -> Result<Followed, Failure> {
+    card::followed(&mut Folder::new(Path::new(old))).map_err(|fault| match fault {
+        // It says to take the file away.
+        card::Fault::FollowedDamaged => of_card(old, &fault).and("Then repeat the command. No card was made."),
+        _ => of_card(old, &fault).and("No card was made. When the cause is gone, repeat the command."),
+    })
+}
+
 /// Writes down in the old card that this one goes on from it, last of all: a cut before leaves both cards whole.
-fn follow(old: &str, folder: &str, record: u64) -> Result<(), String> {
-    let written = card::follow(&mut Folder::new(Path::new(old)), Follower::new(folder, record));
-    written.map_err(|fault| {
+fn follow(old: &str, folder: &str, follower: Follower) -> Result<(), String> {
+    card::follow(&mut Folder::new(Path::new(old)), follower).map_err(|fault| {
         format!("{old}: {fault}\nThe card {folder} is made. That it goes on from {old} is not written there: give the log to {folder} alone.")
     })
 }
 
 const NO_NAMES: &str = "\
-the old card's names for letters are damaged, or cannot be read, and do not go over: `havdrims letters` gives this card some
+the old card's names for letters are damaged, or cannot be read, and do not go over: `havdrims letters CARD FILE` gives this card some
 ";
+
+/// What the first word is where it is no name of a card, which was forgotten: the formulas behind it would be judged without the first.
+/// `./NAME` says that a folder is meant, as it does where a card may be a formula.
+fn no_card(folder: &str, rules: &[&str]) -> Option<String> {
+    let is = match folder {
+        _ if folder.starts_with("./") || folder.contains("/./") => return None,
+        _ if is_formula(folder) => "is a formula",
+        _ if folder.ends_with(".krl") => "is the name of a rule file",
+        _ if folder.ends_with(".klg") => "is the name of a log",
+        _ => {
+            let all = [&[folder], rules].concat().join(" ");
+            return is_formula(&all).then(|| between_quotes(&all));
+        }
+    };
+    let (above, name) = folder.split_at(folder.rfind('/').map_or(0, |at| at + 1));
+    let meant = match Path::new(folder).is_file() {
+        true => String::new(),
+        false => format!("; a folder of this name is {}", quoted(&format!("{above}./{name}"))),
+    };
+    Some(format!("`{folder}` {is}{meant}"))
+}
 
 /// Whether a card may have this place: it is no file, and in no other card.
 fn free(folder: &str) -> Result<(), Failure> {
@@ -98,11 +134,25 @@ fn from_record(record: u64) -> Result<First, Failure> {
     Ok(First { record, position: record })
 }
 
+/// What can be done where a card is already: another goes on from it, or it is said why none can.
+fn beside_a_card(folder: &str) -> String {
+    let other = format!("havdrims new OTHER RULE --after {}", quoted(folder));
+    let other = format!("A card keeps its rule: `{other}` goes on from it with another.");
+    let mut disk = Folder::new(Path::new(folder));
+    let followed = card::followed(&mut disk).map_err(|fault| of_card(folder, &fault));
+    // Without a lock: a card at which another command is at work is not waited for.
+    let begins = kept::kept(&mut disk).and_then(|kept| kept.after).filter(|begins| !is_full(begins.first.record));
+    let goes_on = if begins.is_some() { Ok(()) } else { after_card(folder).map(|_| ()) };
+    match goes_on.and(followed) {
+        Err(Failure::Fault(why)) => why,
+        _ => other,
+    }
+}
+
 /// Why there is no card.
 fn unmade(folder: &str, fault: &card::Fault) -> Failure {
     if let card::Fault::AlreadyThere = fault {
-        let other = format!("havdrims new OTHER RULE --after {}", quoted(folder));
-        return of_card(folder, fault).and(&format!("A card keeps its rule: `{other}` goes on from it with another."));
+        return of_card(folder, fault).and(&beside_a_card(folder));
     }
     match Path::new(folder).parent().filter(|above| *above != Path::new("") && !above.exists()) {
         Some(above) => Failure::fault(folder, format!("the folder {} is not there", above.display())),

@@ -1,10 +1,11 @@
 //! Carrying on with a log, closing it, and trimming it.
 
-use super::brought::Brought;
+use super::brought::{Brought, UNCHANGED};
 use super::json::Json;
 use super::told::{all, as_json, by_formula, followed_by, position};
-use super::{Answer, Failure, Given, Paint};
+use super::{called, Answer, Failure, Given, Paint};
 use crate::card::{Card, Evening, Fault, SoFar};
+use crate::convert::records_there;
 use crate::disk::Folder;
 use crate::file;
 use crate::followed::Followed;
@@ -47,6 +48,7 @@ pub fn trim(given: &Given) -> Answer {
     let mut card = Card::open(&mut disk, true).map_err(|fault| log.failed(&fault, None))?;
     let followed = followed(&mut card, given).map_err(|fault| log.failed(&fault, None))?;
     let left = card.trim(&log.bytes).map_err(|fault| log.failed(&fault, Some(&card.so_far)))?;
+    no_more_records(out, path, &left)?;
     file::put(&mut into, &name, &left, given.has("--force")).map_err(|fault| Failure::fault(out, fault))?;
     let left = Log::new(&left).map_err(|refusal| Failure::fault(out, refusal))?;
     let dropped = match left.dropped() {
@@ -59,6 +61,17 @@ pub fn trim(given: &Given) -> Answer {
         _ => still_wanted(&followed, "the log as it was"),
     };
     Ok(format!("{out}: {dropped}, {} left\n{others}", left.records().count()))
+}
+
+/// That no log is here with records that the trimmed one lacks at its end: the two may have been exchanged.
+fn no_more_records(out: &str, path: &str, left: &[u8]) -> Result<(), Failure> {
+    let (Some(there), Ok(left)) = (records_there(out), Log::new(left)) else { return Ok(()) };
+    if there <= left.len() as u64 {
+        return Ok(());
+    }
+    let (there, has) = (records(there), left.len());
+    let says = format!("the log that is here has {there}, dropped ones included, and {} has {has}", called(path));
+    Err(Failure::fault(out, format!("{says}\nWhat it has more would be lost: are LOG and OUT exchanged? {UNCHANGED}")))
 }
 
 /// That the cards that go on from this one may still want what it does not.

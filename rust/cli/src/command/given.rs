@@ -3,7 +3,7 @@
 use super::near::did_you_mean;
 use super::table::{Command, Opt, COMMANDS};
 use super::{Failure, Paint};
-use crate::convert::{between_quotes, digits, is_formula, no_number};
+use crate::convert::{between_quotes, digits, is_formula, is_rule, no_number};
 use std::path::Path;
 use std::str::FromStr;
 
@@ -26,6 +26,10 @@ impl<'a> Given<'a> {
                 // Behind it nothing is an option.
                 "--" => given.words.extend(typed.by_ref()),
                 _ if word.starts_with("--") => given.take_option(command, word, &mut typed)?,
+                // It would be taken for a name.
+                _ if has_one_stroke(command, word) => {
+                    return Err(format!("`{word}` is no option of `havdrims {}`; did you mean -{word}?", command.name))
+                }
                 _ => given.words.push(word),
             }
         }
@@ -62,6 +66,9 @@ impl<'a> Given<'a> {
     fn complete(&self, command: &Command) -> Result<(), String> {
         let (needed, many) = (command.needed_words(), command.takes_many());
         if let Some(missing) = needed.get(self.words.len()) {
+            // The rule may be there, and the word before it not.
+            let before = self.words.last().filter(|word| *missing == "RULE.." && is_rule(word));
+            let missing = before.map_or(*missing, |_| needed[self.words.len() - 1]);
             return Err(format!("{} is missing", missing.trim_end_matches("..")));
         }
         if self.words.len() > command.words.len() && !many {
@@ -141,6 +148,12 @@ impl<'a> Given<'a> {
     }
 }
 
+/// Whether this is an option of the command but for its second stroke, as `-force`.
+fn has_one_stroke(command: &Command, word: &str) -> bool {
+    let name = word.split_once('=').map_or(word, |(name, _)| name);
+    name.starts_with('-') && command.options.iter().any(|option| option.name == format!("-{name}"))
+}
+
 fn unknown(command: &Command, name: &str) -> String {
     let hint = match did_you_mean(name, command.options.iter().map(|option| option.name).chain(["--help"])) {
         none if none.is_empty() => {
@@ -217,6 +230,9 @@ mod tests {
         ok("sheet -- --csv", "--csv", "");
         ok("sheet --csv -- --", "--", "--csv:");
         ok("sheet -", "-", "");
+        ok("page card log ./-force", "card log ./-force", "");
+        ok("page card log -- -force", "card log -force", "");
+        ok("page card log -forced", "card log -forced", "");
         ok("new card e0 e1 e2 --after old", "card e0 e1 e2", "--after:old");
         ok("rule e0 e1 --force out.krl", "e0 e1 out.krl", "--force:");
         ok("help", "", "");
@@ -229,12 +245,19 @@ mod tests {
         let wrong = |line: &str, text: &str| assert_eq!(read(line), Err(text.to_string()), "{line}");
         wrong("sheet", "CARD is missing");
         wrong("new card", "RULE is missing");
+        wrong("new e0", "CARD is missing");
+        wrong("new rule.krl", "CARD is missing");
+        wrong("new --from 3 e0", "CARD is missing");
+        wrong("new ./e0", "RULE is missing");
         wrong("evening card", "LOG is missing");
         wrong("evening  log", "CARD is empty");
         wrong("evening card ", "LOG is empty");
         wrong("sheet card more", "`more` is one word too many");
         wrong("help sheet more", "`more` is one word too many");
-        wrong("sheet card -no", "`-no` is one word too many; did you mean --no?");
+        wrong("sheet card -no", "`-no` is no option of `havdrims sheet`; did you mean --no?");
+        wrong("page card log -force", "`-force` is no option of `havdrims page`; did you mean --force?");
+        wrong("close card -final", "`-final` is no option of `havdrims close`; did you mean --final?");
+        wrong("new card e0 -from=5", "`-from=5` is no option of `havdrims new`; did you mean --from=5?");
         wrong("close card log final", "`final` is one word too many; did you mean --final?");
         wrong("why not e2 or e0 log 5", "put the formula between quotes: 'not e2 or e0'");
         wrong("why e0 log 5 --words more", "`more` is one word too many");

@@ -14,7 +14,8 @@ use std::path::Path;
 pub fn page(given: &Given) -> Answer {
     let [folder, path, out] = given.words();
     let clock = given.value("--start").map_or(Ok(Clock::counted()), start)?;
-    let (mut into, name) = file::named_apart(out, path)?;
+    let (mut into, name) = file::named_other(out, path)?;
+    file::no_log_or_rule(out)?;
     let log = Brought::read(folder, path, "Nothing was written")?;
     let mut disk = Folder::new(Path::new(folder));
     let mut card = Card::open(&mut disk, false).map_err(|fault| log.failed(&fault, None))?;

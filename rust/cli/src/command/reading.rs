@@ -19,6 +19,8 @@ pub struct Told {
     /// The cards that go on from it, where that can be read.
     followed: Followed,
     fault: Option<Fault>,
+    /// All verdicts that were given: the fault, if there is one, is in a file that they do not depend on.
+    whole: bool,
 }
 
 impl Told {
@@ -26,14 +28,19 @@ impl Told {
         let mut disk = Folder::new(Path::new(folder));
         let fault = match Card::open(&mut disk, false) {
             Ok(mut card) => {
-                let followed = card.followed().unwrap_or_default();
-                return Ok(Told { so_far: card.so_far, verdicts: card.verdicts().to_vec(), followed, fault: None });
+                let (followed, letters) = (card.followed(), card.letters());
+                let (followed, fault) = match followed {
+                    Ok(followed) => (followed, letters.err()),
+                    Err(fault) => (Followed::default(), Some(fault)),
+                };
+                let verdicts = card.verdicts().to_vec();
+                return Ok(Told { so_far: card.so_far, verdicts, followed, fault, whole: true });
             }
             Err(fault) => fault,
         };
         match vouched(&mut disk, &fault).filter(|kept| !kept.verdicts.is_empty()) {
             Some(Kept { so_far, verdicts, .. }) => {
-                Ok(Told { so_far, verdicts, followed: Followed::default(), fault: Some(fault) })
+                Ok(Told { so_far, verdicts, followed: Followed::default(), fault: Some(fault), whole: false })
             }
             None => Err(of_card(folder, &fault)),
         }
@@ -51,6 +58,9 @@ impl Told {
     /// Ends with what was to be printed, and with the fault if there is one.
     pub fn end(&self, folder: &str, printed: String) -> Answer {
         let Some(fault) = &self.fault else { return Ok(printed) };
+        if self.whole {
+            return Err(Failure::Partly { printed, fault: format!("{folder}: {fault}") });
+        }
         let vouched = match self.verdicts.len() {
             1 => "This is of the first verdict, which a checksum vouches for.".to_string(),
             many => format!("This is of the first {many} verdicts, which a checksum vouches for."),
@@ -85,8 +95,9 @@ pub fn check(given: &Given) -> Answer {
     let folder = given.only();
     let mut disk = Folder::new(Path::new(folder));
     let opened = Card::open(&mut disk, false).and_then(|mut card| {
+        let followed = card.followed()?;
         card.letters()?;
-        Ok((card.so_far, card.followed()?))
+        Ok((card.so_far, followed))
     });
     match &opened {
         Err(fault @ (Fault::NoCard | Fault::InUse)) => return Err(of_card(folder, fault)),

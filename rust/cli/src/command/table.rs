@@ -89,7 +89,8 @@ pub const COMMANDS: [Command; 20] = [
 RULE is a text such as 'not e2 or e0 until[0,90] e1' (`havdrims help rules`), a .krl file, or `-` for one that comes from
 standard input. Several of them, with up to eight formulas, are judged together: a position has its verdicts when every
 formula has answered it. The folder must not be there yet, or be empty; if making it was cut short, it can be made again
-with the same words. It is in no other card.
+with the same words. It is in no other card. Where CARD is a formula, or ends in .krl or .klg, its name seems to be
+forgotten: such a folder is typed as ./e0.
 
 The card begins at record 0 of its log, unless an option says otherwise. What stands before is never read: previous and
 since find nothing there, so that the first verdicts of a rule that looks back may be others than on the whole log; then it
@@ -97,7 +98,9 @@ is said how far it looks. Where those records still stand as they were, --from w
 All commands go on speaking of the log's own records.
 
 With --after it is written down in OLD that this card goes on from it: evening, close and trim of OLD are refused from then
-on, unless --both says that they are meant. The file `followed` in OLD has it, and may be taken away with the new card.",
+on, unless --both says that they are meant. The file `followed` in OLD has it, and may be taken away with the new card.
+Where another card goes on from OLD already it is said: what one of them releases the other may still want. Where that
+file is damaged no card is made.",
         example: "havdrims new shop 'not e2 or e0 until[0,90] e1'",
         run: change::new,
     },
@@ -153,7 +156,8 @@ the log by. From then on OUT may be brought in place of LOG, with new records be
 card is not changed. It is synced before OUT is written.
 
 OUT is written beside and renamed, so that it is whole or not there. A file that is there is replaced only with --force;
-so OUT may be LOG itself, to which the kiosk must then add nothing meanwhile. OUT is never a file in a card.",
+so OUT may be LOG itself, to which the kiosk must then add nothing meanwhile. A log with more records than LOG, dropped
+ones included, is not replaced even then: the card may not have seen them. OUT is never a file in a card.",
         example: "havdrims trim visited visit.klg trimmed.klg",
         run: evening::trim,
     },
@@ -169,7 +173,7 @@ and the latest no is a position. The card is not changed. Commands that only rea
 one is at work that writes it, they wait, for up to two seconds.
 
 Of a card that is damaged it tells what the verdicts come to that a checksum vouches for, says what is wrong, and ends
-with status 1.",
+with status 1. These are all of them where only names of letters, or the cards that go on from it, cannot be read.",
         example: "havdrims summary card",
         run: reading::summary,
     },
@@ -232,7 +236,7 @@ them, by the checksums of its evenings; where they were overwritten, dropped or 
 made before the records of the week are overwritten, or from a copy of the log. What the card has not seen yet is not on
 the page, and is said. A log has no clock: without --start days are counted from its second 0.
 
-A file that is there is replaced only with --force, and no file is put into a card.",
+A file that is there is replaced only with --force, a log or a rule not even then, and no file is put into a card.",
         example: "havdrims page card tuesday.klg friday.html --start 2026-11-09T09:00",
         run: page::page,
     },
@@ -331,7 +335,7 @@ TEXT is a file with a line for each record, the seconds and then the letters, as
 What follows a # is passed over. The line `version 2` before the first record says that the log is of version 2: then
 `12 service` is a service record, which is no position. A trimmed log has `version 3` and a line as `dropped 40` there.
 
-A file that is there is replaced only with --force, and no file is put into a card.",
+A file that is there is replaced only with --force, TEXT itself not even then, and no file is put into a card.",
         example: "havdrims to-log day.txt made.klg",
         run: |given| {
             let [text, log] = given.words();

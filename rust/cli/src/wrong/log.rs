@@ -59,6 +59,15 @@ fn records(bytes: &[u8]) -> Option<String> {
     (more > 0).then(|| format!("the log ends inside record {record}: {more} of its 8 bytes are there"))
 }
 
+/// How many records a log of this length has that begins with these bytes, dropped ones included, whether or not the last is whole.
+pub fn count(begins: &[u8], length: u64) -> Option<u64> {
+    if header(begins).is_some() {
+        return None;
+    }
+    let (header, dropped) = start(begins);
+    Some(dropped.saturating_add(length.saturating_sub(header as u64) / 8))
+}
+
 /// Of a log that has too many records: how many of its bytes are those of a log that has as many as it may.
 pub fn longest(bytes: &[u8]) -> Option<usize> {
     if header(bytes).is_some() {

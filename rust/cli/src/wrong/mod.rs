@@ -10,7 +10,7 @@ mod rule;
 mod token;
 
 pub use formula::formula;
-pub use log::{dropped, fall, log, longest, Fall, Header};
+pub use log::{count, dropped, fall, log, longest, Fall, Header};
 pub use rule::rule;
 
 use havdrims::Refusal;

@@ -59,15 +59,24 @@ fn in_word(letter: char) -> bool {
     letter.is_ascii_lowercase() || letter.is_ascii_digit()
 }
 
-/// How many bytes of a text belong together: small letters and digits, letters of other kinds with what stands behind them, or
-/// else one character.
+/// How many bytes of a text belong together: small letters and digits, letters of other kinds with what stands behind them, an arrow,
+/// or else one character.
 fn together(text: &str) -> usize {
+    if let Some(arrow) = arrow(text) {
+        return arrow;
+    }
     let same: fn(char) -> bool = match text.chars().next() {
         Some(first) if in_word(first) => in_word,
         Some(first) if first.is_alphanumeric() => char::is_alphanumeric,
         first => return first.map_or(0, char::len_utf8),
     };
     text.find(|letter| !same(letter)).unwrap_or(text.len())
+}
+
+/// How long the arrow is with which a text begins, as `->` or `=>`: people type it for then.
+fn arrow(text: &str) -> Option<usize> {
+    let shaft = text.len() - text.trim_start_matches(['-', '=']).len();
+    (shaft > 0 && text[shaft..].starts_with('>')).then_some(shaft + 1)
 }
 
 /// What a part of a text is, or what is wrong with it and what there is instead.
@@ -116,6 +125,8 @@ fn no_small_letters(part: &str) -> (String, String) {
     }
 }
 
+const WHENEVER: &str = "; `not A or B` says that B is so whenever A is";
+
 fn not_known(what: &str, found: &str) -> (String, String) {
     let hint = match found {
         "and" | "&" => "; there is no and: `not (not A or not B)` says it".to_string(),
@@ -123,7 +134,8 @@ fn not_known(what: &str, found: &str) -> (String, String) {
         "-" => "; between two ends stands a comma, as in [0,90], and none is below 0".to_string(),
         "!" | "~" => "; did you mean not?".to_string(),
         "previous" => "; did you mean prev?".to_string(),
-        "if" | "then" | "implies" => "; `not A or B` says that B is so whenever A is".to_string(),
+        "if" | "then" | "implies" => WHENEVER.to_string(),
+        _ if arrow(found).is_some() => WHENEVER.to_string(),
         _ => did_you_mean(found, WORDS),
     };
     (format!("the {what} `{found}` is not known{hint}"), known())

@@ -277,6 +277,43 @@ fn where_no_card_can_begin() {
     assert!(said.ends_with("begins at record 15, position 12\n"), "{said}");
 }
 
+/// Without the card's name the first formula would become it, and the others be judged alone.
+#[test]
+fn a_card_whose_name_is_forgotten() {
+    let place = Place::new();
+    let expected = "expected: havdrims new CARD RULE.. [--after OLD | --from N] [--letters FILE]\n";
+    let before = "not e1 or prev[0,inf] e0";
+    for (words, says) in [
+        (&[RULE, before][..], format!("`{RULE}` is a formula; a folder of this name is './{RULE}'")),
+        (&["e0", "e1"], "`e0` is a formula; a folder of this name is ./e0".to_string()),
+        (&["(e0)", "rule.krl"], "`(e0)` is a formula; a folder of this name is './(e0)'".to_string()),
+        (
+            &["nothere.krl", "e0"],
+            "`nothere.krl` is the name of a rule file; a folder of this name is ./nothere.krl".to_string(),
+        ),
+        (&["hall.klg", "e0"], "`hall.klg` is the name of a log; a folder of this name is ./hall.klg".to_string()),
+        (
+            &["logs/hall.klg", "e0", "--from", "3"],
+            "`logs/hall.klg` is the name of a log; a folder of this name is logs/./hall.klg".to_string(),
+        ),
+        (&["not", "e2", "or", "e0"], "put the formula between quotes: 'not e2 or e0'".to_string()),
+    ] {
+        let said = place.fails(2, &[&["new"], words].concat());
+        assert_eq!(said, format!("CARD seems to be missing: {says}\n{expected}"), "{words:?}");
+    }
+    for rule in [RULE, "e0", "rule.krl"] {
+        assert_eq!(place.fails(2, &["new", rule]), format!("CARD is missing\n{expected}"), "{rule}");
+    }
+    assert_eq!(fs::read_dir(&place.0).unwrap().count(), 0);
+    // a folder that is meant, and a name that is nearly a formula
+    fs::create_dir(place.path("logs")).unwrap();
+    for card in ["./e0", "./hall.klg", "./rule.krl", "logs/./hall.klg", "logs/e0", "./not e1", "e32", "not", "krl"] {
+        assert!(place.ok(&["new", card, "e0", "e1"]).starts_with(&format!("{card}: 2 formulas\n")));
+        place.ok(&["check", card]);
+    }
+    assert!(place.help("new").contains("such a folder is typed as ./e0."));
+}
+
 /// A since looks back over the record at which a card begins, and finds nothing there: it is said before a verdict is given.
 #[test]
 fn a_since_that_looks_back_over_the_beginning() {
@@ -340,7 +377,10 @@ fn a_card_that_another_goes_on_from() {
     assert!(!place.path("strict/followed").exists());
     assert!(place.ok(&["evening", "strict", "day.klg"]).ends_with("records 0 to 11 may be overwritten\n"));
 
-    place.ok(&["new", "third", "e0", "--after", "card"]);
+    let said = place.ok(&["new", "third", "e0", "--after", "card"]);
+    let already =
+        "`strict` goes on from card already, at record 12: a record may be overwritten only if both cards name it";
+    assert!(said.ends_with(&format!("begins at record 12\n{already}\n")), "{said}");
     let both = "`strict` goes on from this card at record 12, `third` at record 12";
     refused(&format!("{both}: give the log to them. With --both this card takes it too."));
     let json = place.ok(&["summary", "card", "--json"]);
@@ -383,15 +423,44 @@ fn what_goes_on_from_a_card_is_damaged() {
         let (printed, said) = place.partly(&["check", "card"]);
         assert!(printed.ends_with("point: good\nfollowed: damaged, or not of this card\n"), "{printed}");
         assert_eq!(said, fault);
-        // the verdicts do not depend on it
-        assert!(place.ok(&["sheet", "card"]).ends_with("11 yes\n"));
+        // the verdicts do not depend on it, and it is said all the same
+        let (printed, said) = place.partly(&["sheet", "card"]);
+        assert!(printed.ends_with("11 yes\n") && said == fault, "{printed}{said}");
+        let so_far = "so far: 12 verdicts, 2 no, the latest at record 8\nopen: 2 of 14 records\n";
+        assert_eq!(place.partly(&["summary", "card"]), (so_far.to_string(), fault.to_string()));
+        for command in ["summary", "sheet"] {
+            let (printed, said) = place.partly(&[command, "card", "--json"]);
+            let named = format!("\"fault\": \"{}\"", fault.trim_start_matches("card: ").trim_end());
+            assert!(printed.contains(&named) && said == fault, "{printed}");
+        }
+        assert!(place.partly(&["summary", "card", "--json"]).0.contains("\"followed_by\": [],\n"));
         place.ok(&["page", "card", "day.klg", "page.html", "--force"]);
     }
-    // it is written anew
+    // nor does another card go on from it: what it held would be forgotten
+    let before = place.card();
+    let said = place.fails(1, &["new", "third", STRICT, "--after", "card"]);
+    assert_eq!(said, format!("{fault}Then repeat the command. No card was made.\n"));
+    // that holds of a card that is damaged otherwise too
+    let point = fs::read(place.path("card/point")).unwrap();
+    fs::write(place.path("card/point"), b"half").unwrap();
+    assert_eq!(place.fails(1, &["new", "third", STRICT, "--after", "card"]), said);
+    fs::write(place.path("card/point"), point).unwrap();
+    assert_eq!(place.card(), before);
+    // and where it cannot be read
+    fs::remove_file(place.path("card/followed")).unwrap();
+    fs::create_dir(place.path("card/followed")).unwrap();
+    let said = place.fails(1, &["new", "third", STRICT, "--after", "card"]);
+    assert!(said.starts_with("card: cannot read the file `followed`: "), "{said}");
+    assert!(said.ends_with("\nNo card was made. When the cause is gone, repeat the command.\n"), "{said}");
+    fs::remove_dir(place.path("card/followed")).unwrap();
+    fs::write(place.path("card/followed"), &before["followed"]).unwrap();
+    assert!(!place.path("third").exists());
+    // once it is taken away it is written anew
     fs::remove_dir_all(place.path("next")).unwrap();
     fs::write(place.path("card/followed.new"), b"half").unwrap();
     let said = place.partly(&["check", "card"]).0;
     assert!(said.contains("followed.new: left by a run that was cut; it does not count\n"), "{said}");
+    fs::remove_file(place.path("card/followed")).unwrap();
     place.ok(&["new", "next", STRICT, "--after", "card"]);
     assert_eq!(fs::read(place.path("card/followed")).unwrap(), good);
     assert!(!place.path("card/followed.new").exists());

@@ -1,6 +1,6 @@
 //! Rules and logs as text and back, and logs to try a kiosk with.
 
-use crate::Place;
+use crate::{ended, Place};
 use cli::command::table::COMMANDS;
 use cli::convert::SETTINGS;
 use evaluator::{cases, log, rule};
@@ -137,6 +137,19 @@ fn rules_as_formulas() {
     // a formula alone, not the name of a rule file
     let said = place.fails(1, &["rule", "typed.krl", "none.krl"]);
     assert_eq!(said, "`typed.krl` is a rule file, and a formula is wanted here (refused 16)\n");
+    // and so none is proposed, nor the file to be written
+    fs::write(place.path("notes"), "e0").unwrap();
+    for (word, is) in [("notes", "a file"), (".", "a folder")] {
+        let said = place.fails(1, &["rule", word, "none.krl"]);
+        assert_eq!(said, format!("`{word}` is {is}, and a formula is wanted here (refused 16)\n"));
+    }
+    for out in ["none.krl", "typed.krl"] {
+        let said = place.fails(1, &["rule", "typed.kr", out, "--force"]);
+        assert!(said.starts_with("the word `typed` is not known\n  typed.kr\n"), "{said}");
+    }
+    place.ok(&["new", "judged", "e0"]);
+    let said = place.fails(1, &["rule", "judged", "none.krl"]);
+    assert_eq!(said, "`judged` is a card, and a formula is wanted here (refused 16)\n");
     let said = place.fails(1, &["new", "card", "typed"]);
     assert_eq!(said, "`typed` is no formula; did you mean typed.krl? (refused 16)\n");
     let said = place.fails(1, &["new", "card", "tpyed.klr"]);
@@ -159,7 +172,25 @@ fn rules_as_formulas() {
         ),
         "{said}"
     );
-    assert!(!place.path("none.krl").exists());
+    // an arrow is no minus
+    for arrow in ["->", "=>", "-->"] {
+        let said = place.fails(1, &["new", "card", &format!("e0 {arrow} e1")]);
+        let whenever = "`not A or B` says that B is so whenever A is";
+        let text = format!("the sign `{arrow}` is not known; {whenever}\n  e0 {arrow} e1\n     ");
+        assert!(said.starts_with(&format!("{text}{}\n", "^".repeat(arrow.len()))), "{said}");
+        assert!(said.ends_with("(refused 16)\n") && !said.contains("comma"), "{said}");
+    }
+    // a variable that is not set
+    let empty =
+        "the formula is empty\n  \n  ^\nhere could stand a letter as e0, `not`, `prev`, `next` or `(` (refused 17)\n";
+    for words in
+        [&["rule", "e0", "", "none.krl"][..], &["rule", "", "e0", "e1", "none.krl"], &["new", "card", "e0", ""]]
+    {
+        assert_eq!(place.fails(1, words), empty, "{words:?}");
+    }
+    assert_eq!(place.ok(&["rule", "e0", "one.krl"]), "one.krl: 1 entry\n");
+    assert_eq!(place.ok(&["rule", "e0", "e1", "two.krl"]), "two.krl: 2 formulas, 2 entries\n");
+    assert!(!place.path("none.krl").exists() && !place.path("card").exists());
     fs::write(place.path("long.krl"), [0; 100_000]).unwrap();
     assert_eq!(
         place.fails(1, &["formula", "long.krl"]),
@@ -331,6 +362,19 @@ fn where_files_go() {
     let text = "made.klg: until it is whole this file has the name of what it is made from; choose another name\n";
     fails("to-log .made.klg.havdrims-new made.klg --force", text);
     assert_eq!(fs::read(place.path(".made.klg.havdrims-new")).unwrap(), typed);
+    symlink("day.txt", place.path("link.txt")).unwrap();
+    fs::hard_link(place.path("day.txt"), place.path("hard.klg")).unwrap();
+    for log in ["day.txt", "./day.txt", "link.txt", "hard.klg"] {
+        let text = format!("{log}: this is the file that it is made from, and is not replaced; choose another name\n");
+        for line in [format!("to-log day.txt {log}"), format!("to-log link.txt {log} --force")] {
+            fails(&line, &text);
+        }
+        // what standard input comes from is such a file too
+        let day = fs::File::open(place.path("day.txt")).unwrap();
+        let said = place.program().args(["to-log", "-", log, "--force"]).stdin(day).output().unwrap();
+        assert_eq!(ended(said), (1, String::new(), text));
+    }
+    assert_eq!(fs::read(place.path("day.txt")).unwrap(), typed);
     for command in ["rule", "to-log", "worst", "simulate", "trim"] {
         let help = place.help(command);
         assert!(help.contains("replaced only with --force") && help.contains("card"), "{help}");

@@ -335,6 +335,7 @@ fn names_that_are_nearly_those_of_cards() {
     // a card where a formula or a rule file is wanted
     let card = "`hall` is a card; its rule is hall/rule.krl (refused 16)\n";
     assert_eq!(here(&["new", "d", "hall"]), card);
+    let card = "`hall` is a card, and a formula is wanted here (refused 16)\n";
     assert_eq!(here(&["rule", "hall", "out.krl"]), card);
     assert_eq!(here(&["summary", "hal/"]), "hal/: no card is here; did you mean hall?\n");
     // a name with a line end in it is not shown
@@ -440,6 +441,27 @@ fn rules_that_are_refused() {
 fn folders_that_are_no_card_and_cards_that_are_there() {
     let place = Place::with_card(1);
     refuses(&place, &["new", "card", RULE], ALREADY);
+    // one from which no other can go on: what is wrong with it, and what can be done
+    let label = fs::read(place.path("card/card.txt")).unwrap();
+    fs::remove_file(place.path("card/card.txt")).unwrap();
+    let already = "card: a card is here already\n";
+    let missing = format!("card: the file `card.txt` is missing\n{CHECKED}");
+    refuses(&place, &["new", "card", RULE], &format!("{already}{missing}"));
+    refuses(&place, &["new", "other", RULE, "--after", "card"], &missing);
+    fs::write(place.path("card/card.txt"), label).unwrap();
+    fs::write(place.path("card/followed"), b"half").unwrap();
+    let damaged =
+        "card: the file `followed` is damaged, or not of this card: it says which card goes on from this one. \
+                   Give the log to that one; if there is none, take the file away\n";
+    refuses(&place, &["new", "card", RULE], &format!("{already}{damaged}"));
+    fs::remove_file(place.path("card/followed")).unwrap();
+    // a damaged one from which another can
+    let point = fs::read(place.path("card/point")).unwrap();
+    fs::write(place.path("card/point"), b"half").unwrap();
+    refuses(&place, &["new", "card", RULE], ALREADY);
+    place.ok(&["new", "goes on", RULE, "--after", "card"]);
+    fs::remove_file(place.path("card/followed")).unwrap();
+    fs::write(place.path("card/point"), point).unwrap();
     let none = "no card is here; `havdrims new` makes one\n";
     fs::create_dir(place.path("bare")).unwrap();
     for folder in ["none", "bare"] {
@@ -451,10 +473,12 @@ fn folders_that_are_no_card_and_cards_that_are_there() {
     assert_eq!(place.fails(1, &["new", ".", RULE]), ".: this folder holds other files\n");
     // a file for a card, and a card for a file
     let file = "day.klg: this is a file, and a card is a folder\n";
-    for words in [&["summary", "day.klg"][..], &["sheet", "day.klg"], &["check", "day.klg"], &["new", "day.klg", RULE]]
-    {
+    for words in [&["summary", "day.klg"][..], &["sheet", "day.klg"], &["check", "day.klg"]] {
         assert_eq!(place.fails(1, words), file, "{words:?}");
     }
+    assert_eq!(place.fails(1, &["new", "./day.klg", RULE]), format!("./{file}"));
+    let said = place.fails(2, &["new", "day.klg", RULE]);
+    assert!(said.starts_with("CARD seems to be missing: `day.klg` is the name of a log\nexpected: "), "{said}");
     assert_eq!(place.fails(1, &["open", "day.klg", "day.klg"]), file);
     assert_eq!(place.fails(1, &["new", "other", RULE, "--after", "day.klg"]), file);
     assert_eq!(place.fails(1, &["evening", "day.klg", "day.klg"]), format!("{file}Nothing was changed.\n"));
@@ -522,7 +546,8 @@ fn files_that_are_missing() {
     }
     fs::remove_file(place.path("card/card.txt")).unwrap();
     missing("the file `card.txt` is missing", false);
-    refuses(&place, &["new", "card", RULE], ALREADY);
+    let text = format!("card: a card is here already\ncard: the file `card.txt` is missing\n{CHECKED}");
+    refuses(&place, &["new", "card", RULE], &text);
 }
 
 /// A reader that closes the pipe has seen enough; a disk that is full has not.

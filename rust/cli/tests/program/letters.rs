@@ -84,8 +84,8 @@ fn names_of_a_card_after_another() {
     fs::write(place.path("card/letters"), "0 head cold\n").unwrap();
     let made = place.ok(&["new", "bare", "e0", "--after", "card"]);
     let lost = "the old card's names for letters are damaged, or cannot be read, and do not go over: \
-                `havdrims letters` gives this card some\n";
-    assert!(made.ends_with(&format!("begins at record 12\n{lost}")), "{made}");
+                `havdrims letters CARD FILE` gives this card some\n";
+    assert!(made.contains(&format!("begins at record 12\n{lost}")), "{made}");
     assert_eq!(place.ok(&["letters", "bare"]), "");
     assert!(!place.ok(&["new", "named", "e0", "--after", "card", "--letters", "names.txt"]).contains("go over"));
 }
@@ -166,7 +166,8 @@ fn names_that_are_damaged() {
     let damaged = [&good[..9], b"W", &good[10..]].concat();
     for bytes in [damaged, fs::read(place.path("other/letters")).unwrap()] {
         fs::write(place.path("card/letters"), bytes).unwrap();
-        let fault = "card: the file `letters` is damaged, or not of this card: `havdrims letters` writes it anew\n";
+        let fault = "card: the file `letters` is damaged, or not of this card: \
+                     `havdrims letters CARD FILE` writes it anew, from a file of names\n";
         assert_eq!(place.fails(1, &["formula", "card"]), fault);
         assert_eq!(place.fails(1, &["letters", "card"]), fault);
         assert_eq!(place.fails(1, &["why", "card", "day.klg", "5"]), fault);
@@ -176,7 +177,18 @@ fn names_that_are_damaged() {
         assert!(printed.ends_with("point: good\nletters: damaged, or not of this card\n"), "{printed}");
         assert_eq!(said, fault);
         place.ok(&["evening", "card", "day.klg"]);
+        // all verdicts are there
+        let so_far = "so far: 12 verdicts, 2 no, the latest at record 8\nopen: 2 of 14 records\n";
+        assert_eq!(place.partly(&["summary", "card"]), (so_far.to_string(), fault.to_string()));
+        let (printed, said) = place.partly(&["sheet", "card"]);
+        assert_eq!((printed.lines().count(), said.as_str()), (12, fault));
+        for command in ["summary", "sheet", "check"] {
+            let (printed, said) = place.partly(&[command, "card", "--json"]);
+            let named = format!("\"fault\": \"{}\"", fault.trim_start_matches("card: ").trim_end());
+            assert!(printed.contains(&named) && said == fault, "{printed}");
+        }
         place.ok(&["letters", "card", "letters.txt"]);
+        assert_eq!(place.ok(&["summary", "card"]), so_far);
         let said = place.ok(&["check", "card"]);
         assert!(said.contains("point: good\nletters: 3 names\nall files fit together\n"), "{said}");
     }

@@ -3,6 +3,7 @@
 use crate::{example, Place, OLDER_LOG, OTHER_LOG, RULE};
 use evaluator::random::Random;
 use std::fs;
+use std::os::unix::fs::symlink;
 
 const BEFORE: &str = "not e1 or prev[0,inf] e0";
 const LOST: &str = "reason not available: the log no longer holds the records that it needs";
@@ -350,8 +351,48 @@ fn pages_that_are_not_made() {
         );
         assert!(said.starts_with(&wrong), "{said}");
     }
-    assert!(!place.path("new.html").exists());
+    // an option with one stroke is no page
+    let said = page(2, &["card", "day.klg", "-force"]);
+    assert!(said.starts_with("`-force` is no option of `havdrims page`; did you mean --force?\nexpected: "), "{said}");
+    assert!(!place.path("new.html").exists() && !place.path("-force").exists());
     assert_eq!(place.card(), before);
+    place.ok(&["page", "card", "day.klg", "./-force"]);
+    place.ok(&["page", "card", "day.klg", "--force", "--", "-force"]);
+}
+
+/// A page takes the place of no log and no rule, not even with --force: neither can be had again.
+#[test]
+fn logs_and_rules_that_stay() {
+    let place = Place::with_names();
+    place.ok(&["evening", "card", "day.klg"]);
+    fs::create_dir(place.path("links")).unwrap();
+    symlink("../day.klg", place.path("links/link.klg")).unwrap();
+    fs::hard_link(place.path("day.klg"), place.path("hard.html")).unwrap();
+    symlink("visit.klg", place.path("visit.html")).unwrap();
+    let [day, visit, rule] = ["day.klg", "visit.klg", "rule.krl"].map(|name| fs::read(place.path(name)).unwrap());
+    let stays = |log: &str, page: &str, says: &str| {
+        for options in [&[][..], &["--force"], &["--force", "--start", "2026-11-09"]] {
+            let said = place.fails(1, &[&["page", "card", log, page], options].concat());
+            assert_eq!(said, format!("{page}: {says}, and is not replaced; choose another name\n"), "{log}");
+        }
+    };
+    for log in ["day.klg", "./day.klg", "links/link.klg"] {
+        for page in ["day.klg", "./day.klg", "links/../day.klg", "links/link.klg", "hard.html"] {
+            stays(log, page, "this is the file that it is made from");
+        }
+    }
+    stays("day.klg", "visit.klg", "a log is here");
+    stays("day.klg", "visit.html", "a log is here");
+    stays("day.klg", "rule.krl", "a rule is here");
+    let left = ["day.klg", "visit.klg", "rule.krl"].map(|name| fs::read(place.path(name)).unwrap());
+    assert_eq!(left, [day, visit, rule]);
+    assert!(place.path("links/link.klg").is_symlink() && place.path("visit.html").is_symlink());
+    // what is too short to be one, or is none, may be replaced
+    for bytes in [&b""[..], b"KL", b"<html>"] {
+        fs::write(place.path("page.html"), bytes).unwrap();
+        place.ok(&["page", "card", "day.klg", "page.html", "--force"]);
+    }
+    assert!(place.help("page").contains("a log or a rule not even then"));
 }
 
 /// A log of version 1 with so many records, so many seconds apart.

@@ -220,6 +220,48 @@ fn a_new_card_on_a_trimmed_log() {
     assert!(said.starts_with(dropped), "{said}");
 }
 
+/// The log and the place of the shorter one exchanged: the records that the kiosk has added since stay.
+#[test]
+fn a_log_with_more_records_stays() {
+    let place = Place::new();
+    place.ok(&["new", "card", UNTIL]);
+    let day = place.log("day.klg", "10 e0\n13 e0\n16 e0\n");
+    place.ok(&["evening", "card", "day.klg"]);
+    place.ok(&["trim", "card", "day.klg", "left.klg"]);
+    let left = place.bytes("left.klg");
+    let grown = place.log("grown.klg", "10 e0\n13 e0\n16 e0\n19 service\n");
+    symlink("grown.klg", place.path("link.klg")).unwrap();
+    // trimmed as well, a record longer; and one whose last record is being written
+    let longer = [left.as_slice(), &[0, 0, 0, 19, 0x80, 0, 0, 0]].concat();
+    fs::write(place.path("longer.klg"), &longer).unwrap();
+    fs::write(place.path("growing.klg"), [grown.as_slice(), &[0, 0, 0]].concat()).unwrap();
+    for (out, has) in [("grown.klg", 4), ("link.klg", 4), ("longer.klg", 4), ("growing.klg", 4)] {
+        let text = format!(
+            "{out}: the log that is here has {has} records, dropped ones included, and left.klg has 3\n\
+             What it has more would be lost: are LOG and OUT exchanged? Nothing was changed.\n"
+        );
+        for options in [&[][..], &["--force"]] {
+            refuses(&place, &[&["trim", "card", "left.klg", out], options].concat(), &text);
+        }
+    }
+    assert_eq!((place.bytes("grown.klg"), place.bytes("longer.klg")), (grown.clone(), longer));
+    // far too many records are more as well
+    let mut many = log::encode_as(2, &[]);
+    many.resize(8 + 8 * 1_000_100, 0);
+    fs::write(place.path("many.klg"), many).unwrap();
+    let said = place.fails(1, &["trim", "card", "left.klg", "many.klg", "--force"]);
+    assert!(said.starts_with("many.klg: the log that is here has 1000100 records, "), "{said}");
+    // as many, or fewer, or no log
+    fs::write(place.path("text.klg"), "no log, and longer than the one that is trimmed").unwrap();
+    fs::write(place.path("few.klg"), &day[..8 + 8]).unwrap();
+    for out in ["day.klg", "few.klg", "text.klg", "left.klg"] {
+        place.ok(&["trim", "card", "left.klg", out, "--force"]);
+        assert_eq!(place.bytes(out), left, "{out}");
+    }
+    place.ok(&["trim", "card", "grown.klg", "grown.klg", "--force"]);
+    assert!(place.help("trim").contains("A log with more records than LOG, dropped ones included, is not replaced"));
+}
+
 /// A file that is there is replaced only if so told, and no file is put into a card.
 #[test]
 fn where_the_shorter_log_goes() {
