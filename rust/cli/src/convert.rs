@@ -239,12 +239,12 @@ pub fn described(name: &str, rule: &[u8]) -> Result<(Vec<String>, String), Failu
 }
 
 pub fn to_log(path: &str, log: &str, force: bool) -> Answer {
-    let (mut folder, name) = file::named_other(log, path)?;
+    let into = file::named_other(log, path)?;
     let bytes = read_all(path).map_err(|fault| unread(path, fault))?;
     let typed = text_of(path, bytes)?;
     let bytes = text::log_from_text(&typed).map_err(|fault| Failure::in_line(path, fault))?;
     let made = opened(path, &bytes)?;
-    file::put(&mut folder, &name, &bytes, force).map_err(|fault| Failure::fault(log, fault))?;
+    file::write_at(log, into, &bytes, force)?;
     let services = match made.services(0) {
         0 => String::new(),
         number => format!(", {number} of them service"),

@@ -58,8 +58,22 @@ impl fmt::Display for Fault {
 
 /// Writes the file of this name, in place of one that is there only if so told.
 pub fn write(path: &str, bytes: &[u8], replace: bool) -> Result<(), Failure> {
-    let (mut folder, name) = named(path)?;
-    put(&mut folder, &name, bytes, replace).map_err(|fault| Failure::fault(path, fault))
+    write_at(path, named(path)?, bytes, replace)
+}
+
+/// The same where its place is known.
+pub fn write_at(path: &str, (mut folder, name): (Folder, String), bytes: &[u8], replace: bool) -> Result<(), Failure> {
+    let other = other_kind(path, bytes).map_err(|fault| Failure::fault(path, fault))?;
+    put(&mut folder, &name, bytes, Replaces { any: replace, other }).map_err(|fault| Failure::fault(path, fault))
+}
+
+/// What is replaced.
+#[derive(Clone, Copy, Default)]
+pub struct Replaces {
+    /// A file that is there.
+    pub any: bool,
+    /// A log or a rule that is there, and is not replaced even then.
+    pub other: Option<&'static str>,
 }
 
 /// The folder of a file, and its name there. A link stands for the file that it leads to.
@@ -118,18 +132,21 @@ pub fn named_other(path: &str, source: &str) -> Result<(Folder, String), Failure
     }
 }
 
-/// That no log or rule is here: nobody means to lose one for a page.
-pub fn no_log_or_rule(path: &str) -> Result<(), Failure> {
-    let begins = match read_file(path, 2) {
-        Err(fault) if fault.kind() == ErrorKind::NotFound => return Ok(()),
-        read => read.map_err(|fault| Failure::fault(path, fault))?,
-    };
-    let what = match begins.as_slice() {
-        b"KLG" => "log",
-        b"KRL" => "rule",
-        _ => return Ok(()),
-    };
-    Err(Failure::fault(path, Fault::LogOrRule(what)))
+/// The log or rule that is here, of which another kind of file would take the place: nobody means to lose one so.
+fn other_kind(path: &str, bytes: &[u8]) -> io::Result<Option<&'static str>> {
+    match read_file(path, 2) {
+        Err(_) if fs::metadata(path).is_err() => Ok(None),
+        read => Ok(kind(&read?).filter(|&what| kind(bytes) != Some(what))),
+    }
+}
+
+/// What a file is that begins so, where that can be told.
+fn kind(begins: &[u8]) -> Option<&'static str> {
+    match begins.get(..3) {
+        Some(b"KLG") => Some("log"),
+        Some(b"KRL") => Some("rule"),
+        _ => None,
+    }
 }
 
 /// The file as long as it is not whole: a name that nobody types, since it is replaced without a question.
@@ -152,15 +169,18 @@ fn write_beside(disk: &mut impl Disk, new: &str, bytes: &[u8], replaced: Option<
 }
 
 /// Writes a file of a folder that is no card, in place of one that is there only if so told. When this returns, it survives a cut.
-pub fn put(disk: &mut impl Disk, name: &str, bytes: &[u8], replace: bool) -> Result<(), Fault> {
+pub fn put(disk: &mut impl Disk, name: &str, bytes: &[u8], replaces: Replaces) -> Result<(), Fault> {
     let unsure = |doing| move |fault| Fault::Unsure { doing, fault };
     let names = disk.names().map_err(failed("read its folder"))?.ok_or(Fault::NoFolder)?;
     if card::is_card(&names) {
         return Err(Fault::InCard);
     }
+    if let Some(what) = replaces.other {
+        return Err(Fault::LogOrRule(what));
+    }
     let is_there = |name: &str| names.iter().any(|there| there == name);
     let replaced = is_there(name).then_some(name);
-    if !replace && replaced.is_some() {
+    if !replaces.any && replaced.is_some() {
         return Err(Fault::There);
     }
     let new = beside(name);

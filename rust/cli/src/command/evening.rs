@@ -42,14 +42,14 @@ fn followed(card: &mut Card<'_, Folder>, given: &Given) -> Result<Followed, Faul
 /// The words of `trim`.
 pub fn trim(given: &Given) -> Answer {
     let [folder, path, out] = given.words();
-    let (mut into, name) = file::named_apart(out, path)?;
+    let into = file::named_apart(out, path)?;
     let log = Brought::read(folder, path, "Nothing was written")?;
     let mut disk = Folder::new(Path::new(folder));
     let mut card = Card::open(&mut disk, true).map_err(|fault| log.failed(&fault, None))?;
     let followed = followed(&mut card, given).map_err(|fault| log.failed(&fault, None))?;
     let left = card.trim(&log.bytes).map_err(|fault| log.failed(&fault, Some(&card.so_far)))?;
     no_more_records(out, path, &left)?;
-    file::put(&mut into, &name, &left, given.has("--force")).map_err(|fault| Failure::fault(out, fault))?;
+    file::write_at(out, into, &left, given.has("--force"))?;
     let left = Log::new(&left).map_err(|refusal| Failure::fault(out, refusal))?;
     let dropped = match left.dropped() {
         0 => "no record dropped".to_string(),

@@ -14,8 +14,7 @@ use std::path::Path;
 pub fn page(given: &Given) -> Answer {
     let [folder, path, out] = given.words();
     let clock = given.value("--start").map_or(Ok(Clock::counted()), start)?;
-    let (mut into, name) = file::named_other(out, path)?;
-    file::no_log_or_rule(out)?;
+    let into = file::named_other(out, path)?;
     let log = Brought::read(folder, path, "Nothing was written")?;
     let mut disk = Folder::new(Path::new(folder));
     let mut card = Card::open(&mut disk, false).map_err(|fault| log.failed(&fault, None))?;
@@ -23,8 +22,7 @@ pub fn page(given: &Given) -> Answer {
     let followed = card.followed().unwrap_or_default();
     let page = page::page(&mut card, folder, &log.bytes, clock);
     let page = page.map_err(|fault| log.failed(&fault, Some(&so_far)))?;
-    file::put(&mut into, &name, page.html.as_bytes(), given.has("--force"))
-        .map_err(|fault| Failure::fault(out, fault))?;
+    file::write_at(out, into, page.html.as_bytes(), given.has("--force"))?;
     let no = |no: &page::No| match no.stretches {
         0 => "0 no".to_string(),
         stretches => {

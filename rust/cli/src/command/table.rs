@@ -335,7 +335,8 @@ TEXT is a file with a line for each record, the seconds and then the letters, as
 What follows a # is passed over. The line `version 2` before the first record says that the log is of version 2: then
 `12 service` is a service record, which is no position. A trimmed log has `version 3` and a line as `dropped 40` there.
 
-A file that is there is replaced only with --force, TEXT itself not even then, and no file is put into a card.",
+A file that is there is replaced only with --force, TEXT itself or a rule not even then, and no file is put into a
+card.",
         example: "havdrims to-log day.txt made.klg",
         run: |given| {
             let [text, log] = given.words();

@@ -9,10 +9,11 @@ mod disk;
 use cli::card::{self, Begins, Card, Evening, Fault, First};
 use cli::disk::Disk;
 use cli::evenings::Known;
+use cli::file::{self, Replaces};
 use cli::followed::{Followed, Follower};
+use cli::kept;
 use cli::letters::Letters;
 use cli::page::known::{self, Span};
-use cli::{file, kept};
 use disk::{Simulated, Trouble, Way, Work};
 use evaluator::log::{self, Record};
 use evaluator::random::{self, Random};
@@ -22,6 +23,7 @@ use havdrims::{Log, Refusal};
 
 const NUMBER: u64 = 0x0123_4567_89ab_cdef;
 const LOG: &str = "log.klg";
+const ANY: Replaces = Replaces { any: true, other: None };
 
 /// What is done with the log of an evening.
 #[derive(Clone, Copy, Debug)]
@@ -180,7 +182,7 @@ impl<'a> Run<'a> {
     fn trim(&mut self, day: Day) -> Result<(), Failed> {
         let log = self.log(day);
         let left = Card::open(&mut self.disk, true)?.trim(&log)?;
-        file::put(&mut self.shop, LOG, &left, true).map_err(Failed::File)
+        file::put(&mut self.shop, LOG, &left, ANY).map_err(Failed::File)
     }
 
     fn name(&mut self) -> Result<(), Fault> {
@@ -755,7 +757,7 @@ fn a_cut_at_every_operation_of_a_file() {
                 for operation in 0.. {
                     let mut disk = Simulated::with_file(seed, if there { LOG } else { "other" }, &old);
                     disk.trouble = Some((operation, trouble));
-                    let ended = file::put(&mut disk, LOG, &new, there);
+                    let ended = file::put(&mut disk, LOG, &new, Replaces { any: there, other: None });
                     disk.trouble = None;
                     disk.cut(way);
                     let found = left(&disk);
@@ -764,7 +766,7 @@ fn a_cut_at_every_operation_of_a_file() {
                         break;
                     }
                     assert!(found == before || found == Some(new.clone()), "{trouble:?} at {operation}, {way:?}");
-                    file::put(&mut disk, LOG, &new, true).unwrap();
+                    file::put(&mut disk, LOG, &new, ANY).unwrap();
                     disk.cut(Way::Synced);
                     assert_eq!(left(&disk), Some(new.clone()));
                     runs += 1;

@@ -353,6 +353,20 @@ fn where_files_go() {
     symlink("none/rule.krl", place.path("nowhere.krl")).unwrap();
     let text = "nowhere.krl: this link leads to no file; take it away, or choose another name\n";
     fails("rule e0 nowhere.krl", text);
+    // a log and a rule take each other's place not even so
+    place.ok(&["rule", "e0", "some.krl"]);
+    place.ok(&["to-log", "day.txt", "some.klg"]);
+    let [some_rule, some_log] = ["some.krl", "some.klg"].map(|name| fs::read(place.path(name)).unwrap());
+    for line in ["to-log day.txt some.krl", "worst 0 2 5 some.krl"] {
+        for option in ["", " --force"] {
+            fails(&format!("{line}{option}"), "some.krl: a rule is here, and is not replaced; choose another name\n");
+        }
+    }
+    fs::copy(place.path("some.klg"), place.path("named.krl")).unwrap();
+    fails("rule e0 named.krl --force", "named.krl: a log is here, and is not replaced; choose another name\n");
+    assert_eq!(["some.krl", "some.klg"].map(|name| fs::read(place.path(name)).unwrap()), [some_rule, some_log]);
+    place.ok(&["rule", "e1", "some.krl", "--force"]);
+    place.ok(&["worst", "0", "2", "5", "some.klg", "--force"]);
     // what a file is made from stays, whatever its name
     let typed = fs::read(place.path("day.txt")).unwrap();
     fs::write(place.path("made.klg.new"), &typed).unwrap();

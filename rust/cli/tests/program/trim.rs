@@ -251,6 +251,10 @@ fn a_log_with_more_records_stays() {
     fs::write(place.path("many.klg"), many).unwrap();
     let said = place.fails(1, &["trim", "card", "left.klg", "many.klg", "--force"]);
     assert!(said.starts_with("many.klg: the log that is here has 1000100 records, "), "{said}");
+    // nor a rule
+    place.ok(&["rule", "e0", "some.krl"]);
+    let said = place.fails(1, &["trim", "card", "left.klg", "some.krl", "--force"]);
+    assert_eq!(said, "some.krl: a rule is here, and is not replaced; choose another name\n");
     // as many, or fewer, or no log
     fs::write(place.path("text.klg"), "no log, and longer than the one that is trimmed").unwrap();
     fs::write(place.path("few.klg"), &day[..8 + 8]).unwrap();
