@@ -402,7 +402,7 @@ module _ (skips : Bool) (s : List ℕ) (at n : ℕ) where
   moved-dense e zero h = sym (add-zero at)
   moved-dense e (suc m) h = let here = place-dense skips refl e m h in omega arith
 
-  -- where the records are not all there, the log has these positions only if service records are passed over, which it then has not either
+  -- where the records are not all there, a log in which all are positions has not so many
   pub short-mixed : leb (at + n) (record-count s) ≡ false → Mixed skips s at n
   short-mixed e inside some = by skips refl
     where

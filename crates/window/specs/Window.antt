@@ -35,7 +35,7 @@ window-of w s copy = cond (w .dense) (drop (w .at * 8) s) copy
 abbrev pub record-of : List ℕ → ℕ → List ℕ
 record-of s i = take 8 (drop (i * 8) s)
 
--- of n records from `from` on the first r are there and are no service records
+-- of n records from `from` on the first r are there and are no service records; fewer than there are cost time and no answer
 pub record Clear (s : List ℕ) (from n r : ℕ) : Type 0 where
   pub few : r ≤ n
   pub inside : 0 < r → from + r ≤ record-count s
@@ -74,7 +74,7 @@ pub record Lettered (skips : Bool) (s : List ℕ) (letter at n : ℕ) (r : Lette
 pub record Opened (skips : Bool) (s : List ℕ) (at n : ℕ) (w : Window) (copy : List ℕ) : Type 0 where
   pub start : w .at ≡ at
   pub size : w .count ≡ n
-  -- the log's own part has no service records that are passed over; a copy is made only where there are some
+  -- the log's own part has no service records that are passed over; where the log has the positions, it is copied only if some are in the slice
   pub own : w .dense ≡ true → dense skips s at n ≡ true
   pub mixed : w .dense ≡ false → Mixed skips s at n
   -- it has n records, whatever the words hold from which the head was taken; they are the log's where the log has them

@@ -315,7 +315,7 @@ fn is_clear(records: &[u8], view: &[u64; 66], from: usize, n: usize) -> bool
     false
 }
 
-// How many of n records from `from` on are found to be no service records before one may be; none where they are not all there.
+// The same as `count_clear`, of records that may not all be there: then none is counted.
 fn find_clear(records: &[u8], from: usize, n: usize) -> usize
     ensures { λ r. ⌜ Clear (now (records .entry)) from n r ⌝ }
 {
