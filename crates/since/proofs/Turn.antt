@@ -31,7 +31,7 @@ use Rattle.blocks.proofs.Taking.{both-stores, first-of, taken-both}
 use Rattle.blocks.proofs.Reading.{end-onward, read-time, head-end}
 use Rattle.since.proofs.Witnesses.{turn-keeps, oldest-decides}
 use Rattle.since.proofs.Shown.{next, falls-here, time-small}
-use Rattle.since.proofs.Cells.{ring-kept, followed}
+use Rattle.ring.proofs.Cells.{ring-kept, followed}
 
 -- the loop of `turn_all`: after i turns block b has become d, and `answers` has what they answer
 module _ (low high : ℕ) (at : ℕ → ℕ) (left right : ℕ) (b : List ℕ) where

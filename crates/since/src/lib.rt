@@ -16,9 +16,6 @@ ghost use Rattle.rule.specs.Words.{ring-words};
 ghost use Rattle.blocks.specs.Ring.{Ring, Rings, Turns, newest-at, oldest-of, in-reach, word-turned, Rises, Takes};
 ghost use Rattle.since.specs.Old.{old-enough, FirstOld, OnesBetween};
 ghost use Rattle.bits.specs.Packed.{bit, Packed, FilledUp};
-
-mod ring;
-
 use blocks::Step;
 use blocks::time;
 use blocks::word;

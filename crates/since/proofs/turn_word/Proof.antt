@@ -1,7 +1,7 @@
 -- `since::turn_word` meets its contract: what left's last fail leaves, and right's times from there on.
 use native.Mathlib.Omega.{arith}
 use borrow.Author.Needs.{needs}
-use Rattle.since.proofs.Cells.{followed}
+use Rattle.ring.proofs.Cells.{followed}
 use Rattle.since.proofs.turn_word.Statement.{statement}
 use Rattle.since.proofs.turn_word.Tie as tie
 

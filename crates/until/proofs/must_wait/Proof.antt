@@ -4,7 +4,7 @@ use mathlib.Core.Bool.{true≢false}
 use mathlib.Core.Path.{sym}
 use borrow.Author.Needs.{needs}
 use Rattle.blocks.proofs.Reading.{readable}
-use Rattle.until.proofs.UntilSteps.{stuck-fresh, stuck-first}
+use Rattle.until.proofs.Steps.{stuck-fresh, stuck-first}
 use Rattle.until.proofs.must_wait.Statement.{statement}
 use Rattle.until.proofs.must_wait.Tie as tie
 

@@ -1,7 +1,7 @@
 -- `until::room_of` meets its contract. Assumes nothing.
 use borrow.Author.Needs.{needs}
 use Rattle.blocks.proofs.Words.{available}
-use Rattle.until.proofs.UntilSteps.{room}
+use Rattle.until.proofs.Steps.{room}
 use Rattle.until.proofs.room_of.Statement.{statement}
 use Rattle.until.proofs.room_of.Tie as tie
 

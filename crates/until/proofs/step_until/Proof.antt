@@ -9,7 +9,7 @@ use lib.ListN.{length}
 use borrow.Author.Needs.{needs}
 use Rattle.window.specs.View.{total}
 use Rattle.blocks.specs.Block.{taken, answered}
-use Rattle.until.proofs.UntilSteps.{
+use Rattle.until.proofs.Steps.{
   Opens,
   Went,
   stands-outside,

@@ -1,0 +1,2 @@
+-- Cells: the ring's cells.
+pub mod Cells

@@ -1,0 +1,2 @@
+-- What the walks of an until promise.
+pub mod Settle
