@@ -18,13 +18,17 @@ use Rattle.bits.specs.Packed.{bit, number, last-zero, Packed, FilledUp}
 use Rattle.bits.proofs.Laws.{bit-rest, bit-not, bit-or, bit-and, bit-mod}
 use Rattle.bits.proofs.Zeros.{last-is-zero, one-behind-last}
 use Rattle.rule.specs.Words.{ring-words}
-use Rattle.blocks.specs.Ring.{Ring, Rings, Witness, Witnesses, unexpired, kept, pushed, turned, turns, oldest-of, newest-at, pushes, word-turned, Rises, Shown, Takes}
+use Rattle.blocks.specs.Ring.{Ring, Rings, Witness, Serves, Witnesses, unexpired, kept, pushed, turned, turns, oldest-of, newest-at, pushes, word-turned, Rises, Shown, Takes}
 use Rattle.since.specs.Old.{old-enough}
 use Rattle.since.proofs.Witnesses.{longer, shorter, no-later, turn-keeps}
 use Rattle.since.proofs.Shown.{next, before-next, was-near, falls-here, time-small, shown-rises}
 use Rattle.since.proofs.Turn.{after-turns, keeps, keep}
 use Rattle.since.proofs.Runs.{zero-within}
 use Rattle.since.proofs.Newest.{alive-at, alive-is, begin-first, begin-later, not-before}
+
+-- with low above 0 a time in the ring serves for none that is earlier
+not-earlier : {low high there time : ℕ} → 0 < low → Serves low high there time → there ≤ time
+not-earlier positive s = ⊎-elim (λ q. omega arith) (λ q. ⊎-elim (λ u. u .1) (λ z. let f = z .0 in absurd (omega arith)) q) s
 
 module _ (low high : ℕ) (positive : 0 < low) (time : ℕ → ℕ) (left right : ℕ → Bool) where
   -- behind position p - 1: whether there is a witness, one at time t then, and no earlier one that is still in reach
@@ -45,7 +49,8 @@ module _ (low high : ℕ) (positive : 0 < low) (time : ℕ → ℕ) (left right 
             oldest = λ z j v near.
                 let (i, l, s) = w .complete j v near in
                 let m = no-later times (w .rising) 0 i (omega arith) l in
-                ⊎-elim (λ q. omega arith) (λ q. ⊎-elim (λ u. let f = u .1 in omega arith) (λ y. let f = y .0 in absurd (omega arith)) q) s;
+                let e = not-earlier positive s in
+                omega arith;
             none = λ z. absurd (true≢false z);
           }
       at false e =
@@ -240,10 +245,8 @@ module _ {low high : ℕ} {at : ℕ → ℕ} {left right n : ℕ} {b : List ℕ}
         let (m, l, s) = w .complete j was (omega arith) in
         let o = no-later times (w .rising) 0 m (omega arith) l in
         let here : first ≡ getD times 0 0 = begun-at times ring ∙ rw (lt-ltb 0 (length times) (omega arith)) refl in
-        ⊎-elim
-        (λ q. in-high i (time j) h (omega arith))
-        (λ q. ⊎-elim (λ u. let t = shown .small i h in let y = u .0 in omega arith) (λ z. let y = z .0 in absurd (omega arith)) q)
-        s)
+        let e = not-earlier positive s in
+        in-high i (time j) h (omega arith))
         (le-or-lt g j)
 
     none-dropped : (i : ℕ) → i < n → (qs : List ℕ) → Witnesses low high time lefts rights (g + i) qs → unexpired high (at i) qs ≡ qs
