@@ -10,7 +10,7 @@ use mathlib.Core.Logic.{_⊎_, inl, inr, ⊎-elim}
 use mathlib.Core.Path.{_≡_, refl, sym, ap, subst, _∙_}
 use lib.Dec.{ltb, leb, eqb}
 use lib.ListN.{length, getD, take, drop, length-drop, List·getD-append}
-use lib.Seq.{getD-take, getD-drop, drop-cons, length-take-le}
+use lib.Seq.{sets, getD-take, getD-drop, drop-cons, length-take-le}
 use borrow.Author.Tests.{lt-ltb, ltb-true, le-leb, eqb-true, not-true}
 use Rattle.mtl.proofs.Bounded.{le-or-lt, true-or-false, true-and-false, and-iff, leb-iff, any-false-iff}
 use Rattle.mtl.specs.Satisfaction.{any}
@@ -23,7 +23,7 @@ use Rattle.window.specs.View.{slice-first, skips, in-slice}
 use Rattle.window.specs.Window.{some-service, dense, record-of, letter-at, Clear, Counted, Copied, Mixed, Lettered, Opened, Behind, BehindBut, Gathered, Windowed, Passed, Found}
 use Rattle.window.specs.declared.Letters.{Letters}
 use Rattle.window.specs.declared.Window.{Window}
-use Rattle.trace.proofs.Making.{byte-behind, length-put}
+use Rattle.trace.proofs.Making.{stored, byte-behind, length-put}
 use Rattle.trace.proofs.Counting.{spot-last, head-finds, moved-counts, count-one, count-grows, count-most}
 use Rattle.trace.proofs.Positions.{seek-position, spot-service, spot-position, spot-past, spot-plain}
 
@@ -212,12 +212,17 @@ module _ (s : List ℕ) (i k : ℕ) (copy : List ℕ) (inside : i < record-count
   record-long : length (record-of s i) ≡ 8
   record-long = let rest = length-drop (i * 8) s in length-take-le 8 (drop (i * 8) s) (omega arith)
 
-  pub record-is :
-      record-of s i ≡
+  abbrev pub its-bytes : List ℕ
+  its-bytes =
       getD s (i * 8) 0 ∷ getD s (i * 8 + 1) 0 ∷ getD s (i * 8 + 2) 0 ∷ getD s (i * 8 + 3) 0 ∷
       getD s (i * 8 + 4) 0 ∷ getD s (i * 8 + 5) 0 ∷ getD s (i * 8 + 6) 0 ∷ getD s (i * 8 + 7) 0 ∷ []
+
+  record-is : its-bytes ≡ record-of s i
   unfolding bytes
-  record-is = rw (add-zero (i * 8)) at (listed s (i * 8) 8 0 (omega arith))
+  record-is = sym (rw (add-zero (i * 8)) at (listed s (i * 8) 8 0 (omega arith)))
+
+  pub copied-by : {after : List ℕ} → after ≡ sets copy (k * 8) its-bytes → after ≡ put copy (k * 8) (record-of s i)
+  copied-by e = e ∙ stored copy (k * 8) its-bytes (omega arith) ∙ ap (put copy (k * 8)) record-is
 
   pub copied-long : length (put copy (k * 8) (record-of s i)) ≡ length copy
   copied-long = let eight = record-long in length-put copy (k * 8) (record-of s i) (omega arith)

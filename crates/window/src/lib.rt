@@ -134,23 +134,18 @@ fn copy_record(records: &[u8], i: usize, copy: &mut [u8; 520], k: usize)
     ensures { λ _. ⌜ now (copy .exit) ≡ put (now (copy .entry)) (k * 8) (record-of (now (records .entry)) i) ⌝ }
 {
     let from = i * 8;
-    let to = k * 8;
-    let a = records[from];
-    let b = records[from + 1];
-    let c = records[from + 2];
-    let d = records[from + 3];
-    let e = records[from + 4];
-    let f = records[from + 5];
-    let g = records[from + 6];
-    let h = records[from + 7];
-    copy[to] = a;
-    copy[to + 1] = b;
-    copy[to + 2] = c;
-    copy[to + 3] = d;
-    copy[to + 4] = e;
-    copy[to + 5] = f;
-    copy[to + 6] = g;
-    copy[to + 7] = h;
+    bits::bytes::write_eight(
+        copy,
+        k * 8,
+        records[from],
+        records[from + 1],
+        records[from + 2],
+        records[from + 3],
+        records[from + 4],
+        records[from + 5],
+        records[from + 6],
+        records[from + 7],
+    );
 }
 
 // Copies n records from `from` on, none of which is a service record, as those from number k on.
