@@ -353,7 +353,7 @@ pub fn emit(
 {
     let mut table = [0u32; 1024];
     engine::layout::lay_out(entries, count, &mut table);
-    let tops = engine::layout::lay_tops(entries, count, &ends, number, &table, base);
+    let tops = engine::layout::lay_tops(&ends, number, &table, base);
     let mut view = [0u64; 66];
     write_view(records, skips, closed, depth, words, &mut view);
     let mut copy = [0u8; 520];

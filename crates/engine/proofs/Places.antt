@@ -10,15 +10,14 @@ use lib.Seq.{sets}
 use Rattle.mtl.specs.Formula.{Formula}
 use Rattle.mtl.proofs.Bounded.{le-or-lt}
 use Rattle.rule.specs.declared.Entry.{Entry}
-use Rattle.rule.specs.Entries.{entry}
-use Rattle.rule.specs.Words.{own, offset}
+use Rattle.rule.specs.Words.{offset}
 use Rattle.rule.specs.Postfix.{formula}
 use Rattle.rule.specs.Accepted.{WellFormed}
 use Rattle.rule.proofs.Spans.{offset-mono}
 use Rattle.engine.specs.State.{needed-words, words-before, own-at}
 use Rattle.engine.specs.Table.{column, Has}
 use Rattle.engine.specs.Layout.{Laid}
-use Rattle.engine.specs.Tops.{top-column, TopRow, Tops, Ended}
+use Rattle.engine.specs.Tops.{top-column, TopRow, Tops, Ended, LaidAs}
 use Rattle.engine.proofs.Rows.{sets-in, sets-out, words-at, column-is-part, row-ok, has-at}
 use Rattle.engine.proofs.Formulas.{last-entry, last-at, last-next, last-below, formula-offset, own-offset}
 
@@ -34,17 +33,25 @@ pub record Before (tops : List ℕ) (base from : ℕ) (fs : List Formula) (k : �
   pub begins : from ≡ base + words-before fs k
   pub rows : (j : ℕ) → j < k → Placed tops base fs j
 
--- the numbers of one turn as the code has them: the last entry, its part's words, and its own
-pub record Turn (t : List Entry) (n : ℕ) (base from : ℕ) (fs : List Formula) (k last all mine : ℕ) : Type 0 where
+-- the numbers of one turn as the code has them: the last entry, its part's words, and those of its operands
+pub record Turn (n : ℕ) (base from : ℕ) (fs : List Formula) (k last all left right : ℕ) : Type 0 where
   pub last-is : last ≡ last-entry fs k
   pub below : last < n
   pub ends : from + all ≡ base + words-before fs (suc k)
   pub fits : from + all ≤ base + 8192
-  pub inside : mine ≤ all
-  pub own-is : from + all - mine ≡ base + words-before fs k + own-at (formula fs k)
+  pub inside : left + right ≤ all
+  pub own-is : from + (left + right) ≡ base + words-before fs k + own-at (formula fs k)
 
-module _ (t : List Entry) (n : ℕ) (ok : WellFormed t n) (table : List ℕ) (laid : Laid t n table) (ends : List ℕ) (number : ℕ)
-    (fs : List Formula) (is : Ended t n ends number fs) where
+module _ {t : List Entry} {n : ℕ} {table ends : List ℕ} {number : ℕ} {fs : List Formula} (laid-as : LaidAs t n table ends number fs) where
+  abbrev ok : WellFormed t n
+  ok = laid-as .well-formed
+
+  abbrev laid : Laid t n table
+  laid = laid-as .rows
+
+  abbrev is : Ended t n ends number fs
+  is = laid-as .ended
+
   module _ (k : ℕ) (h : k < length fs) where
     turn-last : (last : ℕ) → last ≡ getD ends k 0 - 1 → last ≡ last-entry fs k
     turn-last last e = omega (arith, is .at k h, last-next t n ok fs (is .whole) k h)
@@ -55,7 +62,7 @@ module _ (t : List Entry) (n : ℕ) (ok : WellFormed t n) (table : List ℕ) (la
         words-at t n ok (formula fs k) (last-entry fs k) (last-below t n ok fs (is .whole) k h) (last-at t n ok fs (is .whole) k h)
 
     pub turn-of : (base from last : ℕ) → from ≡ base + words-before fs k → last ≡ getD ends k 0 - 1 →
-        Turn t n base from fs k last (column 7 table last) (own (entry t last))
+        Turn n base from fs k last (column 7 table last) (column 5 table last) (column 6 table last)
     unfolding offset words-before
     turn-of base from last begin e =
         let at = turn-last last e in
@@ -67,7 +74,10 @@ module _ (t : List Entry) (n : ℕ) (ok : WellFormed t n) (table : List ℕ) (la
         let before = formula-offset t n ok fs (is .whole) (suc k) h in
         let same = ap (offset t) next in
         let mine = own-offset t n ok fs (is .whole) k h in
-        subst (λ x. Turn t n base from fs k x (column 7 table x) (own (entry t x))) (sym at)
+        let a = laid .rows (last-entry fs k) 5 below (omega arith) in
+        let c = laid .rows (last-entry fs k) 6 below (omega arith) in
+        let sum = laid .rows (last-entry fs k) 7 below (omega arith) in
+        subst (λ x. Turn n base from fs k x (column 7 table x) (column 5 table x) (column 6 table x)) (sym at)
         record {
           last-is = refl;
           below = below;
@@ -78,8 +88,9 @@ module _ (t : List Entry) (n : ℕ) (ok : WellFormed t n) (table : List ℕ) (la
         }
 
   -- the row of formula k says where it stands
-  top-row : (tops : List ℕ) (base k : ℕ) → k < length fs → n ≤ 128 → Placed tops base fs k → TopRow table tops base fs k
-  top-row tops base k h few p =
+  top-row : (tops : List ℕ) (base k : ℕ) → k < length fs → Placed tops base fs k → TopRow table tops base fs k
+  top-row tops base k h p =
+      let few = laid-as .few in
       let below = last-below t n ok fs (is .whole) k h in
       let e = p .entry in
       record {
@@ -93,13 +104,13 @@ module _ (t : List Entry) (n : ℕ) (ok : WellFormed t n) (table : List ℕ) (la
       }
 
   -- THEOREM: after the last formula's row, every row does.
-  pub tops-of : (tops : List ℕ) (base from : ℕ) → n ≤ 128 → Before tops base from fs number → Tops table tops base number fs
-  tops-of tops base from few before =
+  pub tops-of : (tops : List ℕ) (base from : ℕ) → Before tops base from fs number → Tops table tops base number fs
+  tops-of tops base from before =
       let e = is .number in
       record {
         number = e;
         few = is .few;
-        each = λ k h. top-row tops base k h few (before .rows k (omega arith));
+        each = λ k h. top-row tops base k h (before .rows k (omega arith));
       }
 
 -- no turn
@@ -108,11 +119,11 @@ unfolding words-before
 before-none fs tops base = record { begins = omega arith; rows = λ j h. absurd (not-suc-le-zero h) }
 
 -- one turn
-pub before-next : {t : List Entry} {n : ℕ} (fs : List Formula) (tops : List ℕ) (base from k last all mine : ℕ) → k < 8 → length tops ≡ 32 →
-    Before tops base from fs k → Turn t n base from fs k last all mine →
-    Before (sets tops (k * 4) (last ∷ from ∷ (from + all) ∷ (from + all - mine + 12) ∷ [])) base (from + all) fs (k + 1)
-before-next fs tops base from k last all mine h size before turn =
-    let vs : List ℕ = last ∷ from ∷ (from + all) ∷ (from + all - mine + 12) ∷ [] in
+pub before-next : {n : ℕ} (fs : List Formula) (tops : List ℕ) (base from k last all left right : ℕ) → k < 8 → length tops ≡ 32 →
+    Before tops base from fs k → Turn n base from fs k last all left right →
+    Before (sets tops (k * 4) (last ∷ from ∷ (from + all) ∷ (from + (left + right) + 12) ∷ [])) base (from + all) fs (k + 1)
+before-next fs tops base from k last all left right h size before turn =
+    let vs : List ℕ = last ∷ from ∷ (from + all) ∷ (from + (left + right) + 12) ∷ [] in
     let next : k + 1 ≡ suc k = omega arith in
     let here : Placed (sets tops (k * 4) vs) base fs k =
     record {

@@ -7,9 +7,10 @@ use lib.ListN.{length, getD}
 use Rattle.mtl.specs.Formula.{Formula}
 use Rattle.rule.specs.declared.Entry.{Entry}
 use Rattle.rule.specs.Postfix.{formula, start}
-use Rattle.rule.specs.Accepted.{Whole}
+use Rattle.rule.specs.Accepted.{Whole, WellFormed}
 use Rattle.engine.specs.State.{needed-words, words-before, own-at}
 use Rattle.engine.specs.Table.{column, RowsOk, Has}
+use Rattle.engine.specs.Layout.{Laid}
 
 -- number j of row k
 abbrev pub top-column : (j : ℕ) → List ℕ → (k : ℕ) → ℕ
@@ -36,3 +37,10 @@ pub record Ended (t : List Entry) (n : ℕ) (ends : List ℕ) (count : ℕ) (fs 
   pub number : count ≡ length fs
   pub few : length fs ≤ 8
   pub at : (k : ℕ) → k < length fs → getD ends k 0 ≡ start fs (suc k)
+
+-- the n entries of t are laid out in the table, and are these formulas
+pub record LaidAs (t : List Entry) (n : ℕ) (table ends : List ℕ) (count : ℕ) (fs : List Formula) : Type 0 where
+  pub few : n ≤ 128
+  pub well-formed : WellFormed t n
+  pub rows : Laid t n table
+  pub ended : Ended t n ends count fs

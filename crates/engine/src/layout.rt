@@ -11,7 +11,8 @@ ghost use Rattle.engine.specs.Table.{column};
 ghost use mathlib.Core.List.{List};
 ghost use Rattle.mtl.specs.Formula.{Formula};
 ghost use Rattle.engine.specs.Layout.{subformula-first, first-from, left-from, row-of, Laid};
-ghost use Rattle.engine.specs.Tops.{Tops, Ended};
+ghost use Rattle.engine.specs.Tops.{Tops, LaidAs};
+ghost use Rattle.rule.specs.declared.Entry.{Entry};
 use super::table;
 use super::tops;
 use blocks::word;
@@ -101,18 +102,11 @@ pub fn lay_out(entries: [Entry; 128], count: usize, table: &mut [u32; 1024])
     }
 }
 
-// The rows of the rule's formulas, whose words begin at `base` and stand one after the other; `ends` has for each the number of entries up
-// to and with its last.
-pub fn lay_tops(
-    entries: [Entry; 128],
-    count: usize,
-    ends: &[usize; 9],
-    number: usize,
-    table: &[u32; 1024],
-    base: usize,
-) -> [usize; 32]
-    requires { ⌜ (count ≤ 128) × WellFormed entries count × Laid entries count (now table) × (base ≤ 24) × ((fs : List Formula) × Ended entries count (now ends) number fs) ⌝ }
-    ensures { λ r. ⌜ ((fs : List Formula) → Ended entries count (now (ends .entry)) number fs → Tops (now (table .entry)) r base number fs) ⌝ }
+// The rows of the formulas of a rule that is laid out. Their words begin at `base` and stand one after the other; `ends` has for each the number
+// of entries up to and with its last.
+pub fn lay_tops(ends: &[usize; 9], number: usize, table: &[u32; 1024], base: usize) -> [usize; 32]
+    requires { ⌜ (base ≤ 24) × ((t : List Entry) × (n : ℕ) × (fs : List Formula) × LaidAs t n (now table) (now ends) number fs) ⌝ }
+    ensures { λ r. ⌜ ((t : List Entry) (n : ℕ) (fs : List Formula) → LaidAs t n (now (table .entry)) (now (ends .entry)) number fs → Tops (now (table .entry)) r base number fs) ⌝ }
 {
     let mut rows = [0usize; 32];
     let mut from = base;
@@ -120,7 +114,9 @@ pub fn lay_tops(
     while k < number {
         let last = one_less(ends[k]);
         let to = from + table::field(table, last, table::WORDS) as usize;
-        let own = to - rule::own_words(entries[last]) as usize;
+        let left = table::field(table, last, table::LEFT_WORDS);
+        let right = table::field(table, last, table::RIGHT_WORDS);
+        let own = from + (left + right) as usize;
         tops::put(&mut rows, k * 4, last, from, to, own + word::HELD_COUNT);
         from = to;
         k += 1;

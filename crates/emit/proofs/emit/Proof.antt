@@ -1,8 +1,11 @@
 -- `emit` meets its contract: what `give` promises for the rule's formulas, and the log noted.
 use borrow.Author.Needs.{needs}
+use mathlib.Core.List.{List}
 use mathlib.Core.Path.{refl}
 use native.Mathlib.Omega.{arith}
 use lib.ListN.{length}
+use Rattle.mtl.specs.Formula.{Formula}
+use Rattle.engine.specs.Tops.{Ended, LaidAs}
 use Rattle.window.proofs.Marks.{made-views}
 use Rattle.engine.proofs.Rows.{zeros}
 use Rattle.emit.specs.Code.{plan, Fits}
@@ -10,7 +13,16 @@ use Rattle.emit.proofs.Emitting.{fits-of, emitted}
 use Rattle.emit.proofs.emit.Statement.{statement}
 use Rattle.emit.proofs.emit.Tie as tie
 
--- the rule's formulas, once they are laid out
+-- the rule's entries, once they are laid out
+entries-laid : (d : tie.After-lay-out) →
+    let s = d .before .before .before .before .before in
+    (fs : List Formula) → Ended (s .args .entries) (s .args .count) (s .args .t3) (s .args .number) fs →
+    LaidAs (s .args .entries) (s .args .count) (d .lay-out .last .1 .1 .0) (s .args .t3) (s .args .number) fs
+entries-laid d fs ended =
+    let p = d .before .before .before .before .before .pre in
+    record { few = p .few; well-formed = p .well-formed; rows = d .lay-out .ensures; ended = ended }
+
+-- its formulas, once they are
 laid : (d : tie.After-lay-tops) →
     let s = d .before .before .before .before .before .before .before .before in
     Fits (plan (d .before .before .before .lay-out .last .1 .1 .0) (d .lay-tops .result) (s .args .number)) (s .args .base) (s .pre .the-formulas) (length (s .args .words .now))
@@ -18,10 +30,16 @@ laid d =
     let s = d .before .before .before .before .before .before .before .before in
     let a = s .args in
     fits-of (a .entries) (a .count) (a .t3) (a .number) (a .most) (a .base) (a .depth) (a .records .now) (a .words .now) (d .before .before .before .lay-out .last .1 .1 .0)
-    (d .lay-tops .result) (s .pre) (s .pre .the-formulas) (s .pre .ended) (d .lay-tops .ensures (s .pre .the-formulas) (s .pre .ended))
+    (d .lay-tops .result) (s .pre) (s .pre .the-formulas) (s .pre .ended) (d .lay-tops .ensures (a .entries) (a .count) (s .pre .the-formulas) (entries-laid (d .before .before .before) (s .pre .the-formulas) (s .pre .ended)))
 
 lay-out-requires : tie.Need-lay-out-requires
 lay-out-requires c κs = let p = c .before .before .before .before .pre in (p .few, p .well-formed, refl, zeros 1024)
+
+lay-tops-requires : tie.Need-lay-tops-requires
+lay-tops-requires c κs =
+    let s = c .before .before .before .before .before .before .before in
+    let p = s .pre in
+    (p .header .1, (s .args .entries, s .args .count, p .the-formulas, entries-laid (c .before .before) (p .the-formulas) (p .ended)))
 
 write-view-requires : tie.Need-write-view-requires
 write-view-requires c κs = let p = c .before .before .before .before .before .before .before .before .before .before .pre in (omega (arith, p .size, p .header .0), p .given, refl)
@@ -57,7 +75,7 @@ returns c fs ended deep =
     let view = c .before .before .before .before .before .before .before .before .before .before .before .before .before .before .before .before .before .write-view in
     let y = c .before .before .note in
     let fits = fits-of (a .entries) (a .count) (a .t3) (a .number) (a .most) (a .base) (a .depth) (a .records .now) (a .words .now) (c .before .before .before .before .before .before .before .before .before .before .before .before .before .before .before .before .before .before .before .before .before .before .before .lay-out .last .1 .1 .0)
-    (c .before .before .before .before .before .before .before .before .before .before .before .before .before .before .before .before .before .before .before .before .lay-tops .result) (s .pre) fs ended (c .before .before .before .before .before .before .before .before .before .before .before .before .before .before .before .before .before .before .before .before .lay-tops .ensures fs ended) in
+    (c .before .before .before .before .before .before .before .before .before .before .before .before .before .before .before .before .before .before .before .before .lay-tops .result) (s .pre) fs ended (c .before .before .before .before .before .before .before .before .before .before .before .before .before .before .before .before .before .before .before .before .lay-tops .ensures (a .entries) (a .count) fs (entries-laid (c .before .before .before .before .before .before .before .before .before .before .before .before .before .before .before .before .before .before .before .before .before .before .before) fs ended)) in
     emitted (a .skips) (a .closed) (a .records .now) (a .words .now) (a .sheet .now) (view .last .1 .1 .1 .1 .1 .0) (g .result) (g .last .1 .1 .1 .1 .1 .1 .1 .1 .0)
     (g .last .1 .1 .1 .1 .1 .1 .1 .1 .1 .0) (y .last .1 .1 .1 .1 .0) fits (λ i. c .before .before .before .before .before .before .before .before .before .before .before .before .before .before .before .before .before .before .before .before .before .before .before .before .before .before .before .shared-slice-known .given i .fits)
     (rw deep at (view .ensures)) (g .ensures (a .base) fs fits (s .pre .header .2)) (rw deep at (y .ensures))
@@ -67,7 +85,7 @@ emit-spec =
     tie.close
     (tie.spec
     lay-out-requires
-    (λ c κs. search needs)
+    lay-tops-requires
     write-view-requires
     give-requires
     note-requires
