@@ -19,7 +19,7 @@ use Rattle.verdicts.specs.Counts.{latest-of}
 use Rattle.checkpoint.proofs.Offsets.{block-fits, noes-within}
 use Rattle.checkpoint.proofs.Copies.{foreign-within}
 use Rattle.emit.specs.Verdicts.{formulas-of}
-use Rattle.emit.specs.Top.{Top}
+use Rattle.held.specs.Top.{Top}
 use Rattle.emit.proofs.Meaning.{joint-least}
 use Rattle.monitor.specs.Stands.{Stands}
 use Rattle.monitor.proofs.Meaning.{few-columns}

@@ -29,10 +29,11 @@ use Rattle.blocks.proofs.Words.{Store, put, after, word-stores}
 use Rattle.engine.specs.Tops.{Tops, Ended}
 use Rattle.engine.proofs.Formulas.{rule-size}
 use Rattle.checkpoint.specs.Checkpoint.{given, seen, last, first-wanted, kind-of-log, stored-noes}
-use Rattle.emit.specs.Top.{part-of, Top}
-use Rattle.emit.specs.Code.{plan, Fits, Gave, Viewed, noted, Notes, ReadyToEmit, Emits}
+use Rattle.held.specs.Top.{part-of, Top}
+use Rattle.held.specs.Code.{plan, Fits}
+use Rattle.emit.specs.Code.{Gave, Viewed, noted, Notes, ReadyToEmit, Emits}
 use Rattle.emit.specs.declared.Emitted.{Emitted}
-use Rattle.emit.proofs.Places.{part-same}
+use Rattle.held.proofs.Places.{part-same}
 
 -- the formulas of the rule have all words behind the header
 pub fits-of : (t : List Entry) (n : ℕ) (ends : List ℕ) (number most base deep : ℕ) (s ws table tops : List ℕ) →

@@ -28,11 +28,12 @@ use Rattle.engine.proofs.Onward.{formula-refl, formula-trans}
 use Rattle.engine.proofs.Uniform.{agrees-later}
 use Rattle.checkpoint.specs.Checkpoint.{given, stored-noes}
 use Rattle.emit.specs.Verdicts.{columns}
-use Rattle.emit.specs.Top.{top-count, part-of, Top}
-use Rattle.emit.specs.Code.{plan, Fits, Held, Answered, taken-verdicts, CanTake, Giving, Frame, Gave}
+use Rattle.held.specs.Top.{top-count, part-of, Top}
+use Rattle.held.specs.Code.{plan, Fits, Held, Answered, taken-verdicts, CanTake}
+use Rattle.emit.specs.Code.{Giving, Frame, Gave}
 use Rattle.emit.proofs.Meaning.{joint-least, all-bits, verdict-answers}
-use Rattle.emit.proofs.Places.{count-at, bits-at}
-use Rattle.emit.proofs.TakingOut.{its-row, length-all, now-given, now-header, now-spare, now-noes, now-onward, top-taken-out}
+use Rattle.held.proofs.Places.{count-at, bits-at}
+use Rattle.held.proofs.TakingOut.{its-row, length-all, now-given, now-header, now-spare, now-noes, now-onward, top-taken-out}
 
 -- NOTHING COUNTED IN A WORD OF YES
 

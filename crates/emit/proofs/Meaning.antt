@@ -1,50 +1,24 @@
 -- The formulas of a rule taken together, and one by one; a verdict from the words of answers; verdicts on a longer log. Assumes nothing.
-use Prim.Native.Nat.{ℕ, zero, suc, _+_, _-_, _/_, _≤_, _<_, _^_, max}
+use Prim.Native.Nat.{ℕ, zero, suc, _-_, _/_, _≤_, _<_, _^_}
 use mathlib.Core.Bool.{Bool, true, false}
-use mathlib.Core.Path.{_≡_, refl, sym, ap, ap₂, subst, _∙_}
+use mathlib.Core.Path.{_≡_, refl, sym, ap, ap₂, _∙_}
 use mathlib.Core.List.{List, [], _∷_, map}
 use native.Mathlib.Nat.{div-eq-of-lt}
 use native.Mathlib.Omega.{arith}
 use lib.Pow.{pow-pos}
 use lib.ListN.{length, getD, take, length-map}
-use Rattle.mtl.specs.Formula.{Formula, largest}
+use Rattle.mtl.specs.Formula.{Formula}
 use Rattle.mtl.specs.Log.{Log, NeverFalls, Continues}
 use Rattle.mtl.specs.Satisfaction.{sat}
 use Rattle.mtl.specs.Progress.{settled-to, joint-progress}
-use Rattle.mtl.specs.Wanted.{depth, deepest, wanted}
 use Rattle.mtl.proofs.Closing.{settled-stays}
 use Rattle.bits.specs.Packed.{bit, Packed}
 use Rattle.bits.proofs.Laws.{packed-not}
 use Rattle.rule.specs.Postfix.{formula}
 use Rattle.verdicts.specs.Bytes.{byte-of, answers-at}
 use Rattle.verdicts.proofs.Bytes.{bit-of-byte}
-use Rattle.engine.specs.Answer.{first-read}
 use Rattle.emit.specs.Verdicts.{answers-of, columns, verdict}
-
--- no formula has answered fewer positions than all together
-pub joint-le : (fs : List Formula) (L : Log) (k : ℕ) → k < length fs → joint-progress fs L ≤ settled-to (formula fs k) L
-unfolding joint-progress
-joint-le [] L k h = absurd (omega arith)
-joint-le (φ ∷ fs) L zero h = omega arith
-joint-le (φ ∷ fs) L (suc k) h = omega (arith, joint-le fs L k (omega arith))
-
--- what each has answered, all have
-pub joint-least : (fs : List Formula) (L : Log) (d : ℕ) → d ≤ L .size → ((k : ℕ) → k < length fs → d ≤ settled-to (formula fs k) L) →
-    d ≤ joint-progress fs L
-unfolding joint-progress
-joint-least [] L d h each = h
-joint-least (φ ∷ fs) L d h each =
-    omega (arith, each 0 (omega arith), joint-least fs L d h (λ k l. each (suc k) (omega arith)))
-
-deepest-le : (fs : List Formula) (k : ℕ) → k < length fs → depth (formula fs k) ≤ deepest fs
-unfolding largest
-deepest-le [] k h = absurd (omega arith)
-deepest-le (φ ∷ fs) zero h = omega arith
-deepest-le (φ ∷ fs) (suc k) h = omega (arith, deepest-le fs k (omega arith))
-
--- what a formula's entries may read is wanted
-pub reads-wanted : (fs : List Formula) (k d : ℕ) → k < length fs → wanted fs d ≤ first-read (formula fs k) d
-reads-wanted fs k d h = omega (arith, deepest-le fs k h)
+pub use Rattle.held.proofs.Together.{joint-le, joint-least}
 
 -- the answers of the formulas from their words
 answers-match : (fs : List Formula) (ws : List ℕ) (f : Formula → Bool) (i : ℕ) → length fs ≤ length ws →

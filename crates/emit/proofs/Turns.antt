@@ -9,8 +9,9 @@ use Rattle.mtl.specs.Formula.{Formula}
 use Rattle.verdicts.proofs.Written.{written}
 use Rattle.engine.specs.Tops.{top-column}
 use Rattle.emit.specs.Verdicts.{columns}
-use Rattle.emit.specs.Code.{plan, Fits, Fitting, Held, HoldsAll, Answered, taken-verdicts, CanTake, GivesVerdicts, Countable}
-use Rattle.emit.proofs.Places.{held-inside}
+use Rattle.held.specs.Code.{plan, Fits, Fitting, Held, HoldsAll, Answered, taken-verdicts, CanTake}
+use Rattle.emit.specs.Code.{GivesVerdicts, Countable}
+use Rattle.held.proofs.Places.{held-inside}
 use Rattle.emit.proofs.Giving.{Going, going-none, portion-more, takeable, gave}
 
 -- `done` verdicts are given, and the rest of the sheet is as it was

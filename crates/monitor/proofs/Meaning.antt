@@ -26,8 +26,8 @@ use Rattle.engine.proofs.Formulas.{last-entry, own-offset}
 use Rattle.engine.proofs.Held.{own-block}
 use Rattle.checkpoint.specs.Checkpoint.{block-at}
 use Rattle.emit.specs.Verdicts.{formulas-of, columns}
-use Rattle.emit.specs.Top.{top-count, part-of}
-use Rattle.emit.proofs.Places.{part-word}
+use Rattle.held.specs.Top.{top-count, part-of}
+use Rattle.held.proofs.Places.{part-word}
 
 -- a rule of either version may have a formula, and none has more than eight
 most-by : (b : Bool) → (1 ≤ cond b 1 8) × (cond b 1 8 ≤ 8)

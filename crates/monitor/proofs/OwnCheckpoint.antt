@@ -30,7 +30,7 @@ use Rattle.checkpoint.specs.Checkpoint.{given, seen, last, closed-with, log-kin
 use Rattle.verdicts.specs.Counts.{noes-in-range}
 use Rattle.checkpoint.proofs.Offsets.{until-words, in-block, block-within, block-fits}
 use Rattle.emit.specs.Verdicts.{formulas-of, columns, verdicts}
-use Rattle.emit.specs.Top.{top-count, part-of}
+use Rattle.held.specs.Top.{top-count, part-of}
 use Rattle.monitor.specs.Stands.{Stands}
 use Rattle.monitor.proofs.Meaning.{rule-whole, part-is, held-word}
 

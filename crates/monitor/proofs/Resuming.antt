@@ -47,7 +47,7 @@ use Rattle.checkpoint.proofs.Copies.{foreign-same}
 use Rattle.checkpoint.proofs.Offsets.{in-block, block-fits, noes-within}
 use Rattle.checks.proofs.Sizes.{enough}
 use Rattle.emit.specs.Verdicts.{formulas-of, columns, verdicts}
-use Rattle.emit.specs.Top.{top-count, top-bits, part-of, Waiting, Top}
+use Rattle.held.specs.Top.{top-count, top-bits, part-of, Waiting, Top}
 use Rattle.emit.specs.Code.{Giving, Brought, Emits, Emission, ReadyToEmit}
 use Rattle.emit.specs.declared.Emitted.{Emitted}
 use Rattle.emit.proofs.Meaning.{joint-least}

@@ -8,7 +8,7 @@ use Rattle.mtl.specs.Formula.{Formula}
 use Rattle.engine.specs.Tops.{Ended, LaidAs}
 use Rattle.window.proofs.Marks.{made-views}
 use Rattle.engine.proofs.Rows.{zeros}
-use Rattle.emit.specs.Code.{plan, Fits}
+use Rattle.held.specs.Code.{plan, Fits}
 use Rattle.emit.proofs.Emitting.{fits-of, emitted}
 use Rattle.emit.proofs.emit.Statement.{statement}
 use Rattle.emit.proofs.emit.Tie as tie

@@ -20,9 +20,9 @@ use Rattle.engine.specs.Tops.{top-column}
 use Rattle.engine.proofs.Held.{HeldWords, held-state, formula-held}
 use Rattle.engine.proofs.Beside.{before-grows}
 use Rattle.checkpoint.specs.Checkpoint.{given, stored-noes}
-use Rattle.emit.specs.Top.{top-count, top-bits, Waiting, part-of, Top}
-use Rattle.emit.specs.Code.{plan, Fits, HeldApart, taken-answers, taken-out, taken-verdicts, CanTake}
-use Rattle.emit.proofs.Places.{part-word, place-in, held-inside, count-at, bits-at, apart}
+use Rattle.held.specs.Top.{top-count, top-bits, Waiting, part-of, Top}
+use Rattle.held.specs.Code.{plan, Fits, HeldApart, taken-answers, taken-out, taken-verdicts, CanTake}
+use Rattle.held.proofs.Places.{part-word, place-in, held-inside, count-at, bits-at, apart}
 
 -- formula k's counts and answers, which stand at four places one behind the other
 record Four (held at late size : ℕ) : Type 0 where

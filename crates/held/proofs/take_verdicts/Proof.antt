@@ -6,10 +6,10 @@ use native.Mathlib.Omega.{arith}
 use lib.ListN.{length, set, length-set}
 use Rattle.engine.specs.Tops.{top-column}
 use Rattle.checkpoint.specs.Checkpoint.{given}
-use Rattle.emit.specs.Code.{taken-answers, taken-out}
-use Rattle.emit.proofs.TakingOut.{length-taken-out, taken-out-none, taken-out-next, may-take}
-use Rattle.emit.proofs.take_verdicts.Statement.{statement}
-use Rattle.emit.proofs.take_verdicts.Tie as tie
+use Rattle.held.specs.Code.{taken-answers, taken-out}
+use Rattle.held.proofs.TakingOut.{length-taken-out, taken-out-none, taken-out-next, may-take}
+use Rattle.held.proofs.take_verdicts.Statement.{statement}
+use Rattle.held.proofs.take_verdicts.Tie as tie
 
 abbrev Inv-loop : tie.InvT-loop
 Inv-loop tops number most words₀ n given k₀ words k = (k ≤ number) × (words ≡ taken-out (top-column 3 tops) most given n k words₀)

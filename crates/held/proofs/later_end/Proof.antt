@@ -1,8 +1,8 @@
 -- `later_end` meets its contract: the test is the one that the definition makes.
 use borrow.Author.Needs.{needs}
 use borrow.Author.Tests.{eq-eqb, ne-eqb}
-use Rattle.emit.proofs.later_end.Statement.{statement}
-use Rattle.emit.proofs.later_end.Tie as tie
+use Rattle.held.proofs.later_end.Statement.{statement}
+use Rattle.held.proofs.later_end.Tie as tie
 
 add-result : tie.Need-add-result
 add-result c = search needs

@@ -6,10 +6,10 @@ use mathlib.Core.List.{List}
 use native.Mathlib.Omega.{arith}
 use lib.ListN.{length}
 use Rattle.mtl.specs.Formula.{Formula}
-use Rattle.emit.specs.Code.{plan, Fits}
-use Rattle.emit.proofs.Holding.{Asked, asked-none, one-more, all-asked, none-settled}
-use Rattle.emit.proofs.hold.Statement.{statement}
-use Rattle.emit.proofs.hold.Tie as tie
+use Rattle.held.specs.Code.{plan, Fits}
+use Rattle.held.proofs.Holding.{Asked, asked-none, one-more, all-asked, none-settled}
+use Rattle.held.proofs.hold.Statement.{statement}
+use Rattle.held.proofs.hold.Tie as tie
 
 abbrev Inv-loop : tie.InvT-loop
 Inv-loop table tops number records view copy₀ waiting₀ words₀ least₀ k₀ copy waiting words least k =

@@ -16,9 +16,9 @@ use Rattle.engine.specs.Table.{column, RowsOk}
 use Rattle.engine.specs.Tops.{top-column, TopRow}
 use Rattle.engine.proofs.Held.{own-block}
 use Rattle.engine.proofs.Beside.{before-grows, before-next}
-use Rattle.emit.specs.Top.{top-count, top-bits, part-of}
-use Rattle.emit.specs.Code.{plan, Fits, Fitting}
-use Rattle.emit.proofs.Kept.{same-part}
+use Rattle.held.specs.Top.{top-count, top-bits, part-of}
+use Rattle.held.specs.Code.{plan, Fits, Fitting}
+use Rattle.held.proofs.Kept.{same-part}
 
 -- one formula's own block, its last entry's, among the words
 pub record Place (base : ℕ) (fs : List Formula) (k size : ℕ) : Type 0 where

@@ -27,11 +27,11 @@ use Rattle.engine.proofs.Held.{HeldWords, held-state, formula-held}
 use Rattle.engine.proofs.Beside.{before-grows}
 use Rattle.engine.proofs.Uniform.{agrees-later}
 use Rattle.checkpoint.specs.Checkpoint.{given}
-use Rattle.emit.specs.Top.{top-count, top-bits, part-of, Top}
-use Rattle.emit.specs.Code.{plan, Fits, HeldOne, Held}
-use Rattle.emit.proofs.Kept.{kept-own}
-use Rattle.emit.proofs.Meaning.{joint-le, joint-least, reads-wanted}
-use Rattle.emit.proofs.Places.{Place, part-word, part-same, lent-part, place-in, held-inside, count-at, bits-at}
+use Rattle.held.specs.Top.{top-count, top-bits, part-of, Top}
+use Rattle.held.specs.Code.{plan, Fits, HeldOne, Held}
+use Rattle.held.proofs.Kept.{kept-own}
+use Rattle.held.proofs.Together.{joint-le, joint-least, reads-wanted}
+use Rattle.held.proofs.Places.{Place, part-word, part-same, lent-part, place-in, held-inside, count-at, bits-at}
 
 same-or-not : (j k : ℕ) → (j ≡ k) ⊎ (j ≡ k → ⊥)
 same-or-not j k =

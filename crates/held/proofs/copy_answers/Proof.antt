@@ -9,8 +9,8 @@ use lib.Seq.{getD-set-same, getD-set-other}
 use Rattle.mtl.proofs.Bounded.{le-or-lt}
 use Rattle.blocks.specs.Block.{word}
 use Rattle.engine.specs.Tops.{top-column}
-use Rattle.emit.proofs.copy_answers.Statement.{statement}
-use Rattle.emit.proofs.copy_answers.Tie as tie
+use Rattle.held.proofs.copy_answers.Statement.{statement}
+use Rattle.held.proofs.copy_answers.Tie as tie
 
 abbrev Inv-loop : tie.InvT-loop
 Inv-loop tops number words answers₀ k₀ answers k =

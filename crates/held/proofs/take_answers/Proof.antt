@@ -2,14 +2,14 @@
 use borrow.Author.Needs.{needs}
 use native.Mathlib.Omega.{arith}
 use lib.ListN.{length-set}
-use Rattle.emit.proofs.take_answers.Statement.{statement}
-use Rattle.emit.proofs.take_answers.Tie as tie
-use Rattle.emit.proofs.take_answers.Reads as reads
-use Rattle.emit.proofs.take_answers.Lts as lts
+use Rattle.held.proofs.take_answers.Statement.{statement}
+use Rattle.held.proofs.take_answers.Tie as tie
+use Rattle.held.proofs.take_answers.Reads as reads
+use Rattle.held.proofs.take_answers.Lts as lts
 use Rattle.bits.proofs.count_zeros.Reads as count-zeros-reads
 use Rattle.bits.proofs.find_last_zero.Reads as find-last-zero-reads
 use Rattle.bits.proofs.rest.Reads as rest-reads
-use Rattle.emit.proofs.later_end.Reads as later-end-reads
+use Rattle.held.proofs.later_end.Reads as later-end-reads
 
 -- src/lib.rt:113:17
 mul-count : tie.Need-mul-count

@@ -4,10 +4,10 @@ use mathlib.Core.Path.{ap}
 use native.Mathlib.Omega.{arith}
 use lib.ListN.{length}
 use Rattle.blocks.specs.Block.{word}
-use Rattle.emit.proofs.Places.{may-ask}
-use Rattle.emit.proofs.Holding.{filled-holds}
-use Rattle.emit.proofs.hold_one.Statement.{statement}
-use Rattle.emit.proofs.hold_one.Tie as tie
+use Rattle.held.proofs.Places.{may-ask}
+use Rattle.held.proofs.Holding.{filled-holds}
+use Rattle.held.proofs.hold_one.Statement.{statement}
+use Rattle.held.proofs.hold_one.Tie as tie
 
 slice-read-shift : tie.Need-slice-read-shift
 slice-read-shift c = let f = c .before .before .before .before .before .before .before .pre .1 .2 in omega (arith, f .header, f .all)
