@@ -21,8 +21,8 @@ use Rattle.rule.proofs.Acceptance.{accepted}
 use Rattle.rule.proofs.Flat.{length-postfix}
 use Rattle.rule.proofs.Alone.{alone-formulas}
 use Rattle.rule.proofs.Alone.{Alone as Accepts, alone as accepts}
-use Rattle.emit.specs.Verdicts.{formulas-of, verdict, first-records}
-use Rattle.emit.proofs.Meaning.{joint-le, verdict-bit, verdict-stays}
+use Rattle.meaning.specs.Verdicts.{formulas-of, verdict, first-records}
+use Rattle.meaning.proofs.Laws.{joint-le, verdict-bit, verdict-stays}
 use Rattle.calls.specs.Calls.{Untouched, Call, brought-by, closed-by, Calls}
 use Rattle.calls.specs.Alone.{AloneOn, rule-alone, SameVerdicts, Comparable, SameWhereComparable, Alone}
 use Rattle.calls.proofs.Demand3.{first-longer, first-falls}

@@ -36,7 +36,7 @@ use Rattle.blocks.specs.Step.{Agrees}
 use Rattle.checkpoint.specs.Checkpoint.{seen, last, closed-with, log-kind, kind-of-log, first-wanted, stored-noes, need, foreign, words-outside}
 use Rattle.checks.specs.Refusal.{open-refusal, resumes-closed, closes-more, other-version, version-refusal, records-refusal, words-refusal, resume-refusal, trim-refusal, summary-refusal}
 use Rattle.checks.proofs.Sizes.{enough-words}
-use Rattle.emit.specs.Verdicts.{formulas-of, columns, verdicts, first-records, wanted-after, answered-number, all-verdicts}
+use Rattle.meaning.specs.Verdicts.{formulas-of, columns, verdicts, first-records, wanted-after, answered-number, all-verdicts}
 use Rattle.monitor.specs.Stands.{Stands}
 use Rattle.monitor.specs.Open.{done, Opening, Opens}
 use Rattle.monitor.specs.Open.{Answer as OpenAnswer}

@@ -18,9 +18,9 @@ use Rattle.checkpoint.specs.Checkpoint.{no-count, after-latest, need, block-at}
 use Rattle.verdicts.specs.Counts.{latest-of}
 use Rattle.checkpoint.proofs.Offsets.{block-fits, noes-within}
 use Rattle.checkpoint.proofs.Copies.{foreign-within}
-use Rattle.emit.specs.Verdicts.{formulas-of}
+use Rattle.meaning.specs.Verdicts.{formulas-of}
 use Rattle.held.specs.Top.{Top}
-use Rattle.emit.proofs.Meaning.{joint-least}
+use Rattle.meaning.proofs.Laws.{joint-least}
 use Rattle.monitor.specs.Stands.{Stands}
 use Rattle.monitor.proofs.Meaning.{few-columns}
 use Rattle.calls.specs.Calls.{Lends, point-after}

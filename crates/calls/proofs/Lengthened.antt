@@ -15,8 +15,8 @@ use Rattle.mtl.specs.Wanted.{wanted, wanted-record}
 use Rattle.mtl.proofs.Bounded.{le-or-lt}
 use Rattle.trace.specs.Log.{log-of}
 use Rattle.trace.proofs.Laws.{WellFormed, well-formed-iff, trimmed-long, long-enough, well-formed-records, Keeps}
-use Rattle.emit.specs.Verdicts.{formulas-of}
-use Rattle.emit.specs.Verdicts.{first-records, wanted-after}
+use Rattle.meaning.specs.Verdicts.{formulas-of}
+use Rattle.meaning.specs.Verdicts.{first-records, wanted-after}
 use Rattle.calls.specs.Calls.{Call, given-by, brought-by}
 use Rattle.calls.specs.Calls.{Untouched, Brings, BringsAfter, Calls}
 use Rattle.calls.specs.Calls.OneCall.{refused, accepted, trimming}

@@ -43,9 +43,9 @@ use Rattle.trace.proofs.Counting.{count-few, count-position, count-grows, one-r
 use Rattle.trace.proofs.Positions.{log-placed, positions-keep}
 use Rattle.trace.proofs.Parts.{prefix-part}
 use Rattle.trace.proofs.Growing.{before-stays, place-stays, grown-continues, prefix-continues}
-use Rattle.emit.specs.Verdicts.{formulas-of, verdict, verdicts}
-use Rattle.emit.specs.Verdicts.{first-records, answered-number, all-verdicts}
-use Rattle.emit.proofs.Meaning.{verdict-stays}
+use Rattle.meaning.specs.Verdicts.{formulas-of, verdict, verdicts}
+use Rattle.meaning.specs.Verdicts.{first-records, answered-number, all-verdicts}
+use Rattle.meaning.proofs.Laws.{verdict-stays}
 use Rattle.monitor.proofs.VerdictBytes.{verdict-at}
 use Rattle.monitor.specs.Examples.{event-set}
 use Rattle.monitor.specs.Resume.{Answer, gave, Resumes}

@@ -25,8 +25,8 @@ use Rattle.verdicts.specs.Counts.{counts, noes-in}
 use Rattle.verdicts.specs.Tally.{beyond, tally-refusal}
 use Rattle.verdicts.proofs.Bytes.{byte-of-one, byte-of-lt}
 use Rattle.rule.specs.Entries.{version}
-use Rattle.emit.specs.Verdicts.{formulas-of, answers-of, columns, verdict, first-records, answered-number}
-use Rattle.emit.proofs.Meaning.{length-answers}
+use Rattle.meaning.specs.Verdicts.{formulas-of, answers-of, columns, verdict, first-records, answered-number}
+use Rattle.meaning.proofs.Laws.{length-answers}
 use Rattle.monitor.specs.Summary.{counts-of}
 use Rattle.monitor.proofs.Meaning.{most-few, rule-reads, few-columns}
 use Rattle.monitor.proofs.VerdictBytes.{length-verdicts, verdict-at}

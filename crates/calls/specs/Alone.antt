@@ -13,7 +13,7 @@ use Rattle.rule.specs.Entries.{version, entries}
 use Rattle.rule.specs.Postfix.{size, formula, start}
 use Rattle.rule.specs.Encoding.{rule-of}
 use Rattle.rule.specs.Refusal.{refusal}
-use Rattle.emit.specs.Verdicts.{formulas-of, verdict, answered-number}
+use Rattle.meaning.specs.Verdicts.{formulas-of, verdict, answered-number}
 use Rattle.calls.specs.Calls.{Untouched, Call, brought-by, closed-by, laid, Calls}
 
 -- OVER THE DEFINITIONS, for any list of formulas and any log: bit k of the verdict at each position is the verdict of formula k as the only

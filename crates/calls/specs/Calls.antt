@@ -17,7 +17,7 @@ use Rattle.verdicts.specs.Counts.{noes-in}
 use Rattle.rule.specs.Entries.{version, count, decoded}
 use Rattle.rule.specs.Postfix.{formulas}
 use Rattle.rule.specs.Measure.{measured}
-use Rattle.emit.specs.Verdicts.{formulas-of, columns, first-records, wanted-after, answered-number, all-verdicts}
+use Rattle.meaning.specs.Verdicts.{formulas-of, columns, first-records, wanted-after, answered-number, all-verdicts}
 use Rattle.monitor.specs.Open.{done, Opens}
 use Rattle.monitor.specs.Open.{Answer as OpenAnswer}
 use Rattle.monitor.specs.Resume.{Answer, gave, refused-with, Resumes}

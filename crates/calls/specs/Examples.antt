@@ -22,8 +22,8 @@ use Rattle.trace.specs.Positions.{is-service, passing, spot, positions}
 use Rattle.trace.specs.Order.{falls}
 use Rattle.trace.specs.Making.{log-header, record-bytes}
 use Rattle.verdicts.specs.Bytes.{byte-of}
-use Rattle.emit.specs.Verdicts.{verdicts}
-use Rattle.emit.specs.Verdicts.{answered-number, all-verdicts}
+use Rattle.meaning.specs.Verdicts.{verdicts}
+use Rattle.meaning.specs.Verdicts.{answered-number, all-verdicts}
 use Rattle.monitor.specs.Examples.{event-set, same}
 use Rattle.calls.specs.Calls.{Lends, point-after}
 use Rattle.calls.specs.Sooner.{records, settling-record}

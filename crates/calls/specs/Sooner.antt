@@ -16,8 +16,8 @@ use Rattle.trace.specs.Format.{record-count, time-at, skips-of, dropped, record
 use Rattle.trace.specs.Positions.{is-service}
 use Rattle.trace.specs.Order.{falls}
 use Rattle.trace.specs.Making.{record-bytes}
-use Rattle.emit.specs.Verdicts.{formulas-of}
-use Rattle.emit.specs.Verdicts.{first-records, answered-number, all-verdicts}
+use Rattle.meaning.specs.Verdicts.{formulas-of}
+use Rattle.meaning.specs.Verdicts.{first-records, answered-number, all-verdicts}
 use Rattle.monitor.specs.Resume.{Answer, gave, Resumes}
 use Rattle.calls.specs.Calls.{Call, closed-by, laid, Lends}
 use Rattle.calls.specs.Calls.{Untouched, BringsAfter, Calls}

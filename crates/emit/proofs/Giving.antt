@@ -27,11 +27,11 @@ use Rattle.engine.specs.Tops.{top-column}
 use Rattle.engine.proofs.Onward.{formula-refl, formula-trans}
 use Rattle.engine.proofs.Uniform.{agrees-later}
 use Rattle.checkpoint.specs.Checkpoint.{given, stored-noes}
-use Rattle.emit.specs.Verdicts.{columns}
+use Rattle.meaning.specs.Verdicts.{columns}
 use Rattle.held.specs.Top.{top-count, part-of, Top}
 use Rattle.held.specs.Code.{plan, Fits, Held, Answered, taken-verdicts, CanTake}
 use Rattle.emit.specs.Code.{Giving, Frame, Gave}
-use Rattle.emit.proofs.Meaning.{joint-least, all-bits, verdict-answers}
+use Rattle.meaning.proofs.Laws.{joint-least, all-bits, verdict-answers}
 use Rattle.held.proofs.Places.{count-at, bits-at}
 use Rattle.held.proofs.TakingOut.{its-row, length-all, now-given, now-header, now-spare, now-noes, now-onward, top-taken-out}
 

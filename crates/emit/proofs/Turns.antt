@@ -8,7 +8,7 @@ use lib.ListN.{length, take}
 use Rattle.mtl.specs.Formula.{Formula}
 use Rattle.verdicts.proofs.Written.{written}
 use Rattle.engine.specs.Tops.{top-column}
-use Rattle.emit.specs.Verdicts.{columns}
+use Rattle.meaning.specs.Verdicts.{columns}
 use Rattle.held.specs.Code.{plan, Fits, Fitting, Held, HoldsAll, Answered, taken-verdicts, CanTake}
 use Rattle.emit.specs.Code.{GivesVerdicts, Countable}
 use Rattle.held.proofs.Places.{held-inside}

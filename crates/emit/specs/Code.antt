@@ -26,7 +26,7 @@ use Rattle.blocks.specs.Step.{Agrees}
 use Rattle.engine.specs.State.{OnwardFormula}
 use Rattle.engine.specs.Tops.{Ended}
 use Rattle.checkpoint.specs.Checkpoint.{given, seen, last, closed-with, log-kind, kind-of-log, first-wanted, stored-noes}
-use Rattle.emit.specs.Verdicts.{columns, verdict}
+use Rattle.meaning.specs.Verdicts.{columns, verdict}
 use Rattle.held.specs.Top.{part-of, Top}
 use Rattle.emit.specs.declared.Emitted.{Emitted}
 use Rattle.held.specs.Code.{Plan, Fits}

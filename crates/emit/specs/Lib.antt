@@ -1,3 +1,2 @@
--- What a rule means and how its verdicts are given. Read Verdicts; Code has the promises of the functions.
-pub mod Verdicts
+-- How the verdicts of a call are given: the promises of the functions.
 pub mod Code

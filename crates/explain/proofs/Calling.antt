@@ -24,7 +24,7 @@ use Rattle.trace.proofs.Laws.{never-falls, neither, well-formed-records}
 use Rattle.trace.proofs.Positions.{positions-keep}
 use Rattle.engine.specs.Tops.{Ended}
 use Rattle.engine.proofs.Rows.{row-ok}
-use Rattle.emit.specs.Verdicts.{formulas-of, columns}
+use Rattle.meaning.specs.Verdicts.{formulas-of, columns}
 use Rattle.decimal.specs.Text.{Writes}
 use Rattle.reasons.specs.Text.{text}
 use Rattle.reasons.specs.OfRule.{log-in, reason-in}

@@ -12,7 +12,7 @@ use Rattle.rule.proofs.Headers.{first-zero, before-none}
 use Rattle.trace.specs.Format.{records-of, dropped, malformed}
 use Rattle.trace.specs.Order.{disordered}
 use Rattle.trace.proofs.Laws.{neither}
-use Rattle.emit.specs.Verdicts.{formulas-of, columns}
+use Rattle.meaning.specs.Verdicts.{formulas-of, columns}
 use Rattle.reasons.specs.Text.{text}
 use Rattle.reasons.specs.OfRule.{log-in, reason-of, Claims}
 use Rattle.reasons.proofs.OfRule.{explained}

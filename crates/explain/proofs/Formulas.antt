@@ -17,8 +17,8 @@ use Rattle.rule.specs.Postfix.{size, formula, start}
 use Rattle.rule.specs.Operands.{FormulaAt}
 use Rattle.rule.proofs.Order.{some-size, within-whole}
 use Rattle.engine.proofs.Rows.{has-at, column-is-part}
-use Rattle.emit.specs.Verdicts.{columns}
-use Rattle.emit.proofs.Meaning.{joint-le, joint-least}
+use Rattle.meaning.specs.Verdicts.{columns}
+use Rattle.meaning.proofs.Laws.{joint-le, joint-least}
 use Rattle.decimal.specs.Text.{ascii, Writes}
 use Rattle.reasons.specs.Reason.{reason}
 use Rattle.reasons.specs.Text.{text, spaced-line}

@@ -16,7 +16,7 @@ use Rattle.trace.specs.Order.{falls}
 use Rattle.window.specs.View.{Views}
 use Rattle.engine.specs.Table.{RowsOk}
 use Rattle.engine.specs.Tops.{Ended}
-use Rattle.emit.specs.Verdicts.{columns}
+use Rattle.meaning.specs.Verdicts.{columns}
 use Rattle.reasons.specs.Text.{text}
 use Rattle.reasons.specs.OfRule.{reason-in}
 use Rattle.explain.specs.declared.Reason.{Reason}

@@ -10,7 +10,7 @@ use Rattle.mtl.specs.Log.{Log}
 use Rattle.mtl.specs.Progress.{joint-progress}
 use Rattle.rule.specs.Refusal.{first, or-else, refusal}
 use Rattle.checks.specs.Refusal.{whole-log-refusal}
-use Rattle.emit.specs.Verdicts.{formulas-of, columns}
+use Rattle.meaning.specs.Verdicts.{formulas-of, columns}
 use Rattle.reasons.specs.Text.{text}
 use Rattle.reasons.specs.OfRule.{log-in, reason-in, reason-of}
 use Rattle.explain.specs.declared.Explained.{Explained}

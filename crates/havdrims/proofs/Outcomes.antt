@@ -22,7 +22,7 @@ use Rattle.trace.specs.Making.{put}
 use Rattle.checks.specs.Refusal.{resume-refusal, trim-refusal, summary-refusal}
 use Rattle.verdicts.specs.Tally.{Tallies}
 use Rattle.verdicts.specs.Tally.{Answer as TallyAnswer}
-use Rattle.emit.specs.Verdicts.{formulas-of, columns}
+use Rattle.meaning.specs.Verdicts.{formulas-of, columns}
 use Rattle.monitor.specs.Open.{Opening, Opens}
 use Rattle.monitor.specs.Open.{Answer as OpenAnswer}
 use Rattle.monitor.specs.Resume.{gave, Resumes}

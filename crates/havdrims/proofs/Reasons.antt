@@ -7,7 +7,7 @@ use lib.Dec.{eqb}
 use lib.ListN.{length}
 use Rattle.mtl.specs.Formula.{Formula}
 use Rattle.mtl.specs.Log.{Log}
-use Rattle.emit.specs.Verdicts.{formulas-of}
+use Rattle.meaning.specs.Verdicts.{formulas-of}
 use Rattle.rule.specs.Postfix.{formula}
 use Rattle.reasons.specs.Reason.{Line, reason}
 use Rattle.reasons.specs.Text.{spaced-line, parts, text}

@@ -15,7 +15,7 @@ use Rattle.verdicts.specs.Tally.{tally-refusal, first-or-kept}
 use Rattle.checkpoint.specs.Checkpoint.{stored-noes}
 use Rattle.trace.specs.Making.{put}
 use Rattle.checks.specs.Refusal.{open-refusal, resume-refusal, trim-refusal, summary-refusal}
-use Rattle.emit.specs.Verdicts.{formulas-of, columns}
+use Rattle.meaning.specs.Verdicts.{formulas-of, columns}
 use Rattle.monitor.specs.Open.{Opening}
 use Rattle.monitor.specs.Resume.{Resumes}
 use Rattle.monitor.specs.Resume.{Answer as ResumeAnswer}

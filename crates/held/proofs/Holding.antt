@@ -30,7 +30,8 @@ use Rattle.checkpoint.specs.Checkpoint.{given}
 use Rattle.held.specs.Top.{top-count, top-bits, part-of, Top}
 use Rattle.held.specs.Code.{plan, Fits, HeldOne, Held}
 use Rattle.held.proofs.Kept.{kept-own}
-use Rattle.held.proofs.Together.{joint-le, joint-least, reads-wanted}
+use Rattle.meaning.proofs.Laws.{joint-le, joint-least}
+use Rattle.held.proofs.Wants.{reads-wanted}
 use Rattle.held.proofs.Places.{Place, part-word, part-same, lent-part, place-in, held-inside, count-at, bits-at}
 
 same-or-not : (j k : ℕ) → (j ≡ k) ⊎ (j ≡ k → ⊥)

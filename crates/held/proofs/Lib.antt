@@ -1,5 +1,5 @@
 -- The laws behind the proofs.
-pub mod Together
+pub mod Wants
 pub mod Kept
 pub mod Places
 pub mod Holding

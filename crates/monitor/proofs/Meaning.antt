@@ -25,7 +25,7 @@ use Rattle.engine.specs.Tops.{Ended}
 use Rattle.engine.proofs.Formulas.{last-entry, own-offset}
 use Rattle.engine.proofs.Held.{own-block}
 use Rattle.checkpoint.specs.Checkpoint.{block-at}
-use Rattle.emit.specs.Verdicts.{formulas-of, columns}
+use Rattle.meaning.specs.Verdicts.{formulas-of, columns}
 use Rattle.held.specs.Top.{top-count, part-of}
 use Rattle.held.proofs.Places.{part-word}
 

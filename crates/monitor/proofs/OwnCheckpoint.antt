@@ -29,7 +29,7 @@ use Rattle.engine.proofs.Formulas.{last-entry, last-next, rule-ranges}
 use Rattle.checkpoint.specs.Checkpoint.{given, seen, last, closed-with, log-kind, first-wanted, no-count, after-latest, need, block-at, waiting-in-range, block-outside, noes-outside, closed-in-range, kind-in-range, words-outside}
 use Rattle.verdicts.specs.Counts.{noes-in-range}
 use Rattle.checkpoint.proofs.Offsets.{until-words, in-block, block-within, block-fits}
-use Rattle.emit.specs.Verdicts.{formulas-of, columns, verdicts}
+use Rattle.meaning.specs.Verdicts.{formulas-of, columns, verdicts}
 use Rattle.held.specs.Top.{top-count, part-of}
 use Rattle.monitor.specs.Stands.{Stands}
 use Rattle.monitor.proofs.Meaning.{rule-whole, part-is, held-word}

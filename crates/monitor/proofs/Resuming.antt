@@ -46,11 +46,11 @@ use Rattle.checks.proofs.Checks.{Met, passes}
 use Rattle.checkpoint.proofs.Copies.{foreign-same}
 use Rattle.checkpoint.proofs.Offsets.{in-block, block-fits, noes-within}
 use Rattle.checks.proofs.Sizes.{enough}
-use Rattle.emit.specs.Verdicts.{formulas-of, columns, verdicts}
+use Rattle.meaning.specs.Verdicts.{formulas-of, columns, verdicts}
 use Rattle.held.specs.Top.{top-count, top-bits, part-of, Waiting, Top}
 use Rattle.emit.specs.Code.{Giving, Brought, Emits, Emission, ReadyToEmit}
 use Rattle.emit.specs.declared.Emitted.{Emitted}
-use Rattle.emit.proofs.Meaning.{joint-least}
+use Rattle.meaning.proofs.Laws.{joint-least}
 use Rattle.monitor.specs.Stands.{Stands}
 use Rattle.monitor.specs.Resume.{block-of, wanted-records, gave, refused-with, Gives, Resumes}
 use Rattle.monitor.proofs.Meaning.{most-few, rule-whole, few-formulas, few-columns, rule-ended, part-is}

@@ -30,7 +30,7 @@ use Rattle.checks.specs.declared.Sized.the-variants.{Words}
 use Rattle.checkpoint.proofs.Offsets.{in-block, block-fits, noes-within}
 use Rattle.checkpoint.proofs.Copies.{fresh-own, foreign-within}
 use Rattle.checks.proofs.Sizes.{enough, sized-refusal}
-use Rattle.emit.specs.Verdicts.{formulas-of}
+use Rattle.meaning.specs.Verdicts.{formulas-of}
 use Rattle.held.specs.Top.{top-count, top-bits, part-of, Waiting, Top}
 use Rattle.monitor.specs.Open.{done, refused-with, Opens}
 use Rattle.monitor.specs.Stands.{Stands}

@@ -19,7 +19,7 @@ use Rattle.checkpoint.specs.Checkpoint.{given, seen, closed-with, first-wanted,
 use Rattle.checks.specs.Refusal.{summary-refusal}
 use Rattle.checks.proofs.Checks.{is-accepted, has-room}
 use Rattle.checkpoint.proofs.Offsets.{noes-within}
-use Rattle.emit.specs.Verdicts.{formulas-of, columns}
+use Rattle.meaning.specs.Verdicts.{formulas-of, columns}
 use Rattle.monitor.specs.Summary.{position-or, no-position, counts-of, latest-words, TellsNoes, counted, refused-with, Summarizes}
 use Rattle.monitor.specs.Status.{known}
 use Rattle.monitor.specs.Status.{answer as standing-of, refused-with as known-refused}

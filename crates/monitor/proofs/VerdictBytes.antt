@@ -13,8 +13,8 @@ use Rattle.mtl.specs.Progress.{joint-progress}
 use Rattle.mtl.proofs.Bounded.{le-or-lt}
 use Rattle.verdicts.specs.Counts.{Noes, noes-in, laid-behind}
 use Rattle.verdicts.proofs.Noes.{noes-same, noes-behind}
-use Rattle.emit.specs.Verdicts.{verdict, verdicts}
-use Rattle.emit.proofs.Meaning.{verdict-stays}
+use Rattle.meaning.specs.Verdicts.{verdict, verdicts}
+use Rattle.meaning.proofs.Laws.{verdict-stays}
 
 module _ (fs : List Formula) (L : Log) where
   pub length-verdicts : (n : ℕ) → length (verdicts fs L n) ≡ n

@@ -26,7 +26,7 @@ use Rattle.checks.specs.Refusal.{resume-refusal}
 use Rattle.checkpoint.specs.Checkpoint.{format, copy-start, kind-of-log, copy-head, copy-ends, stored-noes}
 use Rattle.verdicts.specs.Bytes.{byte-of}
 use Rattle.verdicts.specs.Counts.{count-of, latest-no, Noes, noes-in, laid-behind, listed}
-use Rattle.emit.specs.Verdicts.{verdicts, wanted-after, answered-number, all-verdicts}
+use Rattle.meaning.specs.Verdicts.{verdicts, wanted-after, answered-number, all-verdicts}
 use Rattle.monitor.specs.Trim.{trimmed-log, trimming}
 use Rattle.monitor.specs.Summary.{no-position, counts-of, latest-words}
 use Rattle.monitor.specs.Status.{Answer, told, refused-with, known}

@@ -4,7 +4,7 @@ use mathlib.Core.Bool.{cond}
 use mathlib.Core.List.{List}
 use lib.Dec.{eqb}
 use Rattle.rule.specs.Refusal.{refusal}
-use Rattle.emit.specs.Verdicts.{formulas-of, columns}
+use Rattle.meaning.specs.Verdicts.{formulas-of, columns}
 use Rattle.monitor.specs.declared.FormulaCount.{FormulaCount}
 use Rattle.monitor.specs.declared.FormulaCount.the-variants.{Formulas, Refused}
 

@@ -20,7 +20,7 @@ use Rattle.rule.specs.Postfix.{most-formulas}
 use Rattle.rule.specs.Words.{header-words}
 use Rattle.checkpoint.specs.Checkpoint.{given, seen, last, closed-with, log-kind, kind-of-log, first-wanted, no-count, after-latest, stored-noes, need, block-at, foreign}
 use Rattle.checks.specs.Refusal.{resume-refusal}
-use Rattle.emit.specs.Verdicts.{formulas-of, columns, verdict}
+use Rattle.meaning.specs.Verdicts.{formulas-of, columns, verdict}
 use Rattle.monitor.specs.Stands.{Stands}
 use Rattle.monitor.specs.declared.Resumed.{Resumed}
 use Rattle.monitor.specs.declared.Resumed.the-variants.{Given, Refused}

@@ -14,7 +14,7 @@ use Rattle.rule.specs.Postfix.{most-formulas, start}
 use Rattle.rule.specs.Words.{header-words}
 use Rattle.blocks.specs.Block.{word}
 use Rattle.checkpoint.specs.Checkpoint.{seen, last, closed-with, log-kind, first-wanted, no-count, after-latest, stored-noes, need, block-at, foreign, kind-in-range}
-use Rattle.emit.specs.Verdicts.{formulas-of, columns, verdicts}
+use Rattle.meaning.specs.Verdicts.{formulas-of, columns, verdicts}
 use Rattle.held.specs.Top.{Top}
 
 -- what no verdict needs and refusal 11 alone looks at: of n records seen, the words that a call has left are in range

@@ -12,7 +12,7 @@ use Rattle.rule.specs.Entries.{version}
 use Rattle.rule.specs.Postfix.{most-formulas}
 use Rattle.checkpoint.specs.Checkpoint.{stored-noes}
 use Rattle.checks.specs.Refusal.{summary-refusal}
-use Rattle.emit.specs.Verdicts.{formulas-of, columns}
+use Rattle.meaning.specs.Verdicts.{formulas-of, columns}
 use Rattle.monitor.specs.declared.Latest.{Latest}
 use Rattle.monitor.specs.declared.Latest.the-variants.{At, Never}
 use Rattle.monitor.specs.declared.Summarized.{Summarized}

@@ -26,8 +26,8 @@ use Rattle.trace.specs.Format.{records-of, skips-of}
 use Rattle.trace.proofs.Laws.{ordered-iff}
 use Rattle.trace.proofs.Positions.{positions-keep}
 use Rattle.engine.proofs.Formulas.{last-at, last-below}
-use Rattle.emit.specs.Verdicts.{formulas-of, columns, verdict}
-use Rattle.emit.proofs.Meaning.{joint-le, verdict-bit}
+use Rattle.meaning.specs.Verdicts.{formulas-of, columns, verdict}
+use Rattle.meaning.proofs.Laws.{joint-le, verdict-bit}
 use Rattle.reasons.specs.Reason.{Says, Line, reason}
 use Rattle.reasons.specs.Reason.Line.{empty, sentence}
 use Rattle.reasons.specs.Facts.{Facts, formula-at}

@@ -15,7 +15,7 @@ use Rattle.mtl.specs.Examples.{Records, log-of-list}
 use Rattle.rule.specs.Entries.{first-entries}
 use Rattle.rule.specs.Postfix.{push-kind, read, size, start}
 use Rattle.trace.specs.Positions.{passing, spot, positions}
-use Rattle.emit.specs.Verdicts.{formulas-of}
+use Rattle.meaning.specs.Verdicts.{formulas-of}
 use Rattle.decimal.specs.Text.{ascii, decimal-in}
 use Rattle.reasons.specs.Search.{after-last}
 use Rattle.reasons.specs.Reason.{reason}

@@ -14,7 +14,7 @@ use Rattle.rule.specs.Refusal.{refusal}
 use Rattle.trace.specs.Format.{records-of, skips-of}
 use Rattle.trace.specs.Log.{log-of}
 use Rattle.trace.specs.Order.{disordered}
-use Rattle.emit.specs.Verdicts.{formulas-of, columns, verdict}
+use Rattle.meaning.specs.Verdicts.{formulas-of, columns, verdict}
 use Rattle.reasons.specs.Reason.{Line, reason}
 use Rattle.reasons.specs.Reason.Line.{empty}
 use Rattle.reasons.specs.Facts.{Facts, formula-at}

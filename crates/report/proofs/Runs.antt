@@ -28,7 +28,7 @@ use Rattle.window.proofs.Slices.{slice-shows, flag-told}
 use Rattle.blocks.specs.Step.{Agrees}
 use Rattle.checkpoint.specs.Checkpoint.{first-wanted, need}
 use Rattle.checks.specs.Refusal.{open-refusal, resume-refusal}
-use Rattle.emit.specs.Verdicts.{formulas-of, columns, verdicts, first-records, all-verdicts}
+use Rattle.meaning.specs.Verdicts.{formulas-of, columns, verdicts, first-records, all-verdicts}
 use Rattle.monitor.specs.Stands.{Stands}
 use Rattle.monitor.specs.Open.{done, Opens}
 use Rattle.monitor.specs.Open.{answer as opened-of}

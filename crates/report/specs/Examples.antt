@@ -12,7 +12,7 @@ use Rattle.rule.specs.Postfix.{push-kind, read}
 use Rattle.rule.specs.Refusal.{header-refusal, entries-refusal}
 use Rattle.trace.specs.Positions.{passing, spot, positions}
 use Rattle.verdicts.specs.Bytes.{byte-of}
-use Rattle.emit.specs.Verdicts.{verdicts}
+use Rattle.meaning.specs.Verdicts.{verdicts}
 use Rattle.decimal.specs.Text.{ascii, decimal-in, decimal}
 use Rattle.report.specs.Report.{verdict-words, lines, report}
 

@@ -9,7 +9,7 @@ use Rattle.rule.specs.Refusal.{or-else, refusal}
 use Rattle.trace.specs.Format.{record-count, records-of}
 use Rattle.checks.specs.Refusal.{whole-log-refusal}
 use Rattle.decimal.specs.Text.{ascii, decimal, verdict-word}
-use Rattle.emit.specs.Verdicts.{formulas-of, columns, all-verdicts}
+use Rattle.meaning.specs.Verdicts.{formulas-of, columns, all-verdicts}
 
 -- "A refusal prints `refused` and its number."
 abbrev pub refused-text : ℕ → List ℕ

@@ -3,7 +3,7 @@ ghost use mathlib.Core.Path.{_≡_};
 ghost use Prim.Native.Nat.{_+_, _*_, _≤_, _<_};
 ghost use lib.ListN.{length};
 ghost use Rattle.rule.specs.Refusal.{refusal};
-ghost use Rattle.emit.specs.Verdicts.{formulas-of, columns};
+ghost use Rattle.meaning.specs.Verdicts.{formulas-of, columns};
 ghost use Rattle.decimal.specs.Text.{Writes};
 ghost use Rattle.report.specs.Report.{refused-text, first-line, verdict-words, line, lines, too-long, report as Report·report};
 use monitor::FormulaCount;

@@ -6,7 +6,7 @@ use Rattle.rule.proofs.Headers.{few-to-decode, measured-once}
 use Rattle.rule.proofs.Outcome.{passes-with, stops-with}
 use Rattle.rule.proofs.Acceptance.{accepted}
 use Rattle.checks.proofs.Sizes.{is-decoded}
-use Rattle.emit.specs.Verdicts.{formulas-of}
+use Rattle.meaning.specs.Verdicts.{formulas-of}
 use Rattle.monitor.proofs.Meaning.{rule-ended}
 use Rattle.explain.proofs.Calling.{rule-refused, log-refused, log-passes, explained}
 use borrow.Author.Needs.{needs}

@@ -9,7 +9,7 @@ use Rattle.checks.specs.Refusal.{summary-refusal}
 use Rattle.checks.proofs.Sizes.{is-decoded, is-version}
 use Rattle.checks.proofs.Checks.{fails-with, passed}
 use Rattle.checks.proofs.Checks.{covers, own-is, is-accepted}
-use Rattle.emit.specs.Verdicts.{formulas-of, columns}
+use Rattle.meaning.specs.Verdicts.{formulas-of, columns}
 use Rattle.monitor.proofs.Summarizing.{columns-are, counts-fit, summary-refused, summary-told}
 use Rattle.monitor.proofs.summary.Statement.{statement}
 use Rattle.monitor.proofs.summary.Tie as tie

@@ -8,7 +8,7 @@ use native.Mathlib.Omega.{arith}
 use lib.ListN.{length, take}
 use lib.Seq.{length-take-le}
 use Rattle.trace.specs.Format.{record-count, records-of}
-use Rattle.emit.specs.Verdicts.{formulas-of, columns}
+use Rattle.meaning.specs.Verdicts.{formulas-of, columns}
 use Rattle.decimal.specs.Text.{ascii, Writes}
 use Rattle.report.specs.Report.{first-line, lines, too-long}
 use Rattle.decimal.proofs.Texts.{writes-more}

@@ -17,8 +17,22 @@ use Rattle.bits.proofs.Laws.{packed-not}
 use Rattle.rule.specs.Postfix.{formula}
 use Rattle.verdicts.specs.Bytes.{byte-of, answers-at}
 use Rattle.verdicts.proofs.Bytes.{bit-of-byte}
-use Rattle.emit.specs.Verdicts.{answers-of, columns, verdict}
-pub use Rattle.held.proofs.Together.{joint-le, joint-least}
+use Rattle.meaning.specs.Verdicts.{answers-of, columns, verdict}
+
+-- no formula has answered fewer positions than all together
+pub joint-le : (fs : List Formula) (L : Log) (k : ℕ) → k < length fs → joint-progress fs L ≤ settled-to (formula fs k) L
+unfolding joint-progress
+joint-le [] L k h = absurd (omega arith)
+joint-le (φ ∷ fs) L zero h = omega arith
+joint-le (φ ∷ fs) L (suc k) h = omega (arith, joint-le fs L k (omega arith))
+
+-- what each has answered, all have
+pub joint-least : (fs : List Formula) (L : Log) (d : ℕ) → d ≤ L .size → ((k : ℕ) → k < length fs → d ≤ settled-to (formula fs k) L) →
+    d ≤ joint-progress fs L
+unfolding joint-progress
+joint-least [] L d h each = h
+joint-least (φ ∷ fs) L d h each =
+    omega (arith, each 0 (omega arith), joint-least fs L d h (λ k l. each (suc k) (omega arith)))
 
 -- the answers of the formulas from their words
 answers-match : (fs : List Formula) (ws : List ℕ) (f : Formula → Bool) (i : ℕ) → length fs ≤ length ws →

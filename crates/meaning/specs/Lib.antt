@@ -1,0 +1,2 @@
+-- What a rule means: Verdicts.
+pub mod Verdicts
