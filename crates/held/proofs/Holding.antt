@@ -1,16 +1,16 @@
 -- What asking one formula does to the words, and asking all of them, one after the other.
-use Prim.Native.Nat.{ℕ, suc, _+_, _-_, _≤_, _<_, min}
+use Prim.Native.Nat.{ℕ, zero, suc, _+_, _-_, _≤_, _<_, min}
 use mathlib.Core.Bool.{Bool, true, false}
 use mathlib.Core.Logic.{_⊎_, inl, inr, ⊎-elim}
 use mathlib.Core.Path.{_≡_, refl, sym, ap, _∙_}
-use mathlib.Core.List.{List, _++_}
+use mathlib.Core.List.{List, [], _∷_, _++_}
 use native.Mathlib.Omega.{arith}
 use lib.ListN.{length, getD, take, drop, set, length-set, length-append, length-take, length-drop, List·getD-append, List·getD-eq-default}
 use lib.Seq.{length-take-le, getD-take, getD-drop, getD-set-same, getD-set-other}
-use Rattle.mtl.specs.Formula.{Formula}
+use Rattle.mtl.specs.Formula.{Formula, largest}
 use Rattle.mtl.specs.Log.{Log, NeverFalls}
 use Rattle.mtl.specs.Progress.{settled-to, joint-progress}
-use Rattle.mtl.specs.Wanted.{wanted}
+use Rattle.mtl.specs.Wanted.{depth, deepest, wanted}
 use Rattle.mtl.proofs.Bounded.{le-or-lt}
 use Rattle.mtl.proofs.Joint.{joint-le-size}
 use Rattle.rule.specs.Postfix.{formula}
@@ -20,6 +20,7 @@ use Rattle.blocks.specs.Step.{Agrees, Batched}
 use Rattle.blocks.proofs.Words.{empty-buffer}
 use Rattle.engine.specs.State.{needed-words, own-at, words-before, State, OnwardAll, OnwardFormula}
 use Rattle.engine.proofs.Onward.{formula-refl, formula-trans, all-formula}
+use Rattle.engine.specs.Answer.{first-read}
 use Rattle.engine.specs.Ask.{part, back, stored, Asks, Fills}
 use Rattle.engine.specs.Tops.{top-column}
 use Rattle.engine.proofs.Parts.{part-back, drop-back}
@@ -31,8 +32,17 @@ use Rattle.held.specs.Top.{top-count, top-bits, part-of, Top}
 use Rattle.held.specs.Code.{plan, Fits, HeldOne, Held}
 use Rattle.held.proofs.Kept.{kept-own}
 use Rattle.meaning.proofs.Laws.{joint-le, joint-least}
-use Rattle.held.proofs.Wants.{reads-wanted}
 use Rattle.held.proofs.Places.{Place, part-word, part-same, lent-part, place-in, held-inside, count-at, bits-at}
+
+deepest-le : (fs : List Formula) (k : ℕ) → k < length fs → depth (formula fs k) ≤ deepest fs
+unfolding largest
+deepest-le [] k h = absurd (omega arith)
+deepest-le (φ ∷ fs) zero h = omega arith
+deepest-le (φ ∷ fs) (suc k) h = omega (arith, deepest-le fs k (omega arith))
+
+-- what a formula's entries may read is wanted
+reads-wanted : (fs : List Formula) (k d : ℕ) → k < length fs → wanted fs d ≤ first-read (formula fs k) d
+reads-wanted fs k d h = omega (arith, deepest-le fs k h)
 
 same-or-not : (j k : ℕ) → (j ≡ k) ⊎ (j ≡ k → ⊥)
 same-or-not j k =

@@ -26,7 +26,7 @@ use Rattle.window.proofs.Reading.{shown-time-bound}
 use Rattle.blocks.specs.Block.{word, taken, left-count, left-bits, right-count, right-bits, answered, last-left, last-right, last-taken-time, head, waiting-head, Onward, Heads, Until, Buffer, Ready}
 use Rattle.blocks.specs.Step.{Agrees, Moved, Stepped, Ends}
 use Rattle.walks.specs.Settle.{pick, settle-spec, time-of-none, next-of, ReadsTimes, Reached, StillWaits, Walk}
-use Rattle.until.specs.Step.{HasRecords, starts-of, ahead-of, last-taken, walked, FitsRoom, Stuck, Wants}
+use Rattle.until.specs.Code.{HasRecords, starts-of, ahead-of, last-taken, walked, FitsRoom, Stuck, Wants}
 use Rattle.walks.specs.declared.Last.{Last}
 use Rattle.until.specs.declared.Room.{Room}
 use Rattle.walks.specs.declared.Walked.{Walked}

@@ -1,2 +1,2 @@
 -- What until's inner functions promise.
-pub mod Step
+pub mod Code

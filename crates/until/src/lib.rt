@@ -11,7 +11,7 @@ ghost use Rattle.window.specs.Window.{window-of};
 ghost use Rattle.blocks.specs.Block.{taken, left-count, left-bits, right-count, right-bits, answered};
 ghost use Rattle.blocks.specs.Step.{Steps, Ends};
 ghost use Rattle.walks.specs.Settle.{settle-spec, time-of-none, next-of, Walk};
-ghost use Rattle.until.specs.Step.{HasRecords, starts-of, ahead-of, last-taken, walked, Wants, Stuck, FitsRoom};
+ghost use Rattle.until.specs.Code.{HasRecords, starts-of, ahead-of, last-taken, walked, Wants, Stuck, FitsRoom};
 ghost use Rattle.walks.specs.declared.Settled.the-variants.{Unknown};
 use blocks::Step;
 use blocks::time;

@@ -31,6 +31,10 @@ Mixed skips s at n = Inside skips s at n → 0 < n → skips ≡ true
 abbrev pub window-of : Window → (s copy : List ℕ) → List ℕ
 window-of w s copy = cond (w .dense) (drop (w .at * 8) s) copy
 
+-- the window that is the records' own part
+abbrev pub own-part : (at n : ℕ) → Window
+own-part at n = record { at = at; end = at + n; count = n; dense = true }
+
 -- the bytes of record i
 abbrev pub record-of : List ℕ → ℕ → List ℕ
 record-of s i = take 8 (drop (i * 8) s)

@@ -12,7 +12,7 @@ ghost use Rattle.trace.specs.Format.{record-count};
 ghost use Rattle.trace.specs.Positions.{is-service, before};
 ghost use Rattle.trace.specs.Making.{put};
 ghost use Rattle.window.specs.View.{slice-first, skips, in-slice, BlockMarks, Views};
-ghost use Rattle.window.specs.Window.{some-service, dense, window-of, record-of, Clear, Counted, Copied, Picks, Lettered, Gathered, Mixed, Opened, Behind, BehindBut, Windowed, Passed, Found};
+ghost use Rattle.window.specs.Window.{some-service, dense, window-of, own-part, record-of, Clear, Counted, Copied, Picks, Lettered, Gathered, Mixed, Opened, Behind, BehindBut, Windowed, Passed, Found};
 
 pub mod view;
 
@@ -347,29 +347,30 @@ pub fn read_letters(records: &[u8], view: &[u64; 66], head: u64, n: u64, letter:
     read_mixed(records, view, at, n as usize, letter)
 }
 
+// The window of n positions whose records stand one after the other from `at` on.
+fn own_part(at: usize, n: usize) -> Window
+    requires { ⌜ at + n < 2 ^ 64 ⌝ }
+    ensures { λ r. ⌜ r ≡ own-part at n ⌝ }
+{
+    Window {
+        at,
+        end: at + n,
+        count: n,
+        dense: true,
+    }
+}
+
 // The window of n positions from `at` on, where service records may lie among them.
 fn open_mixed(records: &[u8], view: &[u64; 66], at: usize, n: usize, copy: &mut [u8; 520]) -> Window
     requires { ⌜ (n ≤ 65) × (length (now copy) ≡ 520) × Views (now view) (now records) ⌝ }
     ensures { λ r. ⌜ Opened (skips (now (view .entry))) (now (records .entry)) at n r (now (copy .exit)) ⌝ }
 {
     if is_clear(records, view, at, n) {
-        let end = at + n;
-        return Window {
-            at,
-            end,
-            count: n,
-            dense: true,
-        };
+        return own_part(at, n);
     }
     let clear = find_clear(records, at, n);
     if (0 < clear) & (clear == n) {
-        let end = at + n;
-        return Window {
-            at,
-            end,
-            count: n,
-            dense: true,
-        };
+        return own_part(at, n);
     }
     let end = gather(records, at, n, clear, copy);
     Window {
@@ -387,13 +388,7 @@ pub fn open(records: &[u8], view: &[u64; 66], head: u64, n: u64, copy: &mut [u8;
 {
     let at = in_slice(view[view::FIRST], head);
     if is_plain(records, view, at, n as usize) {
-        let end = at + n as usize;
-        return Window {
-            at,
-            end,
-            count: n as usize,
-            dense: true,
-        };
+        return own_part(at, n as usize);
     }
     open_mixed(records, view, at, n as usize, copy)
 }

@@ -15,17 +15,17 @@ told c =
     let a = c .before .before .before .before .before .args in
     plain-dense (skips (a .view .now)) (a .records .now) (c .before .before .in-slice .result) (a .n) (sym (c .before .is-plain .ensures) ∙ c .if1 .taken)
 
-add-end : tie.Need-add-end
-add-end c =
+own-part-requires : tie.Need-own-part-requires
+own-part-requires c κs =
     let a = c .before .before .before .before .before .args in
     omega (arith, dense-fits (skips (a .view .now)) (a .records .now) (c .before .before .in-slice .result) (a .n) (told c))
 
 returns : tie.Need-returns
 returns c =
-    let start = c .before .before .before .before .before in
+    let start = c .before .before .before .before .before .before in
     let a = start .args in
-    let at = c .before .before .in-slice in
-    rw (← at .ensures) (opened-dense (skips (a .view .now)) (a .records .now) (at .result) (a .n) (a .copy .now) (start .pre .1) (told c))
+    let at = c .before .before .before .in-slice in
+    rw (c .own-part .ensures, ← at .ensures) (opened-dense (skips (a .view .now)) (a .records .now) (at .result) (a .n) (a .copy .now) (start .pre .1) (told (c .before)))
 
 returns-2 : tie.Need-returns-2
 returns-2 c = rw (← c .before .before .before .before .in-slice .ensures) (c .open-mixed .ensures)
@@ -37,7 +37,7 @@ open-spec =
     (λ c. search needs)
     (λ c κs. search needs)
     (λ c κs. search needs)
-    add-end
+    own-part-requires
     returns
     (λ c κs. search needs)
     returns-2)

@@ -9,15 +9,18 @@ use Rattle.window.proofs.Windows.{dense-fits, clear-all, opened-dense, 
 use Rattle.window.proofs.open_mixed.Statement.{statement}
 use Rattle.window.proofs.open_mixed.Tie as tie
 
-add-end : tie.Need-add-end
-add-end c =
+own-part-requires : tie.Need-own-part-requires
+own-part-requires c κs =
     let a = c .before .before .before .args in
     omega (arith, dense-fits (skips (a .view .now)) (a .records .now) (a .at) (a .n) (c .before .is-clear .ensures .0 (c .if1 .taken)))
 
 returns : tie.Need-returns
 returns c =
-    let a = c .before .before .before .args in
-    opened-dense (skips (a .view .now)) (a .records .now) (a .at) (a .n) (a .copy .now) (c .before .before .before .pre .1) (c .before .is-clear .ensures .0 (c .if1 .taken))
+    let d = c .before in
+    let start = d .before .before .before in
+    let a = start .args in
+    rw (c .own-part .ensures)
+    (opened-dense (skips (a .view .now)) (a .records .now) (a .at) (a .n) (a .copy .now) (start .pre .1) (d .before .is-clear .ensures .0 (d .if1 .taken)))
 
 -- all records are looked at, and none is a service record
 told : (c : tie.Then2) → let a = c .before .before .before .before .before .args in dense (skips (a .view .now)) (a .records .now) (a .at) (a .n) ≡ true
@@ -25,16 +28,16 @@ told c =
     let a = c .before .before .before .before .before .args in
     clear-all (skips (a .view .now)) (a .records .now) (a .at) (a .n) (c .before .find-clear .result) (c .before .find-clear .ensures) (c .if2 .taken)
 
-add-end-2 : tie.Need-add-end-2
-add-end-2 c =
+own-part-requires-2 : tie.Need-own-part-requires-2
+own-part-requires-2 c κs =
     let a = c .before .before .before .before .before .args in
     omega (arith, dense-fits (skips (a .view .now)) (a .records .now) (a .at) (a .n) (told c))
 
 returns-2 : tie.Need-returns-2
 returns-2 c =
-    let start = c .before .before .before .before .before in
+    let start = c .before .before .before .before .before .before in
     let a = start .args in
-    opened-dense (skips (a .view .now)) (a .records .now) (a .at) (a .n) (a .copy .now) (start .pre .1) (told c)
+    rw (c .own-part2 .ensures) (opened-dense (skips (a .view .now)) (a .records .now) (a .at) (a .n) (a .copy .now) (start .pre .1) (told (c .before)))
 
 returns-3 : tie.Need-returns-3
 returns-3 c =
@@ -45,4 +48,4 @@ returns-3 c =
 pub open-mixed-spec : {M : Type 1} → statement M
 open-mixed-spec =
     tie.close
-    (tie.spec (λ c κs. search needs) add-end returns (λ c κs. search needs) add-end-2 returns-2 (λ c κs. search needs) returns-3)
+    (tie.spec (λ c κs. search needs) own-part-requires returns (λ c κs. search needs) own-part-requires-2 returns-2 (λ c κs. search needs) returns-3)
