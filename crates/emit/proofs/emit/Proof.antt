@@ -69,15 +69,21 @@ note-requires c κs =
 
 returns : tie.Need-returns
 returns c fs ended deep =
-    let s = c .before .before .before .before .before .before .before .before .before .before .before .before .before .before .before .before .before .before .before .before .before .before .before .before .before .before .before .before in
+    let after-note = c .before .before in
+    let after-give = after-note .before .before .before .before .before .before .before in
+    let after-write-view = after-give .before .before .before .before .before .before .before .before in
+    let after-lay-tops = after-write-view .before .before .before in
+    let after-lay-out = after-lay-tops .before .before .before in
+    let after-shared-slice-known = after-lay-out .before .before .before .before in
+    let s = after-shared-slice-known .before in
     let a = s .args in
-    let g = c .before .before .before .before .before .before .before .before .before .give in
-    let view = c .before .before .before .before .before .before .before .before .before .before .before .before .before .before .before .before .before .write-view in
-    let y = c .before .before .note in
-    let fits = fits-of (a .entries) (a .count) (a .t3) (a .number) (a .most) (a .base) (a .depth) (a .records .now) (a .words .now) (c .before .before .before .before .before .before .before .before .before .before .before .before .before .before .before .before .before .before .before .before .before .before .before .lay-out .last .1 .1 .0)
-    (c .before .before .before .before .before .before .before .before .before .before .before .before .before .before .before .before .before .before .before .before .lay-tops .result) (s .pre) fs ended (c .before .before .before .before .before .before .before .before .before .before .before .before .before .before .before .before .before .before .before .before .lay-tops .ensures (a .entries) (a .count) fs (entries-laid (c .before .before .before .before .before .before .before .before .before .before .before .before .before .before .before .before .before .before .before .before .before .before .before) fs ended)) in
+    let g = after-give .give in
+    let view = after-write-view .write-view in
+    let y = after-note .note in
+    let fits = fits-of (a .entries) (a .count) (a .t3) (a .number) (a .most) (a .base) (a .depth) (a .records .now) (a .words .now) (after-lay-out .lay-out .last .1 .1 .0)
+    (after-lay-tops .lay-tops .result) (s .pre) fs ended (after-lay-tops .lay-tops .ensures (a .entries) (a .count) fs (entries-laid after-lay-out fs ended)) in
     emitted (a .skips) (a .closed) (a .records .now) (a .words .now) (a .sheet .now) (view .last .1 .1 .1 .1 .1 .0) (g .result) (g .last .1 .1 .1 .1 .1 .1 .1 .1 .0)
-    (g .last .1 .1 .1 .1 .1 .1 .1 .1 .1 .0) (y .last .1 .1 .1 .1 .0) fits (λ i. c .before .before .before .before .before .before .before .before .before .before .before .before .before .before .before .before .before .before .before .before .before .before .before .before .before .before .before .shared-slice-known .given i .fits)
+    (g .last .1 .1 .1 .1 .1 .1 .1 .1 .1 .0) (y .last .1 .1 .1 .1 .0) fits (λ i. after-shared-slice-known .shared-slice-known .given i .fits)
     (rw deep at (view .ensures)) (g .ensures (a .base) fs fits (s .pre .header .2)) (rw deep at (y .ensures))
 
 pub emit-spec : {M : Type 1} → statement M

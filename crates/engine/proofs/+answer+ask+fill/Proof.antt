@@ -370,7 +370,8 @@ pub +answer+ask+fill-spec : {M : Type 1} → statement M
     (λ c κs. search needs)
     -- left is asked
     (λ c κs. search needs)
-    (λ c. let s = c .before .before .before .before .before .before .before .before .before .pre .1 in omega (arith, s .4, s .5, bound (fill-here t (c .before .before .before .before .before .before .before .before .before) .read), room (fill-here t (c .before .before .before .before .before .before .before .before .before) .read)))
+    (λ c. let start = c .before .before .before .before .before .before .before .before .before in
+    let s = start .pre .1 in omega (arith, s .4, s .5, bound (fill-here t start .read), room (fill-here t start .read)))
     (λ c κs.
     let start = c .before .before .before .before .before .before .before .before .before .before in
     let s = start .pre .1 in
@@ -386,8 +387,10 @@ pub +answer+ask+fill-spec : {M : Type 1} → statement M
     let top = fill-left t (c .before .before .before) in
     (rw (start .pre .1 .4) (left-short (fill-takes t (c .before .before .before .before .before .before .before .before .before) ∙ c .before .before .before .before .before .before .before .before .if1 .taken) (short-top (false-of (c .if2 .taken)) top)), c .before .before .before .ask .ensures .1))
     -- right is asked
-    (λ c. let s = c .before .before .before .before .before .before .before .before .pre .1 in omega (arith, s .1, may-ask (fill-here t (c .before .before .before .before .before .before .before .before) .read) on-right (right-taken _ (s .2)) .0))
-    (λ c. let s = c .before .before .before .before .before .before .before .before .pre .1 in omega (arith, s .4, s .5, bound (fill-here t (c .before .before .before .before .before .before .before .before) .read), room (fill-here t (c .before .before .before .before .before .before .before .before) .read)))
+    (λ c. let start = c .before .before .before .before .before .before .before .before in
+    let s = start .pre .1 in omega (arith, s .1, may-ask (fill-here t start .read) on-right (right-taken _ (s .2)) .0))
+    (λ c. let start = c .before .before .before .before .before .before .before .before in
+    let s = start .pre .1 in omega (arith, s .4, s .5, bound (fill-here t start .read), room (fill-here t start .read)))
     (λ c κs.
     let start = c .before .before .before .before .before .before .before .before .before in
     let s = start .pre .1 in

@@ -31,16 +31,21 @@ clear-requires c κs = search needs
 -- src/lib.rt:106:5
 loop-holds : tie.Need-loop-holds Inv-loop μ-loop
 loop-holds c =
-    let a = c .before .before .before .before .before .before .args in
-    let p = c .before .before .before .before .before .before .pre in
-    (refl, p .3, p .4, omega arith, omega arith, omega arith, going-none (a .table .now) (a .view .now) (a .records .now) (a .k) (a .want) (a .from) (a .to) (c .before .before .clear .last .0) (c .before .before .clear .kept .0 ∙ p .2) (c .before .before .clear .ensures))
+    let after-clear = c .before .before in
+    let start = after-clear .before .before .before .before in
+    let a = start .args in
+    let p = start .pre in
+    (refl, p .3, p .4, omega arith, omega arith, omega arith, going-none (a .table .now) (a .view .now) (a .records .now) (a .k) (a .want) (a .from) (a .to) (after-clear .clear .last .0) (after-clear .clear .kept .0 ∙ p .2) (after-clear .clear .ensures))
 
 -- src/lib.rt:107:13
 answer-requires : tie.Need-answer-requires Inv-loop μ-loop
 answer-requires c κs =
-    let p = c .before .before .before .before .before .before .before .before .before .before .before .pre in
-    let l = c .before .before .before .before .loop in
-    (p .0, p .1, l .inv .0 ∙ c .before .before .before .before .before .before .before .clear .kept .0 ∙ p .2, l .inv .1, l .inv .2, p .5)
+    let round = c .before .before .before .before in
+    let after-clear = round .before .before .before in
+    let start = after-clear .before .before .before .before in
+    let p = start .pre in
+    let l = round .loop in
+    (p .0, p .1, l .inv .0 ∙ after-clear .clear .kept .0 ∙ p .2, l .inv .1, l .inv .2, p .5)
 
 -- src/lib.rt:108:28
 enum-known-reply : tie.Need-enum-known-reply Inv-loop μ-loop
@@ -53,16 +58,23 @@ enum-told c = search needs
 -- src/lib.rt:109:13
 same-length : tie.Need-same-length Inv-loop μ-loop
 same-length c =
-    let l = c .before .before .before .before .before .before .before .before .before .loop in
-    c .before .before .before .before .answer .kept .1 .1 .1 .1 .1 .1 .1 .0 ∙ l .inv .0 ∙ c .before .before .before .before .before .before .before .before .before .before .before .before .clear .kept .0
+    let after-answer = c .before .before .before .before in
+    let round = after-answer .before .before .before .before .before in
+    let after-clear = round .before .before .before in
+    let l = round .loop in
+    after-answer .answer .kept .1 .1 .1 .1 .1 .1 .1 .0 ∙ l .inv .0 ∙ after-clear .clear .kept .0
 
 -- src/lib.rt:109:13
 returns : tie.Need-returns Inv-loop μ-loop
 returns c =
-    let a = c .before .before .before .before .before .before .before .before .before .before .before .before .before .before .before .before .args in
-    let l = c .before .before .before .before .before .before .before .before .before .loop in
+    let after-answer = c .before .before .before .before in
+    let tested = after-answer .before .before .before .before in
+    let round = tested .before in
+    let start = round .before .before .before .before .before .before .before in
+    let a = start .args in
+    let l = round .loop in
     let told = c .enum-told .given .1 in
-    (((l .inv .3, l .inv .4, l .inv .5), going-open (a .table .now) (a .view .now) (a .records .now) (a .k) (a .want) (a .from) (a .to) (l .words) (l .done) (l .first) (l .after) (l .inv .6) (c .before .before .before .before .before .before .before .before .loop-test .taken) (c .before .before .before .before .answer .last .1 .1 .1 .1 .1 .1 .1 .0) (rw told at (c .before .before .before .before .answer .ensures .0))), c .before .before .before .before .answer .ensures .1)
+    (((l .inv .3, l .inv .4, l .inv .5), going-open (a .table .now) (a .view .now) (a .records .now) (a .k) (a .want) (a .from) (a .to) (l .words) (l .done) (l .first) (l .after) (l .inv .6) (tested .loop-test .taken) (after-answer .answer .last .1 .1 .1 .1 .1 .1 .1 .0) (rw told at (after-answer .answer .ensures .0))), after-answer .answer .ensures .1)
 
 -- src/lib.rt:111:13
 available-requires : tie.Need-available-requires Inv-loop μ-loop
@@ -71,16 +83,25 @@ available-requires c κs = search needs
 -- src/lib.rt:113:13
 same-length-2 : tie.Need-same-length-2 Inv-loop μ-loop
 same-length-2 c =
-    let l = c .before .before .before .before .before .before .before .before .before .before .before .before .loop in
-    c .before .before .before .before .before .before .before .answer .kept .1 .1 .1 .1 .1 .1 .1 .0 ∙ l .inv .0 ∙ c .before .before .before .before .before .before .before .before .before .before .before .before .before .before .before .clear .kept .0
+    let after-answer = c .before .before .before .before .before .before .before in
+    let round = after-answer .before .before .before .before .before in
+    let after-clear = round .before .before .before in
+    let l = round .loop in
+    after-answer .answer .kept .1 .1 .1 .1 .1 .1 .1 .0 ∙ l .inv .0 ∙ after-clear .clear .kept .0
 
 -- src/lib.rt:113:13
 returns-2 : tie.Need-returns-2 Inv-loop μ-loop
 returns-2 c =
-    let a = c .before .before .before .before .before .before .before .before .before .before .before .before .before .before .before .before .before .before .before .args in
-    let l = c .before .before .before .before .before .before .before .before .before .before .before .before .loop in
-    let r = c .before .before .before .reply .given in
-    (((l .inv .3, l .inv .4, l .inv .5), going-some (a .table .now) (a .view .now) (a .records .now) (a .k) (a .want) (a .from) (a .to) (l .words) (l .done) (l .first) (l .after) (l .inv .6) (c .before .before .before .before .before .before .before .before .before .before .before .loop-test .taken) (r .0 .0) (r .0 .1 .0) (c .before .available .result) (c .before .before .before .before .before .before .before .answer .last .1 .1 .1 .1 .1 .1 .1 .0) (rw (r .1) at (c .before .before .before .before .before .before .before .answer .ensures .0)) (c .before .available .ensures .0) (c .if1 .taken)), c .before .before .before .before .before .before .before .answer .ensures .1)
+    let after-available = c .before in
+    let after-reply = after-available .before .before in
+    let after-answer = after-reply .before .before .before .before in
+    let tested = after-answer .before .before .before .before in
+    let round = tested .before in
+    let start = round .before .before .before .before .before .before .before in
+    let a = start .args in
+    let l = round .loop in
+    let r = after-reply .reply .given in
+    (((l .inv .3, l .inv .4, l .inv .5), going-some (a .table .now) (a .view .now) (a .records .now) (a .k) (a .want) (a .from) (a .to) (l .words) (l .done) (l .first) (l .after) (l .inv .6) (tested .loop-test .taken) (r .0 .0) (r .0 .1 .0) (after-available .available .result) (after-answer .answer .last .1 .1 .1 .1 .1 .1 .1 .0) (rw (r .1) at (after-answer .answer .ensures .0)) (after-available .available .ensures .0) (c .if1 .taken)), after-answer .answer .ensures .1)
 
 -- src/lib.rt:115:9
 first-of-requires : tie.Need-first-of-requires Inv-loop μ-loop
@@ -105,16 +126,23 @@ loop-less c = omega (arith, c .before .before .before .available .ensures .0, c 
 -- src/lib.rt:106:5
 loop-again : tie.Need-loop-again Inv-loop μ-loop
 loop-again c =
-    let a = c .before .before .before .before .before .before .before .before .before .before .before .before .before .before .before .before .before .before .before .before .before .args in
-    let l = c .before .before .before .before .before .before .before .before .before .before .before .before .before .before .loop in
-    let r = c .before .before .before .before .before .reply .given in (
-      c .before .before .before .before .before .before .before .before .before .answer .kept .1 .1 .1 .1 .1 .1 .1 .0 ∙ l .inv .0,
-      c .before .before .before .before .before .before .before .before .before .answer .ensures .1 .0,
-      c .before .before .before .before .before .before .before .before .before .answer .ensures .1 .1,
-      omega (arith, c .before .before .before .available .ensures .0, l .inv .3),
-      c .before .first-of .ensures .0,
+    let after-first-of = c .before in
+    let after-available = after-first-of .before .before in
+    let after-reply = after-available .before .before in
+    let after-answer = after-reply .before .before .before .before in
+    let tested = after-answer .before .before .before .before in
+    let round = tested .before in
+    let start = round .before .before .before .before .before .before .before in
+    let a = start .args in
+    let l = round .loop in
+    let r = after-reply .reply .given in (
+      after-answer .answer .kept .1 .1 .1 .1 .1 .1 .1 .0 ∙ l .inv .0,
+      after-answer .answer .ensures .1 .0,
+      after-answer .answer .ensures .1 .1,
+      omega (arith, after-available .available .ensures .0, l .inv .3),
+      after-first-of .first-of .ensures .0,
       c .after-no .ensures .0,
-      going-on (a .table .now) (a .view .now) (a .records .now) (a .k) (a .want) (a .from) (a .to) (l .words) (l .done) (l .first) (l .after) (l .inv .6) (c .before .before .before .before .before .before .before .before .before .before .before .before .before .loop-test .taken) (r .0 .0) (r .0 .1 .0) (c .before .before .before .available .result) (c .before .before .before .before .before .before .before .before .before .answer .last .1 .1 .1 .1 .1 .1 .1 .0) (rw (r .1) at (c .before .before .before .before .before .before .before .before .before .answer .ensures .0)) (c .before .before .before .available .ensures .0) (c .before .first-of .result) (c .after-no .result) (c .before .first-of .ensures .1) (c .after-no .ensures .1),
+      going-on (a .table .now) (a .view .now) (a .records .now) (a .k) (a .want) (a .from) (a .to) (l .words) (l .done) (l .first) (l .after) (l .inv .6) (tested .loop-test .taken) (r .0 .0) (r .0 .1 .0) (after-available .available .result) (after-answer .answer .last .1 .1 .1 .1 .1 .1 .1 .0) (rw (r .1) at (after-answer .answer .ensures .0)) (after-available .available .ensures .0) (after-first-of .first-of .result) (c .after-no .result) (after-first-of .first-of .ensures .1) (c .after-no .ensures .1),
     )
 
 -- src/lib.rt:86:1

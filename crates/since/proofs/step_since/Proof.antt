@@ -38,8 +38,10 @@ slice-read-if2 c = search needs
 
 returns-2 : tie.Need-returns-2
 returns-2 c =
-    let a = c .before .before .before .before .before .before .before .args in
-    ((refl, refl, c .if2 .taken, λ e. pos-of-ne-zero (c .before .before .if1 .left)), (since-right (a .low) (a .high) (a .view .now) (a .records .now) (a .block .now), c .before .before .before .before .before .before .before .pre .2))
+    let after-if1 = c .before .before in
+    let start = after-if1 .before .before .before .before .before in
+    let a = start .args in
+    ((refl, refl, c .if2 .taken, λ e. pos-of-ne-zero (after-if1 .if1 .left)), (since-right (a .low) (a .high) (a .view .now) (a .records .now) (a .block .now), start .pre .2))
 
 slice-read-smaller : tie.Need-slice-read-smaller
 slice-read-smaller c = search needs
@@ -58,9 +60,12 @@ available-requires c κs = search needs
 
 returns-3 : tie.Need-returns-3
 returns-3 c =
-    let a = c .before .before .before .before .before .before .before .before .before .before .before .before .before .args in
-    let (left, right, room) = both (c .before .before .before .before .before .before) in
-    (refl, (since-open (a .low) (a .high) (a .view .now) (a .records .now) (a .block .now) (c .before .available .result) left right room (taking (c .before)) (c .if3 .taken), c .before .before .before .before .before .before .before .before .before .before .before .before .before .pre .2))
+    let after-available = c .before in
+    let earlier6 = after-available .before .before .before .before .before in
+    let start = earlier6 .before .before .before .before .before .before .before in
+    let a = start .args in
+    let (left, right, room) = both (earlier6) in
+    (refl, (since-open (a .low) (a .high) (a .view .now) (a .records .now) (a .block .now) (after-available .available .result) left right room (taking after-available) (c .if3 .taken), start .pre .2))
 
 slice-read-open : tie.Need-slice-read-open
 slice-read-open c = search needs
@@ -73,31 +78,44 @@ open-requires c κs =
 
 take-window-requires : tie.Need-take-window-requires
 take-window-requires c κs =
-    let a = c .before .before .before .before .before .before .before .before .before .before .before .before .before .before .before .before .before .before .before .args in
-    let pre = c .before .before .before .before .before .before .before .before .before .before .before .before .before .before .before .before .before .before .before .pre in
-    let opened = c .before .before .before .«open» .ensures in
-    (pre .0, pre .1, readable (a .view .now) (head (a .block .now)) opened, opened .long, pos-of-ne-zero (c .before .before .before .before .before .before .if3 .left), taking (c .before .before .before .before .before .before .before) .few)
+    let earlier3 = c .before .before .before in
+    let after-if3 = earlier3 .before .before .before in
+    let earlier7 = after-if3 .before in
+    let start = earlier7 .before .before .before .before .before .before .before .before .before .before .before .before in
+    let a = start .args in
+    let pre = start .pre in
+    let opened = earlier3 .«open» .ensures in
+    (pre .0, pre .1, readable (a .view .now) (head (a .block .now)) opened, opened .long, pos-of-ne-zero (after-if3 .if3 .left), taking (earlier7) .few)
 
 take-both-requires : tie.Need-take-both-requires
 take-both-requires c κs =
-    let a = c .before .before .before .before .before .before .before .before .before .before .before .before .before .before .before .before .before .before .before .before .before .before .before .args in
-    let (left, right, room) = both (c .before .before .before .before .before .before .before .before .before .before .before .before .before .before .before .before) in
-    let turn = c .before .before .before .take-window in
-    takable (a .low) (a .high) (a .view .now) (a .records .now) (a .block .now) (c .before .before .before .before .before .before .before .before .before .before .before .available .result) left right room (taking (c .before .before .before .before .before .before .before .before .before .before .before))
-    (pos-of-ne-zero (c .before .before .before .before .before .before .before .before .before .before .if3 .left))
-    (c .before .before .before .before .before .before .before .«open» .result)
+    let after-take-window = c .before .before .before in
+    let earlier7 = after-take-window .before .before .before .before in
+    let after-if3 = earlier7 .before .before .before in
+    let after-available = after-if3 .before in
+    let earlier16 = after-available .before .before .before .before .before in
+    let start = earlier16 .before .before .before .before .before .before .before in
+    let a = start .args in
+    let (left, right, room) = both (earlier16) in
+    let turn = after-take-window .take-window in
+    takable (a .low) (a .high) (a .view .now) (a .records .now) (a .block .now) (after-available .available .result) left right room (taking after-available)
+    (pos-of-ne-zero (after-if3 .if3 .left))
+    (earlier7 .«open» .result)
     _
-    (c .before .before .before .before .before .before .before .«open» .ensures)
+    (earlier7 .«open» .ensures)
     (turn .last .1 .1 .1 .1 .1 .1 .0)
     (turn .kept .1 .1 .1 .1 .1 .1 .0)
     (turn .result)
     (turn .ensures)
-    (c .before .before .before .before .before .before .before .before .before .before .before .available .ensures .1)
+    (after-available .available .ensures .1)
 
 pass-all-requires : tie.Need-pass-all-requires
 pass-all-requires c κs =
-    let a = c .before .before .before .before .before .before .before .before .before .before .before .before .before .before .before .before .before .before .before .before .before .before .before .before .before .before .args in
-    end-fits (a .view .now) (head (a .block .now)) (c .before .before .before .before .before .before .before .before .before .before .«open» .ensures) (c .before .before .before .before .before .before .before .before .before .before .before .before .before .before .before .before .before .before .before .before .before .before .before .before .before .before .pre .3) (c .before .before .before .before .before .before .before .before .before .before .before .before .before .before .before .before .before .before .before .before .before .before .before .before .slice-known .given 11 .fits)
+    let earlier10 = c .before .before .before .before .before .before .before .before .before .before in
+    let after-slice-known = earlier10 .before .before .before .before .before .before .before .before .before .before .before .before .before .before in
+    let start = after-slice-known .before .before in
+    let a = start .args in
+    end-fits (a .view .now) (head (a .block .now)) (earlier10 .«open» .ensures) (start .pre .3) (after-slice-known .slice-known .given 11 .fits)
 
 slice-write-block : tie.Need-slice-write-block
 slice-write-block c =
@@ -108,26 +126,34 @@ same-length c = length-set (c .before .before .before .take-both .last .0) 11 (c
 
 returns-4 : tie.Need-returns-4
 returns-4 c =
-    let a = c .before .before .before .before .before .before .before .before .before .before .before .before .before .before .before .before .before .before .before .before .before .before .before .before .before .before .before .args in
-    let (left, right, room) = both (c .before .before .before .before .before .before .before .before .before .before .before .before .before .before .before .before .before .before .before .before) in
-    let turn = c .before .before .before .before .before .before .before .take-window in
-    let av = taking (c .before .before .before .before .before .before .before .before .before .before .before .before .before .before .before) in
-    let some = pos-of-ne-zero (c .before .before .before .before .before .before .before .before .before .before .before .before .before .before .if3 .left) in
-    let opened = c .before .before .before .before .before .before .before .before .before .before .before .«open» .ensures in (
-      rw (c .before .before .before .take-both .ensures, c .pass-all .ensures)
-          (since-onward (a .low) (a .high) (a .view .now) (a .records .now) (a .block .now) (c .before .before .before .before .before .before .before .before .before .before .before .before .before .before .before .available .result) left right room av some (c .before .before .before .before .before .before .before .before .before .before .before .«open» .result) _ opened
+    let after-take-both = c .before .before .before in
+    let after-take-window = after-take-both .before .before .before .before in
+    let earlier11 = after-take-window .before .before .before .before in
+    let after-if3 = earlier11 .before .before .before in
+    let after-available = after-if3 .before in
+    let earlier20 = after-available .before .before .before .before .before in
+    let after-shared-slice-known = earlier20 .before .before .before .before .before .before in
+    let start = after-shared-slice-known .before in
+    let a = start .args in
+    let (left, right, room) = both (earlier20) in
+    let turn = after-take-window .take-window in
+    let av = taking after-available in
+    let some = pos-of-ne-zero (after-if3 .if3 .left) in
+    let opened = earlier11 .«open» .ensures in (
+      rw (after-take-both .take-both .ensures, c .pass-all .ensures)
+          (since-onward (a .low) (a .high) (a .view .now) (a .records .now) (a .block .now) (after-available .available .result) left right room av some (earlier11 .«open» .result) _ opened
           (turn .last .1 .1 .1 .1 .1 .1 .0)
           (turn .kept .1 .1 .1 .1 .1 .1 .0)
           (turn .result)
           (turn .ensures)),
       (
-        rw (c .before .before .before .take-both .ensures, c .pass-all .ensures)
-            (since-batch (a .low) (a .high) (a .view .now) (a .records .now) (a .block .now) (c .before .before .before .before .before .before .before .before .before .before .before .before .before .before .before .available .result) left right room av some (c .before .before .before .before .before .before .before .before .before .before .before .«open» .result) _ opened
+        rw (after-take-both .take-both .ensures, c .pass-all .ensures)
+            (since-batch (a .low) (a .high) (a .view .now) (a .records .now) (a .block .now) (after-available .available .result) left right room av some (earlier11 .«open» .result) _ opened
             (turn .last .1 .1 .1 .1 .1 .1 .0)
             (turn .kept .1 .1 .1 .1 .1 .1 .0)
             (turn .result)
             (turn .ensures)
-            (λ i. c .before .before .before .before .before .before .before .before .before .before .before .before .before .before .before .before .before .before .before .before .before .before .before .before .before .before .shared-slice-known .given i .fits)),
+            (λ i. after-shared-slice-known .shared-slice-known .given i .fits)),
         opened .room,
       ),
     )

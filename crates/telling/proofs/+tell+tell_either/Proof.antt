@@ -59,17 +59,41 @@ pub +tell+tell-either-spec : {M : Type 1} → statement M
     (λ c. c .before .before .before .before .put-line .kept .1 .1 .1 .0)
     (λ c. (tells-none (c .before .before .before .before .before .before .before .before .before .before .before .before .before .before .before .pre .1) (c .before .before .before .before .before .before .before .before .say .ensures .0) (c .before .before .before .before .put-line .ensures) (c .if1 .taken), c .before .before .before .before .before .before .before .before .say .ensures .1))
     -- the only operand's lines follow
-    (λ c. before (c .before .before .before .before .before .before .before .before .before .before .before .before .before .before .before .before .before .before .before .before .pre .1) (c .before .before .before .before .before .before .before .before .before .before .before .before .before .say .ensures .0) (c .before .before .before .before .before .before .before .before .before .put-line .ensures) (c .before .before .before .before .before .if1 .left))
-    (λ c κs. let told = before (c .before .before .before .before .before .before .before .before .before .before .before .before .before .before .before .before .before .before .before .before .before .pre .1) (c .before .before .before .before .before .before .before .before .before .before .before .before .before .before .say .ensures .0) (c .before .before .before .before .before .before .before .before .before .before .put-line .ensures) (c .before .before .before .before .before .before .if1 .left) in (omega (arith, c .before .before .before .before .before .before .before .before .before .before .before .before .before .before .before .before .before .before .before .before .before .pre .0), may-tell (c .before .before .before .before .before .before .before .before .before .before .before .before .before .before .before .before .before .before .before .before .before .pre .1) (c .before .before .before .before .before .before .before .before .before .before .before .before .before .before .say .ensures .0) (c .before .before .before .before .before .before .before .before .before .before .put-line .ensures) (c .before .before .before .before .before .before .before .before .before .before .before .before .before .before .say .kept .1 .1 .1 .1 .1 .0) (c .before .before .before .before .before .before .before .before .before .before .before .before .before .before .say .ensures .1) (c .before .before .before .before .before .before .before .before .before .before .put-line .kept .1 .1 .1 .0) (c .before .before .before .before .before .before .if1 .left)))
+    (λ c. let after-if1 = c .before .before .before .before .before in
+    let after-put-line = after-if1 .before .before .before .before in
+    let after-say = after-put-line .before .before .before .before in
+    let start = after-say .before .before .before .before .before .before .before in
+    before (start .pre .1) (after-say .say .ensures .0) (after-put-line .put-line .ensures) (after-if1 .if1 .left))
+    (λ c κs. let after-if1 = c .before .before .before .before .before .before in
+    let after-put-line = after-if1 .before .before .before .before in
+    let after-say = after-put-line .before .before .before .before in
+    let start = after-say .before .before .before .before .before .before .before in
+    let told = before (start .pre .1) (after-say .say .ensures .0) (after-put-line .put-line .ensures) (after-if1 .if1 .left) in (omega (arith, start .pre .0), may-tell (start .pre .1) (after-say .say .ensures .0) (after-put-line .put-line .ensures) (after-say .say .kept .1 .1 .1 .1 .1 .0) (after-say .say .ensures .1) (after-put-line .put-line .kept .1 .1 .1 .0) (after-if1 .if1 .left)))
     (λ c κs. search needs)
     (λ c. c .before .before .before .before .before .tell .kept .1 .1 .1 .1 .1 .0 ∙ c .before .before .before .before .before .before .before .before .before .before .before .before .before .before .before .before .before .before .before .before .say .kept .1 .1 .1 .1 .1 .0)
     (λ c. c .before .before .before .before .before .tell .kept .1 .1 .1 .1 .1 .1 .1 .1 .0 ∙ c .before .before .before .before .before .before .before .before .before .before .before .before .before .before .before .before .put-line .kept .1 .1 .1 .0)
-    (λ c. (tells-one (c .before .before .before .before .before .before .before .before .before .before .before .before .before .before .before .before .before .before .before .before .before .before .before .before .before .before .before .pre .1) (c .before .before .before .before .before .before .before .before .before .before .before .before .before .before .before .before .before .before .before .before .say .ensures .0) (c .before .before .before .before .before .before .before .before .before .before .before .before .before .before .before .before .put-line .ensures) (c .before .before .before .before .before .before .before .before .before .before .if2 .taken) (c .before .before .before .before .before .tell .ensures .0) (c .turned .result) (c .turned .ensures), c .before .before .before .before .before .tell .ensures .1))
+    (λ c. let after-tell = c .before .before .before .before .before in
+    let after-if2 = after-tell .before .before .before .before .before in
+    let after-put-line = after-if2 .before .before .before .before .before .before in
+    let after-say = after-put-line .before .before .before .before in
+    let start = after-say .before .before .before .before .before .before .before in
+    (tells-one (start .pre .1) (after-say .say .ensures .0) (after-put-line .put-line .ensures) (after-if2 .if2 .taken) (after-tell .tell .ensures .0) (c .turned .result) (c .turned .ensures), after-tell .tell .ensures .1))
     -- an or's operands' lines follow
-    (λ c κs. (omega (arith, c .before .before .before .before .before .before .before .before .before .before .before .before .before .before .before .before .before .before .before .before .before .pre .0), may-either (c .before .before .before .before .before .before .before .before .before .before .before .before .before .before .before .before .before .before .before .before .before .pre .1) (c .before .before .before .before .before .before .before .before .before .before .before .before .before .before .say .ensures .0) (c .before .before .before .before .before .before .before .before .before .before .put-line .ensures) (c .before .before .before .before .before .before .before .before .before .before .before .before .before .before .say .kept .1 .1 .1 .1 .1 .0) (c .before .before .before .before .before .before .before .before .before .before .before .before .before .before .say .ensures .1) (c .before .before .before .before .before .before .before .before .before .before .put-line .kept .1 .1 .1 .0) (c .before .before .before .before .before .before .if1 .left) (c .before .before .before .before .if2 .left)))
+    (λ c κs. let after-if2 = c .before .before .before .before in
+    let after-if1 = after-if2 .before .before in
+    let after-put-line = after-if1 .before .before .before .before in
+    let after-say = after-put-line .before .before .before .before in
+    let start = after-say .before .before .before .before .before .before .before in
+    (omega (arith, start .pre .0), may-either (start .pre .1) (after-say .say .ensures .0) (after-put-line .put-line .ensures) (after-say .say .kept .1 .1 .1 .1 .1 .0) (after-say .say .ensures .1) (after-put-line .put-line .kept .1 .1 .1 .0) (after-if1 .if1 .left) (after-if2 .if2 .left)))
     (λ c. c .before .before .before .before .tell-either .kept .1 .1 .1 .1 .1 .0 ∙ c .before .before .before .before .before .before .before .before .before .before .before .before .before .before .before .before .before .before .before .say .kept .1 .1 .1 .1 .1 .0)
     (λ c. c .before .before .before .before .tell-either .kept .1 .1 .1 .1 .1 .1 .1 .1 .0 ∙ c .before .before .before .before .before .before .before .before .before .before .before .before .before .before .before .put-line .kept .1 .1 .1 .0)
-    (λ c. (tells-two (c .before .before .before .before .before .before .before .before .before .before .before .before .before .before .before .before .before .before .before .before .before .before .before .before .before .before .pre .1) (c .before .before .before .before .before .before .before .before .before .before .before .before .before .before .before .before .before .before .before .say .ensures .0) (c .before .before .before .before .before .before .before .before .before .before .before .before .before .before .before .put-line .ensures) (c .before .before .before .before .before .before .before .before .before .before .before .if1 .left) (c .before .before .before .before .before .before .before .before .before .if2 .left) (c .before .before .before .before .tell-either .ensures .0), c .before .before .before .before .tell-either .ensures .1)))
+    (λ c. let after-tell-either = c .before .before .before .before in
+    let after-if2 = after-tell-either .before .before .before .before .before in
+    let after-if1 = after-if2 .before .before in
+    let after-put-line = after-if1 .before .before .before .before in
+    let after-say = after-put-line .before .before .before .before in
+    let start = after-say .before .before .before .before .before .before .before in
+    (tells-two (start .pre .1) (after-say .say .ensures .0) (after-put-line .put-line .ensures) (after-if1 .if1 .left) (after-if2 .if2 .left) (after-tell-either .tell-either .ensures .0), after-tell-either .tell-either .ensures .1)))
     (λ t.
     either-lts.spec
     (field-reads.Asked, field-reads.Learnt, tell-below t, tell.Post, shift-reads.Asked, shift-reads.Learnt)
@@ -77,20 +101,43 @@ pub +tell+tell-either-spec : {M : Type 1} → statement M
     either.Post
     -- left's lines
     (λ c κs. let entry = c .before .before .before .pre .1 .lent .entry in (entry, omega arith))
-    (λ c κs. let (below, same) = or-left (c .before .before .before .before .before .before .before .before .pre .1 .lent) (c .before .before .before .before .before .before .before .before .pre .1 .kind) in let at = c .before .before .before .before .field .ensures in (omega (arith, c .before .before .before .before .before .before .before .before .pre .0), may-left (c .before .before .before .before .before .before .before .before .pre .1) _ at))
+    (λ c κs. let after-field = c .before .before .before .before in
+    let start = after-field .before .before .before .before in
+    let (below, same) = or-left (start .pre .1 .lent) (start .pre .1 .kind) in let at = after-field .field .ensures in (omega (arith, start .pre .0), may-left (start .pre .1) _ at))
     -- left is yes
     (λ c. c .before .before .before .before .before .tell .kept .1 .1 .1 .1 .1 .0)
     (λ c. c .before .before .before .before .before .tell .kept .1 .1 .1 .1 .1 .1 .1 .1 .0)
     (λ c. (tells-left (c .before .before .before .before .before .before .before .before .before .before .before .before .before .before .pre .1) (c .before .before .before .before .before .before .before .before .before .before .field .ensures) (c .before .before .before .before .before .tell .ensures .0) (c .if1 .taken), c .before .before .before .before .before .tell .ensures .1))
     -- right's lines
-    (λ c. or-right (c .before .before .before .before .before .before .before .before .before .before .before .before .before .before .before .before .before .pre .1 .lent) (c .before .before .before .before .before .before .before .before .before .before .before .before .before .before .before .before .before .pre .1 .kind) .0)
-    (λ c κs. let (below, same) = or-right (c .before .before .before .before .before .before .before .before .before .before .before .before .before .before .before .before .before .before .pre .1 .lent) (c .before .before .before .before .before .before .before .before .before .before .before .before .before .before .before .before .before .before .pre .1 .kind) in (omega (arith, c .before .before .before .before .before .before .before .before .before .before .before .before .before .before .before .before .before .before .pre .0), may-right (c .before .before .before .before .before .before .before .before .before .before .before .before .before .before .before .before .before .before .pre .1) (c .before .before .before .before .before .before .before .before .before .before .before .before .before .before .field .ensures) (c .before .before .before .before .before .before .before .before .before .tell .ensures .0) (c .before .before .before .before .before .before .before .before .before .tell .kept .1 .1 .1 .1 .1 .0) (c .before .before .before .before .before .before .before .before .before .tell .ensures .1) (c .before .before .before .before .before .before .before .before .before .tell .kept .1 .1 .1 .1 .1 .1 .1 .1 .0)))
+    (λ c. let start = c .before .before .before .before .before .before .before .before .before .before .before .before .before .before .before .before .before in
+    or-right (start .pre .1 .lent) (start .pre .1 .kind) .0)
+    (λ c κs. let after-tell = c .before .before .before .before .before .before .before .before .before in
+    let after-field = after-tell .before .before .before .before .before in
+    let start = after-field .before .before .before .before in
+    let (below, same) = or-right (start .pre .1 .lent) (start .pre .1 .kind) in (omega (arith, start .pre .0), may-right (start .pre .1) (after-field .field .ensures) (after-tell .tell .ensures .0) (after-tell .tell .kept .1 .1 .1 .1 .1 .0) (after-tell .tell .ensures .1) (after-tell .tell .kept .1 .1 .1 .1 .1 .1 .1 .1 .0)))
     -- right is yes: its lines stand in left's place
-    (λ c κs. let (up, on, inside) = may-shift (c .before .before .before .before .before .before .before .before .before .before .before .before .before .before .before .before .before .before .before .before .before .before .before .before .before .pre .1) (c .before .before .before .before .before .before .before .before .before .before .before .before .before .before .before .before .before .before .before .before .before .field .ensures) (c .before .before .before .before .before .before .before .before .before .before .before .before .before .before .before .before .tell .ensures .0) (c .before .before .before .before .before .before .before .before .before .before .before .if1 .left) (c .before .before .before .before .before .before .tell2 .ensures .0) (c .before .before .before .before .before .before .tell2 .kept .1 .1 .1 .1 .1 .1 .1 .1 .0 ∙ c .before .before .before .before .before .before .before .before .before .before .before .before .before .before .before .before .tell .kept .1 .1 .1 .1 .1 .1 .1 .1 .0) in (omega arith, on, inside))
+    (λ c κs. let after-tell2 = c .before .before .before .before .before .before in
+    let after-if1 = after-tell2 .before .before .before .before .before in
+    let after-tell = after-if1 .before .before .before .before .before in
+    let after-field = after-tell .before .before .before .before .before in
+    let start = after-field .before .before .before .before in
+    let (up, on, inside) = may-shift (start .pre .1) (after-field .field .ensures) (after-tell .tell .ensures .0) (after-if1 .if1 .left) (after-tell2 .tell2 .ensures .0) (after-tell2 .tell2 .kept .1 .1 .1 .1 .1 .1 .1 .1 .0 ∙ after-tell .tell .kept .1 .1 .1 .1 .1 .1 .1 .1 .0) in (omega arith, on, inside))
     (λ c. c .before .before .before .before .before .before .before .before .before .tell2 .kept .1 .1 .1 .1 .1 .0 ∙ c .before .before .before .before .before .before .before .before .before .before .before .before .before .before .before .before .before .before .before .tell .kept .1 .1 .1 .1 .1 .0)
     (λ c. c .before .before .shift .kept .0 ∙ c .before .before .before .before .before .before .before .before .before .tell2 .kept .1 .1 .1 .1 .1 .1 .1 .1 .0 ∙ c .before .before .before .before .before .before .before .before .before .before .before .before .before .before .before .before .before .before .before .tell .kept .1 .1 .1 .1 .1 .1 .1 .1 .0)
-    (λ c. (tells-right (c .before .before .before .before .before .before .before .before .before .before .before .before .before .before .before .before .before .before .before .before .before .before .before .before .before .before .before .before .pre .1) (c .before .before .before .before .before .before .before .before .before .before .before .before .before .before .before .before .before .before .before .before .before .before .before .before .field .ensures) (c .before .before .before .before .before .before .before .before .before .before .before .before .before .before .before .before .before .before .before .tell .ensures .0) (c .before .before .before .before .before .before .before .before .before .before .before .before .before .before .if1 .left) (c .before .before .before .before .before .before .before .before .before .tell2 .ensures .0) (c .before .before .before .before .if2 .taken) (c .before .before .shift .ensures), c .before .before .before .before .before .before .before .before .before .tell2 .ensures .1))
+    (λ c. let after-shift = c .before .before in
+    let after-if2 = after-shift .before .before in
+    let after-tell2 = after-if2 .before .before .before .before .before in
+    let after-if1 = after-tell2 .before .before .before .before .before in
+    let after-tell = after-if1 .before .before .before .before .before in
+    let after-field = after-tell .before .before .before .before .before in
+    let start = after-field .before .before .before .before in
+    (tells-right (start .pre .1) (after-field .field .ensures) (after-tell .tell .ensures .0) (after-if1 .if1 .left) (after-tell2 .tell2 .ensures .0) (after-if2 .if2 .taken) (after-shift .shift .ensures), after-tell2 .tell2 .ensures .1))
     -- neither is
     (λ c. c .before .before .before .before .before .tell2 .kept .1 .1 .1 .1 .1 .0 ∙ c .before .before .before .before .before .before .before .before .before .before .before .before .before .before .before .tell .kept .1 .1 .1 .1 .1 .0)
     (λ c. c .before .before .before .before .before .tell2 .kept .1 .1 .1 .1 .1 .1 .1 .1 .0 ∙ c .before .before .before .before .before .before .before .before .before .before .before .before .before .before .before .tell .kept .1 .1 .1 .1 .1 .1 .1 .1 .0)
-    (λ c. (tells-both (c .before .before .before .before .before .before .before .before .before .before .before .before .before .before .before .before .before .before .before .before .before .before .before .before .pre .1) (c .before .before .before .before .before .before .before .before .before .before .before .before .before .before .before .before .before .before .before .before .field .ensures) (c .before .before .before .before .before .before .before .before .before .before .before .before .before .before .before .tell .ensures .0) (c .before .before .before .before .before .before .before .before .before .before .if1 .left) (c .before .before .before .before .before .tell2 .ensures .0) (c .if2 .left), c .before .before .before .before .before .tell2 .ensures .1)))
+    (λ c. let after-tell2 = c .before .before .before .before .before in
+    let after-if1 = after-tell2 .before .before .before .before .before in
+    let after-tell = after-if1 .before .before .before .before .before in
+    let after-field = after-tell .before .before .before .before .before in
+    let start = after-field .before .before .before .before in
+    (tells-both (start .pre .1) (after-field .field .ensures) (after-tell .tell .ensures .0) (after-if1 .if1 .left) (after-tell2 .tell2 .ensures .0) (c .if2 .left), after-tell2 .tell2 .ensures .1)))
