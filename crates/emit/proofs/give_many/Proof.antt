@@ -35,49 +35,32 @@ same-length-2 c = c .before .before .before .before .before .before .before .bef
 
 returns : tie.Need-returns Inv-loop μ-loop
 returns c =
-    let after-available = c .before in
-    let after-hold = after-available .before .before .before in
-    let round = after-hold .before .before .before .before in
-    let start = round .before .before .before .before .before in
-    let l = round .loop in
-    ended (start .pre .0) (l .inv .1) (after-hold .hold .ensures .0) (λ some. omega (arith, after-available .available .ensures .0, l .inv .1 .sheet-length))
+    let l = c .before .before .before .before .before .before .before .before .loop in
+    ended (c .before .before .before .before .before .before .before .before .before .before .before .before .before .pre .0) (l .inv .1) (c .before .before .before .before .hold .ensures .0) (λ some. omega (arith, c .before .available .ensures .0, l .inv .1 .sheet-length))
 
 copy-answers-requires : tie.Need-copy-answers-requires Inv-loop μ-loop
 copy-answers-requires c κs =
-    let after-hold = c .before .before .before .before .before .before in
-    let round = after-hold .before .before .before .before in
-    let start = round .before .before .before .before .before in
-    let l = round .loop in
-    let (few, inside) = copyable (start .pre .0) (l .inv .1) (after-hold .hold .ensures .0) in
+    let l = c .before .before .before .before .before .before .before .before .before .before .loop in
+    let (few, inside) = copyable (c .before .before .before .before .before .before .before .before .before .before .before .before .before .before .before .pre .0) (l .inv .1) (c .before .before .before .before .before .before .hold .ensures .0) in
     (few, l .inv .0, inside)
 
 write-answers-requires : tie.Need-write-answers-requires Inv-loop μ-loop
 write-answers-requires c κs =
-    let after-available = c .before .before .before .before .before .before in
-    let after-hold = after-available .before .before .before in
-    let round = after-hold .before .before .before .before in
-    let after-columns-of = round .before in
-    let s = after-columns-of .before .before .before .before in
+    let s = c .before .before .before .before .before .before .before .before .before .before .before .before .before .before .before .before .before .before in
     let p = s .pre .0 in
-    let l = round .loop in
-    let (room, word) = writable p (l .inv .1) (after-hold .hold .ensures .0) (after-available .available .result) (after-available .available .ensures .0) (omega (arith, s .good .1 .1 .1 .1 .1 .1 .1 .1 .1 .0 .1)) in
-    (room, word, omega (arith, after-columns-of .columns-of .ensures, p .formulas, p .small .1))
+    let l = c .before .before .before .before .before .before .before .before .before .before .before .before .before .loop in
+    let (room, word) = writable p (l .inv .1) (c .before .before .before .before .before .before .before .before .before .hold .ensures .0) (c .before .before .before .before .before .before .available .result) (c .before .before .before .before .before .before .available .ensures .0) (omega (arith, s .good .1 .1 .1 .1 .1 .1 .1 .1 .1 .0 .1)) in
+    (room, word, omega (arith, c .before .before .before .before .before .before .before .before .before .before .before .before .before .before .columns-of .ensures, p .formulas, p .small .1))
 
 take-verdicts-requires : tie.Need-take-verdicts-requires Inv-loop μ-loop
 take-verdicts-requires c κs =
-    let after-available = c .before .before .before .before .before .before .before .before .before .before in
-    let after-hold = after-available .before .before .before in
-    let round = after-hold .before .before .before .before in
-    let s = round .before .before .before .before .before in
-    takes-out (s .pre .0) (round .loop .inv .1) (after-hold .hold .ensures .0) (after-available .available .result) (after-available .available .ensures .0) (omega (arith, s .good .1 .1 .1 .1 .1 .1 .1 .1 .1 .0 .1))
+    let s = c .before .before .before .before .before .before .before .before .before .before .before .before .before .before .before .before .before .before .before .before .before .before in
+    takes-out (s .pre .0) (c .before .before .before .before .before .before .before .before .before .before .before .before .before .before .before .before .before .loop .inv .1) (c .before .before .before .before .before .before .before .before .before .before .before .before .before .hold .ensures .0) (c .before .before .before .before .before .before .before .before .before .before .available .result) (c .before .before .before .before .before .before .before .before .before .before .available .ensures .0) (omega (arith, s .good .1 .1 .1 .1 .1 .1 .1 .1 .1 .0 .1))
 
 add-done : tie.Need-add-done Inv-loop μ-loop
 add-done c =
-    let after-available = c .before .before .before .before .before .before .before .before .before .before .before .before .before in
-    let after-hold = after-available .before .before .before in
-    let round = after-hold .before .before .before .before in
-    let s = round .before .before .before .before .before in
-    record { fits = countable (s .pre .0) (round .loop .inv .1) (after-hold .hold .ensures .0) (after-available .available .result) (after-available .available .ensures .0) (omega (arith, s .good .1 .1 .1 .1 .1 .1 .1 .1 .1 .0 .1)) }
+    let s = c .before .before .before .before .before .before .before .before .before .before .before .before .before .before .before .before .before .before .before .before .before .before .before .before .before in
+    record { fits = countable (s .pre .0) (c .before .before .before .before .before .before .before .before .before .before .before .before .before .before .before .before .before .before .before .before .loop .inv .1) (c .before .before .before .before .before .before .before .before .before .before .before .before .before .before .before .before .hold .ensures .0) (c .before .before .before .before .before .before .before .before .before .before .before .before .before .available .result) (c .before .before .before .before .before .before .before .before .before .before .before .before .before .available .ensures .0) (omega (arith, s .good .1 .1 .1 .1 .1 .1 .1 .1 .1 .0 .1)) }
 
 loop-less : tie.Need-loop-less Inv-loop μ-loop
 loop-less c =
@@ -86,19 +69,12 @@ loop-less c =
 
 loop-again : tie.Need-loop-again Inv-loop μ-loop
 loop-again c =
-    let after-take-verdicts = c .before .before in
-    let after-write-answers = after-take-verdicts .before .before .before .before in
-    let after-copy-answers = after-write-answers .before .before .before in
-    let after-available = after-copy-answers .before .before .before .before in
-    let after-hold = after-available .before .before .before in
-    let round = after-hold .before .before .before .before in
-    let after-columns-of = round .before in
-    let s = after-columns-of .before .before .before .before in
-    let h = after-hold .hold in
-    let a = after-copy-answers .copy-answers in (
+    let s = c .before .before .before .before .before .before .before .before .before .before .before .before .before .before .before .before .before .before .before .before .before .before .before .before .before in
+    let h = c .before .before .before .before .before .before .before .before .before .before .before .before .before .before .before .before .hold in
+    let a = c .before .before .before .before .before .before .before .before .before .copy-answers in (
       a .ensures .long,
-      turned (s .pre .0) (round .loop .inv .1) (h .ensures .0) (after-available .available .result) (after-available .available .ensures .0) (omega (arith, s .good .1 .1 .1 .1 .1 .1 .1 .1 .1 .0 .1))
-          (a .last .1 .1 .1 .0) (after-columns-of .columns-of .result) (after-columns-of .columns-of .ensures) (a .ensures) _ _ (after-take-verdicts .take-verdicts .ensures) (after-write-answers .write-answers .ensures),
+      turned (s .pre .0) (c .before .before .before .before .before .before .before .before .before .before .before .before .before .before .before .before .before .before .before .before .loop .inv .1) (h .ensures .0) (c .before .before .before .before .before .before .before .before .before .before .before .before .before .available .result) (c .before .before .before .before .before .before .before .before .before .before .before .before .before .available .ensures .0) (omega (arith, s .good .1 .1 .1 .1 .1 .1 .1 .1 .1 .0 .1))
+          (a .last .1 .1 .1 .0) (c .before .before .before .before .before .before .before .before .before .before .before .before .before .before .before .before .before .before .before .before .before .columns-of .result) (c .before .before .before .before .before .before .before .before .before .before .before .before .before .before .before .before .before .before .before .before .before .columns-of .ensures) (a .ensures) _ _ (c .before .before .take-verdicts .ensures) (c .before .before .before .before .before .before .write-answers .ensures),
       h .ensures .1 .0,
       h .ensures .1 .1,
     )

@@ -55,16 +55,10 @@ number-requires c κs = search needs
 -- src/lib.rt:242:9
 returns : tie.Need-returns
 returns c =
-    let after-enum-told2 = c .before in
-    let after-measure-decoded = after-enum-told2 .before .before in
-    let after-decode = after-measure-decoded .before in
-    let after-count = after-decode .before in
-    let after-check-header = after-count .before in
-    let start = after-check-header .before .before .before .before in
-    let a = start .args in
+    let a = c .before .before .before .before .before .before .before .before .before .before .args in
     let rule = a .rule .now in
-    let told = after-enum-told2 .enum-told2 .given in
-    let weighed = after-measure-decoded .measure-decoded .ensures ∙ measured-once _ _ (after-check-header .check-header .ensures) _ _ (after-count .count .ensures) (after-decode .decode .ensures) in
+    let told = c .before .enum-told2 .given in
+    let weighed = c .before .before .before .measure-decoded .ensures ∙ measured-once _ _ (c .before .before .before .before .before .before .check-header .ensures) _ _ (c .before .before .before .before .before .count .ensures) (c .before .before .before .before .decode .ensures) in
     let stops = stops-with rule _ (ap weighing (sym (told .1)) ∙ weighed) in
     let is = c .number .ensures ∙ ap (λ m. weighing m .number) (told .1) in
     rule-refused rule (a .log .now) (a .formula) (a .position) (a .text .now) (c .number .result) (is ∙ stops .number-is) (λ z. stops .not-zero (sym is ∙ z))
@@ -76,19 +70,12 @@ check-log-requires c κs = search needs
 -- src/lib.rt:246:9
 returns-2 : tie.Need-returns-2
 returns-2 c =
-    let after-check-log = c .before in
-    let after-enum-told = after-check-log .before in
-    let after-measure-decoded = after-enum-told .before .before in
-    let after-decode = after-measure-decoded .before in
-    let after-count = after-decode .before in
-    let after-check-header = after-count .before in
-    let start = after-check-header .before .before .before .before in
-    let a = start .args in
-    let rule = start .args .rule .now in
-    let told = after-enum-told .enum-told .given in
-    let weighed = after-measure-decoded .measure-decoded .ensures ∙ measured-once _ _ (after-check-header .check-header .ensures) _ _ (after-count .count .ensures) (after-decode .decode .ensures) in
+    let a = c .before .before .before .before .before .before .before .before .before .before .before .args in
+    let rule = c .before .before .before .before .before .before .before .before .before .before .before .args .rule .now in
+    let told = c .before .before .enum-told .given in
+    let weighed = c .before .before .before .before .measure-decoded .ensures ∙ measured-once _ _ (c .before .before .before .before .before .before .before .check-header .ensures) _ _ (c .before .before .before .before .before .before .count .ensures) (c .before .before .before .before .before .decode .ensures) in
     let fine = passes-with rule _ _ (ap weighing (sym (told .1)) ∙ weighed) .accepted in
-    log-refused rule (a .log .now) (a .formula) (a .position) (a .text .now) fine (after-check-log .check-log .result) (after-check-log .check-log .ensures) (c .if1 .taken)
+    log-refused rule (a .log .now) (a .formula) (a .position) (a .text .now) fine (c .before .check-log .result) (c .before .check-log .ensures) (c .if1 .taken)
 
 -- src/lib.rt:248:9
 ends-of-requires : tie.Need-ends-of-requires
@@ -105,28 +92,18 @@ skips-requires c κs = search needs
 -- src/lib.rt:250:5
 copy-reason-requires : tie.Need-copy-reason-requires
 copy-reason-requires c κs =
-    let after-records = c .before .before in
-    let after-ends-of = after-records .before .before in
-    let after-if1 = after-ends-of .before in
-    let after-check-log = after-if1 .before in
-    let after-enum-told = after-check-log .before in
-    let after-measure-decoded = after-enum-told .before .before in
-    let after-decode = after-measure-decoded .before in
-    let after-count = after-decode .before in
-    let after-check-header = after-count .before in
-    let start = after-check-header .before .before .before .before in
-    let a = start .args in
-    let rule = start .args .rule .now in
-    let told = after-enum-told .enum-told .given in
-    let weighed = after-measure-decoded .measure-decoded .ensures ∙ measured-once _ _ (after-check-header .check-header .ensures) _ _ (after-count .count .ensures) (after-decode .decode .ensures) in
+    let a = c .before .before .before .before .before .before .before .before .before .before .before .before .before .before .before .before .args in
+    let rule = c .before .before .before .before .before .before .before .before .before .before .before .before .before .before .before .before .args .rule .now in
+    let told = c .before .before .before .before .before .before .before .enum-told .given in
+    let weighed = c .before .before .before .before .before .before .before .before .before .measure-decoded .ensures ∙ measured-once _ _ (c .before .before .before .before .before .before .before .before .before .before .before .before .check-header .ensures) _ _ (c .before .before .before .before .before .before .before .before .before .before .before .count .ensures) (c .before .before .before .before .before .before .before .before .before .before .decode .ensures) in
     let fine = passes-with rule _ _ (ap weighing (sym (told .1)) ∙ weighed) .accepted in
-    let d = is-decoded rule _ _ _ (after-check-header .check-header .ensures) (after-count .count .ensures) (after-decode .decode .ensures) fine in
-    let own-ends = rw (d .entries-are, d .count-is) at (after-ends-of .ends-of .ensures) in
-    let well = log-passes rule (a .log .now) (a .formula) (a .position) (a .text .now) (sym (after-check-log .check-log .ensures) ∙ after-if1 .if1 .left) in (
-      omega (arith, after-count .count .ensures, few-to-decode _ _ (after-check-header .check-header .ensures)),
+    let d = is-decoded rule _ _ _ (c .before .before .before .before .before .before .before .before .before .before .before .before .check-header .ensures) (c .before .before .before .before .before .before .before .before .before .before .before .count .ensures) (c .before .before .before .before .before .before .before .before .before .before .decode .ensures) fine in
+    let own-ends = rw (d .entries-are, d .count-is) at (c .before .before .before .before .ends-of .ensures) in
+    let well = log-passes rule (a .log .now) (a .formula) (a .position) (a .text .now) (sym (c .before .before .before .before .before .before .check-log .ensures) ∙ c .before .before .before .before .before .if1 .left) in (
+      omega (arith, c .before .before .before .before .before .before .before .before .before .before .before .count .ensures, few-to-decode _ _ (c .before .before .before .before .before .before .before .before .before .before .before .before .check-header .ensures)),
       rw (d .entries-are, d .count-is) (accepted rule fine .well-formed),
-      rw (after-records .records .ensures) (well .0),
-      (formulas-of rule, rw (d .entries-are, d .count-is) (rule-ended rule fine (after-ends-of .ends-of .result) own-ends)),
+      rw (c .before .before .records .ensures) (well .0),
+      (formulas-of rule, rw (d .entries-are, d .count-is) (rule-ended rule fine (c .before .before .before .before .ends-of .result) own-ends)),
     )
 
 -- src/lib.rt:234:1
@@ -136,29 +113,17 @@ same-length c = search needs
 -- src/lib.rt:234:1
 returns-3 : tie.Need-returns-3
 returns-3 c =
-    let after-copy-reason = c .before .before in
-    let after-skips = after-copy-reason .before .before in
-    let after-records = after-skips .before in
-    let after-ends-of = after-records .before .before in
-    let after-if1 = after-ends-of .before in
-    let after-check-log = after-if1 .before in
-    let after-enum-told = after-check-log .before in
-    let after-measure-decoded = after-enum-told .before .before in
-    let after-decode = after-measure-decoded .before in
-    let after-count = after-decode .before in
-    let after-check-header = after-count .before in
-    let start = after-check-header .before .before .before .before in
-    let a = start .args in
-    let rule = start .args .rule .now in
-    let told = after-enum-told .enum-told .given in
-    let weighed = after-measure-decoded .measure-decoded .ensures ∙ measured-once _ _ (after-check-header .check-header .ensures) _ _ (after-count .count .ensures) (after-decode .decode .ensures) in
+    let a = c .before .before .before .before .before .before .before .before .before .before .before .before .before .before .before .before .before .before .before .args in
+    let rule = c .before .before .before .before .before .before .before .before .before .before .before .before .before .before .before .before .before .before .before .args .rule .now in
+    let told = c .before .before .before .before .before .before .before .before .before .before .enum-told .given in
+    let weighed = c .before .before .before .before .before .before .before .before .before .before .before .before .measure-decoded .ensures ∙ measured-once _ _ (c .before .before .before .before .before .before .before .before .before .before .before .before .before .before .before .check-header .ensures) _ _ (c .before .before .before .before .before .before .before .before .before .before .before .before .before .before .count .ensures) (c .before .before .before .before .before .before .before .before .before .before .before .before .before .decode .ensures) in
     let fine = passes-with rule _ _ (ap weighing (sym (told .1)) ∙ weighed) .accepted in
-    let d = is-decoded rule _ _ _ (after-check-header .check-header .ensures) (after-count .count .ensures) (after-decode .decode .ensures) fine in
-    let own-ends = rw (d .entries-are, d .count-is) at (after-ends-of .ends-of .ensures) in
-    let passes = sym (after-check-log .check-log .ensures) ∙ after-if1 .if1 .left in
+    let d = is-decoded rule _ _ _ (c .before .before .before .before .before .before .before .before .before .before .before .before .before .before .before .check-header .ensures) (c .before .before .before .before .before .before .before .before .before .before .before .before .before .before .count .ensures) (c .before .before .before .before .before .before .before .before .before .before .before .before .before .decode .ensures) fine in
+    let own-ends = rw (d .entries-are, d .count-is) at (c .before .before .before .before .before .before .before .ends-of .ensures) in
+    let passes = sym (c .before .before .before .before .before .before .before .before .before .check-log .ensures) ∙ c .before .before .before .before .before .before .before .before .if1 .left in
     let well = log-passes rule (a .log .now) (a .formula) (a .position) (a .text .now) passes in
-    let copies = after-copy-reason .copy-reason .ensures (formulas-of rule) (rw (d .entries-are, d .count-is) (rule-ended rule fine (after-ends-of .ends-of .result) own-ends)) (rw (after-records .records .ensures) (well .1)) in
-    explained rule (a .log .now) (a .formula) (a .position) (a .text .now) fine passes (after-copy-reason .copy-reason .result) (after-copy-reason .copy-reason .last .1 .1 .1 .1 .1 .1 .1 .1 .0) (rw (after-records .records .ensures, after-skips .skips .ensures) at copies)
+    let copies = c .before .before .copy-reason .ensures (formulas-of rule) (rw (d .entries-are, d .count-is) (rule-ended rule fine (c .before .before .before .before .before .before .before .ends-of .result) own-ends)) (rw (c .before .before .before .before .before .records .ensures) (well .1)) in
+    explained rule (a .log .now) (a .formula) (a .position) (a .text .now) fine passes (c .before .before .copy-reason .result) (c .before .before .copy-reason .last .1 .1 .1 .1 .1 .1 .1 .1 .0) (rw (c .before .before .before .before .before .records .ensures, c .before .before .before .before .skips .ensures) at copies)
 
 pub explain-spec : {M : Type 1} → statement M
 explain-spec =

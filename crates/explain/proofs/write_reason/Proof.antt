@@ -56,13 +56,10 @@ returns c =
 -- src/lib.rt:118:9
 all-answered-requires : tie.Need-all-answered-requires
 all-answered-requires c κs =
-    let after-if1 = c .before .before .before in
-    let after-columns-of = after-if1 .before .before in
-    let start = after-columns-of .before .before .before .before in
-    let a = start .args in
-    let few = start .pre .2 in
-    let (one-of, inside) = neither-far (after-columns-of .columns-of .result) (a .formula) (total (a .view .now)) (a .position) (after-if1 .if1 .left) in
-    (start .pre .0, refl, refl, omega arith)
+    let a = c .before .before .before .before .before .before .before .before .before .args in
+    let few = c .before .before .before .before .before .before .before .before .before .pre .2 in
+    let (one-of, inside) = neither-far (c .before .before .before .before .before .columns-of .result) (a .formula) (total (a .view .now)) (a .position) (c .before .before .before .if1 .left) in
+    (c .before .before .before .before .before .before .before .before .before .pre .0, refl, refl, omega arith)
 
 -- src/lib.rt:130:9
 same-length : tie.Need-same-length
@@ -71,14 +68,10 @@ same-length c = search needs
 -- src/lib.rt:130:9
 returns-2 : tie.Need-returns-2
 returns-2 c =
-    let after-all-answered = c .before .before .before in
-    let after-if1 = after-all-answered .before .before .before .before in
-    let after-columns-of = after-if1 .before .before in
-    let start = after-columns-of .before .before .before .before in
-    let a = start .args in
-    let few = start .pre .2 in
-    let (one-of, inside) = neither-far (after-columns-of .columns-of .result) (a .formula) (total (a .view .now)) (a .position) (after-if1 .if1 .left) in
-    (Prim.tt {0}, none-answered (a .table .now) (a .view .now) (a .records .now) (a .ends .now) (a .number) (a .formula) (a .position) (a .text .now) inside (rw (unturned (after-all-answered .all-answered .result) (c .if2 .taken)) at (after-all-answered .all-answered .ensures .0)))
+    let a = c .before .before .before .before .before .before .before .before .before .before .before .before .before .args in
+    let few = c .before .before .before .before .before .before .before .before .before .before .before .before .before .pre .2 in
+    let (one-of, inside) = neither-far (c .before .before .before .before .before .before .before .before .before .columns-of .result) (a .formula) (total (a .view .now)) (a .position) (c .before .before .before .before .before .before .before .if1 .left) in
+    (Prim.tt {0}, none-answered (a .table .now) (a .view .now) (a .records .now) (a .ends .now) (a .number) (a .formula) (a .position) (a .text .now) inside (rw (unturned (c .before .before .before .all-answered .result) (c .if2 .taken)) at (c .before .before .before .all-answered .ensures .0)))
 
 -- src/lib.rt:133:42
 slice-aggregate-put : tie.Need-slice-aggregate-put
@@ -100,78 +93,56 @@ same-length-3 c = search needs
 returns-3 : tie.Need-returns-3
 unfolding ascii
 returns-3 c =
-    let after-put = c .before .before in
-    let after-if3 = after-put .before .before .before in
-    let after-if2 = after-if3 .before in
-    let after-all-answered = after-if2 .before .before .before in
-    let after-if1 = after-all-answered .before .before .before .before in
-    let after-columns-of = after-if1 .before .before in
-    let start = after-columns-of .before .before .before .before in
-    let a = start .args in
-    let few = start .pre .2 in
-    let (one-of, inside) = neither-far (after-columns-of .columns-of .result) (a .formula) (total (a .view .now)) (a .position) (after-if1 .if1 .left) in
-    let room = start .pre .1 in (
-      omega (arith, after-put .put .ensures .ends),
-      empty-reasoned (a .table .now) (a .view .now) (a .records .now) (a .ends .now) (a .number) (a .formula) (a .position) (a .text .now) (after-columns-of .columns-of .result) (after-columns-of .columns-of .ensures) one-of inside (rw (turned-back (after-all-answered .all-answered .result) (after-if2 .if2 .left)) at (after-all-answered .all-answered .ensures .0)) (after-if3 .if3 .taken)
-          (after-put .put .result) (after-put .put .last .1 .0) (after-put .put .ensures),
+    let a = c .before .before .before .before .before .before .before .before .before .before .before .before .before .before .before .before .before .before .before .args in
+    let few = c .before .before .before .before .before .before .before .before .before .before .before .before .before .before .before .before .before .before .before .pre .2 in
+    let (one-of, inside) = neither-far (c .before .before .before .before .before .before .before .before .before .before .before .before .before .before .before .columns-of .result) (a .formula) (total (a .view .now)) (a .position) (c .before .before .before .before .before .before .before .before .before .before .before .before .before .if1 .left) in
+    let room = c .before .before .before .before .before .before .before .before .before .before .before .before .before .before .before .before .before .before .before .pre .1 in (
+      omega (arith, c .before .before .put .ensures .ends),
+      empty-reasoned (a .table .now) (a .view .now) (a .records .now) (a .ends .now) (a .number) (a .formula) (a .position) (a .text .now) (c .before .before .before .before .before .before .before .before .before .before .before .before .before .before .before .columns-of .result) (c .before .before .before .before .before .before .before .before .before .before .before .before .before .before .before .columns-of .ensures) one-of inside (rw (turned-back (c .before .before .before .before .before .before .before .before .before .all-answered .result) (c .before .before .before .before .before .before .if2 .left)) at (c .before .before .before .before .before .before .before .before .before .all-answered .ensures .0)) (c .before .before .before .before .before .if3 .taken)
+          (c .before .before .put .result) (c .before .before .put .last .1 .0) (c .before .before .put .ensures),
     )
 
 -- src/lib.rt:142:9
 mul-tell : tie.Need-mul-tell
 mul-tell c =
-    let after-if1 = c .before .before .before .before .before .before .before .before .before .before .before in
-    let after-columns-of = after-if1 .before .before in
-    let start = after-columns-of .before .before .before .before in
-    let a = start .args in
-    let few = start .pre .2 in
-    let (one-of, inside) = neither-far (after-columns-of .columns-of .result) (a .formula) (total (a .view .now)) (a .position) (after-if1 .if1 .left) in
-    let most = start .pre .0 .few in
-    omega (arith, after-columns-of .columns-of .ensures)
+    let a = c .before .before .before .before .before .before .before .before .before .before .before .before .before .before .before .before .before .args in
+    let few = c .before .before .before .before .before .before .before .before .before .before .before .before .before .before .before .before .before .pre .2 in
+    let (one-of, inside) = neither-far (c .before .before .before .before .before .before .before .before .before .before .before .before .before .columns-of .result) (a .formula) (total (a .view .now)) (a .position) (c .before .before .before .before .before .before .before .before .before .before .before .if1 .left) in
+    let most = c .before .before .before .before .before .before .before .before .before .before .before .before .before .before .before .before .before .pre .0 .few in
+    omega (arith, c .before .before .before .before .before .before .before .before .before .before .before .before .before .columns-of .ensures)
 
 -- src/lib.rt:142:9
 element-copy-out-tell : tie.Need-element-copy-out-tell
 element-copy-out-tell c =
-    let after-if1 = c .before .before .before .before .before .before .before .before .before .before .before in
-    let after-columns-of = after-if1 .before .before in
-    let start = after-columns-of .before .before .before .before in
-    let a = start .args in
-    let few = start .pre .2 in
-    let (one-of, inside) = neither-far (after-columns-of .columns-of .result) (a .formula) (total (a .view .now)) (a .position) (after-if1 .if1 .left) in
-    let most = start .pre .0 .few in
-    omega (arith, after-columns-of .columns-of .ensures)
+    let a = c .before .before .before .before .before .before .before .before .before .before .before .before .before .before .before .before .before .args in
+    let few = c .before .before .before .before .before .before .before .before .before .before .before .before .before .before .before .before .before .pre .2 in
+    let (one-of, inside) = neither-far (c .before .before .before .before .before .before .before .before .before .before .before .before .before .columns-of .result) (a .formula) (total (a .view .now)) (a .position) (c .before .before .before .before .before .before .before .before .before .before .before .if1 .left) in
+    let most = c .before .before .before .before .before .before .before .before .before .before .before .before .before .before .before .before .before .pre .0 .few in
+    omega (arith, c .before .before .before .before .before .before .before .before .before .before .before .before .before .columns-of .ensures)
 
 -- src/lib.rt:142:9
 sub-tell : tie.Need-sub-tell
 sub-tell c =
-    let after-if3 = c .before .before .before .before in
-    let after-if1 = after-if3 .before .before .before .before .before .before .before .before in
-    let after-columns-of = after-if1 .before .before in
-    let start = after-columns-of .before .before .before .before in
-    let a = start .args in
-    let few = start .pre .2 in
-    let (one-of, inside) = neither-far (after-columns-of .columns-of .result) (a .formula) (total (a .view .now)) (a .position) (after-if1 .if1 .left) in
-    start .pre .0 .some (a .formula) (omega (arith, after-columns-of .columns-of .ensures, after-if3 .if3 .left)) .0
+    let a = c .before .before .before .before .before .before .before .before .before .before .before .before .before .before .before .before .before .before .args in
+    let few = c .before .before .before .before .before .before .before .before .before .before .before .before .before .before .before .before .before .before .pre .2 in
+    let (one-of, inside) = neither-far (c .before .before .before .before .before .before .before .before .before .before .before .before .before .before .columns-of .result) (a .formula) (total (a .view .now)) (a .position) (c .before .before .before .before .before .before .before .before .before .before .before .before .if1 .left) in
+    c .before .before .before .before .before .before .before .before .before .before .before .before .before .before .before .before .before .before .pre .0 .some (a .formula) (omega (arith, c .before .before .before .before .before .before .before .before .before .before .before .before .before .before .columns-of .ensures, c .before .before .before .before .if3 .left)) .0
 
 -- src/lib.rt:135:9
 tell-requires : tie.Need-tell-requires
 tell-requires c κs =
-    let after-if3 = c .before .before .before .before .before in
-    let after-all-answered = after-if3 .before .before .before .before in
-    let after-if1 = after-all-answered .before .before .before .before in
-    let after-columns-of = after-if1 .before .before in
-    let start = after-columns-of .before .before .before .before in
-    let a = start .args in
-    let few = start .pre .2 in
-    let (one-of, inside) = neither-far (after-columns-of .columns-of .result) (a .formula) (total (a .view .now)) (a .position) (after-if1 .if1 .left) in
-    let p = start .pre .0 in
-    let here : a .formula < a .number = omega (arith, after-columns-of .columns-of .ensures, after-if3 .if3 .left) in
+    let a = c .before .before .before .before .before .before .before .before .before .before .before .before .before .before .before .before .before .before .before .args in
+    let few = c .before .before .before .before .before .before .before .before .before .before .before .before .before .before .before .before .before .before .before .pre .2 in
+    let (one-of, inside) = neither-far (c .before .before .before .before .before .before .before .before .before .before .before .before .before .before .before .columns-of .result) (a .formula) (total (a .view .now)) (a .position) (c .before .before .before .before .before .before .before .before .before .before .before .before .before .if1 .left) in
+    let p = c .before .before .before .before .before .before .before .before .before .before .before .before .before .before .before .before .before .before .before .pre .0 in
+    let here : a .formula < a .number = omega (arith, c .before .before .before .before .before .before .before .before .before .before .before .before .before .before .before .columns-of .ensures, c .before .before .before .before .before .if3 .left) in
     let some = p .some (a .formula) here in
     let rows = p .rows (a .formula) here in
     let bound = rows .0 (getD (a .ends .now) (a .formula) 0 - 1) (omega arith) .bound in
-    let kept = after-all-answered .all-answered .kept .1 .1 .1 .1 .1 .0 in
+    let kept = c .before .before .before .before .before .before .before .before .before .all-answered .kept .1 .1 .1 .1 .1 .0 in
     let room = p .words-room in
-    let text-room = start .pre .1 in
-    record { lent = record { entry = omega arith; rows = rows .0; lows = rows .1; words-room = omega arith; copy-room = after-all-answered .all-answered .ensures .1 .0; waiting-room = after-all-answered .all-answered .ensures .1 .1; views = p .views; few = p .few-records }; far = omega arith; space = omega arith }
+    let text-room = c .before .before .before .before .before .before .before .before .before .before .before .before .before .before .before .before .before .before .before .pre .1 in
+    record { lent = record { entry = omega arith; rows = rows .0; lows = rows .1; words-room = omega arith; copy-room = c .before .before .before .before .before .before .before .before .before .all-answered .ensures .1 .0; waiting-room = c .before .before .before .before .before .before .before .before .before .all-answered .ensures .1 .1; views = p .views; few = p .few-records }; far = omega arith; space = omega arith }
 
 -- src/lib.rt:99:1
 same-length-4 : tie.Need-same-length-4
@@ -184,25 +155,18 @@ same-length-5 c = search needs
 -- src/lib.rt:99:1
 returns-4 : tie.Need-returns-4
 returns-4 c =
-    let after-tell = c .before .before .before .before in
-    let after-if3 = after-tell .before .before .before .before .before .before in
-    let after-if2 = after-if3 .before in
-    let after-all-answered = after-if2 .before .before .before in
-    let after-if1 = after-all-answered .before .before .before .before in
-    let after-columns-of = after-if1 .before .before in
-    let start = after-columns-of .before .before .before .before in
-    let a = start .args in
-    let few = start .pre .2 in
-    let (one-of, inside) = neither-far (after-columns-of .columns-of .result) (a .formula) (total (a .view .now)) (a .position) (after-if1 .if1 .left) in
-    let p = start .pre .0 in
-    let here : a .formula < a .number = omega (arith, after-columns-of .columns-of .ensures, after-if3 .if3 .left) in
+    let a = c .before .before .before .before .before .before .before .before .before .before .before .before .before .before .before .before .before .before .before .before .before .before .before .before .args in
+    let few = c .before .before .before .before .before .before .before .before .before .before .before .before .before .before .before .before .before .before .before .before .before .before .before .before .pre .2 in
+    let (one-of, inside) = neither-far (c .before .before .before .before .before .before .before .before .before .before .before .before .before .before .before .before .before .before .before .before .columns-of .result) (a .formula) (total (a .view .now)) (a .position) (c .before .before .before .before .before .before .before .before .before .before .before .before .before .before .before .before .before .before .if1 .left) in
+    let p = c .before .before .before .before .before .before .before .before .before .before .before .before .before .before .before .before .before .before .before .before .before .before .before .before .pre .0 in
+    let here : a .formula < a .number = omega (arith, c .before .before .before .before .before .before .before .before .before .before .before .before .before .before .before .before .before .before .before .before .columns-of .ensures, c .before .before .before .before .before .before .before .before .before .before .if3 .left) in
     let rows = p .rows (a .formula) here in
     let bound = rows .0 (getD (a .ends .now) (a .formula) 0 - 1) (omega arith) .bound in
-    let text-room = start .pre .1 in
-    let ends = after-tell .tell .ensures .0 .room in (
+    let text-room = c .before .before .before .before .before .before .before .before .before .before .before .before .before .before .before .before .before .before .before .before .before .before .before .before .pre .1 in
+    let ends = c .before .before .before .before .tell .ensures .0 .room in (
       omega arith,
-      formula-reasoned (a .table .now) (a .view .now) (a .records .now) (a .ends .now) (a .number) (a .formula) (a .position) (a .text .now) (after-columns-of .columns-of .result) (after-columns-of .columns-of .ensures) one-of inside (rw (turned-back (after-all-answered .all-answered .result) (after-if2 .if2 .left)) at (after-all-answered .all-answered .ensures .0)) (after-if3 .if3 .left)
-          (after-tell .tell .result) (after-tell .tell .last .1 .1 .1 .1 .1 .1 .1 .1 .0) (after-tell .tell .ensures .0),
+      formula-reasoned (a .table .now) (a .view .now) (a .records .now) (a .ends .now) (a .number) (a .formula) (a .position) (a .text .now) (c .before .before .before .before .before .before .before .before .before .before .before .before .before .before .before .before .before .before .before .before .columns-of .result) (c .before .before .before .before .before .before .before .before .before .before .before .before .before .before .before .before .before .before .before .before .columns-of .ensures) one-of inside (rw (turned-back (c .before .before .before .before .before .before .before .before .before .before .before .before .before .before .all-answered .result) (c .before .before .before .before .before .before .before .before .before .before .before .if2 .left)) at (c .before .before .before .before .before .before .before .before .before .before .before .before .before .before .all-answered .ensures .0)) (c .before .before .before .before .before .before .before .before .before .before .if3 .left)
+          (c .before .before .before .before .tell .result) (c .before .before .before .before .tell .last .1 .1 .1 .1 .1 .1 .1 .1 .0) (c .before .before .before .before .tell .ensures .0),
     )
 
 pub write-reason-spec : {M : Type 1} → statement M

@@ -28,24 +28,19 @@ slice-aggregate-put-2 c = search needs
 
 put-requires-2 : tie.Need-put-requires-2
 put-requires-2 c κs =
-    let after-put-number = c .before .before .before .before in
-    let after-put = after-put-number .before .before .before .before in
-    let s = after-put .before .before .before .before in
-    let w = after-put .put in
-    let n = after-put-number .put-number in
+    let w = c .before .before .before .before .before .before .before .before .put in
+    let n = c .before .before .before .before .put-number in
+    let s = c .before .before .before .before .before .before .before .before .before .before .before .before in
     let few = four-digits (s .args .given) (s .pre .0) in
     let room : n .result + 4 ≤ length (n .last .1 .0) = omega (arith, s .pre .2, w .ensures .ends, w .kept .1 .0, n .ensures .ends, n .kept .1 .0) in
     room
 
 put-number-requires-2 : tie.Need-put-number-requires-2
 put-number-requires-2 c κs =
-    let after-put2 = c .before .before .before in
-    let after-put-number = after-put2 .before .before .before .before .before in
-    let after-put = after-put-number .before .before .before .before in
-    let s = after-put .before .before .before .before in
-    let w = after-put .put in
-    let n = after-put-number .put-number in
-    let v = after-put2 .put2 in
+    let w = c .before .before .before .before .before .before .before .before .before .before .before .before .put in
+    let n = c .before .before .before .before .before .before .before .before .put-number in
+    let v = c .before .before .before .put2 in
+    let s = c .before .before .before .before .before .before .before .before .before .before .before .before .before .before .before .before in
     let few = four-digits (s .args .given) (s .pre .0) in
     let few-records = four-digits (s .args .records) (s .pre .1) in
     let room : v .result + length (decimal (s .args .records)) ≤ length (v .last .1 .0) =
@@ -57,15 +52,11 @@ slice-aggregate-put-3 c = search needs
 
 put-requires-3 : tie.Need-put-requires-3
 put-requires-3 c κs =
-    let after-put-number2 = c .before .before .before .before in
-    let after-put2 = after-put-number2 .before .before .before .before in
-    let after-put-number = after-put2 .before .before .before .before .before in
-    let after-put = after-put-number .before .before .before .before in
-    let s = after-put .before .before .before .before in
-    let w = after-put .put in
-    let n = after-put-number .put-number in
-    let v = after-put2 .put2 in
-    let m = after-put-number2 .put-number2 in
+    let w = c .before .before .before .before .before .before .before .before .before .before .before .before .before .before .before .before .before .put in
+    let n = c .before .before .before .before .before .before .before .before .before .before .before .before .before .put-number in
+    let v = c .before .before .before .before .before .before .before .before .put2 in
+    let m = c .before .before .before .before .put-number2 in
+    let s = c .before .before .before .before .before .before .before .before .before .before .before .before .before .before .before .before .before .before .before .before .before in
     let few = four-digits (s .args .given) (s .pre .0) in
     let few-records = four-digits (s .args .records) (s .pre .1) in
     let room : m .result + 1 ≤ length (m .last .1 .0) =
@@ -89,16 +80,11 @@ same-length c = search needs
 returns : tie.Need-returns
 unfolding ascii
 returns c =
-    let after-put3 = c .before .before in
-    let after-put-number2 = after-put3 .before .before .before .before .before in
-    let after-put2 = after-put-number2 .before .before .before .before in
-    let after-put-number = after-put2 .before .before .before .before .before in
-    let after-put = after-put-number .before .before .before .before in
-    let s = after-put .before .before .before .before in
-    let w = after-put .put in
-    let n = after-put-number .put-number in
-    let v = after-put2 .put2 in
-    let m = after-put-number2 .put-number2 in
+    let w = c .before .before .before .before .before .before .before .before .before .before .before .before .before .before .before .before .before .before .before .before .put in
+    let n = c .before .before .before .before .before .before .before .before .before .before .before .before .before .before .before .before .put-number in
+    let v = c .before .before .before .before .before .before .before .before .before .before .before .put2 in
+    let m = c .before .before .before .before .before .before .before .put-number2 in
+    let s = c .before .before .before .before .before .before .before .before .before .before .before .before .before .before .before .before .before .before .before .before .before .before .before .before in
     let few = four-digits (s .args .given) (s .pre .0) in
     let few-records = four-digits (s .args .records) (s .pre .1) in
     let one = w .ensures .ends in
@@ -114,7 +100,7 @@ returns c =
     (omega (arith, s .pre .2))
     (m .ensures))
     (omega (arith, s .pre .2))
-    (after-put3 .put3 .ensures)
+    (c .before .before .put3 .ensures)
 
 pub put-counts-spec : {M : Type 1} → statement M
 put-counts-spec =

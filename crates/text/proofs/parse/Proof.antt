@@ -33,153 +33,62 @@ parse-spec =
     (λ c. search needs)
     (λ c. search needs)
     -- 17
-    (λ c. let after-ors = c .before .before in
-    let after-begin = after-ors .before .before in
-    let after-if2 = after-begin .before in
-    let after-any-unknown = after-if2 .before in
-    let after-if1 = after-any-unknown .before in
-    let start = after-if1 .before .before .before in
-    faulty (start .args .text .now) (start .args .rule .now) (after-if1 .if1 .left) (sym (after-any-unknown .any-unknown .ensures) ∙ after-if2 .if2 .left) (after-begin .begin .result) (after-ors .ors .last .1 .1 .1 .0) (told (start .args .text .now) (after-begin .begin .result) (after-ors .ors .last .1 .1 .1 .0) (c .enum-told .given .1) (after-ors .ors .ensures none refl)))
+    (λ c. faulty (c .before .before .before .before .before .before .before .before .before .before .args .text .now) (c .before .before .before .before .before .before .before .before .before .before .args .rule .now) (c .before .before .before .before .before .before .before .if1 .left) (sym (c .before .before .before .before .before .before .any-unknown .ensures) ∙ c .before .before .before .before .before .if2 .left) (c .before .before .before .before .begin .result) (c .before .before .ors .last .1 .1 .1 .0) (told (c .before .before .before .before .before .before .before .before .before .before .args .text .now) (c .before .before .before .before .begin .result) (c .before .before .ors .last .1 .1 .1 .0) (c .enum-told .given .1) (c .before .before .ors .ensures none refl)))
     (λ c κs. search needs)
-    (λ c. let after-token-at = c .before .before in
-    let after-at = after-token-at .before .before in
-    let after-ors = after-at .before .before in
-    let after-begin = after-ors .before .before in
-    let after-if2 = after-begin .before in
-    let after-any-unknown = after-if2 .before in
-    let after-if1 = after-any-unknown .before in
-    let start = after-if1 .before .before .before in
-    unfinished (start .args .text .now) (start .args .rule .now) (after-if1 .if1 .left) (sym (after-any-unknown .any-unknown .ensures) ∙ after-if2 .if2 .left) (after-begin .begin .result) (after-ors .ors .last .1 .1 .1 .0) (after-at .at .given .0 .0) (after-at .at .given .0 .1 .0)
-    (told (start .args .text .now) (after-begin .begin .result) (after-ors .ors .last .1 .1 .1 .0) (after-at .at .given .1) (after-ors .ors .ensures none refl))
-    (after-token-at .token-at .result) (after-token-at .token-at .ensures) (c .if3 .taken))
+    (λ c. unfinished (c .before .before .before .before .before .before .before .before .before .before .before .before .before .before .args .text .now) (c .before .before .before .before .before .before .before .before .before .before .before .before .before .before .args .rule .now) (c .before .before .before .before .before .before .before .before .before .before .before .if1 .left) (sym (c .before .before .before .before .before .before .before .before .before .before .any-unknown .ensures) ∙ c .before .before .before .before .before .before .before .before .before .if2 .left) (c .before .before .before .before .before .before .before .before .begin .result) (c .before .before .before .before .before .before .ors .last .1 .1 .1 .0) (c .before .before .before .before .at .given .0 .0) (c .before .before .before .before .at .given .0 .1 .0)
+    (told (c .before .before .before .before .before .before .before .before .before .before .before .before .before .before .args .text .now) (c .before .before .before .before .before .before .before .before .begin .result) (c .before .before .before .before .before .before .ors .last .1 .1 .1 .0) (c .before .before .before .before .at .given .1) (c .before .before .before .before .before .before .ors .ensures none refl))
+    (c .before .before .token-at .result) (c .before .before .token-at .ensures) (c .if3 .taken))
     -- 4
-    (λ c. let after-if3 = c .before in
-    let after-token-at = after-if3 .before .before in
-    let after-at = after-token-at .before .before in
-    let after-ors = after-at .before .before in
-    let after-begin = after-ors .before .before in
-    let after-if2 = after-begin .before in
-    let after-any-unknown = after-if2 .before in
-    let after-if1 = after-any-unknown .before in
-    let start = after-if1 .before .before .before in
-    too-many (start .args .text .now) (start .args .rule .now) (after-if1 .if1 .left) (sym (after-any-unknown .any-unknown .ensures) ∙ after-if2 .if2 .left) (after-begin .begin .result) (after-ors .ors .last .1 .1 .1 .0) (after-at .at .given .0 .0) (after-at .at .given .0 .1 .0)
-    (told (start .args .text .now) (after-begin .begin .result) (after-ors .ors .last .1 .1 .1 .0) (after-at .at .given .1) (after-ors .ors .ensures none refl))
-    (after-token-at .token-at .result) (after-token-at .token-at .ensures) (after-if3 .if3 .left) (holds-none (after-begin .begin .result) (after-begin .begin .ensures .0) (after-begin .begin .ensures .1)) (c .if4 .taken))
+    (λ c. too-many (c .before .before .before .before .before .before .before .before .before .before .before .before .before .before .before .args .text .now) (c .before .before .before .before .before .before .before .before .before .before .before .before .before .before .before .args .rule .now) (c .before .before .before .before .before .before .before .before .before .before .before .before .if1 .left) (sym (c .before .before .before .before .before .before .before .before .before .before .before .any-unknown .ensures) ∙ c .before .before .before .before .before .before .before .before .before .before .if2 .left) (c .before .before .before .before .before .before .before .before .before .begin .result) (c .before .before .before .before .before .before .before .ors .last .1 .1 .1 .0) (c .before .before .before .before .before .at .given .0 .0) (c .before .before .before .before .before .at .given .0 .1 .0)
+    (told (c .before .before .before .before .before .before .before .before .before .before .before .before .before .before .before .args .text .now) (c .before .before .before .before .before .before .before .before .before .begin .result) (c .before .before .before .before .before .before .before .ors .last .1 .1 .1 .0) (c .before .before .before .before .before .at .given .1) (c .before .before .before .before .before .before .before .ors .ensures none refl))
+    (c .before .before .before .token-at .result) (c .before .before .before .token-at .ensures) (c .before .if3 .left) (holds-none (c .before .before .before .before .before .before .before .before .before .begin .result) (c .before .before .before .before .before .before .before .before .before .begin .ensures .0) (c .before .before .before .before .before .before .before .before .before .begin .ensures .1)) (c .if4 .taken))
     (λ c. search needs)
     (λ c. search needs)
     (λ c. search needs)
     (λ c. search needs)
     -- the rule in the buffer
-    (λ c. let after-if3 = c .before in
-    let after-token-at = after-if3 .before .before in
-    let after-at = after-token-at .before .before in
-    let after-ors = after-at .before .before in
-    let after-begin = after-ors .before .before in
-    let after-if2 = after-begin .before in
-    let after-any-unknown = after-if2 .before in
-    let after-if1 = after-any-unknown .before in
-    let start = after-if1 .before .before .before in
-    fits (start .args .text .now) (start .args .rule .now) (after-if1 .if1 .left) (sym (after-any-unknown .any-unknown .ensures) ∙ after-if2 .if2 .left) (after-begin .begin .result) (after-ors .ors .last .1 .1 .1 .0) (after-at .at .given .0 .0) (after-at .at .given .0 .1 .0)
-    (told (start .args .text .now) (after-begin .begin .result) (after-ors .ors .last .1 .1 .1 .0) (after-at .at .given .1) (after-ors .ors .ensures none refl))
-    (after-token-at .token-at .result) (after-token-at .token-at .ensures) (after-if3 .if3 .left) (holds-none (after-begin .begin .result) (after-begin .begin .ensures .0) (after-begin .begin .ensures .1)) (c .if4 .left))
-    (λ c. let after-if4 = c .before in
-    let after-if3 = after-if4 .before in
-    let after-token-at = after-if3 .before .before in
-    let after-at = after-token-at .before .before in
-    let after-ors = after-at .before .before in
-    let after-begin = after-ors .before .before in
-    let after-if2 = after-begin .before in
-    let after-any-unknown = after-if2 .before in
-    let after-if1 = after-any-unknown .before in
-    let start = after-if1 .before .before .before in
-    sym (length-take-le (8 + (after-at .at .given .0 .1 .0) * 10) (set (after-ors .ors .last .1 .1 .1 .0) 5 (after-at .at .given .0 .1 .0)) (fits (start .args .text .now) (start .args .rule .now) (after-if1 .if1 .left) (sym (after-any-unknown .any-unknown .ensures) ∙ after-if2 .if2 .left) (after-begin .begin .result) (after-ors .ors .last .1 .1 .1 .0) (after-at .at .given .0 .0) (after-at .at .given .0 .1 .0)
-    (told (start .args .text .now) (after-begin .begin .result) (after-ors .ors .last .1 .1 .1 .0) (after-at .at .given .1) (after-ors .ors .ensures none refl))
-    (after-token-at .token-at .result) (after-token-at .token-at .ensures) (after-if3 .if3 .left) (holds-none (after-begin .begin .result) (after-begin .begin .ensures .0) (after-begin .begin .ensures .1)) (after-if4 .if4 .left))))
+    (λ c. fits (c .before .before .before .before .before .before .before .before .before .before .before .before .before .before .before .args .text .now) (c .before .before .before .before .before .before .before .before .before .before .before .before .before .before .before .args .rule .now) (c .before .before .before .before .before .before .before .before .before .before .before .before .if1 .left) (sym (c .before .before .before .before .before .before .before .before .before .before .before .any-unknown .ensures) ∙ c .before .before .before .before .before .before .before .before .before .before .if2 .left) (c .before .before .before .before .before .before .before .before .before .begin .result) (c .before .before .before .before .before .before .before .ors .last .1 .1 .1 .0) (c .before .before .before .before .before .at .given .0 .0) (c .before .before .before .before .before .at .given .0 .1 .0)
+    (told (c .before .before .before .before .before .before .before .before .before .before .before .before .before .before .before .args .text .now) (c .before .before .before .before .before .before .before .before .before .begin .result) (c .before .before .before .before .before .before .before .ors .last .1 .1 .1 .0) (c .before .before .before .before .before .at .given .1) (c .before .before .before .before .before .before .before .ors .ensures none refl))
+    (c .before .before .before .token-at .result) (c .before .before .before .token-at .ensures) (c .before .if3 .left) (holds-none (c .before .before .before .before .before .before .before .before .before .begin .result) (c .before .before .before .before .before .before .before .before .before .begin .ensures .0) (c .before .before .before .before .before .before .before .before .before .begin .ensures .1)) (c .if4 .left))
+    (λ c. sym (length-take-le (8 + (c .before .before .before .before .before .before .at .given .0 .1 .0) * 10) (set (c .before .before .before .before .before .before .before .before .ors .last .1 .1 .1 .0) 5 (c .before .before .before .before .before .before .at .given .0 .1 .0)) (fits (c .before .before .before .before .before .before .before .before .before .before .before .before .before .before .before .before .args .text .now) (c .before .before .before .before .before .before .before .before .before .before .before .before .before .before .before .before .args .rule .now) (c .before .before .before .before .before .before .before .before .before .before .before .before .before .if1 .left) (sym (c .before .before .before .before .before .before .before .before .before .before .before .before .any-unknown .ensures) ∙ c .before .before .before .before .before .before .before .before .before .before .before .if2 .left) (c .before .before .before .before .before .before .before .before .before .before .begin .result) (c .before .before .before .before .before .before .before .before .ors .last .1 .1 .1 .0) (c .before .before .before .before .before .before .at .given .0 .0) (c .before .before .before .before .before .before .at .given .0 .1 .0)
+    (told (c .before .before .before .before .before .before .before .before .before .before .before .before .before .before .before .before .args .text .now) (c .before .before .before .before .before .before .before .before .before .before .begin .result) (c .before .before .before .before .before .before .before .before .ors .last .1 .1 .1 .0) (c .before .before .before .before .before .before .at .given .1) (c .before .before .before .before .before .before .before .before .ors .ensures none refl))
+    (c .before .before .before .before .token-at .result) (c .before .before .before .before .token-at .ensures) (c .before .before .if3 .left) (holds-none (c .before .before .before .before .before .before .before .before .before .before .begin .result) (c .before .before .before .before .before .before .before .before .before .before .begin .ensures .0) (c .before .before .before .before .before .before .before .before .before .before .begin .ensures .1)) (c .before .if4 .left))))
     (λ c κs. search needs)
     (λ c. search needs)
     (λ c. search needs)
     (λ c κs. search needs)
     -- 6 and 8
-    (λ c. let after-enum-told3 = c .before in
-    let after-measure = after-enum-told3 .before .before in
-    let after-if4 = after-measure .before .before in
-    let after-if3 = after-if4 .before in
-    let after-token-at = after-if3 .before .before in
-    let after-at = after-token-at .before .before in
-    let after-ors = after-at .before .before in
-    let after-begin = after-ors .before .before in
-    let after-if2 = after-begin .before in
-    let after-any-unknown = after-if2 .before in
-    let after-if1 = after-any-unknown .before in
-    let start = after-if1 .before .before .before in
-    stopped (start .args .text .now) (start .args .rule .now) (after-if1 .if1 .left) (sym (after-any-unknown .any-unknown .ensures) ∙ after-if2 .if2 .left) (after-begin .begin .result) (after-ors .ors .last .1 .1 .1 .0) (after-at .at .given .0 .0) (after-at .at .given .0 .1 .0)
-    (told (start .args .text .now) (after-begin .begin .result) (after-ors .ors .last .1 .1 .1 .0) (after-at .at .given .1) (after-ors .ors .ensures none refl))
-    (after-token-at .token-at .result) (after-token-at .token-at .ensures) (after-if3 .if3 .left) (holds-none (after-begin .begin .result) (after-begin .begin .ensures .0) (after-begin .begin .ensures .1)) (after-if4 .if4 .left) (after-enum-told3 .enum-told3 .given .0 .0) (c .number .result)
-    (sym (ap answer (after-enum-told3 .enum-told3 .given .1)) ∙ after-measure .measure .ensures ∙ ap measured (rule-is (start .args .text .now) (start .args .rule .now) (after-if1 .if1 .left) (sym (after-any-unknown .any-unknown .ensures) ∙ after-if2 .if2 .left) (after-begin .begin .result) (after-ors .ors .last .1 .1 .1 .0) (after-at .at .given .0 .0) (after-at .at .given .0 .1 .0)
-    (told (start .args .text .now) (after-begin .begin .result) (after-ors .ors .last .1 .1 .1 .0) (after-at .at .given .1) (after-ors .ors .ensures none refl))
-    (after-token-at .token-at .result) (after-token-at .token-at .ensures) (after-if3 .if3 .left) (holds-none (after-begin .begin .result) (after-begin .begin .ensures .0) (after-begin .begin .ensures .1)) (after-if4 .if4 .left)))
-    (c .number .ensures ∙ ap (λ (m : Measured). answer m .number) (after-enum-told3 .enum-told3 .given .1)))
+    (λ c. stopped (c .before .before .before .before .before .before .before .before .before .before .before .before .before .before .before .before .before .before .before .before .args .text .now) (c .before .before .before .before .before .before .before .before .before .before .before .before .before .before .before .before .before .before .before .before .args .rule .now) (c .before .before .before .before .before .before .before .before .before .before .before .before .before .before .before .before .before .if1 .left) (sym (c .before .before .before .before .before .before .before .before .before .before .before .before .before .before .before .before .any-unknown .ensures) ∙ c .before .before .before .before .before .before .before .before .before .before .before .before .before .before .before .if2 .left) (c .before .before .before .before .before .before .before .before .before .before .before .before .before .before .begin .result) (c .before .before .before .before .before .before .before .before .before .before .before .before .ors .last .1 .1 .1 .0) (c .before .before .before .before .before .before .before .before .before .before .at .given .0 .0) (c .before .before .before .before .before .before .before .before .before .before .at .given .0 .1 .0)
+    (told (c .before .before .before .before .before .before .before .before .before .before .before .before .before .before .before .before .before .before .before .before .args .text .now) (c .before .before .before .before .before .before .before .before .before .before .before .before .before .before .begin .result) (c .before .before .before .before .before .before .before .before .before .before .before .before .ors .last .1 .1 .1 .0) (c .before .before .before .before .before .before .before .before .before .before .at .given .1) (c .before .before .before .before .before .before .before .before .before .before .before .before .ors .ensures none refl))
+    (c .before .before .before .before .before .before .before .before .token-at .result) (c .before .before .before .before .before .before .before .before .token-at .ensures) (c .before .before .before .before .before .before .if3 .left) (holds-none (c .before .before .before .before .before .before .before .before .before .before .before .before .before .before .begin .result) (c .before .before .before .before .before .before .before .before .before .before .before .before .before .before .begin .ensures .0) (c .before .before .before .before .before .before .before .before .before .before .before .before .before .before .begin .ensures .1)) (c .before .before .before .before .before .if4 .left) (c .before .enum-told3 .given .0 .0) (c .number .result)
+    (sym (ap answer (c .before .enum-told3 .given .1)) ∙ c .before .before .before .measure .ensures ∙ ap measured (rule-is (c .before .before .before .before .before .before .before .before .before .before .before .before .before .before .before .before .before .before .before .before .args .text .now) (c .before .before .before .before .before .before .before .before .before .before .before .before .before .before .before .before .before .before .before .before .args .rule .now) (c .before .before .before .before .before .before .before .before .before .before .before .before .before .before .before .before .before .if1 .left) (sym (c .before .before .before .before .before .before .before .before .before .before .before .before .before .before .before .before .any-unknown .ensures) ∙ c .before .before .before .before .before .before .before .before .before .before .before .before .before .before .before .if2 .left) (c .before .before .before .before .before .before .before .before .before .before .before .before .before .before .begin .result) (c .before .before .before .before .before .before .before .before .before .before .before .before .ors .last .1 .1 .1 .0) (c .before .before .before .before .before .before .before .before .before .before .at .given .0 .0) (c .before .before .before .before .before .before .before .before .before .before .at .given .0 .1 .0)
+    (told (c .before .before .before .before .before .before .before .before .before .before .before .before .before .before .before .before .before .before .before .before .args .text .now) (c .before .before .before .before .before .before .before .before .before .before .before .before .before .before .begin .result) (c .before .before .before .before .before .before .before .before .before .before .before .before .ors .last .1 .1 .1 .0) (c .before .before .before .before .before .before .before .before .before .before .at .given .1) (c .before .before .before .before .before .before .before .before .before .before .before .before .ors .ensures none refl))
+    (c .before .before .before .before .before .before .before .before .token-at .result) (c .before .before .before .before .before .before .before .before .token-at .ensures) (c .before .before .before .before .before .before .if3 .left) (holds-none (c .before .before .before .before .before .before .before .before .before .before .before .before .before .before .begin .result) (c .before .before .before .before .before .before .before .before .before .before .before .before .before .before .begin .ensures .0) (c .before .before .before .before .before .before .before .before .before .before .before .before .before .before .begin .ensures .1)) (c .before .before .before .before .before .if4 .left)))
+    (c .number .ensures ∙ ap (λ (m : Measured). answer m .number) (c .before .enum-told3 .given .1)))
     -- 18
-    (λ c. let after-enum-told2 = c .before in
-    let after-measure = after-enum-told2 .before .before in
-    let after-if4 = after-measure .before .before in
-    let after-if3 = after-if4 .before in
-    let after-token-at = after-if3 .before .before in
-    let after-at = after-token-at .before .before in
-    let after-ors = after-at .before .before in
-    let after-begin = after-ors .before .before in
-    let after-if2 = after-begin .before in
-    let after-any-unknown = after-if2 .before in
-    let after-if1 = after-any-unknown .before in
-    let start = after-if1 .before .before .before in
-    no-room (start .args .text .now) (start .args .rule .now) (after-if1 .if1 .left) (sym (after-any-unknown .any-unknown .ensures) ∙ after-if2 .if2 .left) (after-begin .begin .result) (after-ors .ors .last .1 .1 .1 .0) (after-at .at .given .0 .0) (after-at .at .given .0 .1 .0)
-    (told (start .args .text .now) (after-begin .begin .result) (after-ors .ors .last .1 .1 .1 .0) (after-at .at .given .1) (after-ors .ors .ensures none refl))
-    (after-token-at .token-at .result) (after-token-at .token-at .ensures) (after-if3 .if3 .left) (holds-none (after-begin .begin .result) (after-begin .begin .ensures .0) (after-begin .begin .ensures .1)) (after-if4 .if4 .left) (after-enum-told2 .enum-told2 .given .0 .0) (after-enum-told2 .enum-told2 .given .0 .1 .0)
-    (sym (ap answer (after-enum-told2 .enum-told2 .given .1)) ∙ after-measure .measure .ensures ∙ ap measured (rule-is (start .args .text .now) (start .args .rule .now) (after-if1 .if1 .left) (sym (after-any-unknown .any-unknown .ensures) ∙ after-if2 .if2 .left) (after-begin .begin .result) (after-ors .ors .last .1 .1 .1 .0) (after-at .at .given .0 .0) (after-at .at .given .0 .1 .0)
-    (told (start .args .text .now) (after-begin .begin .result) (after-ors .ors .last .1 .1 .1 .0) (after-at .at .given .1) (after-ors .ors .ensures none refl))
-    (after-token-at .token-at .result) (after-token-at .token-at .ensures) (after-if3 .if3 .left) (holds-none (after-begin .begin .result) (after-begin .begin .ensures .0) (after-begin .begin .ensures .1)) (after-if4 .if4 .left)))
+    (λ c. no-room (c .before .before .before .before .before .before .before .before .before .before .before .before .before .before .before .before .before .before .before .before .args .text .now) (c .before .before .before .before .before .before .before .before .before .before .before .before .before .before .before .before .before .before .before .before .args .rule .now) (c .before .before .before .before .before .before .before .before .before .before .before .before .before .before .before .before .before .if1 .left) (sym (c .before .before .before .before .before .before .before .before .before .before .before .before .before .before .before .before .any-unknown .ensures) ∙ c .before .before .before .before .before .before .before .before .before .before .before .before .before .before .before .if2 .left) (c .before .before .before .before .before .before .before .before .before .before .before .before .before .before .begin .result) (c .before .before .before .before .before .before .before .before .before .before .before .before .ors .last .1 .1 .1 .0) (c .before .before .before .before .before .before .before .before .before .before .at .given .0 .0) (c .before .before .before .before .before .before .before .before .before .before .at .given .0 .1 .0)
+    (told (c .before .before .before .before .before .before .before .before .before .before .before .before .before .before .before .before .before .before .before .before .args .text .now) (c .before .before .before .before .before .before .before .before .before .before .before .before .before .before .begin .result) (c .before .before .before .before .before .before .before .before .before .before .before .before .ors .last .1 .1 .1 .0) (c .before .before .before .before .before .before .before .before .before .before .at .given .1) (c .before .before .before .before .before .before .before .before .before .before .before .before .ors .ensures none refl))
+    (c .before .before .before .before .before .before .before .before .token-at .result) (c .before .before .before .before .before .before .before .before .token-at .ensures) (c .before .before .before .before .before .before .if3 .left) (holds-none (c .before .before .before .before .before .before .before .before .before .before .before .before .before .before .begin .result) (c .before .before .before .before .before .before .before .before .before .before .before .before .before .before .begin .ensures .0) (c .before .before .before .before .before .before .before .before .before .before .before .before .before .before .begin .ensures .1)) (c .before .before .before .before .before .if4 .left) (c .before .enum-told2 .given .0 .0) (c .before .enum-told2 .given .0 .1 .0)
+    (sym (ap answer (c .before .enum-told2 .given .1)) ∙ c .before .before .before .measure .ensures ∙ ap measured (rule-is (c .before .before .before .before .before .before .before .before .before .before .before .before .before .before .before .before .before .before .before .before .args .text .now) (c .before .before .before .before .before .before .before .before .before .before .before .before .before .before .before .before .before .before .before .before .args .rule .now) (c .before .before .before .before .before .before .before .before .before .before .before .before .before .before .before .before .before .if1 .left) (sym (c .before .before .before .before .before .before .before .before .before .before .before .before .before .before .before .before .any-unknown .ensures) ∙ c .before .before .before .before .before .before .before .before .before .before .before .before .before .before .before .if2 .left) (c .before .before .before .before .before .before .before .before .before .before .before .before .before .before .begin .result) (c .before .before .before .before .before .before .before .before .before .before .before .before .ors .last .1 .1 .1 .0) (c .before .before .before .before .before .before .before .before .before .before .at .given .0 .0) (c .before .before .before .before .before .before .before .before .before .before .at .given .0 .1 .0)
+    (told (c .before .before .before .before .before .before .before .before .before .before .before .before .before .before .before .before .before .before .before .before .args .text .now) (c .before .before .before .before .before .before .before .before .before .before .before .before .before .before .begin .result) (c .before .before .before .before .before .before .before .before .before .before .before .before .ors .last .1 .1 .1 .0) (c .before .before .before .before .before .before .before .before .before .before .at .given .1) (c .before .before .before .before .before .before .before .before .before .before .before .before .ors .ensures none refl))
+    (c .before .before .before .before .before .before .before .before .token-at .result) (c .before .before .before .before .before .before .before .before .token-at .ensures) (c .before .before .before .before .before .before .if3 .left) (holds-none (c .before .before .before .before .before .before .before .before .before .before .before .before .before .before .begin .result) (c .before .before .before .before .before .before .before .before .before .before .before .before .before .before .begin .ensures .0) (c .before .before .before .before .before .before .before .before .before .before .before .before .before .before .begin .ensures .1)) (c .before .before .before .before .before .if4 .left)))
     (c .if5 .taken))
-    (λ c κs. let after-if5 = c .before in
-    let after-if4 = after-if5 .before .before .before .before .before in
-    let after-if3 = after-if4 .before in
-    let after-token-at = after-if3 .before .before in
-    let after-at = after-token-at .before .before in
-    let after-ors = after-at .before .before in
-    let after-begin = after-ors .before .before in
-    let after-if2 = after-begin .before in
-    let after-any-unknown = after-if2 .before in
-    let after-if1 = after-any-unknown .before in
-    let start = after-if1 .before .before .before in
-    omega (
+    (λ c κs. omega (
       arith,
-      length-take-le (8 + (after-at .at .given .0 .1 .0) * 10) (set (after-ors .ors .last .1 .1 .1 .0) 5 (after-at .at .given .0 .1 .0)) (fits (start .args .text .now) (start .args .rule .now) (after-if1 .if1 .left) (sym (after-any-unknown .any-unknown .ensures) ∙ after-if2 .if2 .left) (after-begin .begin .result) (after-ors .ors .last .1 .1 .1 .0) (after-at .at .given .0 .0) (after-at .at .given .0 .1 .0)
-          (told (start .args .text .now) (after-begin .begin .result) (after-ors .ors .last .1 .1 .1 .0) (after-at .at .given .1) (after-ors .ors .ensures none refl))
-          (after-token-at .token-at .result) (after-token-at .token-at .ensures) (after-if3 .if3 .left) (holds-none (after-begin .begin .result) (after-begin .begin .ensures .0) (after-begin .begin .ensures .1)) (after-if4 .if4 .left)),
-      after-if5 .if5 .left,
+      length-take-le (8 + (c .before .before .before .before .before .before .before .before .before .before .before .at .given .0 .1 .0) * 10) (set (c .before .before .before .before .before .before .before .before .before .before .before .before .before .ors .last .1 .1 .1 .0) 5 (c .before .before .before .before .before .before .before .before .before .before .before .at .given .0 .1 .0)) (fits (c .before .before .before .before .before .before .before .before .before .before .before .before .before .before .before .before .before .before .before .before .before .args .text .now) (c .before .before .before .before .before .before .before .before .before .before .before .before .before .before .before .before .before .before .before .before .before .args .rule .now) (c .before .before .before .before .before .before .before .before .before .before .before .before .before .before .before .before .before .before .if1 .left) (sym (c .before .before .before .before .before .before .before .before .before .before .before .before .before .before .before .before .before .any-unknown .ensures) ∙ c .before .before .before .before .before .before .before .before .before .before .before .before .before .before .before .before .if2 .left) (c .before .before .before .before .before .before .before .before .before .before .before .before .before .before .before .begin .result) (c .before .before .before .before .before .before .before .before .before .before .before .before .before .ors .last .1 .1 .1 .0) (c .before .before .before .before .before .before .before .before .before .before .before .at .given .0 .0) (c .before .before .before .before .before .before .before .before .before .before .before .at .given .0 .1 .0)
+          (told (c .before .before .before .before .before .before .before .before .before .before .before .before .before .before .before .before .before .before .before .before .before .args .text .now) (c .before .before .before .before .before .before .before .before .before .before .before .before .before .before .before .begin .result) (c .before .before .before .before .before .before .before .before .before .before .before .before .before .ors .last .1 .1 .1 .0) (c .before .before .before .before .before .before .before .before .before .before .before .at .given .1) (c .before .before .before .before .before .before .before .before .before .before .before .before .before .ors .ensures none refl))
+          (c .before .before .before .before .before .before .before .before .before .token-at .result) (c .before .before .before .before .before .before .before .before .before .token-at .ensures) (c .before .before .before .before .before .before .before .if3 .left) (holds-none (c .before .before .before .before .before .before .before .before .before .before .before .before .before .before .before .begin .result) (c .before .before .before .before .before .before .before .before .before .before .before .before .before .before .before .begin .ensures .0) (c .before .before .before .before .before .before .before .before .before .before .before .before .before .before .before .begin .ensures .1)) (c .before .before .before .before .before .before .if4 .left)),
+      c .before .if5 .left,
     ))
     (λ c. search needs)
     -- the rule is written
-    (λ c. let after-copy = c .before .before in
-    let after-if5 = after-copy .before .before in
-    let after-enum-told2 = after-if5 .before in
-    let after-measure = after-enum-told2 .before .before in
-    let after-if4 = after-measure .before .before in
-    let after-if3 = after-if4 .before in
-    let after-token-at = after-if3 .before .before in
-    let after-at = after-token-at .before .before in
-    let after-ors = after-at .before .before in
-    let after-begin = after-ors .before .before in
-    let after-if2 = after-begin .before in
-    let after-any-unknown = after-if2 .before in
-    let after-if1 = after-any-unknown .before in
-    let start = after-if1 .before .before .before in
-    wrote (start .args .text .now) (start .args .rule .now) (after-if1 .if1 .left) (sym (after-any-unknown .any-unknown .ensures) ∙ after-if2 .if2 .left) (after-begin .begin .result) (after-ors .ors .last .1 .1 .1 .0) (after-at .at .given .0 .0) (after-at .at .given .0 .1 .0)
-    (told (start .args .text .now) (after-begin .begin .result) (after-ors .ors .last .1 .1 .1 .0) (after-at .at .given .1) (after-ors .ors .ensures none refl))
-    (after-token-at .token-at .result) (after-token-at .token-at .ensures) (after-if3 .if3 .left) (holds-none (after-begin .begin .result) (after-begin .begin .ensures .0) (after-begin .begin .ensures .1)) (after-if4 .if4 .left) (after-enum-told2 .enum-told2 .given .0 .0) (after-enum-told2 .enum-told2 .given .0 .1 .0)
-    (sym (ap answer (after-enum-told2 .enum-told2 .given .1)) ∙ after-measure .measure .ensures ∙ ap measured (rule-is (start .args .text .now) (start .args .rule .now) (after-if1 .if1 .left) (sym (after-any-unknown .any-unknown .ensures) ∙ after-if2 .if2 .left) (after-begin .begin .result) (after-ors .ors .last .1 .1 .1 .0) (after-at .at .given .0 .0) (after-at .at .given .0 .1 .0)
-    (told (start .args .text .now) (after-begin .begin .result) (after-ors .ors .last .1 .1 .1 .0) (after-at .at .given .1) (after-ors .ors .ensures none refl))
-    (after-token-at .token-at .result) (after-token-at .token-at .ensures) (after-if3 .if3 .left) (holds-none (after-begin .begin .result) (after-begin .begin .ensures .0) (after-begin .begin .ensures .1)) (after-if4 .if4 .left)))
-    (after-if5 .if5 .left) (after-copy .copy .last .1 .0)
-    (after-copy .copy .ensures ∙ ap (λ (s : List ℕ). s ++ drop (length s) (start .args .rule .now)) (rule-is (start .args .text .now) (start .args .rule .now) (after-if1 .if1 .left) (sym (after-any-unknown .any-unknown .ensures) ∙ after-if2 .if2 .left) (after-begin .begin .result) (after-ors .ors .last .1 .1 .1 .0) (after-at .at .given .0 .0) (after-at .at .given .0 .1 .0)
-    (told (start .args .text .now) (after-begin .begin .result) (after-ors .ors .last .1 .1 .1 .0) (after-at .at .given .1) (after-ors .ors .ensures none refl))
-    (after-token-at .token-at .result) (after-token-at .token-at .ensures) (after-if3 .if3 .left) (holds-none (after-begin .begin .result) (after-begin .begin .ensures .0) (after-begin .begin .ensures .1)) (after-if4 .if4 .left)))))
+    (λ c. wrote (c .before .before .before .before .before .before .before .before .before .before .before .before .before .before .before .before .before .before .before .before .before .before .before .before .args .text .now) (c .before .before .before .before .before .before .before .before .before .before .before .before .before .before .before .before .before .before .before .before .before .before .before .before .args .rule .now) (c .before .before .before .before .before .before .before .before .before .before .before .before .before .before .before .before .before .before .before .before .before .if1 .left) (sym (c .before .before .before .before .before .before .before .before .before .before .before .before .before .before .before .before .before .before .before .before .any-unknown .ensures) ∙ c .before .before .before .before .before .before .before .before .before .before .before .before .before .before .before .before .before .before .before .if2 .left) (c .before .before .before .before .before .before .before .before .before .before .before .before .before .before .before .before .before .before .begin .result) (c .before .before .before .before .before .before .before .before .before .before .before .before .before .before .before .before .ors .last .1 .1 .1 .0) (c .before .before .before .before .before .before .before .before .before .before .before .before .before .before .at .given .0 .0) (c .before .before .before .before .before .before .before .before .before .before .before .before .before .before .at .given .0 .1 .0)
+    (told (c .before .before .before .before .before .before .before .before .before .before .before .before .before .before .before .before .before .before .before .before .before .before .before .before .args .text .now) (c .before .before .before .before .before .before .before .before .before .before .before .before .before .before .before .before .before .before .begin .result) (c .before .before .before .before .before .before .before .before .before .before .before .before .before .before .before .before .ors .last .1 .1 .1 .0) (c .before .before .before .before .before .before .before .before .before .before .before .before .before .before .at .given .1) (c .before .before .before .before .before .before .before .before .before .before .before .before .before .before .before .before .ors .ensures none refl))
+    (c .before .before .before .before .before .before .before .before .before .before .before .before .token-at .result) (c .before .before .before .before .before .before .before .before .before .before .before .before .token-at .ensures) (c .before .before .before .before .before .before .before .before .before .before .if3 .left) (holds-none (c .before .before .before .before .before .before .before .before .before .before .before .before .before .before .before .before .before .before .begin .result) (c .before .before .before .before .before .before .before .before .before .before .before .before .before .before .before .before .before .before .begin .ensures .0) (c .before .before .before .before .before .before .before .before .before .before .before .before .before .before .before .before .before .before .begin .ensures .1)) (c .before .before .before .before .before .before .before .before .before .if4 .left) (c .before .before .before .before .before .enum-told2 .given .0 .0) (c .before .before .before .before .before .enum-told2 .given .0 .1 .0)
+    (sym (ap answer (c .before .before .before .before .before .enum-told2 .given .1)) ∙ c .before .before .before .before .before .before .before .measure .ensures ∙ ap measured (rule-is (c .before .before .before .before .before .before .before .before .before .before .before .before .before .before .before .before .before .before .before .before .before .before .before .before .args .text .now) (c .before .before .before .before .before .before .before .before .before .before .before .before .before .before .before .before .before .before .before .before .before .before .before .before .args .rule .now) (c .before .before .before .before .before .before .before .before .before .before .before .before .before .before .before .before .before .before .before .before .before .if1 .left) (sym (c .before .before .before .before .before .before .before .before .before .before .before .before .before .before .before .before .before .before .before .before .any-unknown .ensures) ∙ c .before .before .before .before .before .before .before .before .before .before .before .before .before .before .before .before .before .before .before .if2 .left) (c .before .before .before .before .before .before .before .before .before .before .before .before .before .before .before .before .before .before .begin .result) (c .before .before .before .before .before .before .before .before .before .before .before .before .before .before .before .before .ors .last .1 .1 .1 .0) (c .before .before .before .before .before .before .before .before .before .before .before .before .before .before .at .given .0 .0) (c .before .before .before .before .before .before .before .before .before .before .before .before .before .before .at .given .0 .1 .0)
+    (told (c .before .before .before .before .before .before .before .before .before .before .before .before .before .before .before .before .before .before .before .before .before .before .before .before .args .text .now) (c .before .before .before .before .before .before .before .before .before .before .before .before .before .before .before .before .before .before .begin .result) (c .before .before .before .before .before .before .before .before .before .before .before .before .before .before .before .before .ors .last .1 .1 .1 .0) (c .before .before .before .before .before .before .before .before .before .before .before .before .before .before .at .given .1) (c .before .before .before .before .before .before .before .before .before .before .before .before .before .before .before .before .ors .ensures none refl))
+    (c .before .before .before .before .before .before .before .before .before .before .before .before .token-at .result) (c .before .before .before .before .before .before .before .before .before .before .before .before .token-at .ensures) (c .before .before .before .before .before .before .before .before .before .before .if3 .left) (holds-none (c .before .before .before .before .before .before .before .before .before .before .before .before .before .before .before .before .before .before .begin .result) (c .before .before .before .before .before .before .before .before .before .before .before .before .before .before .before .before .before .before .begin .ensures .0) (c .before .before .before .before .before .before .before .before .before .before .before .before .before .before .before .before .before .before .begin .ensures .1)) (c .before .before .before .before .before .before .before .before .before .if4 .left)))
+    (c .before .before .before .before .if5 .left) (c .before .before .copy .last .1 .0)
+    (c .before .before .copy .ensures ∙ ap (λ (s : List ℕ). s ++ drop (length s) (c .before .before .before .before .before .before .before .before .before .before .before .before .before .before .before .before .before .before .before .before .before .before .before .before .args .rule .now)) (rule-is (c .before .before .before .before .before .before .before .before .before .before .before .before .before .before .before .before .before .before .before .before .before .before .before .before .args .text .now) (c .before .before .before .before .before .before .before .before .before .before .before .before .before .before .before .before .before .before .before .before .before .before .before .before .args .rule .now) (c .before .before .before .before .before .before .before .before .before .before .before .before .before .before .before .before .before .before .before .before .before .if1 .left) (sym (c .before .before .before .before .before .before .before .before .before .before .before .before .before .before .before .before .before .before .before .before .any-unknown .ensures) ∙ c .before .before .before .before .before .before .before .before .before .before .before .before .before .before .before .before .before .before .before .if2 .left) (c .before .before .before .before .before .before .before .before .before .before .before .before .before .before .before .before .before .before .begin .result) (c .before .before .before .before .before .before .before .before .before .before .before .before .before .before .before .before .ors .last .1 .1 .1 .0) (c .before .before .before .before .before .before .before .before .before .before .before .before .before .before .at .given .0 .0) (c .before .before .before .before .before .before .before .before .before .before .before .before .before .before .at .given .0 .1 .0)
+    (told (c .before .before .before .before .before .before .before .before .before .before .before .before .before .before .before .before .before .before .before .before .before .before .before .before .args .text .now) (c .before .before .before .before .before .before .before .before .before .before .before .before .before .before .before .before .before .before .begin .result) (c .before .before .before .before .before .before .before .before .before .before .before .before .before .before .before .before .ors .last .1 .1 .1 .0) (c .before .before .before .before .before .before .before .before .before .before .before .before .before .before .at .given .1) (c .before .before .before .before .before .before .before .before .before .before .before .before .before .before .before .before .ors .ensures none refl))
+    (c .before .before .before .before .before .before .before .before .before .before .before .before .token-at .result) (c .before .before .before .before .before .before .before .before .before .before .before .before .token-at .ensures) (c .before .before .before .before .before .before .before .before .before .before .if3 .left) (holds-none (c .before .before .before .before .before .before .before .before .before .before .before .before .before .before .before .before .before .before .begin .result) (c .before .before .before .before .before .before .before .before .before .before .before .before .before .before .before .before .before .before .begin .ensures .0) (c .before .before .before .before .before .before .before .before .before .before .before .before .before .before .before .before .before .before .begin .ensures .1)) (c .before .before .before .before .before .before .before .before .before .if4 .left)))))

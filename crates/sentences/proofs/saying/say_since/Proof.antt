@@ -69,12 +69,10 @@ add-search c = search needs
 -- src/saying.rt:158:9
 search-requires : tie.Need-search-requires
 search-requires c κs =
-    let after-field3 = c .before .before .before in
-    let start = after-field3 .before .before .before .before .before .before .before .before .before .before in
-    let lent = start .pre .0 in
-    let row = lent .rows (start .args .k) (omega arith) in
-    let (below, same) = row .left (ap takes-left (start .pre .2)) in
-    let at = after-field3 .field3 .ensures in
+    let lent = c .before .before .before .before .before .before .before .before .before .before .before .before .before .pre .0 in
+    let row = lent .rows (c .before .before .before .before .before .before .before .before .before .before .before .before .before .args .k) (omega arith) in
+    let (below, same) = row .left (ap takes-left (c .before .before .before .before .before .before .before .before .before .before .before .before .before .pre .2)) in
+    let at = c .before .before .before .field3 .ensures in
     let few = lent .entry in
     (omega arith, λ j h. lent .rows j (omega arith), lent .words-room, lent .copy-room, lent .waiting-room, lent .views)
 
@@ -89,9 +87,8 @@ choose-requires c κs = search needs
 -- src/saying.rt:178:9
 sub-search : tie.Need-sub-search
 sub-search c =
-    let start = c .before .before .before .before .before .before .before .before .before .before .before .before .before .before .before .before .before .before .before .before .before in
-    let lent = start .pre .0 in
-    let (below, same) = lent .rows (start .args .k) (omega arith) .right (ap takes-right (start .pre .2)) in
+    let lent = c .before .before .before .before .before .before .before .before .before .before .before .before .before .before .before .before .before .before .before .before .before .pre .0 in
+    let (below, same) = lent .rows (c .before .before .before .before .before .before .before .before .before .before .before .before .before .before .before .before .before .before .before .before .before .args .k) (omega arith) .right (ap takes-right (c .before .before .before .before .before .before .before .before .before .before .before .before .before .before .before .before .before .before .before .before .before .pre .2)) in
     omega arith
 
 -- src/saying.rt:181:31
@@ -105,13 +102,11 @@ smaller-requires c κs = search needs
 -- src/saying.rt:172:9
 search-requires-2 : tie.Need-search-requires-2
 search-requires-2 c κs =
-    let after-search = c .before .before .before .before .before .before .before .before .before in
-    let start = after-search .before .before .before .before .before .before .before .before .before .before .before .before .before .before in
-    let lent = start .pre .0 in
+    let lent = c .before .before .before .before .before .before .before .before .before .before .before .before .before .before .before .before .before .before .before .before .before .before .before .pre .0 in
     let few = lent .entry in
     let room = lent .words-room in
-    let kept = after-search .search .kept .1 .1 .1 .1 .1 .1 .1 .1 .1 .0 in
-    (omega arith, λ j h. lent .rows j (omega arith), omega arith, after-search .search .ensures .1 .0, after-search .search .ensures .1 .1, lent .views)
+    let kept = c .before .before .before .before .before .before .before .before .before .search .kept .1 .1 .1 .1 .1 .1 .1 .1 .1 .0 in
+    (omega arith, λ j h. lent .rows j (omega arith), omega arith, c .before .before .before .before .before .before .before .before .before .search .ensures .1 .0, c .before .before .before .before .before .before .before .before .before .search .ensures .1 .1, lent .views)
 
 -- src/saying.rt:184:5
 say-search-requires : tie.Need-say-search-requires
@@ -124,54 +119,40 @@ same-length c = search needs
 -- src/saying.rt:140:1
 returns : tie.Need-returns
 returns c =
-    let after-search2 = c .before .before .before .before in
-    let after-smaller = after-search2 .before .before in
-    let after-choose = after-smaller .before .before .before in
-    let after-gap3 = after-choose .before in
-    let after-search = after-gap3 .before .before .before .before in
-    let after-field3 = after-search .before .before .before .before in
-    let after-first-at2 = after-field3 .before in
-    let after-gap2 = after-first-at2 .before in
-    let after-field2 = after-gap2 .before in
-    let after-first-at = after-field2 .before in
-    let after-gap = after-first-at .before in
-    let after-field = after-gap .before in
-    let after-time-of = after-field .before in
-    let start = after-time-of .before .before .before in
-    let a = start .args in
-    let lent = start .pre .0 in
-    let few = start .pre .1 in
+    let a = c .before .before .before .before .before .before .before .before .before .before .before .before .before .before .before .before .before .before .before .before .before .before .before .before .before .before .before .before .args in
+    let lent = c .before .before .before .before .before .before .before .before .before .before .before .before .before .before .before .before .before .before .before .before .before .before .before .before .before .before .before .before .pre .0 in
+    let few = c .before .before .before .before .before .before .before .before .before .before .before .before .before .before .before .before .before .before .before .before .before .before .before .before .before .before .before .before .pre .1 in
     let records = lent .few in
     let e = c .say-search .ensures in
-    let from-is : after-choose .choose .result ≡ cond (ltb (after-first-at .first-at .result) (after-search .search .result .after)) (after-search .search .result .after - 1) (after-first-at .first-at .result) =
-    after-choose .choose .ensures ∙ ap (λ (x : ℕ). cond (ltb (after-first-at .first-at .result) (after-search .search .result .after)) x (after-first-at .first-at .result)) (after-gap3 .gap3 .ensures) in (
+    let from-is : c .before .before .before .before .before .before .before .before .before .choose .result ≡ cond (ltb (c .before .before .before .before .before .before .before .before .before .before .before .before .before .before .before .before .before .before .before .before .before .before .first-at .result) (c .before .before .before .before .before .before .before .before .before .before .before .before .before .before .search .result .after)) (c .before .before .before .before .before .before .before .before .before .before .before .before .before .before .search .result .after - 1) (c .before .before .before .before .before .before .before .before .before .before .before .before .before .before .before .before .before .before .before .before .before .before .first-at .result) =
+    c .before .before .before .before .before .before .before .before .before .choose .ensures ∙ ap (λ (x : ℕ). cond (ltb (c .before .before .before .before .before .before .before .before .before .before .before .before .before .before .before .before .before .before .before .before .before .before .first-at .result) (c .before .before .before .before .before .before .before .before .before .before .before .before .before .before .search .result .after)) x (c .before .before .before .before .before .before .before .before .before .before .before .before .before .before .before .before .before .before .before .before .before .before .first-at .result)) (c .before .before .before .before .before .before .before .before .before .before .gap3 .ensures) in (
       (
-        rw e (shape-alone 5 (a .i) (found-saying 5 (ltb (after-search2 .search2 .result .first) (after-search2 .search2 .result .done)) (after-search2 .search2 .result .first) (after-choose .choose .result) (ltb (after-first-at .first-at .result) (after-search .search .result .after)))
-            (either-small (ltb (after-search2 .search2 .result .first) (after-search2 .search2 .result .done)) (after-search2 .search2 .result .first) (after-choose .choose .result)
-            (omega (arith, after-search2 .search2 .ensures .0 .0 .1, after-search2 .search2 .ensures .0 .0 .0, after-smaller .smaller .ensures))
-            (rw from-is (either-small (ltb (after-first-at .first-at .result) (after-search .search .result .after)) (after-search .search .result .after - 1) (after-first-at .first-at .result)
-            (omega (arith, after-search .search .ensures .0 .0 .2, after-search .search .ensures .0 .0 .0)) (omega (arith, after-first-at .first-at .ensures .0)))))
+        rw e (shape-alone 5 (a .i) (found-saying 5 (ltb (c .before .before .before .before .search2 .result .first) (c .before .before .before .before .search2 .result .done)) (c .before .before .before .before .search2 .result .first) (c .before .before .before .before .before .before .before .before .before .choose .result) (ltb (c .before .before .before .before .before .before .before .before .before .before .before .before .before .before .before .before .before .before .before .before .before .before .first-at .result) (c .before .before .before .before .before .before .before .before .before .before .before .before .before .before .search .result .after)))
+            (either-small (ltb (c .before .before .before .before .search2 .result .first) (c .before .before .before .before .search2 .result .done)) (c .before .before .before .before .search2 .result .first) (c .before .before .before .before .before .before .before .before .before .choose .result)
+            (omega (arith, c .before .before .before .before .search2 .ensures .0 .0 .1, c .before .before .before .before .search2 .ensures .0 .0 .0, c .before .before .before .before .before .before .smaller .ensures))
+            (rw from-is (either-small (ltb (c .before .before .before .before .before .before .before .before .before .before .before .before .before .before .before .before .before .before .before .before .before .before .first-at .result) (c .before .before .before .before .before .before .before .before .before .before .before .before .before .before .search .result .after)) (c .before .before .before .before .before .before .before .before .before .before .before .before .before .before .search .result .after - 1) (c .before .before .before .before .before .before .before .before .before .before .before .before .before .before .before .before .before .before .before .before .before .before .first-at .result)
+            (omega (arith, c .before .before .before .before .before .before .before .before .before .before .before .before .before .before .search .ensures .0 .0 .2, c .before .before .before .before .before .before .before .before .before .before .before .before .before .before .search .ensures .0 .0 .0)) (omega (arith, c .before .before .before .before .before .before .before .before .before .before .before .before .before .before .before .before .before .before .before .before .before .before .first-at .ensures .0)))))
             (omega arith) refl),
         λ low high φ ψ L an.
             let whole = an .shown .whole in
             let inside = inside-here (a .table .now) (a .view .now) (a .records .now) L (Formula.since low high φ ψ) (a .k) (a .i) an in
             let has = has-here (a .table .now) (a .view .now) (a .records .now) L (Formula.since low high φ ψ) (a .k) (a .i) an in
             let fields = fields-here (a .table .now) (a .view .now) (a .records .now) L (Formula.since low high φ ψ) (a .k) (a .i) an in
-            let now = after-time-of .time-of .ensures .1 L whole inside in
-            let small = after-time-of .time-of .ensures .0 in
-            let high-is : after-field .field .result ≡ high = after-field .field .ensures ∙ fields .high in
-            let low-is : after-field2 .field2 .result ≡ low = after-field2 .field2 .ensures ∙ fields .low in
-            let near-is : after-first-at .first-at .result ≡ first-time L (L .time (a .i) - high) =
-            after-first-at .first-at .ensures .1 L whole ∙ ap (first-time L) (after-gap .gap .ensures ∙ ap₂ (λ (x y : ℕ). x - y) now high-is) in
-            let late-is : after-first-at2 .first-at2 .result ≡ first-time L (L .time (a .i) + 1 - low) =
-            after-first-at2 .first-at2 .ensures .1 L whole ∙ ap (first-time L) (after-gap2 .gap2 .ensures ∙ ap₂ (λ (x y : ℕ). x + 1 - y) now low-is) in
+            let now = c .before .before .before .before .before .before .before .before .before .before .before .before .before .before .before .before .before .before .before .before .before .before .before .before .before .time-of .ensures .1 L whole inside in
+            let small = c .before .before .before .before .before .before .before .before .before .before .before .before .before .before .before .before .before .before .before .before .before .before .before .before .before .time-of .ensures .0 in
+            let high-is : c .before .before .before .before .before .before .before .before .before .before .before .before .before .before .before .before .before .before .before .before .before .before .before .before .field .result ≡ high = c .before .before .before .before .before .before .before .before .before .before .before .before .before .before .before .before .before .before .before .before .before .before .before .before .field .ensures ∙ fields .high in
+            let low-is : c .before .before .before .before .before .before .before .before .before .before .before .before .before .before .before .before .before .before .before .before .before .field2 .result ≡ low = c .before .before .before .before .before .before .before .before .before .before .before .before .before .before .before .before .before .before .before .before .before .field2 .ensures ∙ fields .low in
+            let near-is : c .before .before .before .before .before .before .before .before .before .before .before .before .before .before .before .before .before .before .before .before .before .before .first-at .result ≡ first-time L (L .time (a .i) - high) =
+            c .before .before .before .before .before .before .before .before .before .before .before .before .before .before .before .before .before .before .before .before .before .before .first-at .ensures .1 L whole ∙ ap (first-time L) (c .before .before .before .before .before .before .before .before .before .before .before .before .before .before .before .before .before .before .before .before .before .before .before .gap .ensures ∙ ap₂ (λ (x y : ℕ). x - y) now high-is) in
+            let late-is : c .before .before .before .before .before .before .before .before .before .before .before .before .before .before .before .before .before .before .before .first-at2 .result ≡ first-time L (L .time (a .i) + 1 - low) =
+            c .before .before .before .before .before .before .before .before .before .before .before .before .before .before .before .before .before .before .before .first-at2 .ensures .1 L whole ∙ ap (first-time L) (c .before .before .before .before .before .before .before .before .before .before .before .before .before .before .before .before .before .before .before .before .gap2 .ensures ∙ ap₂ (λ (x y : ℕ). x + 1 - y) now low-is) in
             let (left-answers-it, right-answers-it) = operands-of (a .table .now) (a .view .now) (a .records .now) L (Formula.since low high φ ψ) φ ψ (a .k) (a .i) an refl (since-formulas low high φ ψ (an .entries) (a .k) (an .formula)) in
-            let lefts = after-search .search .ensures .0 .1 φ L (rw (after-field3 .field3 .ensures) (left-answers-it .0)) (an .shown .falls) (an .shown .agrees) (rw (after-field3 .field3 .ensures) (left-answers-it .1)) in
-            let rights = after-search2 .search2 .ensures .0 .1 ψ L (right-answers-it .0) (an .shown .falls) (an .shown .agrees) (right-answers-it .1) in
-            e ∙ since-told low high φ ψ (a .table .now) (a .view .now) (a .records .now) (a .k) (a .i) L an (omega arith) (after-first-at .first-at .result) (after-first-at2 .first-at2 .result) (after-choose .choose .result) (after-smaller .smaller .result)
-            (after-search .search .result) (after-search2 .search2 .result) near-is late-is lefts from-is (after-smaller .smaller .ensures) rights,
+            let lefts = c .before .before .before .before .before .before .before .before .before .before .before .before .before .before .search .ensures .0 .1 φ L (rw (c .before .before .before .before .before .before .before .before .before .before .before .before .before .before .before .before .before .before .field3 .ensures) (left-answers-it .0)) (an .shown .falls) (an .shown .agrees) (rw (c .before .before .before .before .before .before .before .before .before .before .before .before .before .before .before .before .before .before .field3 .ensures) (left-answers-it .1)) in
+            let rights = c .before .before .before .before .search2 .ensures .0 .1 ψ L (right-answers-it .0) (an .shown .falls) (an .shown .agrees) (right-answers-it .1) in
+            e ∙ since-told low high φ ψ (a .table .now) (a .view .now) (a .records .now) (a .k) (a .i) L an (omega arith) (c .before .before .before .before .before .before .before .before .before .before .before .before .before .before .before .before .before .before .before .before .before .before .first-at .result) (c .before .before .before .before .before .before .before .before .before .before .before .before .before .before .before .before .before .before .before .first-at2 .result) (c .before .before .before .before .before .before .before .before .before .choose .result) (c .before .before .before .before .before .before .smaller .result)
+            (c .before .before .before .before .before .before .before .before .before .before .before .before .before .before .search .result) (c .before .before .before .before .search2 .result) near-is late-is lefts from-is (c .before .before .before .before .before .before .smaller .ensures) rights,
       ),
-      after-search2 .search2 .ensures .1,
+      c .before .before .before .before .search2 .ensures .1,
     )
 
 pub say-since-spec : {M : Type 1} → statement M

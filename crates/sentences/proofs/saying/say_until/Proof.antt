@@ -82,12 +82,10 @@ add-search c = search needs
 -- src/saying.rt:207:9
 search-requires : tie.Need-search-requires
 search-requires c κs =
-    let after-field3 = c .before .before .before in
-    let start = after-field3 .before .before .before .before .before .before .before .before in
-    let lent = start .pre .0 in
-    let row = lent .rows (start .args .k) (omega arith) in
-    let (below, same) = row .left (ap takes-left (start .pre .2)) in
-    let at = after-field3 .field3 .ensures in
+    let lent = c .before .before .before .before .before .before .before .before .before .before .before .pre .0 in
+    let row = lent .rows (c .before .before .before .before .before .before .before .before .before .before .before .args .k) (omega arith) in
+    let (below, same) = row .left (ap takes-left (c .before .before .before .before .before .before .before .before .before .before .before .pre .2)) in
+    let at = c .before .before .before .field3 .ensures in
     let few = lent .entry in
     (omega arith, λ j h. lent .rows j (omega arith), lent .words-room, lent .copy-room, lent .waiting-room, lent .views)
 
@@ -102,22 +100,17 @@ choose-requires-2 c κs = search needs
 -- src/saying.rt:228:9
 sub-search : tie.Need-sub-search
 sub-search c =
-    let start = c .before .before .before .before .before .before .before .before .before .before .before .before .before .before .before .before .before .before .before in
-    let lent = start .pre .0 in
-    let (below, same) = lent .rows (start .args .k) (omega arith) .right (ap takes-right (start .pre .2)) in
+    let lent = c .before .before .before .before .before .before .before .before .before .before .before .before .before .before .before .before .before .before .before .pre .0 in
+    let (below, same) = lent .rows (c .before .before .before .before .before .before .before .before .before .before .before .before .before .before .before .before .before .before .before .args .k) (omega arith) .right (ap takes-right (c .before .before .before .before .before .before .before .before .before .before .before .before .before .before .before .before .before .before .before .pre .2)) in
     omega arith
 
 -- src/saying.rt:231:31
 add-smaller : tie.Need-add-smaller
 add-smaller c =
-    let after-choose = c .before .before .before in
-    let after-search = after-choose .before .before .before .before in
-    let after-first-at = after-search .before .before .before .before .before .before .before in
-    let start = after-first-at .before .before .before .before .before in
-    let records = start .pre .0 .few in
-    let most : after-choose .choose .result ≤ 2000000 =
-    rw (after-choose .choose .ensures) (either-most (ltb (after-search .search .result .first) (after-search .search .result .done)) (after-search .search .result .first) (after-first-at .first-at .result) 2000000
-    (omega (arith, after-search .search .ensures .0 .0 .1, after-search .search .ensures .0 .0 .0, after-first-at .first-at .ensures .0)) (omega (arith, after-first-at .first-at .ensures .0))) in
+    let records = c .before .before .before .before .before .before .before .before .before .before .before .before .before .before .before .before .before .before .before .pre .0 .few in
+    let most : c .before .before .before .choose .result ≤ 2000000 =
+    rw (c .before .before .before .choose .ensures) (either-most (ltb (c .before .before .before .before .before .before .before .search .result .first) (c .before .before .before .before .before .before .before .search .result .done)) (c .before .before .before .before .before .before .before .search .result .first) (c .before .before .before .before .before .before .before .before .before .before .before .before .before .before .first-at .result) 2000000
+    (omega (arith, c .before .before .before .before .before .before .before .search .ensures .0 .0 .1, c .before .before .before .before .before .before .before .search .ensures .0 .0 .0, c .before .before .before .before .before .before .before .before .before .before .before .before .before .before .first-at .ensures .0)) (omega (arith, c .before .before .before .before .before .before .before .before .before .before .before .before .before .before .first-at .ensures .0))) in
     omega arith
 
 -- src/saying.rt:231:9
@@ -127,13 +120,11 @@ smaller-requires c κs = search needs
 -- src/saying.rt:222:9
 search-requires-2 : tie.Need-search-requires-2
 search-requires-2 c κs =
-    let after-search = c .before .before .before .before .before .before .before .before .before in
-    let start = after-search .before .before .before .before .before .before .before .before .before .before .before .before in
-    let lent = start .pre .0 in
+    let lent = c .before .before .before .before .before .before .before .before .before .before .before .before .before .before .before .before .before .before .before .before .before .pre .0 in
     let few = lent .entry in
     let room = lent .words-room in
-    let kept = after-search .search .kept .1 .1 .1 .1 .1 .1 .1 .1 .1 .0 in
-    (omega arith, λ j h. lent .rows j (omega arith), omega arith, after-search .search .ensures .1 .0, after-search .search .ensures .1 .1, lent .views)
+    let kept = c .before .before .before .before .before .before .before .before .before .search .kept .1 .1 .1 .1 .1 .1 .1 .1 .1 .0 in
+    (omega arith, λ j h. lent .rows j (omega arith), omega arith, c .before .before .before .before .before .before .before .before .before .search .ensures .1 .0, c .before .before .before .before .before .before .before .before .before .search .ensures .1 .1, lent .views)
 
 -- src/saying.rt:234:5
 say-search-requires : tie.Need-say-search-requires
@@ -146,49 +137,37 @@ same-length c = search needs
 -- src/saying.rt:189:1
 returns : tie.Need-returns
 returns c =
-    let after-search2 = c .before .before .before .before in
-    let after-smaller = after-search2 .before .before in
-    let after-choose2 = after-smaller .before .before .before in
-    let after-choose = after-choose2 .before in
-    let after-search = after-choose .before .before .before .before in
-    let after-field3 = after-search .before .before .before .before in
-    let after-first-at2 = after-field3 .before in
-    let after-field2 = after-first-at2 .before in
-    let after-first-at = after-field2 .before in
-    let after-field = after-first-at .before in
-    let after-time-of = after-field .before in
-    let start = after-time-of .before .before .before in
-    let a = start .args in
-    let lent = start .pre .0 in
-    let few = start .pre .1 in
+    let a = c .before .before .before .before .before .before .before .before .before .before .before .before .before .before .before .before .before .before .before .before .before .before .before .before .before .before .args in
+    let lent = c .before .before .before .before .before .before .before .before .before .before .before .before .before .before .before .before .before .before .before .before .before .before .before .before .before .before .pre .0 in
+    let few = c .before .before .before .before .before .before .before .before .before .before .before .before .before .before .before .before .before .before .before .before .before .before .before .before .before .before .pre .1 in
     let records = lent .few in
     let e = c .say-search .ensures in
-    let stop-is = after-choose .choose .ensures in (
+    let stop-is = c .before .before .before .before .before .before .before .before .before .before .choose .ensures in (
       (
-        rw e (shape-alone 6 (a .i) (found-saying 6 (ltb (after-search2 .search2 .result .first) (after-search2 .search2 .result .done)) (after-search2 .search2 .result .first) (after-choose .choose .result) (ltb (after-search .search .result .first) (after-search .search .result .done)))
-            (either-small (ltb (after-search2 .search2 .result .first) (after-search2 .search2 .result .done)) (after-search2 .search2 .result .first) (after-choose .choose .result)
-            (omega (arith, after-search2 .search2 .ensures .0 .0 .1, after-search2 .search2 .ensures .0 .0 .0, after-smaller .smaller .ensures, after-first-at .first-at .ensures .0))
-            (rw stop-is (either-small (ltb (after-search .search .result .first) (after-search .search .result .done)) (after-search .search .result .first) (after-first-at .first-at .result)
-            (omega (arith, after-search .search .ensures .0 .0 .1, after-search .search .ensures .0 .0 .0, after-first-at .first-at .ensures .0)) (omega (arith, after-first-at .first-at .ensures .0)))))
+        rw e (shape-alone 6 (a .i) (found-saying 6 (ltb (c .before .before .before .before .search2 .result .first) (c .before .before .before .before .search2 .result .done)) (c .before .before .before .before .search2 .result .first) (c .before .before .before .before .before .before .before .before .before .before .choose .result) (ltb (c .before .before .before .before .before .before .before .before .before .before .before .before .before .before .search .result .first) (c .before .before .before .before .before .before .before .before .before .before .before .before .before .before .search .result .done)))
+            (either-small (ltb (c .before .before .before .before .search2 .result .first) (c .before .before .before .before .search2 .result .done)) (c .before .before .before .before .search2 .result .first) (c .before .before .before .before .before .before .before .before .before .before .choose .result)
+            (omega (arith, c .before .before .before .before .search2 .ensures .0 .0 .1, c .before .before .before .before .search2 .ensures .0 .0 .0, c .before .before .before .before .before .before .smaller .ensures, c .before .before .before .before .before .before .before .before .before .before .before .before .before .before .before .before .before .before .before .before .before .first-at .ensures .0))
+            (rw stop-is (either-small (ltb (c .before .before .before .before .before .before .before .before .before .before .before .before .before .before .search .result .first) (c .before .before .before .before .before .before .before .before .before .before .before .before .before .before .search .result .done)) (c .before .before .before .before .before .before .before .before .before .before .before .before .before .before .search .result .first) (c .before .before .before .before .before .before .before .before .before .before .before .before .before .before .before .before .before .before .before .before .before .first-at .result)
+            (omega (arith, c .before .before .before .before .before .before .before .before .before .before .before .before .before .before .search .ensures .0 .0 .1, c .before .before .before .before .before .before .before .before .before .before .before .before .before .before .search .ensures .0 .0 .0, c .before .before .before .before .before .before .before .before .before .before .before .before .before .before .before .before .before .before .before .before .before .first-at .ensures .0)) (omega (arith, c .before .before .before .before .before .before .before .before .before .before .before .before .before .before .before .before .before .before .before .before .before .first-at .ensures .0)))))
             (omega arith) refl),
         λ low high φ ψ L an.
             let whole = an .shown .whole in
             let inside = inside-here (a .table .now) (a .view .now) (a .records .now) L (Formula.until low high φ ψ) (a .k) (a .i) an in
             let fields = fields-here (a .table .now) (a .view .now) (a .records .now) L (Formula.until low high φ ψ) (a .k) (a .i) an in
-            let now = after-time-of .time-of .ensures .1 L whole inside in
-            let high-is : after-field .field .result ≡ high = after-field .field .ensures ∙ fields .high in
-            let low-is : after-field2 .field2 .result ≡ low = after-field2 .field2 .ensures ∙ fields .low in
-            let over-is : after-first-at .first-at .result ≡ first-time L (L .time (a .i) + high + 1) =
-            after-first-at .first-at .ensures .1 L whole ∙ ap (first-time L) (ap₂ (λ (x y : ℕ). x + y + 1) now high-is) in
-            let soon-is : after-first-at2 .first-at2 .result ≡ first-time L (L .time (a .i) + low) =
-            after-first-at2 .first-at2 .ensures .1 L whole ∙ ap (first-time L) (ap₂ (λ (x y : ℕ). x + y) now low-is) in
+            let now = c .before .before .before .before .before .before .before .before .before .before .before .before .before .before .before .before .before .before .before .before .before .before .before .time-of .ensures .1 L whole inside in
+            let high-is : c .before .before .before .before .before .before .before .before .before .before .before .before .before .before .before .before .before .before .before .before .before .before .field .result ≡ high = c .before .before .before .before .before .before .before .before .before .before .before .before .before .before .before .before .before .before .before .before .before .before .field .ensures ∙ fields .high in
+            let low-is : c .before .before .before .before .before .before .before .before .before .before .before .before .before .before .before .before .before .before .before .before .field2 .result ≡ low = c .before .before .before .before .before .before .before .before .before .before .before .before .before .before .before .before .before .before .before .before .field2 .ensures ∙ fields .low in
+            let over-is : c .before .before .before .before .before .before .before .before .before .before .before .before .before .before .before .before .before .before .before .before .before .first-at .result ≡ first-time L (L .time (a .i) + high + 1) =
+            c .before .before .before .before .before .before .before .before .before .before .before .before .before .before .before .before .before .before .before .before .before .first-at .ensures .1 L whole ∙ ap (first-time L) (ap₂ (λ (x y : ℕ). x + y + 1) now high-is) in
+            let soon-is : c .before .before .before .before .before .before .before .before .before .before .before .before .before .before .before .before .before .before .before .first-at2 .result ≡ first-time L (L .time (a .i) + low) =
+            c .before .before .before .before .before .before .before .before .before .before .before .before .before .before .before .before .before .before .before .first-at2 .ensures .1 L whole ∙ ap (first-time L) (ap₂ (λ (x y : ℕ). x + y) now low-is) in
             let (left-answers-it, right-answers-it) = operands-of (a .table .now) (a .view .now) (a .records .now) L (Formula.until low high φ ψ) φ ψ (a .k) (a .i) an refl (until-formulas low high φ ψ (an .entries) (a .k) (an .formula)) in
-            let lefts = after-search .search .ensures .0 .1 φ L (rw (after-field3 .field3 .ensures) (left-answers-it .0)) (an .shown .falls) (an .shown .agrees) (rw (after-field3 .field3 .ensures) (left-answers-it .1)) in
-            let rights = after-search2 .search2 .ensures .0 .1 ψ L (right-answers-it .0) (an .shown .falls) (an .shown .agrees) (right-answers-it .1) in
-            e ∙ until-told low high φ ψ (a .table .now) (a .view .now) (a .records .now) (a .k) (a .i) L an (after-first-at .first-at .result) (after-first-at2 .first-at2 .result) (after-choose .choose .result) (after-choose2 .choose2 .result) (after-smaller .smaller .result)
-            (after-search .search .result) (after-search2 .search2 .result) over-is soon-is lefts stop-is (after-choose2 .choose2 .ensures) (after-smaller .smaller .ensures) rights,
+            let lefts = c .before .before .before .before .before .before .before .before .before .before .before .before .before .before .search .ensures .0 .1 φ L (rw (c .before .before .before .before .before .before .before .before .before .before .before .before .before .before .before .before .before .before .field3 .ensures) (left-answers-it .0)) (an .shown .falls) (an .shown .agrees) (rw (c .before .before .before .before .before .before .before .before .before .before .before .before .before .before .before .before .before .before .field3 .ensures) (left-answers-it .1)) in
+            let rights = c .before .before .before .before .search2 .ensures .0 .1 ψ L (right-answers-it .0) (an .shown .falls) (an .shown .agrees) (right-answers-it .1) in
+            e ∙ until-told low high φ ψ (a .table .now) (a .view .now) (a .records .now) (a .k) (a .i) L an (c .before .before .before .before .before .before .before .before .before .before .before .before .before .before .before .before .before .before .before .before .before .first-at .result) (c .before .before .before .before .before .before .before .before .before .before .before .before .before .before .before .before .before .before .before .first-at2 .result) (c .before .before .before .before .before .before .before .before .before .before .choose .result) (c .before .before .before .before .before .before .before .before .before .choose2 .result) (c .before .before .before .before .before .before .smaller .result)
+            (c .before .before .before .before .before .before .before .before .before .before .before .before .before .before .search .result) (c .before .before .before .before .search2 .result) over-is soon-is lefts stop-is (c .before .before .before .before .before .before .before .before .before .choose2 .ensures) (c .before .before .before .before .before .before .smaller .ensures) rights,
       ),
-      after-search2 .search2 .ensures .1,
+      c .before .before .before .before .search2 .ensures .1,
     )
 
 pub say-until-spec : {M : Type 1} → statement M

@@ -35,95 +35,75 @@ slice-aggregate-put c = search needs
 -- src/sentence.rt:94:9
 put-requires : tie.Need-put-requires
 put-requires c κs =
-    let after-put-number = c .before .before .before .before in
-    let start = after-put-number .before .before .before in
-    let a = start .args in
-    let few = short-entry (a .k) (start .pre .0) in
-    let few-places = short-position (a .i) (start .pre .1) in
+    let a = c .before .before .before .before .before .before .before .args in
+    let few = short-entry (a .k) (c .before .before .before .before .before .before .before .pre .0) in
+    let few-places = short-position (a .i) (c .before .before .before .before .before .before .before .pre .1) in
     let short = short-kind (a .says .kind) in
-    let some = short-value (a .says) (start .pre .2) in
+    let some = short-value (a .says) (c .before .before .before .before .before .before .before .pre .2) in
     let end = short-tail (a .says .tail) in
-    let n = after-put-number .put-number in
-    let room : n .result + 1 ≤ length (n .last .1 .0) = omega (arith, start .pre .3, n .ensures .ends, n .kept .1 .0) in
+    let n = c .before .before .before .before .put-number in
+    let room : n .result + 1 ≤ length (n .last .1 .0) = omega (arith, c .before .before .before .before .before .before .before .pre .3, n .ensures .ends, n .kept .1 .0) in
     room
 
 -- src/sentence.rt:95:9
 put-number-requires-2 : tie.Need-put-number-requires-2
 put-number-requires-2 c κs =
-    let after-put = c .before .before .before in
-    let after-put-number = after-put .before .before .before .before .before in
-    let start = after-put-number .before .before .before in
-    let a = start .args in
-    let few = short-entry (a .k) (start .pre .0) in
-    let few-places = short-position (a .i) (start .pre .1) in
+    let a = c .before .before .before .before .before .before .before .before .before .before .before .args in
+    let few = short-entry (a .k) (c .before .before .before .before .before .before .before .before .before .before .before .pre .0) in
+    let few-places = short-position (a .i) (c .before .before .before .before .before .before .before .before .before .before .before .pre .1) in
     let short = short-kind (a .says .kind) in
-    let some = short-value (a .says) (start .pre .2) in
+    let some = short-value (a .says) (c .before .before .before .before .before .before .before .before .before .before .before .pre .2) in
     let end = short-tail (a .says .tail) in
-    let n = after-put-number .put-number in
-    let p = after-put .put in
-    let room : p .result + length (decimal (a .i)) ≤ length (p .last .1 .0) = omega (arith, start .pre .3, n .ensures .ends, n .kept .1 .0, p .ensures .ends, p .kept .1 .0) in
+    let n = c .before .before .before .before .before .before .before .before .put-number in
+    let p = c .before .before .before .put in
+    let room : p .result + length (decimal (a .i)) ≤ length (p .last .1 .0) = omega (arith, c .before .before .before .before .before .before .before .before .before .before .before .pre .3, n .ensures .ends, n .kept .1 .0, p .ensures .ends, p .kept .1 .0) in
     room
 
 -- src/sentence.rt:96:9
 put-kind-requires : tie.Need-put-kind-requires
 put-kind-requires c κs =
-    let after-put-number2 = c .before .before .before in
-    let after-put = after-put-number2 .before .before .before .before in
-    let after-put-number = after-put .before .before .before .before .before in
-    let start = after-put-number .before .before .before in
-    let a = start .args in
-    let few = short-entry (a .k) (start .pre .0) in
-    let few-places = short-position (a .i) (start .pre .1) in
+    let a = c .before .before .before .before .before .before .before .before .before .before .before .before .before .before .before .args in
+    let few = short-entry (a .k) (c .before .before .before .before .before .before .before .before .before .before .before .before .before .before .before .pre .0) in
+    let few-places = short-position (a .i) (c .before .before .before .before .before .before .before .before .before .before .before .before .before .before .before .pre .1) in
     let short = short-kind (a .says .kind) in
-    let some = short-value (a .says) (start .pre .2) in
+    let some = short-value (a .says) (c .before .before .before .before .before .before .before .before .before .before .before .before .before .before .before .pre .2) in
     let end = short-tail (a .says .tail) in
-    let n = after-put-number .put-number in
-    let p = after-put .put in
-    let m = after-put-number2 .put-number2 in
-    let room : m .result + 7 ≤ length (m .last .1 .0) = omega (arith, start .pre .3, n .ensures .ends, n .kept .1 .0, p .ensures .ends, p .kept .1 .0, m .ensures .ends, m .kept .1 .0) in
+    let n = c .before .before .before .before .before .before .before .before .before .before .before .before .put-number in
+    let p = c .before .before .before .before .before .before .before .put in
+    let m = c .before .before .before .put-number2 in
+    let room : m .result + 7 ≤ length (m .last .1 .0) = omega (arith, c .before .before .before .before .before .before .before .before .before .before .before .before .before .before .before .pre .3, n .ensures .ends, n .kept .1 .0, p .ensures .ends, p .kept .1 .0, m .ensures .ends, m .kept .1 .0) in
     room
 
 -- src/sentence.rt:97:9
 put-value-requires : tie.Need-put-value-requires
 put-value-requires c κs =
-    let after-put-kind = c .before .before .before in
-    let after-put-number2 = after-put-kind .before .before .before .before in
-    let after-put = after-put-number2 .before .before .before .before in
-    let after-put-number = after-put .before .before .before .before .before in
-    let start = after-put-number .before .before .before in
-    let a = start .args in
-    let few = short-entry (a .k) (start .pre .0) in
-    let few-places = short-position (a .i) (start .pre .1) in
+    let a = c .before .before .before .before .before .before .before .before .before .before .before .before .before .before .before .before .before .before .before .args in
+    let few = short-entry (a .k) (c .before .before .before .before .before .before .before .before .before .before .before .before .before .before .before .before .before .before .before .pre .0) in
+    let few-places = short-position (a .i) (c .before .before .before .before .before .before .before .before .before .before .before .before .before .before .before .before .before .before .before .pre .1) in
     let short = short-kind (a .says .kind) in
-    let some = short-value (a .says) (start .pre .2) in
+    let some = short-value (a .says) (c .before .before .before .before .before .before .before .before .before .before .before .before .before .before .before .before .before .before .before .pre .2) in
     let end = short-tail (a .says .tail) in
-    let n = after-put-number .put-number in
-    let p = after-put .put in
-    let m = after-put-number2 .put-number2 in
-    let w = after-put-kind .put-kind in
-    (start .pre .2, omega (arith, start .pre .3, n .ensures .ends, n .kept .1 .0, p .ensures .ends, p .kept .1 .0, m .ensures .ends, m .kept .1 .0, w .ensures .ends, w .kept .1 .0))
+    let n = c .before .before .before .before .before .before .before .before .before .before .before .before .before .before .before .before .put-number in
+    let p = c .before .before .before .before .before .before .before .before .before .before .before .put in
+    let m = c .before .before .before .before .before .before .before .put-number2 in
+    let w = c .before .before .before .put-kind in
+    (c .before .before .before .before .before .before .before .before .before .before .before .before .before .before .before .before .before .before .before .pre .2, omega (arith, c .before .before .before .before .before .before .before .before .before .before .before .before .before .before .before .before .before .before .before .pre .3, n .ensures .ends, n .kept .1 .0, p .ensures .ends, p .kept .1 .0, m .ensures .ends, m .kept .1 .0, w .ensures .ends, w .kept .1 .0))
 
 -- src/sentence.rt:98:5
 put-tail-requires : tie.Need-put-tail-requires
 put-tail-requires c κs =
-    let after-put-value = c .before .before .before in
-    let after-put-kind = after-put-value .before .before .before .before in
-    let after-put-number2 = after-put-kind .before .before .before .before in
-    let after-put = after-put-number2 .before .before .before .before in
-    let after-put-number = after-put .before .before .before .before .before in
-    let start = after-put-number .before .before .before in
-    let a = start .args in
-    let few = short-entry (a .k) (start .pre .0) in
-    let few-places = short-position (a .i) (start .pre .1) in
+    let a = c .before .before .before .before .before .before .before .before .before .before .before .before .before .before .before .before .before .before .before .before .before .before .before .args in
+    let few = short-entry (a .k) (c .before .before .before .before .before .before .before .before .before .before .before .before .before .before .before .before .before .before .before .before .before .before .before .pre .0) in
+    let few-places = short-position (a .i) (c .before .before .before .before .before .before .before .before .before .before .before .before .before .before .before .before .before .before .before .before .before .before .before .pre .1) in
     let short = short-kind (a .says .kind) in
-    let some = short-value (a .says) (start .pre .2) in
+    let some = short-value (a .says) (c .before .before .before .before .before .before .before .before .before .before .before .before .before .before .before .before .before .before .before .before .before .before .before .pre .2) in
     let end = short-tail (a .says .tail) in
-    let n = after-put-number .put-number in
-    let p = after-put .put in
-    let m = after-put-number2 .put-number2 in
-    let w = after-put-kind .put-kind in
-    let v = after-put-value .put-value in
-    omega (arith, start .pre .3, n .ensures .ends, n .kept .1 .0, p .ensures .ends, p .kept .1 .0, m .ensures .ends, m .kept .1 .0, w .ensures .ends, w .kept .1 .0, v .ensures .ends, v .kept .1 .0)
+    let n = c .before .before .before .before .before .before .before .before .before .before .before .before .before .before .before .before .before .before .before .before .put-number in
+    let p = c .before .before .before .before .before .before .before .before .before .before .before .before .before .before .before .put in
+    let m = c .before .before .before .before .before .before .before .before .before .before .before .put-number2 in
+    let w = c .before .before .before .before .before .before .before .put-kind in
+    let v = c .before .before .before .put-value in
+    omega (arith, c .before .before .before .before .before .before .before .before .before .before .before .before .before .before .before .before .before .before .before .before .before .before .before .pre .3, n .ensures .ends, n .kept .1 .0, p .ensures .ends, p .kept .1 .0, m .ensures .ends, m .kept .1 .0, w .ensures .ends, w .kept .1 .0, v .ensures .ends, v .kept .1 .0)
 
 -- src/sentence.rt:89:1
 same-length : tie.Need-same-length
@@ -133,25 +113,18 @@ same-length c = search needs
 returns : tie.Need-returns
 unfolding ascii
 returns c =
-    let after-put-tail = c .before .before in
-    let after-put-value = after-put-tail .before .before .before .before in
-    let after-put-kind = after-put-value .before .before .before .before in
-    let after-put-number2 = after-put-kind .before .before .before .before in
-    let after-put = after-put-number2 .before .before .before .before in
-    let after-put-number = after-put .before .before .before .before .before in
-    let start = after-put-number .before .before .before in
-    let a = start .args in
-    let few = short-entry (a .k) (start .pre .0) in
-    let few-places = short-position (a .i) (start .pre .1) in
+    let a = c .before .before .before .before .before .before .before .before .before .before .before .before .before .before .before .before .before .before .before .before .before .before .before .before .before .before .args in
+    let few = short-entry (a .k) (c .before .before .before .before .before .before .before .before .before .before .before .before .before .before .before .before .before .before .before .before .before .before .before .before .before .before .pre .0) in
+    let few-places = short-position (a .i) (c .before .before .before .before .before .before .before .before .before .before .before .before .before .before .before .before .before .before .before .before .before .before .before .before .before .before .pre .1) in
     let short = short-kind (a .says .kind) in
-    let some = short-value (a .says) (start .pre .2) in
+    let some = short-value (a .says) (c .before .before .before .before .before .before .before .before .before .before .before .before .before .before .before .before .before .before .before .before .before .before .before .before .before .before .pre .2) in
     let end = short-tail (a .says .tail) in
-    let n = after-put-number .put-number in
-    let p = after-put .put in
-    let m = after-put-number2 .put-number2 in
-    let w = after-put-kind .put-kind in
-    let v = after-put-value .put-value in
-    let t = after-put-tail .put-tail in
+    let n = c .before .before .before .before .before .before .before .before .before .before .before .before .before .before .before .before .before .before .before .before .before .before .before .put-number in
+    let p = c .before .before .before .before .before .before .before .before .before .before .before .before .before .before .before .before .before .before .put in
+    let m = c .before .before .before .before .before .before .before .before .before .before .before .before .before .before .put-number2 in
+    let w = c .before .before .before .before .before .before .before .before .before .before .put-kind in
+    let v = c .before .before .before .before .before .before .put-value in
+    let t = c .before .before .put-tail in
     let n-ends = n .ensures .ends in
     let p-ends = p .ensures .ends in
     let m-ends = m .ensures .ends in
@@ -163,7 +136,7 @@ returns c =
     let m-kept = m .kept .1 .0 in
     let w-kept = w .kept .1 .0 in
     let v-kept = v .kept .1 .0 in
-    let room = start .pre .3 in (
+    let room = c .before .before .before .before .before .before .before .before .before .before .before .before .before .before .before .before .before .before .before .before .before .before .before .before .before .before .pre .3 in (
       writes-more (n .ensures) (omega arith)
           (writes-more (p .ensures) (omega arith)
           (writes-more (m .ensures) (omega arith)

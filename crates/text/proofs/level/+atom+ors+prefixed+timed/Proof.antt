@@ -75,47 +75,22 @@ pub +atom+ors+prefixed+timed-spec : {M : Type 1} → statement M
     atom.Post
     (λ c κs. search needs)
     (λ c κs. search needs)
-    (λ c. let after-if1 = c .before .before in
-    let after-token-at = after-if1 .before .before in
-    let start = after-token-at .before .before in
-    atom-letter (start .args .text .now) (start .args .at) (after-token-at .token-at .result) (after-token-at .token-at .ensures) (start .args .out .now) (c .put .last .0) (start .args .count) (c .put .result) (after-if1 .if1 .taken) (c .put .ensures))
-    (λ c. let after-if1 = c .before .before in
-    let after-token-at = after-if1 .before .before in
-    let start = after-token-at .before .before in
-    atom-neither (start .args .text .now) (start .args .at) (after-token-at .token-at .result) (after-token-at .token-at .ensures) (start .args .out .now) (start .args .out .now) (start .args .count) (after-if1 .if1 .left) (c .if2 .taken))
-    (λ c κs. let after-if2 = c .before in
-    let after-token-at = after-if2 .before .before .before .before in
-    let start = after-token-at .before .before in
-    (let less = less-inside (start .args .text .now) (start .args .at) (after-token-at .token-at .result) (after-token-at .token-at .ensures) (after-if2 .if2 .left) in omega (arith, start .pre .0), tt))
+    (λ c. atom-letter (c .before .before .before .before .before .before .args .text .now) (c .before .before .before .before .before .before .args .at) (c .before .before .before .before .token-at .result) (c .before .before .before .before .token-at .ensures) (c .before .before .before .before .before .before .args .out .now) (c .put .last .0) (c .before .before .before .before .before .before .args .count) (c .put .result) (c .before .before .if1 .taken) (c .put .ensures))
+    (λ c. atom-neither (c .before .before .before .before .before .before .args .text .now) (c .before .before .before .before .before .before .args .at) (c .before .before .before .before .token-at .result) (c .before .before .before .before .token-at .ensures) (c .before .before .before .before .before .before .args .out .now) (c .before .before .before .before .before .before .args .out .now) (c .before .before .before .before .before .before .args .count) (c .before .before .if1 .left) (c .if2 .taken))
+    (λ c κs. (let less = less-inside (c .before .before .before .before .before .before .before .args .text .now) (c .before .before .before .before .before .before .before .args .at) (c .before .before .before .before .before .token-at .result) (c .before .before .before .before .before .token-at .ensures) (c .before .if2 .left) in omega (arith, c .before .before .before .before .before .before .before .pre .0), tt))
     (λ c. search needs)
     (λ c. search needs)
-    (λ c. let after-ors = c .before .before in
-    let after-if2 = after-ors .before .before in
-    let after-token-at = after-if2 .before .before .before .before in
-    let start = after-token-at .before .before in
-    atom-empty (start .args .text .now) (start .args .at) (after-token-at .token-at .result) (after-token-at .token-at .ensures) (after-if2 .if2 .left) (start .args .out .now) (after-ors .ors .last .1 .1 .1 .0) (start .args .count)
-    (told Level.ors none (start .args .text .now) (start .args .out .now) (after-token-at .token-at .result .next) (start .args .count) (after-ors .ors .last .1 .1 .1 .0) (c .enum-told .given .1) (after-ors .ors .ensures none refl)))
+    (λ c. atom-empty (c .before .before .before .before .before .before .before .before .before .before .args .text .now) (c .before .before .before .before .before .before .before .before .before .before .args .at) (c .before .before .before .before .before .before .before .before .token-at .result) (c .before .before .before .before .before .before .before .before .token-at .ensures) (c .before .before .before .before .if2 .left) (c .before .before .before .before .before .before .before .before .before .before .args .out .now) (c .before .before .ors .last .1 .1 .1 .0) (c .before .before .before .before .before .before .before .before .before .before .args .count)
+    (told Level.ors none (c .before .before .before .before .before .before .before .before .before .before .args .text .now) (c .before .before .before .before .before .before .before .before .before .before .args .out .now) (c .before .before .before .before .before .before .before .before .token-at .result .next) (c .before .before .before .before .before .before .before .before .before .before .args .count) (c .before .before .ors .last .1 .1 .1 .0) (c .enum-told .given .1) (c .before .before .ors .ensures none refl)))
     (λ c κs. search needs)
-    (λ c. let after-token-at2 = c .before .before in
-    let after-inside = after-token-at2 .before .before in
-    let after-ors = after-inside .before .before in
-    let after-if2 = after-ors .before .before in
-    let after-token-at = after-if2 .before .before .before .before in
-    let start = after-token-at .before .before in
-    atom-unclosed (start .args .text .now) (start .args .at) (after-token-at .token-at .result) (after-token-at .token-at .ensures) (after-if2 .if2 .left) (start .args .out .now) (after-ors .ors .last .1 .1 .1 .0) (start .args .count)
-    (after-inside .inside .given .0 .0) (after-inside .inside .given .0 .1 .0)
-    (told Level.ors none (start .args .text .now) (start .args .out .now) (after-token-at .token-at .result .next) (start .args .count) (after-ors .ors .last .1 .1 .1 .0) (after-inside .inside .given .1) (after-ors .ors .ensures none refl))
-    (after-token-at2 .token-at2 .result) (after-token-at2 .token-at2 .ensures) (c .if3 .taken))
-    (λ c. let after-token-at2 = c .before .before in
-    let after-inside = after-token-at2 .before .before in
-    let after-ors = after-inside .before .before in
-    let after-if2 = after-ors .before .before in
-    let after-token-at = after-if2 .before .before .before .before in
-    let start = after-token-at .before .before in
-    atom-brackets (start .args .text .now) (start .args .at) (after-token-at .token-at .result) (after-token-at .token-at .ensures) (after-if2 .if2 .left) (start .args .out .now) (after-ors .ors .last .1 .1 .1 .0) (start .args .count)
-    (after-inside .inside .given .0 .0) (after-inside .inside .given .0 .1 .0)
-    (told Level.ors none (start .args .text .now) (start .args .out .now) (after-token-at .token-at .result .next) (start .args .count) (after-ors .ors .last .1 .1 .1 .0) (after-inside .inside .given .1) (after-ors .ors .ensures none refl))
-    (after-token-at2 .token-at2 .result) (after-token-at2 .token-at2 .ensures) (c .if3 .left)))
+    (λ c. atom-unclosed (c .before .before .before .before .before .before .before .before .before .before .before .before .before .before .args .text .now) (c .before .before .before .before .before .before .before .before .before .before .before .before .before .before .args .at) (c .before .before .before .before .before .before .before .before .before .before .before .before .token-at .result) (c .before .before .before .before .before .before .before .before .before .before .before .before .token-at .ensures) (c .before .before .before .before .before .before .before .before .if2 .left) (c .before .before .before .before .before .before .before .before .before .before .before .before .before .before .args .out .now) (c .before .before .before .before .before .before .ors .last .1 .1 .1 .0) (c .before .before .before .before .before .before .before .before .before .before .before .before .before .before .args .count)
+    (c .before .before .before .before .inside .given .0 .0) (c .before .before .before .before .inside .given .0 .1 .0)
+    (told Level.ors none (c .before .before .before .before .before .before .before .before .before .before .before .before .before .before .args .text .now) (c .before .before .before .before .before .before .before .before .before .before .before .before .before .before .args .out .now) (c .before .before .before .before .before .before .before .before .before .before .before .before .token-at .result .next) (c .before .before .before .before .before .before .before .before .before .before .before .before .before .before .args .count) (c .before .before .before .before .before .before .ors .last .1 .1 .1 .0) (c .before .before .before .before .inside .given .1) (c .before .before .before .before .before .before .ors .ensures none refl))
+    (c .before .before .token-at2 .result) (c .before .before .token-at2 .ensures) (c .if3 .taken))
+    (λ c. atom-brackets (c .before .before .before .before .before .before .before .before .before .before .before .before .before .before .args .text .now) (c .before .before .before .before .before .before .before .before .before .before .before .before .before .before .args .at) (c .before .before .before .before .before .before .before .before .before .before .before .before .token-at .result) (c .before .before .before .before .before .before .before .before .before .before .before .before .token-at .ensures) (c .before .before .before .before .before .before .before .before .if2 .left) (c .before .before .before .before .before .before .before .before .before .before .before .before .before .before .args .out .now) (c .before .before .before .before .before .before .ors .last .1 .1 .1 .0) (c .before .before .before .before .before .before .before .before .before .before .before .before .before .before .args .count)
+    (c .before .before .before .before .inside .given .0 .0) (c .before .before .before .before .inside .given .0 .1 .0)
+    (told Level.ors none (c .before .before .before .before .before .before .before .before .before .before .before .before .before .before .args .text .now) (c .before .before .before .before .before .before .before .before .before .before .before .before .before .before .args .out .now) (c .before .before .before .before .before .before .before .before .before .before .before .before .token-at .result .next) (c .before .before .before .before .before .before .before .before .before .before .before .before .before .before .args .count) (c .before .before .before .before .before .before .ors .last .1 .1 .1 .0) (c .before .before .before .before .inside .given .1) (c .before .before .before .before .before .before .ors .ensures none refl))
+    (c .before .before .token-at2 .result) (c .before .before .token-at2 .ensures) (c .if3 .left)))
     (λ t.
     ors-lts.spec
     (below timed-kinds.ps μ-timed timed.Pre t, timed.Post, join-reads.Asked, join-reads.Learnt, token-at-reads.Asked, token-at-reads.Learnt, below ors-kinds.ps μ-ors ors.Pre t, ors.Post)
@@ -124,41 +99,24 @@ pub +atom+ors+prefixed+timed-spec : {M : Type 1} → statement M
     (λ c κs. (omega (arith, c .before .before .pre .0), tt))
     (λ c. search needs)
     (λ c. search needs)
-    (λ c. let after-timed = c .before .before in
-    let start = after-timed .before .before .before in
-    λ before is. ors-none before (start .args .text .now) (start .args .out .now) (after-timed .timed .last .1 .1 .0) (start .args .at) (start .args .count)
-    (told Level.timed none (start .args .text .now) (start .args .out .now) (start .args .at) (start .args .count) (after-timed .timed .last .1 .1 .0) (c .enum-told .given .1) (after-timed .timed .ensures)))
+    (λ c. λ before is. ors-none before (c .before .before .before .before .before .args .text .now) (c .before .before .before .before .before .args .out .now) (c .before .before .timed .last .1 .1 .0) (c .before .before .before .before .before .args .at) (c .before .before .before .before .before .args .count)
+    (told Level.timed none (c .before .before .before .before .before .args .text .now) (c .before .before .before .before .before .args .out .now) (c .before .before .before .before .before .args .at) (c .before .before .before .before .before .args .count) (c .before .before .timed .last .1 .1 .0) (c .enum-told .given .1) (c .before .before .timed .ensures)))
     (λ c κs. search needs)
     (λ c κs. search needs)
-    (λ c κs. let after-if1 = c .before in
-    let after-token-at = after-if1 .before .before in
-    let after-behind = after-token-at .before .before .before .before in
-    let after-timed = after-behind .before .before in
-    let start = after-timed .before .before .before in (
-      let ok = (told Level.timed none (start .args .text .now) (start .args .out .now) (start .args .at) (start .args .count) (after-timed .timed .last .1 .1 .0) (after-behind .behind .given .1) (after-timed .timed .ensures)) in
-          let x = after-token-at .token-at .ensures in
-          let m = x .moves (λ z. omega (arith, after-if1 .if1 .taken)) in
-          omega (arith, ok .moves, start .pre .0),
+    (λ c κs. (
+      let ok = (told Level.timed none (c .before .before .before .before .before .before .before .before .before .before .before .before .args .text .now) (c .before .before .before .before .before .before .before .before .before .before .before .before .args .out .now) (c .before .before .before .before .before .before .before .before .before .before .before .before .args .at) (c .before .before .before .before .before .before .before .before .before .before .before .before .args .count) (c .before .before .before .before .before .before .before .before .before .timed .last .1 .1 .0) (c .before .before .before .before .before .before .before .behind .given .1) (c .before .before .before .before .before .before .before .before .before .timed .ensures)) in
+          let x = c .before .before .before .token-at .ensures in
+          let m = x .moves (λ z. omega (arith, c .before .if1 .taken)) in
+          omega (arith, ok .moves, c .before .before .before .before .before .before .before .before .before .before .before .before .pre .0),
       tt,
     ))
-    (λ c. let after-if1 = c .before .before in
-    let after-token-at = after-if1 .before .before in
-    let after-join = after-token-at .before in
-    let after-behind = after-join .before .before .before in
-    let after-timed = after-behind .before .before in
-    let start = after-timed .before .before .before in
-    λ before is. ors-more before (start .args .later) is (start .args .text .now) (start .args .out .now) (after-timed .timed .last .1 .1 .0) (after-join .join .last .1 .0) (start .args .at) (start .args .count) (after-behind .behind .given .0 .0) (after-behind .behind .given .0 .1 .0) (after-join .join .result)
-    (told Level.timed none (start .args .text .now) (start .args .out .now) (start .args .at) (start .args .count) (after-timed .timed .last .1 .1 .0) (after-behind .behind .given .1) (after-timed .timed .ensures))
-    (after-join .join .ensures) (after-token-at .token-at .result) (after-token-at .token-at .ensures) (c .ors .result) (c .ors .last .1 .1 .1 .0) (after-if1 .if1 .taken)
-    (c .ors .ensures (some (joined before ((told Level.timed none (start .args .text .now) (start .args .out .now) (start .args .at) (start .args .count) (after-timed .timed .last .1 .1 .0) (after-behind .behind .given .1) (after-timed .timed .ensures)) .tree))) refl))
-    (λ c. let after-token-at = c .before .before in
-    let after-join = after-token-at .before in
-    let after-behind = after-join .before .before .before in
-    let after-timed = after-behind .before .before in
-    let start = after-timed .before .before .before in
-    λ before is. ors-end before (start .args .later) is (start .args .text .now) (start .args .out .now) (after-timed .timed .last .1 .1 .0) (after-join .join .last .1 .0) (start .args .at) (start .args .count) (after-behind .behind .given .0 .0) (after-behind .behind .given .0 .1 .0) (after-join .join .result)
-    (told Level.timed none (start .args .text .now) (start .args .out .now) (start .args .at) (start .args .count) (after-timed .timed .last .1 .1 .0) (after-behind .behind .given .1) (after-timed .timed .ensures))
-    (after-join .join .ensures) (after-token-at .token-at .result) (after-token-at .token-at .ensures) (c .if1 .left)))
+    (λ c. λ before is. ors-more before (c .before .before .before .before .before .before .before .before .before .before .before .before .before .args .later) is (c .before .before .before .before .before .before .before .before .before .before .before .before .before .args .text .now) (c .before .before .before .before .before .before .before .before .before .before .before .before .before .args .out .now) (c .before .before .before .before .before .before .before .before .before .before .timed .last .1 .1 .0) (c .before .before .before .before .before .join .last .1 .0) (c .before .before .before .before .before .before .before .before .before .before .before .before .before .args .at) (c .before .before .before .before .before .before .before .before .before .before .before .before .before .args .count) (c .before .before .before .before .before .before .before .before .behind .given .0 .0) (c .before .before .before .before .before .before .before .before .behind .given .0 .1 .0) (c .before .before .before .before .before .join .result)
+    (told Level.timed none (c .before .before .before .before .before .before .before .before .before .before .before .before .before .args .text .now) (c .before .before .before .before .before .before .before .before .before .before .before .before .before .args .out .now) (c .before .before .before .before .before .before .before .before .before .before .before .before .before .args .at) (c .before .before .before .before .before .before .before .before .before .before .before .before .before .args .count) (c .before .before .before .before .before .before .before .before .before .before .timed .last .1 .1 .0) (c .before .before .before .before .before .before .before .before .behind .given .1) (c .before .before .before .before .before .before .before .before .before .before .timed .ensures))
+    (c .before .before .before .before .before .join .ensures) (c .before .before .before .before .token-at .result) (c .before .before .before .before .token-at .ensures) (c .ors .result) (c .ors .last .1 .1 .1 .0) (c .before .before .if1 .taken)
+    (c .ors .ensures (some (joined before ((told Level.timed none (c .before .before .before .before .before .before .before .before .before .before .before .before .before .args .text .now) (c .before .before .before .before .before .before .before .before .before .before .before .before .before .args .out .now) (c .before .before .before .before .before .before .before .before .before .before .before .before .before .args .at) (c .before .before .before .before .before .before .before .before .before .before .before .before .before .args .count) (c .before .before .before .before .before .before .before .before .before .before .timed .last .1 .1 .0) (c .before .before .before .before .before .before .before .before .behind .given .1) (c .before .before .before .before .before .before .before .before .before .before .timed .ensures)) .tree))) refl))
+    (λ c. λ before is. ors-end before (c .before .before .before .before .before .before .before .before .before .before .before .args .later) is (c .before .before .before .before .before .before .before .before .before .before .before .args .text .now) (c .before .before .before .before .before .before .before .before .before .before .before .args .out .now) (c .before .before .before .before .before .before .before .before .timed .last .1 .1 .0) (c .before .before .before .join .last .1 .0) (c .before .before .before .before .before .before .before .before .before .before .before .args .at) (c .before .before .before .before .before .before .before .before .before .before .before .args .count) (c .before .before .before .before .before .before .behind .given .0 .0) (c .before .before .before .before .before .before .behind .given .0 .1 .0) (c .before .before .before .join .result)
+    (told Level.timed none (c .before .before .before .before .before .before .before .before .before .before .before .args .text .now) (c .before .before .before .before .before .before .before .before .before .before .before .args .out .now) (c .before .before .before .before .before .before .before .before .before .before .before .args .at) (c .before .before .before .before .before .before .before .before .before .before .before .args .count) (c .before .before .before .before .before .before .before .before .timed .last .1 .1 .0) (c .before .before .before .before .before .before .behind .given .1) (c .before .before .before .before .before .before .before .before .timed .ensures))
+    (c .before .before .before .join .ensures) (c .before .before .token-at .result) (c .before .before .token-at .ensures) (c .if1 .left)))
     (λ t.
     prefixed-lts.spec
     (token-at-reads.Asked, token-at-reads.Learnt, below atom-kinds.ps μ-atom atom.Pre t, atom.Post, interval-reads.Asked, interval-reads.Learnt, below prefixed-kinds.ps μ-prefixed prefixed.Pre t, prefixed.Post, put-reads.Asked, put-reads.Learnt)
@@ -170,37 +128,15 @@ pub +atom+ors+prefixed+timed-spec : {M : Type 1} → statement M
     (λ c κs. search needs)
     (λ c. search needs)
     (λ c. search needs)
-    (λ c. let after-interval = c .before .before in
-    let after-if1 = after-interval .before in
-    let after-token-at = after-if1 .before in
-    let start = after-token-at .before .before in
-    prefixed-missing (start .args .text .now) (start .args .at) (after-token-at .token-at .result) (after-token-at .token-at .ensures) (not-false _ (after-if1 .if1 .left)) (start .args .out .now) (start .args .out .now) (start .args .count) (told-ends (after-token-at .token-at .result .kind) (start .args .text .now) (after-token-at .token-at .result .next) (c .enum-told .given .1) (after-interval .interval .ensures)))
-    (λ c κs. let after-low = c .before .before in
-    let after-interval = after-low .before .before in
-    let after-if1 = after-interval .before in
-    let after-token-at = after-if1 .before in
-    let start = after-token-at .before .before in
-    (let less = less-behind (start .args .text .now) (start .args .at) (after-token-at .token-at .result) (after-token-at .token-at .ensures) (not-false _ (after-if1 .if1 .left)) (after-low .low .given .0 .0) (after-low .low .given .0 .1 .0) (after-low .low .given .0 .1 .1 .0) (told-ends (after-token-at .token-at .result .kind) (start .args .text .now) (after-token-at .token-at .result .next) (after-low .low .given .1) (after-interval .interval .ensures)) in omega (arith, start .pre .0), tt))
+    (λ c. prefixed-missing (c .before .before .before .before .before .before .args .text .now) (c .before .before .before .before .before .before .args .at) (c .before .before .before .before .token-at .result) (c .before .before .before .before .token-at .ensures) (not-false _ (c .before .before .before .if1 .left)) (c .before .before .before .before .before .before .args .out .now) (c .before .before .before .before .before .before .args .out .now) (c .before .before .before .before .before .before .args .count) (told-ends (c .before .before .before .before .token-at .result .kind) (c .before .before .before .before .before .before .args .text .now) (c .before .before .before .before .token-at .result .next) (c .enum-told .given .1) (c .before .before .interval .ensures)))
+    (λ c κs. (let less = less-behind (c .before .before .before .before .before .before .before .before .args .text .now) (c .before .before .before .before .before .before .before .before .args .at) (c .before .before .before .before .before .before .token-at .result) (c .before .before .before .before .before .before .token-at .ensures) (not-false _ (c .before .before .before .before .before .if1 .left)) (c .before .before .low .given .0 .0) (c .before .before .low .given .0 .1 .0) (c .before .before .low .given .0 .1 .1 .0) (told-ends (c .before .before .before .before .before .before .token-at .result .kind) (c .before .before .before .before .before .before .before .before .args .text .now) (c .before .before .before .before .before .before .token-at .result .next) (c .before .before .low .given .1) (c .before .before .before .before .interval .ensures)) in omega (arith, c .before .before .before .before .before .before .before .before .pre .0), tt))
     (λ c. search needs)
     (λ c. search needs)
-    (λ c. let after-prefixed = c .before .before in
-    let after-low = after-prefixed .before .before .before in
-    let after-interval = after-low .before .before in
-    let after-if1 = after-interval .before in
-    let after-token-at = after-if1 .before in
-    let start = after-token-at .before .before in
-    prefixed-fault (start .args .text .now) (start .args .at) (after-token-at .token-at .result) (after-token-at .token-at .ensures) (not-false _ (after-if1 .if1 .left)) (after-low .low .given .0 .0) (after-low .low .given .0 .1 .0) (after-low .low .given .0 .1 .1 .0) (told-ends (after-token-at .token-at .result .kind) (start .args .text .now) (after-token-at .token-at .result .next) (after-low .low .given .1) (after-interval .interval .ensures)) (start .args .out .now) (after-prefixed .prefixed .last .1 .1 .0) (start .args .count)
-    (told Level.prefixed none (start .args .text .now) (start .args .out .now) (after-low .low .given .0 .1 .1 .0) (start .args .count) (after-prefixed .prefixed .last .1 .1 .0) (c .enum-told2 .given .1) (after-prefixed .prefixed .ensures)))
+    (λ c. prefixed-fault (c .before .before .before .before .before .before .before .before .before .before .before .args .text .now) (c .before .before .before .before .before .before .before .before .before .before .before .args .at) (c .before .before .before .before .before .before .before .before .before .token-at .result) (c .before .before .before .before .before .before .before .before .before .token-at .ensures) (not-false _ (c .before .before .before .before .before .before .before .before .if1 .left)) (c .before .before .before .before .before .low .given .0 .0) (c .before .before .before .before .before .low .given .0 .1 .0) (c .before .before .before .before .before .low .given .0 .1 .1 .0) (told-ends (c .before .before .before .before .before .before .before .before .before .token-at .result .kind) (c .before .before .before .before .before .before .before .before .before .before .before .args .text .now) (c .before .before .before .before .before .before .before .before .before .token-at .result .next) (c .before .before .before .before .before .low .given .1) (c .before .before .before .before .before .before .before .interval .ensures)) (c .before .before .before .before .before .before .before .before .before .before .before .args .out .now) (c .before .before .prefixed .last .1 .1 .0) (c .before .before .before .before .before .before .before .before .before .before .before .args .count)
+    (told Level.prefixed none (c .before .before .before .before .before .before .before .before .before .before .before .args .text .now) (c .before .before .before .before .before .before .before .before .before .before .before .args .out .now) (c .before .before .before .before .before .low .given .0 .1 .1 .0) (c .before .before .before .before .before .before .before .before .before .before .before .args .count) (c .before .before .prefixed .last .1 .1 .0) (c .enum-told2 .given .1) (c .before .before .prefixed .ensures)))
     (λ c κs. search needs)
-    (λ c. let after-behind = c .before .before .before in
-    let after-prefixed = after-behind .before .before in
-    let after-low = after-prefixed .before .before .before in
-    let after-interval = after-low .before .before in
-    let after-if1 = after-interval .before in
-    let after-token-at = after-if1 .before in
-    let start = after-token-at .before .before in
-    prefixed-one (start .args .text .now) (start .args .at) (after-token-at .token-at .result) (after-token-at .token-at .ensures) (not-false _ (after-if1 .if1 .left)) (after-low .low .given .0 .0) (after-low .low .given .0 .1 .0) (after-low .low .given .0 .1 .1 .0) (told-ends (after-token-at .token-at .result .kind) (start .args .text .now) (after-token-at .token-at .result .next) (after-low .low .given .1) (after-interval .interval .ensures)) (start .args .out .now) (after-prefixed .prefixed .last .1 .1 .0) (c .put .last .0) (start .args .count) (after-behind .behind .given .0 .0) (after-behind .behind .given .0 .1 .0) (c .put .result)
-    (told Level.prefixed none (start .args .text .now) (start .args .out .now) (after-low .low .given .0 .1 .1 .0) (start .args .count) (after-prefixed .prefixed .last .1 .1 .0) (after-behind .behind .given .1) (after-prefixed .prefixed .ensures)) (c .put .ensures)))
+    (λ c. prefixed-one (c .before .before .before .before .before .before .before .before .before .before .before .before .before .before .args .text .now) (c .before .before .before .before .before .before .before .before .before .before .before .before .before .before .args .at) (c .before .before .before .before .before .before .before .before .before .before .before .before .token-at .result) (c .before .before .before .before .before .before .before .before .before .before .before .before .token-at .ensures) (not-false _ (c .before .before .before .before .before .before .before .before .before .before .before .if1 .left)) (c .before .before .before .before .before .before .before .before .low .given .0 .0) (c .before .before .before .before .before .before .before .before .low .given .0 .1 .0) (c .before .before .before .before .before .before .before .before .low .given .0 .1 .1 .0) (told-ends (c .before .before .before .before .before .before .before .before .before .before .before .before .token-at .result .kind) (c .before .before .before .before .before .before .before .before .before .before .before .before .before .before .args .text .now) (c .before .before .before .before .before .before .before .before .before .before .before .before .token-at .result .next) (c .before .before .before .before .before .before .before .before .low .given .1) (c .before .before .before .before .before .before .before .before .before .before .interval .ensures)) (c .before .before .before .before .before .before .before .before .before .before .before .before .before .before .args .out .now) (c .before .before .before .before .before .prefixed .last .1 .1 .0) (c .put .last .0) (c .before .before .before .before .before .before .before .before .before .before .before .before .before .before .args .count) (c .before .before .before .behind .given .0 .0) (c .before .before .before .behind .given .0 .1 .0) (c .put .result)
+    (told Level.prefixed none (c .before .before .before .before .before .before .before .before .before .before .before .before .before .before .args .text .now) (c .before .before .before .before .before .before .before .before .before .before .before .before .before .before .args .out .now) (c .before .before .before .before .before .before .before .before .low .given .0 .1 .1 .0) (c .before .before .before .before .before .before .before .before .before .before .before .before .before .before .args .count) (c .before .before .before .before .before .prefixed .last .1 .1 .0) (c .before .before .before .behind .given .1) (c .before .before .before .before .before .prefixed .ensures)) (c .put .ensures)))
     (λ t.
     timed-lts.spec
     (below prefixed-kinds.ps μ-prefixed prefixed.Pre t, prefixed.Post, token-at-reads.Asked, token-at-reads.Learnt, interval-reads.Asked, interval-reads.Learnt, below timed-kinds.ps μ-timed timed.Pre t, timed.Post, put-reads.Asked, put-reads.Learnt)
@@ -209,67 +145,32 @@ pub +atom+ors+prefixed+timed-spec : {M : Type 1} → statement M
     (λ c κs. (omega (arith, c .before .before .pre .0), tt))
     (λ c. search needs)
     (λ c. search needs)
-    (λ c. let after-prefixed = c .before .before in
-    let start = after-prefixed .before .before .before in
-    timed-none (start .args .text .now) (start .args .out .now) (after-prefixed .prefixed .last .1 .1 .0) (start .args .at) (start .args .count)
-    (told Level.prefixed none (start .args .text .now) (start .args .out .now) (start .args .at) (start .args .count) (after-prefixed .prefixed .last .1 .1 .0) (c .enum-told .given .1) (after-prefixed .prefixed .ensures)))
+    (λ c. timed-none (c .before .before .before .before .before .args .text .now) (c .before .before .before .before .before .args .out .now) (c .before .before .prefixed .last .1 .1 .0) (c .before .before .before .before .before .args .at) (c .before .before .before .before .before .args .count)
+    (told Level.prefixed none (c .before .before .before .before .before .args .text .now) (c .before .before .before .before .before .args .out .now) (c .before .before .before .before .before .args .at) (c .before .before .before .before .before .args .count) (c .before .before .prefixed .last .1 .1 .0) (c .enum-told .given .1) (c .before .before .prefixed .ensures)))
     (λ c κs. search needs)
-    (λ c. let after-token-at = c .before in
-    let after-left = after-token-at .before .before in
-    let after-prefixed = after-left .before .before in
-    let start = after-prefixed .before .before .before in
-    timed-alone (start .args .text .now) (start .args .out .now) (after-prefixed .prefixed .last .1 .1 .0) (start .args .at) (start .args .count) (after-left .left .given .0 .0) (after-left .left .given .0 .1 .0)
-    (told Level.prefixed none (start .args .text .now) (start .args .out .now) (start .args .at) (start .args .count) (after-prefixed .prefixed .last .1 .1 .0) (after-left .left .given .1) (after-prefixed .prefixed .ensures))
-    (after-token-at .token-at .result) (after-token-at .token-at .ensures) (not-true _ (c .if1 .taken)))
+    (λ c. timed-alone (c .before .before .before .before .before .before .before .before .args .text .now) (c .before .before .before .before .before .before .before .before .args .out .now) (c .before .before .before .before .before .prefixed .last .1 .1 .0) (c .before .before .before .before .before .before .before .before .args .at) (c .before .before .before .before .before .before .before .before .args .count) (c .before .before .before .left .given .0 .0) (c .before .before .before .left .given .0 .1 .0)
+    (told Level.prefixed none (c .before .before .before .before .before .before .before .before .args .text .now) (c .before .before .before .before .before .before .before .before .args .out .now) (c .before .before .before .before .before .before .before .before .args .at) (c .before .before .before .before .before .before .before .before .args .count) (c .before .before .before .before .before .prefixed .last .1 .1 .0) (c .before .before .before .left .given .1) (c .before .before .before .before .before .prefixed .ensures))
+    (c .before .token-at .result) (c .before .token-at .ensures) (not-true _ (c .if1 .taken)))
     (λ c κs. search needs)
     (λ c. search needs)
     (λ c. search needs)
-    (λ c. let after-interval = c .before .before in
-    let after-if1 = after-interval .before in
-    let after-token-at = after-if1 .before in
-    let after-left = after-token-at .before .before in
-    let after-prefixed = after-left .before .before in
-    let start = after-prefixed .before .before .before in
-    timed-missing (start .args .text .now) (start .args .out .now) (after-prefixed .prefixed .last .1 .1 .0) (start .args .at) (start .args .count) (after-left .left .given .0 .0) (after-left .left .given .0 .1 .0)
-    (told Level.prefixed none (start .args .text .now) (start .args .out .now) (start .args .at) (start .args .count) (after-prefixed .prefixed .last .1 .1 .0) (after-left .left .given .1) (after-prefixed .prefixed .ensures))
-    (after-token-at .token-at .result) (after-token-at .token-at .ensures) (not-false _ (after-if1 .if1 .left)) (after-prefixed .prefixed .last .1 .1 .0) (told-ends (after-token-at .token-at .result .kind) (start .args .text .now) (after-token-at .token-at .result .next) (c .enum-told2 .given .1) (after-interval .interval .ensures)))
-    (λ c κs. let after-low = c .before .before in
-    let after-interval = after-low .before .before in
-    let after-if1 = after-interval .before in
-    let after-token-at = after-if1 .before in
-    let after-left = after-token-at .before .before in
-    let after-prefixed = after-left .before .before in
-    let start = after-prefixed .before .before .before in (
-      let less = less-right (start .args .text .now) (start .args .out .now) (after-prefixed .prefixed .last .1 .1 .0) (start .args .at) (start .args .count) (after-left .left .given .0 .0) (after-left .left .given .0 .1 .0)
-          (told Level.prefixed none (start .args .text .now) (start .args .out .now) (start .args .at) (start .args .count) (after-prefixed .prefixed .last .1 .1 .0) (after-left .left .given .1) (after-prefixed .prefixed .ensures))
-          (after-token-at .token-at .result) (after-token-at .token-at .ensures) (not-false _ (after-if1 .if1 .left)) (after-low .low .given .0 .0) (after-low .low .given .0 .1 .0) (after-low .low .given .0 .1 .1 .0) (told-ends (after-token-at .token-at .result .kind) (start .args .text .now) (after-token-at .token-at .result .next) (after-low .low .given .1) (after-interval .interval .ensures)) in omega (arith, start .pre .0),
+    (λ c. timed-missing (c .before .before .before .before .before .before .before .before .before .before .before .args .text .now) (c .before .before .before .before .before .before .before .before .before .before .before .args .out .now) (c .before .before .before .before .before .before .before .before .prefixed .last .1 .1 .0) (c .before .before .before .before .before .before .before .before .before .before .before .args .at) (c .before .before .before .before .before .before .before .before .before .before .before .args .count) (c .before .before .before .before .before .before .left .given .0 .0) (c .before .before .before .before .before .before .left .given .0 .1 .0)
+    (told Level.prefixed none (c .before .before .before .before .before .before .before .before .before .before .before .args .text .now) (c .before .before .before .before .before .before .before .before .before .before .before .args .out .now) (c .before .before .before .before .before .before .before .before .before .before .before .args .at) (c .before .before .before .before .before .before .before .before .before .before .before .args .count) (c .before .before .before .before .before .before .before .before .prefixed .last .1 .1 .0) (c .before .before .before .before .before .before .left .given .1) (c .before .before .before .before .before .before .before .before .prefixed .ensures))
+    (c .before .before .before .before .token-at .result) (c .before .before .before .before .token-at .ensures) (not-false _ (c .before .before .before .if1 .left)) (c .before .before .before .before .before .before .before .before .prefixed .last .1 .1 .0) (told-ends (c .before .before .before .before .token-at .result .kind) (c .before .before .before .before .before .before .before .before .before .before .before .args .text .now) (c .before .before .before .before .token-at .result .next) (c .enum-told2 .given .1) (c .before .before .interval .ensures)))
+    (λ c κs. (
+      let less = less-right (c .before .before .before .before .before .before .before .before .before .before .before .before .before .args .text .now) (c .before .before .before .before .before .before .before .before .before .before .before .before .before .args .out .now) (c .before .before .before .before .before .before .before .before .before .before .prefixed .last .1 .1 .0) (c .before .before .before .before .before .before .before .before .before .before .before .before .before .args .at) (c .before .before .before .before .before .before .before .before .before .before .before .before .before .args .count) (c .before .before .before .before .before .before .before .before .left .given .0 .0) (c .before .before .before .before .before .before .before .before .left .given .0 .1 .0)
+          (told Level.prefixed none (c .before .before .before .before .before .before .before .before .before .before .before .before .before .args .text .now) (c .before .before .before .before .before .before .before .before .before .before .before .before .before .args .out .now) (c .before .before .before .before .before .before .before .before .before .before .before .before .before .args .at) (c .before .before .before .before .before .before .before .before .before .before .before .before .before .args .count) (c .before .before .before .before .before .before .before .before .before .before .prefixed .last .1 .1 .0) (c .before .before .before .before .before .before .before .before .left .given .1) (c .before .before .before .before .before .before .before .before .before .before .prefixed .ensures))
+          (c .before .before .before .before .before .before .token-at .result) (c .before .before .before .before .before .before .token-at .ensures) (not-false _ (c .before .before .before .before .before .if1 .left)) (c .before .before .low .given .0 .0) (c .before .before .low .given .0 .1 .0) (c .before .before .low .given .0 .1 .1 .0) (told-ends (c .before .before .before .before .before .before .token-at .result .kind) (c .before .before .before .before .before .before .before .before .before .before .before .before .before .args .text .now) (c .before .before .before .before .before .before .token-at .result .next) (c .before .before .low .given .1) (c .before .before .before .before .interval .ensures)) in omega (arith, c .before .before .before .before .before .before .before .before .before .before .before .before .before .pre .0),
       tt,
     ))
     (λ c. search needs)
     (λ c. search needs)
-    (λ c. let after-timed = c .before .before in
-    let after-low = after-timed .before .before .before in
-    let after-interval = after-low .before .before in
-    let after-if1 = after-interval .before in
-    let after-token-at = after-if1 .before in
-    let after-left = after-token-at .before .before in
-    let after-prefixed = after-left .before .before in
-    let start = after-prefixed .before .before .before in
-    timed-fault (start .args .text .now) (start .args .out .now) (after-prefixed .prefixed .last .1 .1 .0) (start .args .at) (start .args .count) (after-left .left .given .0 .0) (after-left .left .given .0 .1 .0)
-    (told Level.prefixed none (start .args .text .now) (start .args .out .now) (start .args .at) (start .args .count) (after-prefixed .prefixed .last .1 .1 .0) (after-left .left .given .1) (after-prefixed .prefixed .ensures))
-    (after-token-at .token-at .result) (after-token-at .token-at .ensures) (not-false _ (after-if1 .if1 .left)) (after-low .low .given .0 .0) (after-low .low .given .0 .1 .0) (after-low .low .given .0 .1 .1 .0) (told-ends (after-token-at .token-at .result .kind) (start .args .text .now) (after-token-at .token-at .result .next) (after-low .low .given .1) (after-interval .interval .ensures)) (after-timed .timed .last .1 .1 .0)
-    (told Level.timed none (start .args .text .now) (after-prefixed .prefixed .last .1 .1 .0) (after-low .low .given .0 .1 .1 .0) (after-left .left .given .0 .1 .0) (after-timed .timed .last .1 .1 .0) (c .enum-told3 .given .1) (after-timed .timed .ensures)))
+    (λ c. timed-fault (c .before .before .before .before .before .before .before .before .before .before .before .before .before .before .before .before .args .text .now) (c .before .before .before .before .before .before .before .before .before .before .before .before .before .before .before .before .args .out .now) (c .before .before .before .before .before .before .before .before .before .before .before .before .before .prefixed .last .1 .1 .0) (c .before .before .before .before .before .before .before .before .before .before .before .before .before .before .before .before .args .at) (c .before .before .before .before .before .before .before .before .before .before .before .before .before .before .before .before .args .count) (c .before .before .before .before .before .before .before .before .before .before .before .left .given .0 .0) (c .before .before .before .before .before .before .before .before .before .before .before .left .given .0 .1 .0)
+    (told Level.prefixed none (c .before .before .before .before .before .before .before .before .before .before .before .before .before .before .before .before .args .text .now) (c .before .before .before .before .before .before .before .before .before .before .before .before .before .before .before .before .args .out .now) (c .before .before .before .before .before .before .before .before .before .before .before .before .before .before .before .before .args .at) (c .before .before .before .before .before .before .before .before .before .before .before .before .before .before .before .before .args .count) (c .before .before .before .before .before .before .before .before .before .before .before .before .before .prefixed .last .1 .1 .0) (c .before .before .before .before .before .before .before .before .before .before .before .left .given .1) (c .before .before .before .before .before .before .before .before .before .before .before .before .before .prefixed .ensures))
+    (c .before .before .before .before .before .before .before .before .before .token-at .result) (c .before .before .before .before .before .before .before .before .before .token-at .ensures) (not-false _ (c .before .before .before .before .before .before .before .before .if1 .left)) (c .before .before .before .before .before .low .given .0 .0) (c .before .before .before .before .before .low .given .0 .1 .0) (c .before .before .before .before .before .low .given .0 .1 .1 .0) (told-ends (c .before .before .before .before .before .before .before .before .before .token-at .result .kind) (c .before .before .before .before .before .before .before .before .before .before .before .before .before .before .before .before .args .text .now) (c .before .before .before .before .before .before .before .before .before .token-at .result .next) (c .before .before .before .before .before .low .given .1) (c .before .before .before .before .before .before .before .interval .ensures)) (c .before .before .timed .last .1 .1 .0)
+    (told Level.timed none (c .before .before .before .before .before .before .before .before .before .before .before .before .before .before .before .before .args .text .now) (c .before .before .before .before .before .before .before .before .before .before .before .before .before .prefixed .last .1 .1 .0) (c .before .before .before .before .before .low .given .0 .1 .1 .0) (c .before .before .before .before .before .before .before .before .before .before .before .left .given .0 .1 .0) (c .before .before .timed .last .1 .1 .0) (c .enum-told3 .given .1) (c .before .before .timed .ensures)))
     (λ c κs. search needs)
-    (λ c. let after-right = c .before .before .before in
-    let after-timed = after-right .before .before in
-    let after-low = after-timed .before .before .before in
-    let after-interval = after-low .before .before in
-    let after-if1 = after-interval .before in
-    let after-token-at = after-if1 .before in
-    let after-left = after-token-at .before .before in
-    let after-prefixed = after-left .before .before in
-    let start = after-prefixed .before .before .before in
-    timed-two (start .args .text .now) (start .args .out .now) (after-prefixed .prefixed .last .1 .1 .0) (start .args .at) (start .args .count) (after-left .left .given .0 .0) (after-left .left .given .0 .1 .0)
-    (told Level.prefixed none (start .args .text .now) (start .args .out .now) (start .args .at) (start .args .count) (after-prefixed .prefixed .last .1 .1 .0) (after-left .left .given .1) (after-prefixed .prefixed .ensures))
-    (after-token-at .token-at .result) (after-token-at .token-at .ensures) (not-false _ (after-if1 .if1 .left)) (after-low .low .given .0 .0) (after-low .low .given .0 .1 .0) (after-low .low .given .0 .1 .1 .0) (told-ends (after-token-at .token-at .result .kind) (start .args .text .now) (after-token-at .token-at .result .next) (after-low .low .given .1) (after-interval .interval .ensures)) (after-timed .timed .last .1 .1 .0) (c .put .last .0) (after-right .right .given .0 .0) (after-right .right .given .0 .1 .0) (c .put .result)
-    (told Level.timed none (start .args .text .now) (after-prefixed .prefixed .last .1 .1 .0) (after-low .low .given .0 .1 .1 .0) (after-left .left .given .0 .1 .0) (after-timed .timed .last .1 .1 .0) (after-right .right .given .1) (after-timed .timed .ensures)) (c .put .ensures)))
+    (λ c. timed-two (c .before .before .before .before .before .before .before .before .before .before .before .before .before .before .before .before .before .before .before .args .text .now) (c .before .before .before .before .before .before .before .before .before .before .before .before .before .before .before .before .before .before .before .args .out .now) (c .before .before .before .before .before .before .before .before .before .before .before .before .before .before .before .before .prefixed .last .1 .1 .0) (c .before .before .before .before .before .before .before .before .before .before .before .before .before .before .before .before .before .before .before .args .at) (c .before .before .before .before .before .before .before .before .before .before .before .before .before .before .before .before .before .before .before .args .count) (c .before .before .before .before .before .before .before .before .before .before .before .before .before .before .left .given .0 .0) (c .before .before .before .before .before .before .before .before .before .before .before .before .before .before .left .given .0 .1 .0)
+    (told Level.prefixed none (c .before .before .before .before .before .before .before .before .before .before .before .before .before .before .before .before .before .before .before .args .text .now) (c .before .before .before .before .before .before .before .before .before .before .before .before .before .before .before .before .before .before .before .args .out .now) (c .before .before .before .before .before .before .before .before .before .before .before .before .before .before .before .before .before .before .before .args .at) (c .before .before .before .before .before .before .before .before .before .before .before .before .before .before .before .before .before .before .before .args .count) (c .before .before .before .before .before .before .before .before .before .before .before .before .before .before .before .before .prefixed .last .1 .1 .0) (c .before .before .before .before .before .before .before .before .before .before .before .before .before .before .left .given .1) (c .before .before .before .before .before .before .before .before .before .before .before .before .before .before .before .before .prefixed .ensures))
+    (c .before .before .before .before .before .before .before .before .before .before .before .before .token-at .result) (c .before .before .before .before .before .before .before .before .before .before .before .before .token-at .ensures) (not-false _ (c .before .before .before .before .before .before .before .before .before .before .before .if1 .left)) (c .before .before .before .before .before .before .before .before .low .given .0 .0) (c .before .before .before .before .before .before .before .before .low .given .0 .1 .0) (c .before .before .before .before .before .before .before .before .low .given .0 .1 .1 .0) (told-ends (c .before .before .before .before .before .before .before .before .before .before .before .before .token-at .result .kind) (c .before .before .before .before .before .before .before .before .before .before .before .before .before .before .before .before .before .before .before .args .text .now) (c .before .before .before .before .before .before .before .before .before .before .before .before .token-at .result .next) (c .before .before .before .before .before .before .before .before .low .given .1) (c .before .before .before .before .before .before .before .before .before .before .interval .ensures)) (c .before .before .before .before .before .timed .last .1 .1 .0) (c .put .last .0) (c .before .before .before .right .given .0 .0) (c .before .before .before .right .given .0 .1 .0) (c .put .result)
+    (told Level.timed none (c .before .before .before .before .before .before .before .before .before .before .before .before .before .before .before .before .before .before .before .args .text .now) (c .before .before .before .before .before .before .before .before .before .before .before .before .before .before .before .before .prefixed .last .1 .1 .0) (c .before .before .before .before .before .before .before .before .low .given .0 .1 .1 .0) (c .before .before .before .before .before .before .before .before .before .before .before .before .before .before .left .given .0 .1 .0) (c .before .before .before .before .before .timed .last .1 .1 .0) (c .before .before .before .right .given .1) (c .before .before .before .before .before .timed .ensures)) (c .put .ensures)))
