@@ -1,5 +1,5 @@
 -- A window opened from a block's head on: what is read of it, and where the head stands behind it. Assumes nothing.
-use Prim.Native.Nat.{ℕ, zero, suc, _+_, _*_, _≤_, _<_, _^_}
+use Prim.Native.Nat.{ℕ, zero, suc, _+_, _*_, _≤_, _<_}
 use native.Mathlib.Omega.{arith}
 use native.Mathlib.Nat.{zero-add, add-zero}
 use mathlib.Core.Bool.{true, _&&_}
@@ -14,14 +14,14 @@ use Rattle.mtl.proofs.Bounded.{and-iff}
 use Rattle.bits.specs.Packed.{Packed}
 use Rattle.bits.proofs.Laws.{packed-same}
 use Rattle.trace.specs.Format.{record-count, time-at}
-use Rattle.window.specs.View.{slice-first, skips, in-slice, Shows, Views}
+use Rattle.window.specs.View.{slice-first, skips, in-slice, Shows}
 use Rattle.window.specs.Window.{window-of, some-service, letter-at, Lettered, Opened, Passed}
 use Rattle.window.specs.declared.Letters.{Letters}
 use Rattle.window.specs.declared.Window.{Window}
-use Rattle.window.proofs.Reading.{shown-inside, shown-letter, head-behind, window-time, window-end}
+use Rattle.window.proofs.Reading.{shown-inside, shown-letter, head-behind, window-time}
 use Rattle.blocks.specs.Step.{Agrees}
 
--- whatever the words hold: the window can be read, and the head behind it is a number and lies no earlier
+-- whatever the words hold: the window can be read
 module _ (v : List ℕ) (h : ℕ) {s : List ℕ} {n : ℕ} {w : Window} {copy : List ℕ} (opened : Opened (skips v) s (in-slice (slice-first v) h) n w copy) where
   pub readable : w .dense ≡ true → w .at * 8 ≤ length s
   readable e =
@@ -30,12 +30,6 @@ module _ (v : List ℕ) (h : ℕ) {s : List ℕ} {n : ℕ} {w : Window} {copy : 
       let all = leb (at + n) (record-count s) in
       let inside = leb-true (at + n) (record-count s) (and-iff all (negate (skips v && some-service s at n)) .0 (opened .own e) .0) in
       omega arith
-
-  pub end-fits : Views v s → h < 2 ^ 64 → slice-first v + w .end < 2 ^ 64
-  end-fits views small = let bounded = opened .bounded in let few = views .numbered in omega arith
-
-  pub end-onward : h ≤ slice-first v + w .end
-  end-onward = let onward = opened .onward in omega arith
 
 -- where view and slice tell the log, they show n positions from p on, which the log has
 shows : {v s : List ℕ} {L : Log} {g : ℕ} → Agrees v s L g → (p n : ℕ) → g ≤ p → p + n ≤ L .size → (i : ℕ) → p ≤ i → i < p + n →
@@ -69,10 +63,7 @@ module _ {v s : List ℕ} {L : Log} {g : ℕ} (agrees : Agrees v s L g) {h : ℕ
   pub read-time : (i : ℕ) → i < n → time-at (window-of w s copy) i ≡ L .time (p + i)
   read-time = window-time (skips v) s (slice-first v) L p n (shows agrees p n from inside) w copy here
 
-  -- and the heads behind all of them, and behind some, are the log's
-  pub head-end : 0 < n → slice-first v + w .end ≡ head-of L (p + n)
-  head-end = window-end (skips v) s (slice-first v) L p n (shows agrees p n from inside) w copy here
-
+  -- and the head behind some of them is the log's
   pub head-passed : (m r : ℕ) → m ≤ n → Passed v s h m w r → r ≡ head-of L (p + m)
   head-passed zero r l passed = passed .still (omega arith) ∙ head ∙ ap (head-of L) (sym (add-zero p))
   head-passed (suc m) r l passed =

@@ -4,6 +4,7 @@ ghost use mathlib.Core.Bool.{cond};
 ghost use Prim.Native.Nat.{suc, _+_, _-_, _≤_, _<_, _^_, max};
 ghost use lib.ListN.{length};
 ghost use Rattle.window.specs.View.{Views};
+ghost use Rattle.window.specs.Window.{Keeps};
 ghost use Rattle.checkpoint.specs.Checkpoint.{given, first-wanted};
 ghost use Rattle.held.specs.Code.{plan};
 ghost use Rattle.emit.specs.Code.{GivesVerdicts, Countable, Viewed, Notes, ReadyToEmit, Emission};
@@ -33,12 +34,12 @@ fn give_many(
     most: usize,
     records: &[u8],
     view: &[u64; 66],
-    copy: &mut [u8; 520],
-    waiting: &mut [u8; 520],
+    copy: &mut [u8; 544],
+    waiting: &mut [u8; 544],
     words: &mut [u64],
     sheet: &mut [u8],
 ) -> Emitted
-    requires { ⌜ Countable (plan (now table) (now tops) number) most (now words) × (length (now copy) ≡ 520) × (length (now waiting) ≡ 520) × Views (now view) (now records) ⌝ }
+    requires { ⌜ Countable (plan (now table) (now tops) number) most (now words) × Keeps (now records) (now copy) × Keeps (now records) (now waiting) × Views (now view) (now records) ⌝ }
     ensures { λ r. ⌜ GivesVerdicts (plan (now (table .entry)) (now (tops .entry)) number) most (now (view .entry)) (now (records .entry)) (now (words .entry)) (now (sheet .entry)) r (now (words .exit)) (now (sheet .exit)) ⌝ }
 {
     let columns = columns_of(number);
@@ -67,12 +68,12 @@ fn give_one(
     most: usize,
     records: &[u8],
     view: &[u64; 66],
-    copy: &mut [u8; 520],
-    waiting: &mut [u8; 520],
+    copy: &mut [u8; 544],
+    waiting: &mut [u8; 544],
     words: &mut [u64],
     sheet: &mut [u8],
 ) -> Emitted
-    requires { ⌜ Countable (plan (now table) (now tops) 1) most (now words) × (length (now copy) ≡ 520) × (length (now waiting) ≡ 520) × Views (now view) (now records) ⌝ }
+    requires { ⌜ Countable (plan (now table) (now tops) 1) most (now words) × Keeps (now records) (now copy) × Keeps (now records) (now waiting) × Views (now view) (now records) ⌝ }
     ensures { λ r. ⌜ GivesVerdicts (plan (now (table .entry)) (now (tops .entry)) 1) most (now (view .entry)) (now (records .entry)) (now (words .entry)) (now (sheet .entry)) r (now (words .exit)) (now (sheet .exit)) ⌝ }
 {
     let mut answers = [0u64; 8];
@@ -101,12 +102,12 @@ fn give(
     most: usize,
     records: &[u8],
     view: &[u64; 66],
-    copy: &mut [u8; 520],
-    waiting: &mut [u8; 520],
+    copy: &mut [u8; 544],
+    waiting: &mut [u8; 544],
     words: &mut [u64],
     sheet: &mut [u8],
 ) -> Emitted
-    requires { ⌜ Countable (plan (now table) (now tops) number) most (now words) × (length (now copy) ≡ 520) × (length (now waiting) ≡ 520) × Views (now view) (now records) ⌝ }
+    requires { ⌜ Countable (plan (now table) (now tops) number) most (now words) × Keeps (now records) (now copy) × Keeps (now records) (now waiting) × Views (now view) (now records) ⌝ }
     ensures { λ r. ⌜ GivesVerdicts (plan (now (table .entry)) (now (tops .entry)) number) most (now (view .entry)) (now (records .entry)) (now (words .entry)) (now (sheet .entry)) r (now (words .exit)) (now (sheet .exit)) ⌝ }
 {
     if number == 1 {
@@ -209,8 +210,8 @@ pub fn emit(
     let tops = engine::layout::lay_tops(&ends, number, &table, base);
     let mut view = [0u64; 66];
     write_view(records, skips, closed, depth, words, &mut view);
-    let mut copy = [0u8; 520];
-    let mut waiting = [0u8; 520];
+    let mut copy = [0u8; 544];
+    let mut waiting = [0u8; 544];
     let emitted = give(
         &table,
         &tops,

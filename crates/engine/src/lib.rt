@@ -4,6 +4,7 @@ ghost use mathlib.Core.Bool.{true, false};
 ghost use Prim.Native.Nat.{_+_, _≤_, _<_};
 ghost use lib.ListN.{length};
 ghost use Rattle.window.specs.View.{Views};
+ghost use Rattle.window.specs.Window.{Keeps};
 ghost use Rattle.engine.specs.Answer.{Answers};
 ghost use Rattle.engine.specs.Ask.{Advances, Refills, Fills, stored};
 ghost use Rattle.engine.specs.Table.{RowsOk, column};
@@ -36,15 +37,15 @@ fn advance(
     table: &[u32; 1024],
     records: &[u8],
     view: &[u64; 66],
-    copy: &mut [u8; 520],
-    waiting: &mut [u8; 520],
+    copy: &mut [u8; 544],
+    waiting: &mut [u8; 544],
     k: usize,
     own: usize,
     words: &mut [u64],
 ) -> Step
-    requires { ⌜ (k < 128) × RowsOk (now table) k × (0 < column 0 (now table) k) × (own ≡ column 5 (now table) k + column 6 (now table) k) × (length (now words) ≡ column 7 (now table) k) × (length (now copy) ≡ 520) × (length (now waiting) ≡ 520) × Views (now view) (now records) ⌝ }
+    requires { ⌜ (k < 128) × RowsOk (now table) k × (0 < column 0 (now table) k) × (own ≡ column 5 (now table) k + column 6 (now table) k) × (length (now words) ≡ column 7 (now table) k) × Keeps (now records) (now copy) × Keeps (now records) (now waiting) × Views (now view) (now records) ⌝ }
     ensures { λ r. ⌜ Advances (now (table .entry)) (now (view .entry)) (now (records .entry)) k own (now (words .entry)) r (now (words .exit)) ⌝ }
-    ensures { λ _. ⌜ (length (now (copy .exit)) ≡ 520) × (length (now (waiting .exit)) ≡ 520) ⌝ }
+    ensures { λ _. ⌜ Keeps (now (records .entry)) (now (copy .exit)) × Keeps (now (records .entry)) (now (waiting .exit)) ⌝ }
 {
     let end = words.len();
     operators::advance(
@@ -64,15 +65,17 @@ fn answer_letter(
     table: &[u32; 1024],
     records: &[u8],
     view: &[u64; 66],
+    copy: &mut [u8; 544],
     k: usize,
     shift: u64,
     words: &mut [u64],
 ) -> Reply
-    requires { ⌜ (k < 128) × RowsOk (now table) k × (column 0 (now table) k ≡ 0) × (length (now words) ≡ column 7 (now table) k) × Views (now view) (now records) ⌝ }
+    requires { ⌜ (k < 128) × RowsOk (now table) k × (column 0 (now table) k ≡ 0) × (length (now words) ≡ column 7 (now table) k) × Keeps (now records) (now copy) × Views (now view) (now records) ⌝ }
     ensures { λ r. ⌜ Answers (now (table .entry)) (now (view .entry)) (now (records .entry)) k (now (words .entry)) r (now (words .exit)) ⌝ }
+    ensures { λ _. ⌜ Keeps (now (records .entry)) (now (copy .exit)) ⌝ }
 {
     let letter = table::field(table, k, table::LETTER);
-    let read = operators::letter::read_letter(letter, shift, records, view, words);
+    let read = operators::letter::read_letter(letter, shift, records, view, copy, words);
     let bits = read.bits;
     let count = read.count;
     if count == 0 {
@@ -87,18 +90,18 @@ pub fn answer(
     table: &[u32; 1024],
     records: &[u8],
     view: &[u64; 66],
-    copy: &mut [u8; 520],
-    waiting: &mut [u8; 520],
+    copy: &mut [u8; 544],
+    waiting: &mut [u8; 544],
     k: usize,
     shift: u64,
     words: &mut [u64],
 ) -> Reply
-    requires { ⌜ (k < 128) × RowsOk (now table) k × (length (now words) ≡ column 7 (now table) k) × (length (now copy) ≡ 520) × (length (now waiting) ≡ 520) × Views (now view) (now records) ⌝ }
+    requires { ⌜ (k < 128) × RowsOk (now table) k × (length (now words) ≡ column 7 (now table) k) × Keeps (now records) (now copy) × Keeps (now records) (now waiting) × Views (now view) (now records) ⌝ }
     ensures { λ r. ⌜ Answers (now (table .entry)) (now (view .entry)) (now (records .entry)) k (now (words .entry)) r (now (words .exit)) ⌝ }
-    ensures { λ _. ⌜ (length (now (copy .exit)) ≡ 520) × (length (now (waiting .exit)) ≡ 520) ⌝ }
+    ensures { λ _. ⌜ Keeps (now (records .entry)) (now (copy .exit)) × Keeps (now (records .entry)) (now (waiting .exit)) ⌝ }
 {
     if table::field(table, k, table::KIND) == 0 {
-        return answer_letter(table, records, view, k, shift, words);
+        return answer_letter(table, records, view, copy, k, shift, words);
     }
     let left_words = table::field(table, k, table::LEFT_WORDS) as usize;
     let right_words = table::field(table, k, table::RIGHT_WORDS) as usize;
@@ -158,23 +161,28 @@ fn shifted(kind: u64, shift: u64) -> u64 {
     if kind == 4 { shift % 64 + 63 } else { shift }
 }
 
+// Whether the operand is read one position apart, so that its batches begin at other records: with the two copies exchanged, each keeps its own.
+fn is_apart(kind: u64) -> bool {
+    (kind == 3) | (kind == 4)
+}
+
 // Fills the empty buffers of entry k's operands, left's first, whose words end at `split`; false where one has no more answers. Where that is
 // left, right is not asked.
 fn fill(
     table: &[u32; 1024],
     records: &[u8],
     view: &[u64; 66],
-    copy: &mut [u8; 520],
-    waiting: &mut [u8; 520],
+    copy: &mut [u8; 544],
+    waiting: &mut [u8; 544],
     k: usize,
     shift: u64,
     split: usize,
     own: usize,
     words: &mut [u64],
 ) -> bool
-    requires { ⌜ (k < 128) × RowsOk (now table) k × (0 < column 0 (now table) k) × (split ≡ column 5 (now table) k) × (own ≡ column 5 (now table) k + column 6 (now table) k) × (length (now words) ≡ column 7 (now table) k) × (length (now copy) ≡ 520) × (length (now waiting) ≡ 520) × Views (now view) (now records) ⌝ }
+    requires { ⌜ (k < 128) × RowsOk (now table) k × (0 < column 0 (now table) k) × (split ≡ column 5 (now table) k) × (own ≡ column 5 (now table) k + column 6 (now table) k) × (length (now words) ≡ column 7 (now table) k) × Keeps (now records) (now copy) × Keeps (now records) (now waiting) × Views (now view) (now records) ⌝ }
     ensures { λ r. ⌜ Refills (now (table .entry)) (now (view .entry)) (now (records .entry)) k own (now (words .entry)) r (now (words .exit)) ⌝ }
-    ensures { λ _. ⌜ (length (now (copy .exit)) ≡ 520) × (length (now (waiting .exit)) ≡ 520) ⌝ }
+    ensures { λ _. ⌜ Keeps (now (records .entry)) (now (copy .exit)) × Keeps (now (records .entry)) (now (waiting .exit)) ⌝ }
 {
     let kind = table::field(table, k, table::KIND);
     let below = shifted(kind, shift);
@@ -197,6 +205,21 @@ fn fill(
             return false;
         }
     }
+    if is_apart(kind) {
+        return ask(
+            table,
+            records,
+            view,
+            waiting,
+            copy,
+            k - 1,
+            below,
+            split,
+            own,
+            own + word::RIGHT_COUNT,
+            words,
+        );
+    }
     ask(
         table,
         records,
@@ -217,8 +240,8 @@ pub fn ask(
     table: &[u32; 1024],
     records: &[u8],
     view: &[u64; 66],
-    copy: &mut [u8; 520],
-    waiting: &mut [u8; 520],
+    copy: &mut [u8; 544],
+    waiting: &mut [u8; 544],
     operand: usize,
     shift: u64,
     from: usize,
@@ -226,9 +249,9 @@ pub fn ask(
     slot: usize,
     words: &mut [u64],
 ) -> bool
-    requires { ⌜ (operand < 128) × RowsOk (now table) operand × (from + column 7 (now table) operand ≡ to) × (to ≤ length (now words)) × (slot + 1 < length (now words)) × (length (now copy) ≡ 520) × (length (now waiting) ≡ 520) × Views (now view) (now records) ⌝ }
+    requires { ⌜ (operand < 128) × RowsOk (now table) operand × (from + column 7 (now table) operand ≡ to) × (to ≤ length (now words)) × (slot + 1 < length (now words)) × Keeps (now records) (now copy) × Keeps (now records) (now waiting) × Views (now view) (now records) ⌝ }
     ensures { λ r. ⌜ Fills (now (table .entry)) (now (view .entry)) (now (records .entry)) operand from to slot (now (words .entry)) r (now (words .exit)) ⌝ }
-    ensures { λ _. ⌜ (length (now (copy .exit)) ≡ 520) × (length (now (waiting .exit)) ≡ 520) ⌝ }
+    ensures { λ _. ⌜ Keeps (now (records .entry)) (now (copy .exit)) × Keeps (now (records .entry)) (now (waiting .exit)) ⌝ }
 {
     if words[slot] != 0 {
         return true;

@@ -7,6 +7,7 @@ ghost use Rattle.mtl.specs.Formula.{Formula};
 ghost use Rattle.rule.specs.Accepted.{WellFormed};
 ghost use Rattle.trace.specs.Format.{record-count};
 ghost use Rattle.window.specs.View.{total};
+ghost use Rattle.window.specs.Window.{Keeps};
 ghost use Rattle.engine.specs.Tops.{Ended};
 ghost use Rattle.checks.specs.Refusal.{whole-log-refusal};
 ghost use Rattle.explain.specs.Explain.{answer, Explains};
@@ -58,16 +59,16 @@ fn all_answered(
     table: &[u32; 1024],
     records: &[u8],
     view: &[u64; 66],
-    copy: &mut [u8; 520],
-    waiting: &mut [u8; 520],
+    copy: &mut [u8; 544],
+    waiting: &mut [u8; 544],
     words: &mut [u64],
     ends: &[usize; 9],
     number: usize,
     position: u64,
 ) -> bool
-    requires { ⌜ Prepared (now table) (now view) (now records) (now words) (now ends) number × (length (now copy) ≡ 520) × (length (now waiting) ≡ 520) × (position < 18446744073709551615) ⌝ }
+    requires { ⌜ Prepared (now table) (now view) (now records) (now words) (now ends) number × Keeps (now records) (now copy) × Keeps (now records) (now waiting) × (position < 18446744073709551615) ⌝ }
     ensures { λ r. ⌜ AllAnswered (now (table .entry)) (now (view .entry)) (now (records .entry)) (now (ends .entry)) number position r ⌝ }
-    ensures { λ _. ⌜ (length (now (copy .exit)) ≡ 520) × (length (now (waiting .exit)) ≡ 520) ⌝ }
+    ensures { λ _. ⌜ Keeps (now (records .entry)) (now (copy .exit)) × Keeps (now (records .entry)) (now (waiting .exit)) ⌝ }
 {
     let mut k: usize = 0;
     while k < number {
@@ -106,8 +107,8 @@ fn write_reason(
     requires { ⌜ Prepared (now table) (now view) (now records) (now words) (now ends) number × (length (now text) ≡ 24576) × (total (now view) ≤ 1000000) ⌝ }
     ensures { λ r. ⌜ Reasons (now (table .entry)) (now (view .entry)) (now (records .entry)) (now (ends .entry)) number formula position (now (text .entry)) r (now (text .exit)) ⌝ }
 {
-    let mut copy = [0u8; 520];
-    let mut waiting = [0u8; 520];
+    let mut copy = [0u8; 544];
+    let mut waiting = [0u8; 544];
     if (emit::columns_of(number) as u64 <= formula) | (view[window::view::TOTAL] <= position) {
         return Reason::Missing;
     }

@@ -5,6 +5,7 @@ ghost use Prim.Native.Nat.{ℕ, _+_, _-_, _≤_, _<_, _^_, min};
 ghost use lib.ListN.{length};
 ghost use Rattle.blocks.specs.Block.{word};
 ghost use Rattle.window.specs.View.{Views};
+ghost use Rattle.window.specs.Window.{Keeps};
 ghost use Rattle.engine.specs.Tops.{top-column};
 ghost use Rattle.verdicts.specs.Counts.{later-end};
 ghost use Rattle.checkpoint.specs.Checkpoint.{given};
@@ -37,13 +38,13 @@ fn hold_one(
     k: usize,
     records: &[u8],
     view: &[u64; 66],
-    copy: &mut [u8; 520],
-    waiting: &mut [u8; 520],
+    copy: &mut [u8; 544],
+    waiting: &mut [u8; 544],
     words: &mut [u64],
 ) -> u64
-    requires { ⌜ (k < number) × Fitting (plan (now table) (now tops) number) (length (now words)) × (length (now copy) ≡ 520) × (length (now waiting) ≡ 520) × Views (now view) (now records) ⌝ }
+    requires { ⌜ (k < number) × Fitting (plan (now table) (now tops) number) (length (now words)) × Keeps (now records) (now copy) × Keeps (now records) (now waiting) × Views (now view) (now records) ⌝ }
     ensures { λ r. ⌜ HoldsOne (plan (now (table .entry)) (now (tops .entry)) number) (now (view .entry)) (now (records .entry)) k (now (words .entry)) r (now (words .exit)) ⌝ }
-    ensures { λ _. ⌜ (length (now (copy .exit)) ≡ 520) × (length (now (waiting .exit)) ≡ 520) ⌝ }
+    ensures { λ _. ⌜ Keeps (now (records .entry)) (now (copy .exit)) × Keeps (now (records .entry)) (now (waiting .exit)) ⌝ }
 {
     let held = tops::place(tops, k, tops::HELD);
     let entry = tops::place(tops, k, tops::ENTRY);
@@ -75,13 +76,13 @@ pub fn hold(
     number: usize,
     records: &[u8],
     view: &[u64; 66],
-    copy: &mut [u8; 520],
-    waiting: &mut [u8; 520],
+    copy: &mut [u8; 544],
+    waiting: &mut [u8; 544],
     words: &mut [u64],
 ) -> u64
-    requires { ⌜ Fitting (plan (now table) (now tops) number) (length (now words)) × (length (now copy) ≡ 520) × (length (now waiting) ≡ 520) × Views (now view) (now records) ⌝ }
+    requires { ⌜ Fitting (plan (now table) (now tops) number) (length (now words)) × Keeps (now records) (now copy) × Keeps (now records) (now waiting) × Views (now view) (now records) ⌝ }
     ensures { λ r. ⌜ HoldsAll (plan (now (table .entry)) (now (tops .entry)) number) (now (view .entry)) (now (records .entry)) (now (words .entry)) r (now (words .exit)) ⌝ }
-    ensures { λ _. ⌜ (length (now (copy .exit)) ≡ 520) × (length (now (waiting .exit)) ≡ 520) ⌝ }
+    ensures { λ _. ⌜ Keeps (now (records .entry)) (now (copy .exit)) × Keeps (now (records .entry)) (now (waiting .exit)) ⌝ }
 {
     let mut least = not_given(words[header::GIVEN], view[view::TOTAL]);
     if least == 0 {

@@ -4,6 +4,7 @@ ghost use Prim.Native.Nat.{_≤_, _<_};
 ghost use lib.ListN.{length};
 ghost use Rattle.mtl.specs.Formula.Formula.{letter as letter-formula};
 ghost use Rattle.window.specs.View.{Views};
+ghost use Rattle.window.specs.Window.{Keeps};
 ghost use Rattle.blocks.specs.Step.{Steps, Ends};
 ghost use Rattle.operators.specs.Letter.{step-of};
 use blocks::word;
@@ -29,18 +30,20 @@ pub fn read_letter(
     shift: u64,
     records: &[u8],
     view: &[u64; 66],
+    copy: &mut [u8; 544],
     block: &mut [u64],
 ) -> Stretch
-    requires { ⌜ (letter < 32) × (16 ≤ length (now block)) × Views (now view) (now records) ⌝ }
+    requires { ⌜ (letter < 32) × (16 ≤ length (now block)) × Views (now view) (now records) × Keeps (now records) (now copy) ⌝ }
     ensures { λ r. ⌜ Ends false false (now (view .entry)) (now (block .entry)) (step-of r) (now (block .exit)) ⌝ }
     ensures { λ r. ⌜ Steps (letter-formula letter) (now (view .entry)) (now (records .entry)) (now (block .entry)) (step-of r) (now (block .exit)) ⌝ }
+    ensures { λ _. ⌜ Keeps (now (records .entry)) (now (copy .exit)) ⌝ }
 {
     let at = block[word::TAKEN];
     let count = blocks::available(at, room_for(at, shift), view[view::TOTAL]);
     if count == 0 {
         return Stretch { bits: 0, count: 0 };
     }
-    let read = window::read_letters(records, view, block[word::HEAD], count, letter);
+    let read = window::read_letters(records, view, block[word::HEAD], count, letter, copy);
     let bits = read.bits;
     block[word::TAKEN] = at + count;
     block[word::HEAD] = view[view::FIRST] + read.end as u64;

@@ -8,7 +8,7 @@ ghost use Rattle.mtl.specs.Formula.Formula.{previous, next};
 ghost use Rattle.bits.specs.Packed.{Packed};
 ghost use Rattle.trace.specs.Format.{record-count, time-at};
 ghost use Rattle.window.specs.View.{Views};
-ghost use Rattle.window.specs.Window.{window-of};
+ghost use Rattle.window.specs.Window.{window-of, Keeps};
 ghost use Rattle.blocks.specs.Block.{taken, right-count};
 ghost use Rattle.blocks.specs.Near.{near-after};
 ghost use Rattle.blocks.specs.Step.{Steps, Ends};
@@ -40,13 +40,13 @@ fn take_near(
     high: u64,
     records: &[u8],
     view: &[u64; 66],
-    copy: &mut [u8; 520],
+    copy: &mut [u8; 544],
     block: &mut [u64],
     count: u64,
 ) -> u64
-    requires { ⌜ (16 ≤ length (now block)) × (length (now copy) ≡ 520) × Views (now view) (now records) × (count ≤ 64) × (count ≤ right-count (now block)) × (taken (now block) + count < 2 ^ 64) ⌝ }
+    requires { ⌜ (16 ≤ length (now block)) × Keeps (now records) (now copy) × Views (now view) (now records) × (count ≤ 64) × (count ≤ right-count (now block)) × (taken (now block) + count < 2 ^ 64) ⌝ }
     ensures { λ r. ⌜ TookNear low high (now (view .entry)) (now (records .entry)) (now (block .entry)) count r (now (block .exit)) ⌝ }
-    ensures { λ _. ⌜ length (now (copy .exit)) ≡ 520 ⌝ }
+    ensures { λ _. ⌜ Keeps (now (records .entry)) (now (copy .exit)) ⌝ }
 {
     let head = block[word::HEAD];
     let window = window::open(records, view, head, count + 1, copy);
@@ -64,13 +64,13 @@ pub fn step_previous(
     high: u64,
     records: &[u8],
     view: &[u64; 66],
-    copy: &mut [u8; 520],
+    copy: &mut [u8; 544],
     block: &mut [u64],
 ) -> Step
-    requires { ⌜ (16 ≤ length (now block)) × (length (now copy) ≡ 520) × Views (now view) (now records) ⌝ }
+    requires { ⌜ (16 ≤ length (now block)) × Keeps (now records) (now copy) × Views (now view) (now records) ⌝ }
     ensures { λ r. ⌜ Ends false true (now (view .entry)) (now (block .entry)) r (now (block .exit)) ⌝ }
     ensures { λ r. ⌜ ((φ : Formula) → Steps (previous low high φ) (now (view .entry)) (now (records .entry)) (now (block .entry)) r (now (block .exit))) ⌝ }
-    ensures { λ _. ⌜ length (now (copy .exit)) ≡ 520 ⌝ }
+    ensures { λ _. ⌜ Keeps (now (records .entry)) (now (copy .exit)) ⌝ }
 {
     let g = block[word::ANSWERED];
     let total = view[view::TOTAL];
@@ -97,13 +97,13 @@ pub fn step_next(
     high: u64,
     records: &[u8],
     view: &[u64; 66],
-    copy: &mut [u8; 520],
+    copy: &mut [u8; 544],
     block: &mut [u64],
 ) -> Step
-    requires { ⌜ (16 ≤ length (now block)) × (length (now copy) ≡ 520) × Views (now view) (now records) ⌝ }
+    requires { ⌜ (16 ≤ length (now block)) × Keeps (now records) (now copy) × Views (now view) (now records) ⌝ }
     ensures { λ r. ⌜ Ends false true (now (view .entry)) (now (block .entry)) r (now (block .exit)) ⌝ }
     ensures { λ r. ⌜ ((φ : Formula) → Steps (next low high φ) (now (view .entry)) (now (records .entry)) (now (block .entry)) r (now (block .exit))) ⌝ }
-    ensures { λ _. ⌜ length (now (copy .exit)) ≡ 520 ⌝ }
+    ensures { λ _. ⌜ Keeps (now (records .entry)) (now (copy .exit)) ⌝ }
 {
     let g = block[word::ANSWERED];
     let at = block[word::TAKEN];

@@ -7,6 +7,7 @@ ghost use lib.ListN.{length, getD};
 ghost use lib.Dec.{leb};
 ghost use Rattle.bits.specs.Packed.{bit, Packed};
 ghost use Rattle.window.specs.View.{Views};
+ghost use Rattle.window.specs.Window.{Keeps};
 ghost use Rattle.engine.specs.Table.{RowsOk, column};
 ghost use Rattle.reasons.specs.Search.{first-where, after-last};
 ghost use Rattle.search.specs.Scan.{is, sought, sought-bit, Scans, Bounded};
@@ -88,17 +89,17 @@ fn ask_all(
     table: &[u32; 1024],
     records: &[u8],
     view: &[u64; 66],
-    copy: &mut [u8; 520],
-    waiting: &mut [u8; 520],
+    copy: &mut [u8; 544],
+    waiting: &mut [u8; 544],
     k: usize,
     want: bool,
     from: u64,
     to: u64,
     words: &mut [u64],
 ) -> Scan
-    requires { ⌜ (k < 128) × RowsOk (now table) k × (length (now words) ≡ column 7 (now table) k) × (length (now copy) ≡ 520) × (length (now waiting) ≡ 520) × Views (now view) (now records) ⌝ }
+    requires { ⌜ (k < 128) × RowsOk (now table) k × (length (now words) ≡ column 7 (now table) k) × Keeps (now records) (now copy) × Keeps (now records) (now waiting) × Views (now view) (now records) ⌝ }
     ensures { λ r. ⌜ Bounded to r × Scans (now (table .entry)) (now (view .entry)) (now (records .entry)) k want from to r ⌝ }
-    ensures { λ _. ⌜ (length (now (copy .exit)) ≡ 520) × (length (now (waiting .exit)) ≡ 520) ⌝ }
+    ensures { λ _. ⌜ Keeps (now (records .entry)) (now (copy .exit)) × Keeps (now (records .entry)) (now (waiting .exit)) ⌝ }
 {
     clear(words);
     let mut done: u64 = 0;
@@ -125,17 +126,17 @@ pub fn search(
     table: &[u32; 1024],
     records: &[u8],
     view: &[u64; 66],
-    copy: &mut [u8; 520],
-    waiting: &mut [u8; 520],
+    copy: &mut [u8; 544],
+    waiting: &mut [u8; 544],
     k: usize,
     want: bool,
     from: u64,
     to: u64,
     words: &mut [u64],
 ) -> Scan
-    requires { ⌜ (k < 128) × RowsOk (now table) k × (8192 ≤ length (now words)) × (length (now copy) ≡ 520) × (length (now waiting) ≡ 520) × Views (now view) (now records) ⌝ }
+    requires { ⌜ (k < 128) × RowsOk (now table) k × (8192 ≤ length (now words)) × Keeps (now records) (now copy) × Keeps (now records) (now waiting) × Views (now view) (now records) ⌝ }
     ensures { λ r. ⌜ Bounded to r × Scans (now (table .entry)) (now (view .entry)) (now (records .entry)) k want from to r ⌝ }
-    ensures { λ _. ⌜ (length (now (copy .exit)) ≡ 520) × (length (now (waiting .exit)) ≡ 520) ⌝ }
+    ensures { λ _. ⌜ Keeps (now (records .entry)) (now (copy .exit)) × Keeps (now (records .entry)) (now (waiting .exit)) ⌝ }
 {
     let end = table::field(table, k, table::WORDS) as usize;
     ask_all(

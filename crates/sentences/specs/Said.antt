@@ -15,6 +15,7 @@ use Rattle.rule.specs.Operands.{FormulaAt}
 use Rattle.rule.specs.Accepted.{WellFormed}
 use Rattle.trace.specs.Format.{record-count}
 use Rattle.window.specs.View.{Views}
+use Rattle.window.specs.Window.{Keeps}
 use Rattle.blocks.specs.Kinds.{takes-right}
 use Rattle.blocks.specs.Step.{Agrees}
 use Rattle.engine.specs.Table.{RowsOk, column}
@@ -73,8 +74,8 @@ pub record Lent (t v s words copy waiting : List ℕ) (k : ℕ) : Type 0 where
   pub rows : RowsOk t k
   pub lows : Lows t k
   pub words-room : 8192 ≤ length words
-  pub copy-room : length copy ≡ 520
-  pub waiting-room : length waiting ≡ 520
+  pub copy-keeps : Keeps s copy
+  pub waiting-keeps : Keeps s waiting
   pub views : Views v s
   pub few : record-count s ≤ 1000000
 

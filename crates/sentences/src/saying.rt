@@ -5,6 +5,7 @@ ghost use Prim.Native.Nat.{ℕ, _+_, _-_, _≤_, _<_};
 ghost use lib.ListN.{length};
 ghost use Rattle.mtl.specs.Formula.{Formula};
 ghost use Rattle.mtl.specs.Log.{Log};
+ghost use Rattle.window.specs.Window.{Keeps};
 ghost use Rattle.engine.specs.Table.{column};
 ghost use Rattle.search.specs.Times.{WholeLog};
 ghost use Rattle.sentences.specs.Said.{saying-of, joining, gap-saying, found-saying, Lent, Answering, Shape, Saids};
@@ -134,15 +135,15 @@ fn say_since(
     table: &[u32; 1024],
     records: &[u8],
     view: &[u64; 66],
-    copy: &mut [u8; 520],
-    waiting: &mut [u8; 520],
+    copy: &mut [u8; 544],
+    waiting: &mut [u8; 544],
     words: &mut [u64],
     k: usize,
     i: u64,
 ) -> Saying
     requires { ⌜ Lent (now table) (now view) (now records) (now words) (now copy) (now waiting) k × (i ≤ 2000000) × (column 0 (now table) k ≡ 5) ⌝ }
     ensures { λ r. ⌜ Shape 5 i r × ((low high : ℕ) (φ ψ : Formula) (L : Log) → Answering (Formula.since low high φ ψ) (now (table .entry)) (now (view .entry)) (now (records .entry)) k L i → r ≡ saying-of (Formula.since low high φ ψ) L i) ⌝ }
-    ensures { λ _. ⌜ (length (now (copy .exit)) ≡ 520) × (length (now (waiting .exit)) ≡ 520) ⌝ }
+    ensures { λ _. ⌜ Keeps (now (records .entry)) (now (copy .exit)) × Keeps (now (records .entry)) (now (waiting .exit)) ⌝ }
 {
     let now = times::time_of(records, view, i);
     let near = times::first_at(records, view, blocks::time::gap(field(table, k, 3), now));
@@ -187,15 +188,15 @@ fn say_until(
     table: &[u32; 1024],
     records: &[u8],
     view: &[u64; 66],
-    copy: &mut [u8; 520],
-    waiting: &mut [u8; 520],
+    copy: &mut [u8; 544],
+    waiting: &mut [u8; 544],
     words: &mut [u64],
     k: usize,
     i: u64,
 ) -> Saying
     requires { ⌜ Lent (now table) (now view) (now records) (now words) (now copy) (now waiting) k × (i ≤ 2000000) × (column 0 (now table) k ≡ 6) ⌝ }
     ensures { λ r. ⌜ Shape 6 i r × ((low high : ℕ) (φ ψ : Formula) (L : Log) → Answering (Formula.until low high φ ψ) (now (table .entry)) (now (view .entry)) (now (records .entry)) k L i → r ≡ saying-of (Formula.until low high φ ψ) L i) ⌝ }
-    ensures { λ _. ⌜ (length (now (copy .exit)) ≡ 520) × (length (now (waiting .exit)) ≡ 520) ⌝ }
+    ensures { λ _. ⌜ Keeps (now (records .entry)) (now (copy .exit)) × Keeps (now (records .entry)) (now (waiting .exit)) ⌝ }
 {
     let now = times::time_of(records, view, i);
     let over = times::first_at(records, view, now + field(table, k, 3) + 1);
@@ -236,15 +237,15 @@ pub fn say(
     table: &[u32; 1024],
     records: &[u8],
     view: &[u64; 66],
-    copy: &mut [u8; 520],
-    waiting: &mut [u8; 520],
+    copy: &mut [u8; 544],
+    waiting: &mut [u8; 544],
     words: &mut [u64],
     k: usize,
     i: u64,
 ) -> Saying
     requires { ⌜ Lent (now table) (now view) (now records) (now words) (now copy) (now waiting) k × (i ≤ 2000000) ⌝ }
     ensures { λ r. ⌜ Saids (now (table .entry)) (now (view .entry)) (now (records .entry)) k i r ⌝ }
-    ensures { λ _. ⌜ (length (now (copy .exit)) ≡ 520) × (length (now (waiting .exit)) ≡ 520) ⌝ }
+    ensures { λ _. ⌜ Keeps (now (records .entry)) (now (copy .exit)) × Keeps (now (records .entry)) (now (waiting .exit)) ⌝ }
 {
     let kind = field(table, k, 0);
     if kind == 0 {

@@ -19,7 +19,7 @@ use Rattle.bits.proofs.Laws.{with-bit-lt, packed-none, packed-push, packed-same
 use Rattle.rule.specs.Words.{ring-words}
 use Rattle.trace.specs.Format.{time-at}
 use Rattle.window.specs.View.{slice-first, total, skips, in-slice}
-use Rattle.window.specs.Window.{window-of, Opened}
+use Rattle.window.specs.Window.{window-of, Opened, Passed}
 use Rattle.window.specs.declared.Window.{Window}
 use Rattle.window.proofs.Reading.{shown-time-bound}
 use Rattle.blocks.specs.Block.{word, taken, left-count, left-bits, right-count, right-bits, head, Onward, Ready, took-both}
@@ -28,7 +28,7 @@ use Rattle.blocks.specs.Step.{Agrees, Stepped, Steps}
 use Rattle.blocks.specs.declared.Step.the-variants.{Batch, Left, Right, Open}
 use Rattle.blocks.proofs.Words.{put, word-stores, after, fits, Available}
 use Rattle.blocks.proofs.Taking.{both-stores, first-of, taken-both}
-use Rattle.blocks.proofs.Reading.{end-onward, read-time, head-end}
+use Rattle.blocks.proofs.Reading.{read-time, head-passed}
 use Rattle.since.proofs.Witnesses.{turn-keeps, oldest-decides}
 use Rattle.since.proofs.Shown.{next, falls-here, time-small}
 use Rattle.ring.proofs.Cells.{ring-kept, followed}
@@ -152,94 +152,96 @@ module _ (low high : ℕ) (v s b : List ℕ) where
           let most = av .most in
           omega (arith, turned-word 0 (omega arith), turned-word 1 (omega arith), turned-word 3 (omega arith))
 
-      -- the block behind the taking, the head moved behind the window
-      abbrev pub passed : List ℕ
-      passed = set (took-both n d) 11 (slice-first v + w .end)
+      -- the head has passed them
+      module _ (r : ℕ) (pass : Passed v s (head b) n w r) where
+        -- the block behind the taking, the head moved behind the window
+        abbrev pub passed : List ℕ
+        passed = set (took-both n d) 11 (r)
 
-      words : (i : ℕ) → word passed i ≡ after (both-stores n d (put 11 (slice-first v + w .end) ∷ [])) (word d) i
-      words = word-stores (both-stores n d (put 11 (slice-first v + w .end) ∷ [])) d (omega arith)
+        words : (i : ℕ) → word passed i ≡ after (both-stores n d (put 11 (r) ∷ [])) (word d) i
+        words = word-stores (both-stores n d (put 11 (r) ∷ [])) d (omega arith)
 
-      -- the words that the taking does not write, and those that the turns do not write either
-      behind : (i : ℕ) → 4 < i → (i ≡ 11 → ⊥) → word passed i ≡ word d i
-      behind i h n11 =
-          words i ∙ rw (ne-eqb i 0 (omega arith), ne-eqb i 1 (omega arith), ne-eqb i 2 (omega arith), ne-eqb i 3 (omega arith), ne-eqb i 4 (omega arith), ne-eqb i 11 n11) refl
+        -- the words that the taking does not write, and those that the turns do not write either
+        behind : (i : ℕ) → 4 < i → (i ≡ 11 → ⊥) → word passed i ≡ word d i
+        behind i h n11 =
+            words i ∙ rw (ne-eqb i 0 (omega arith), ne-eqb i 1 (omega arith), ne-eqb i 2 (omega arith), ne-eqb i 3 (omega arith), ne-eqb i 4 (omega arith), ne-eqb i 11 n11) refl
 
-      kept : (i : ℕ) → (4 < i) × (i < 16) × (i ≡ 9 → ⊥) × (i ≡ 10 → ⊥) × (i ≡ 11 → ⊥) → word passed i ≡ word b i
-      kept i (h, k, n9, n10, n11) = behind i h n11 ∙ turn .others i k n9 n10
+        kept : (i : ℕ) → (4 < i) × (i < 16) × (i ≡ 9 → ⊥) × (i ≡ 10 → ⊥) × (i ≡ 11 → ⊥) → word passed i ≡ word b i
+        kept i (h, k, n9, n10, n11) = behind i h n11 ∙ turn .others i k n9 n10
 
-      at-passed : taken passed ≡ taken b + n
-      at-passed = omega (arith, words 0, turned-word 0 (omega arith))
+        at-passed : taken passed ≡ taken b + n
+        at-passed = omega (arith, words 0, turned-word 0 (omega arith))
 
-      pub since-onward : Onward 12 b passed
-      since-onward =
-          record {
-            heads = record {
-              taken = omega (arith, at-passed);
-              answered = omega (arith, kept 5 (omega arith));
-              head = omega (arith, words 11, end-onward v (head b) opened);
-            };
-            kept = λ i h l. kept i (omega arith);
-          }
-
-      module _ (byte : (i : ℕ) → getD s i 0 < 256) (φ ψ : Formula) (L : Log) (falls : NeverFalls L) (agrees : Agrees v s L (taken b)) (ready : Ready (since low high φ ψ) L (taken b) b) where
-        within-settled : taken b + n ≤ settled-to (since low high φ ψ) L
-        within-settled =
-            let most = av .most in
-            omega (arith, ready .buffers .0 .within, ready .buffers .1 .within, settled-since L φ ψ low high)
-
-        heads : head b ≡ head-of L (taken b)
-        heads = ready .core .heads
-
-        inside-log : taken b + n ≤ L .size
-        inside-log = omega (arith, agrees .size, av .inside some)
-
-        time-here : (i : ℕ) → i < n → time-at (window-of w s copy) i ≡ L .time (taken b + i)
-        time-here = read-time agrees (taken b) heads (omega arith) inside-log opened
-
-        at-taken : Stepped (since low high φ ψ) L (taken b) b (Batch answers n) passed
-        unfolding sat
-        at-taken =
-            let core = ready .core in
-            let own = core .own in
-            let range = core .range in
-            let left = ready .buffers .0 in
-            let right = ready .buffers .1 in
-            let most = av .most in
-            let inside = fits left in
-            let at = at-passed in
-            let count-left : left-count passed ≡ left-count b - n = omega (arith, words 1, turned-word 1 (omega arith)) in
-            let count-right : right-count passed ≡ right-count b - n = omega (arith, words 3, turned-word 3 (omega arith)) in
-            let shown : Shown (L .time) (sat φ L) (sat ψ L) (taken b) n (time-at (window-of w s copy)) (left-bits b) (right-bits b) =
+        pub since-onward : Onward 12 b passed
+        since-onward =
             record {
-              falls = λ i j h k. falls i j h (omega arith);
-              small = λ i h. omega (arith, time-here i h, shown-time-bound byte (agrees .shows (taken b + i) (omega arith) (omega (arith, inside-log))));
-              same = λ i h. sym (time-here i h);
-              left-word = first-of n (omega arith) left;
-              right-word = first-of n (omega arith) right;
-            } in
-            let (held, answer) = turn .takes (L .time) (sat φ L) (sat ψ L) (taken b) (own .times) shown (own .ring) (own .alive) in
-            let ring = ring-kept (ring-words high) d passed (held .0) (simp length-set) (λ i h n11. behind i (omega arith) n11) (held .1) in
-            let start = ring .start in
-            let count = ring .count in
-            let cells = ring .fits in
-            let moved =
-            taken-both (since low high φ ψ) b n (taken b + n) passed within-settled
-            (omega (arith, kept 5 (omega arith), kept 6 (omega arith), kept 7 (omega arith), kept 8 (omega arith)))
-            (record { at = at; times = held .0; ring = ring; alive = held .2 })
-            (words 11 ∙ head-end agrees (taken b) heads (omega arith) inside-log opened some ∙ ap (head-of L) (sym at))
-            (λ x. x) (omega arith) (omega arith)
-            (record {
-              right = record {
-                at = at;
-                count = count-right;
-                bits = words 4 ∙ ap (λ (x : ℕ). x / 2 ^ n) (turned-word 4 (omega arith));
+              heads = record {
+                taken = omega (arith, at-passed);
+                answered = omega (arith, kept 5 (omega arith));
+                head = omega (arith, words 11, pass .onward);
               };
-              count = count-left;
-              bits = words 2 ∙ ap (λ (x : ℕ). x / 2 ^ n) (turned-word 2 (omega arith));
-            })
-            left right
-            in (record { some = some; buffer = record { within = within-settled; packed = answer } }, moved .0, moved .1)
+              kept = λ i h l. kept i (omega arith);
+            }
 
-      pub since-batch : ((i : ℕ) → getD s i 0 < 256) → (φ ψ : Formula) → Steps (since low high φ ψ) v s b (Batch answers n) passed
-      since-batch byte φ ψ L g falls agrees ready =
-          let at = ready .core .own .at in rw (← at) (at-taken byte φ ψ L falls (rw (← at) at agrees) (rw (← at) at ready))
+        module _ (byte : (i : ℕ) → getD s i 0 < 256) (φ ψ : Formula) (L : Log) (falls : NeverFalls L) (agrees : Agrees v s L (taken b)) (ready : Ready (since low high φ ψ) L (taken b) b) where
+          within-settled : taken b + n ≤ settled-to (since low high φ ψ) L
+          within-settled =
+              let most = av .most in
+              omega (arith, ready .buffers .0 .within, ready .buffers .1 .within, settled-since L φ ψ low high)
+
+          heads : head b ≡ head-of L (taken b)
+          heads = ready .core .heads
+
+          inside-log : taken b + n ≤ L .size
+          inside-log = omega (arith, agrees .size, av .inside some)
+
+          time-here : (i : ℕ) → i < n → time-at (window-of w s copy) i ≡ L .time (taken b + i)
+          time-here = read-time agrees (taken b) heads (omega arith) inside-log opened
+
+          at-taken : Stepped (since low high φ ψ) L (taken b) b (Batch answers n) passed
+          unfolding sat
+          at-taken =
+              let core = ready .core in
+              let own = core .own in
+              let range = core .range in
+              let left = ready .buffers .0 in
+              let right = ready .buffers .1 in
+              let most = av .most in
+              let inside = fits left in
+              let at = at-passed in
+              let count-left : left-count passed ≡ left-count b - n = omega (arith, words 1, turned-word 1 (omega arith)) in
+              let count-right : right-count passed ≡ right-count b - n = omega (arith, words 3, turned-word 3 (omega arith)) in
+              let shown : Shown (L .time) (sat φ L) (sat ψ L) (taken b) n (time-at (window-of w s copy)) (left-bits b) (right-bits b) =
+              record {
+                falls = λ i j h k. falls i j h (omega arith);
+                small = λ i h. omega (arith, time-here i h, shown-time-bound byte (agrees .shows (taken b + i) (omega arith) (omega (arith, inside-log))));
+                same = λ i h. sym (time-here i h);
+                left-word = first-of n (omega arith) left;
+                right-word = first-of n (omega arith) right;
+              } in
+              let (held, answer) = turn .takes (L .time) (sat φ L) (sat ψ L) (taken b) (own .times) shown (own .ring) (own .alive) in
+              let ring = ring-kept (ring-words high) d passed (held .0) (simp length-set) (λ i h n11. behind i (omega arith) n11) (held .1) in
+              let start = ring .start in
+              let count = ring .count in
+              let cells = ring .fits in
+              let moved =
+              taken-both (since low high φ ψ) b n (taken b + n) passed within-settled
+              (omega (arith, kept 5 (omega arith), kept 6 (omega arith), kept 7 (omega arith), kept 8 (omega arith)))
+              (record { at = at; times = held .0; ring = ring; alive = held .2 })
+              (words 11 ∙ head-passed agrees (taken b) heads (omega arith) inside-log opened n r (omega arith) pass ∙ ap (head-of L) (sym at))
+              (λ x. x) (omega arith) (omega arith)
+              (record {
+                right = record {
+                  at = at;
+                  count = count-right;
+                  bits = words 4 ∙ ap (λ (x : ℕ). x / 2 ^ n) (turned-word 4 (omega arith));
+                };
+                count = count-left;
+                bits = words 2 ∙ ap (λ (x : ℕ). x / 2 ^ n) (turned-word 2 (omega arith));
+              })
+              left right
+              in (record { some = some; buffer = record { within = within-settled; packed = answer } }, moved .0, moved .1)
+
+        pub since-batch : ((i : ℕ) → getD s i 0 < 256) → (φ ψ : Formula) → Steps (since low high φ ψ) v s b (Batch answers n) passed
+        since-batch byte φ ψ L g falls agrees ready =
+            let at = ready .core .own .at in rw (← at) (at-taken byte φ ψ L falls (rw (← at) at agrees) (rw (← at) at ready))

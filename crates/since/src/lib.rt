@@ -9,7 +9,7 @@ ghost use Rattle.mtl.specs.Formula.{Formula};
 ghost use Rattle.mtl.specs.Formula.Formula.{since};
 ghost use Rattle.trace.specs.Format.{record-count, time-at, times-from};
 ghost use Rattle.window.specs.View.{Views};
-ghost use Rattle.window.specs.Window.{window-of};
+ghost use Rattle.window.specs.Window.{window-of, Keeps};
 ghost use Rattle.blocks.specs.Block.{left-bits, right-bits};
 ghost use Rattle.blocks.specs.Step.{Steps, Ends};
 ghost use Rattle.rule.specs.Words.{ring-words};
@@ -294,13 +294,13 @@ pub fn step_since(
     high: u64,
     records: &[u8],
     view: &[u64; 66],
-    copy: &mut [u8; 520],
+    copy: &mut [u8; 544],
     block: &mut [u64],
 ) -> Step
-    requires { ⌜ (high < 2 ^ 32) × (16 + ring-words high ≤ length (now block)) × (length (now copy) ≡ 520) × Views (now view) (now records) ⌝ }
+    requires { ⌜ (high < 2 ^ 32) × (16 + ring-words high ≤ length (now block)) × Keeps (now records) (now copy) × Views (now view) (now records) ⌝ }
     ensures { λ r. ⌜ Ends true true (now (view .entry)) (now (block .entry)) r (now (block .exit)) ⌝ }
     ensures { λ r. ⌜ ((φ ψ : Formula) → Steps (since low high φ ψ) (now (view .entry)) (now (records .entry)) (now (block .entry)) r (now (block .exit))) ⌝ }
-    ensures { λ _. ⌜ length (now (copy .exit)) ≡ 520 ⌝ }
+    ensures { λ _. ⌜ Keeps (now (records .entry)) (now (copy .exit)) ⌝ }
 {
     let at = block[word::TAKEN];
     if block[word::LEFT_COUNT] == 0 {
@@ -314,9 +314,10 @@ pub fn step_since(
     if count == 0 {
         return Step::Open;
     }
-    let window = window::open(records, view, block[word::HEAD], count, copy);
+    let head = block[word::HEAD];
+    let window = window::open(records, view, head, count, copy);
     let bits = take_window(low, high, window, records, copy, count, block);
     blocks::take_both(block, count);
-    block[word::HEAD] = window::pass_all(window, view);
+    block[word::HEAD] = window::pass(head, window, records, view, count);
     Step::Batch { bits, count }
 }

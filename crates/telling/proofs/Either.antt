@@ -12,6 +12,7 @@ use Rattle.mtl.specs.Satisfaction.{sat}
 use Rattle.mtl.proofs.Until.{progress-or}
 use Rattle.rule.specs.Postfix.{size}
 use Rattle.rule.specs.Operands.{FormulaAt}
+use Rattle.window.specs.Window.{Keeps}
 use Rattle.engine.specs.Table.{column}
 use Rattle.reasons.specs.Reason.{Line, reason}
 use Rattle.reasons.specs.Text.{spaced-line, parts, text}
@@ -36,7 +37,7 @@ module _ {t v s words copy waiting : List ℕ} {k i : ℕ} {text₀ : List ℕ} 
       let words-there = ap (column 7 t) is in
       let far = p .far in
       let space = p .space in
-      record { lent = lent-below (p .lent) j (omega arith) refl (p .lent .copy-room, p .lent .waiting-room); far = omega arith; space = omega arith }
+      record { lent = lent-below (p .lent) j (omega arith) refl (p .lent .copy-keeps, p .lent .waiting-keeps); far = omega arith; space = omega arith }
 
   module _ {j : ℕ} (is : j ≡ column 4 t k) {first : Told} {text₁ : List ℕ} (firsts : Tells t v s j i text₀ at first text₁) where
     left-ends : first .end ≤ at + 3 * column 5 t k
@@ -72,14 +73,14 @@ module _ {t v s words copy waiting : List ℕ} {k i : ℕ} {text₀ : List ℕ} 
 
     -- RIGHT
 
-    pub may-right : {words′ copy′ waiting′ : List ℕ} → length words′ ≡ length words → (length copy′ ≡ 520) × (length waiting′ ≡ 520) → length text₁ ≡ length text₀ →
+    pub may-right : {words′ copy′ waiting′ : List ℕ} → length words′ ≡ length words → Keeps s copy′ × Keeps s waiting′ → length text₁ ≡ length text₀ →
         Telling t v s words′ copy′ waiting′ (k - 1) i text₁ (first .end)
-    may-right kept lengths text-kept =
+    may-right kept copies text-kept =
         let (below, same) = or-right (p .lent) (p .kind) in
         let ends = left-ends in
         let far = p .far in
         let space = p .space in
-        record { lent = lent-below (p .lent) (k - 1) (omega arith) kept lengths; far = omega arith; space = omega arith }
+        record { lent = lent-below (p .lent) (k - 1) (omega arith) kept copies; far = omega arith; space = omega arith }
 
     module _ (fails : first .holds ≡ false) {second : Told} {text₂ : List ℕ} (seconds : Tells t v s (k - 1) i text₁ (first .end) second text₂) where
       right-ends : second .end ≤ at + 3 * (column 5 t k + column 6 t k)

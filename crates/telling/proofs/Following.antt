@@ -18,6 +18,7 @@ use Rattle.bits.specs.Packed.{number}
 use Rattle.rule.specs.declared.Entry.{Entry}
 use Rattle.rule.specs.Postfix.{size}
 use Rattle.rule.specs.Operands.{FormulaAt}
+use Rattle.window.specs.Window.{Keeps}
 use Rattle.decimal.specs.Text.{Writes}
 use Rattle.reasons.specs.Reason.{Says, Line, if-within, reason}
 use Rattle.reasons.specs.Reason.Line.{sentence}
@@ -199,7 +200,7 @@ module _ {t v s words copy waiting : List ℕ} {k i : ℕ} {text₀ : List ℕ} 
       pub before : (r .operands ≡ 0 → ⊥) → 0 < k
       before some = right-room (p .lent) (said .shape .some some) .0
 
-      module _ {words′ copy′ waiting′ : List ℕ} (kept : length words′ ≡ length words) (lengths : (length copy′ ≡ 520) × (length waiting′ ≡ 520))
+      module _ {words′ copy′ waiting′ : List ℕ} (kept : length words′ ≡ length words) (copies : Keeps s copy′ × Keeps s waiting′)
           (text-kept : length text₁ ≡ length text₀) (some : r .operands ≡ 0 → ⊥) where
         pub may-tell : Telling t v s words′ copy′ waiting′ (k - 1) (r .at) text₁ start
         may-tell =
@@ -209,14 +210,14 @@ module _ {t v s words copy waiting : List ℕ} {k i : ℕ} {text₀ : List ℕ} 
             let space = p .space in
             let short = put .1 in
             let room = own-room (p .lent) in
-            record { lent = lent-below (p .lent) (k - 1) (omega arith) kept lengths; far = omega arith; space = omega arith }
+            record { lent = lent-below (p .lent) (k - 1) (omega arith) kept copies; far = omega arith; space = omega arith }
 
         pub may-either : (r .operands ≡ 1 → ⊥) → TellingEither t v s words′ copy′ waiting′ k i text₁ start
         may-either more =
             let space = p .space in
             let short = put .1 in
             let room = own-room (p .lent) in
-            record { lent = lent-below (p .lent) k (omega arith) kept lengths; kind = said .shape .two some more; far = p .far; space = omega arith }
+            record { lent = lent-below (p .lent) k (omega arith) kept copies; kind = said .shape .two some more; far = p .far; space = omega arith }
 
       pub tells-one : r .operands ≡ 1 → {one : Told} {text₂ : List ℕ} → Tells t v s (k - 1) (r .at) text₁ start one text₂ →
           (b : Bool) → b ≡ cond (r .holds) (negate (one .holds)) (one .holds) → Tells t v s k i text₀ at (record { end = one .end; holds = b }) text₂

@@ -6,6 +6,7 @@ use mathlib.Core.List.{List}
 use native.Mathlib.Omega.{arith}
 use lib.ListN.{length}
 use Rattle.rule.proofs.Spans.{own-least}
+use Rattle.window.specs.Window.{Keeps}
 use Rattle.blocks.specs.Kinds.{takes-right}
 use Rattle.engine.specs.Table.{column}
 use Rattle.sentences.specs.Said.{Lent}
@@ -25,8 +26,8 @@ module _ {t v s words copy waiting : List ℕ} {k : ℕ} (lent : Lent t v s word
   pub or-left : column 0 t k ≡ 2 → (column 4 t k < k) × (column 7 t (column 4 t k) ≡ column 5 t k)
   or-left kind = lent .rows k (omega arith) .left (rw kind refl)
 
-  pub lent-below : {words′ copy′ waiting′ : List ℕ} (j : ℕ) → j ≤ k → length words′ ≡ length words → (length copy′ ≡ 520) × (length waiting′ ≡ 520) → Lent t v s words′ copy′ waiting′ j
-  lent-below j below kept lengths =
+  pub lent-below : {words′ copy′ waiting′ : List ℕ} (j : ℕ) → j ≤ k → length words′ ≡ length words → Keeps s copy′ × Keeps s waiting′ → Lent t v s words′ copy′ waiting′ j
+  lent-below j below kept copies =
       let entry = lent .entry in
       let room = lent .words-room in
       record {
@@ -34,8 +35,8 @@ module _ {t v s words copy waiting : List ℕ} {k : ℕ} (lent : Lent t v s word
         rows = λ q h. lent .rows q (omega arith);
         lows = λ q h. lent .lows q (omega arith);
         words-room = omega arith;
-        copy-room = lengths .0;
-        waiting-room = lengths .1;
+        copy-keeps = copies .0;
+        waiting-keeps = copies .1;
         views = lent .views;
         few = lent .few;
       }

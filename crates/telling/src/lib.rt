@@ -4,6 +4,7 @@ ghost use mathlib.Core.Bool.{cond};
 ghost use mathlib.Core.Bool.{not as negate};
 ghost use Prim.Native.Nat.{_≤_};
 ghost use lib.ListN.{length};
+ghost use Rattle.window.specs.Window.{Keeps};
 ghost use Rattle.telling.specs.Lines.{Shifts, Telling, Tells, TellingEither, TellsEither};
 use sentences::saying;
 use sentences::sentence;
@@ -39,8 +40,8 @@ pub fn tell(
     table: &[u32; 1024],
     records: &[u8],
     view: &[u64; 66],
-    copy: &mut [u8; 520],
-    waiting: &mut [u8; 520],
+    copy: &mut [u8; 544],
+    waiting: &mut [u8; 544],
     words: &mut [u64],
     k: usize,
     i: u64,
@@ -49,7 +50,7 @@ pub fn tell(
 ) -> Told
     requires { ⌜ Telling (now table) (now view) (now records) (now words) (now copy) (now waiting) k i (now text) at ⌝ }
     ensures { λ r. ⌜ Tells (now (table .entry)) (now (view .entry)) (now (records .entry)) k i (now (text .entry)) at r (now (text .exit)) ⌝ }
-    ensures { λ _. ⌜ (length (now (copy .exit)) ≡ 520) × (length (now (waiting .exit)) ≡ 520) ⌝ }
+    ensures { λ _. ⌜ Keeps (now (records .entry)) (now (copy .exit)) × Keeps (now (records .entry)) (now (waiting .exit)) ⌝ }
 {
     let own = saying::say(table, records, view, copy, waiting, words, k, i);
     let start = sentence::put_line(k, i, own.says, text, at);
@@ -96,8 +97,8 @@ fn tell_either(
     table: &[u32; 1024],
     records: &[u8],
     view: &[u64; 66],
-    copy: &mut [u8; 520],
-    waiting: &mut [u8; 520],
+    copy: &mut [u8; 544],
+    waiting: &mut [u8; 544],
     words: &mut [u64],
     k: usize,
     i: u64,
@@ -106,7 +107,7 @@ fn tell_either(
 ) -> Told
     requires { ⌜ TellingEither (now table) (now view) (now records) (now words) (now copy) (now waiting) k i (now text) at ⌝ }
     ensures { λ r. ⌜ TellsEither (now (table .entry)) (now (view .entry)) (now (records .entry)) k i (now (text .entry)) at r (now (text .exit)) ⌝ }
-    ensures { λ _. ⌜ (length (now (copy .exit)) ≡ 520) × (length (now (waiting .exit)) ≡ 520) ⌝ }
+    ensures { λ _. ⌜ Keeps (now (records .entry)) (now (copy .exit)) × Keeps (now (records .entry)) (now (waiting .exit)) ⌝ }
 {
     let left = engine::table::field(table, k, 4) as usize;
     let first = tell(

@@ -7,7 +7,7 @@ ghost use Rattle.mtl.specs.Formula.{Formula};
 ghost use Rattle.mtl.specs.Formula.Formula.{until};
 ghost use Rattle.trace.specs.Format.{time-at};
 ghost use Rattle.window.specs.View.{Views, total};
-ghost use Rattle.window.specs.Window.{window-of};
+ghost use Rattle.window.specs.Window.{window-of, either-of, Keeps};
 ghost use Rattle.blocks.specs.Block.{taken, left-count, left-bits, right-count, right-bits, answered};
 ghost use Rattle.blocks.specs.Step.{Steps, Ends};
 ghost use Rattle.walks.specs.Settle.{settle-spec, time-of-none, next-of, Walk};
@@ -86,15 +86,15 @@ fn walk_windows<'a>(
     block: &[u64],
 ) -> Walked
     requires { ⌜ (16 ≤ length (now block)) × (n ≤ 64) × (n ≤ end) × (taken (now block) - answered (now block) + n < 2 ^ 64) ⌝ }
-    requires { ⌜ HasRecords ahead (now records) (now copy) end × HasRecords starts (now records) (now waiting) (min (taken (now block) - answered (now block) + n) 64) ⌝ }
-    ensures { λ r. ⌜ Walk low high (starts-of starts (now (records .entry)) (now (waiting .entry))) (ahead-of ahead (now (records .entry)) (now (copy .entry)) n end closed) (taken (now (block .entry)) - answered (now (block .entry))) n (left-bits (now (block .entry))) (right-bits (now (block .entry))) (last-taken (now (block .entry))) r ⌝ }
+    requires { ⌜ HasRecords ahead (now records) (now copy) end × HasRecords starts (now records) (either-of starts (now copy) (now waiting)) (min (taken (now block) - answered (now block) + n) 64) ⌝ }
+    ensures { λ r. ⌜ Walk low high (starts-of starts (now (records .entry)) (either-of starts (now (copy .entry)) (now (waiting .entry)))) (ahead-of ahead (now (records .entry)) (now (copy .entry)) n end closed) (taken (now (block .entry)) - answered (now (block .entry))) n (left-bits (now (block .entry))) (right-bits (now (block .entry))) (last-taken (now (block .entry))) r ⌝ }
 {
     let next = window::read(ahead, records, copy);
     let after = walks::next_time(next, n, end, walks::time_of_none(closed));
     walks::walk_words(
         low,
         high,
-        window::read(starts, records, waiting),
+        window::read(starts, records, window::either(starts, copy, waiting)),
         next,
         time::gap(block[word::ANSWERED], block[word::TAKEN]),
         n,
@@ -152,14 +152,14 @@ fn must_wait(
     high: u64,
     records: &[u8],
     view: &[u64; 66],
-    copy: &mut [u8; 520],
-    waiting: &mut [u8; 520],
+    copy: &mut [u8; 544],
+    waiting: &mut [u8; 544],
     block: &[u64],
     room: Room,
 ) -> bool
-    requires { ⌜ (17 ≤ length (now block)) × (length (now copy) ≡ 520) × (length (now waiting) ≡ 520) × (answered (now block) ≤ taken (now block)) × FitsRoom (now block) (total (now view)) room × Views (now view) (now records) ⌝ }
+    requires { ⌜ (17 ≤ length (now block)) × Keeps (now records) (now copy) × Keeps (now records) (now waiting) × (answered (now block) ≤ taken (now block)) × FitsRoom (now block) (total (now view)) room × Views (now view) (now records) ⌝ }
     ensures { λ r. ⌜ (r ≡ true → (room .take ≡ 0) × Stuck low high (now (view .entry)) (now (records .entry)) (now (block .entry))) ⌝ }
-    ensures { λ _. ⌜ (length (now (copy .exit)) ≡ 520) × (length (now (waiting .exit)) ≡ 520) ⌝ }
+    ensures { λ _. ⌜ Keeps (now (records .entry)) (now (copy .exit)) × Keeps (now (records .entry)) (now (waiting .exit)) ⌝ }
 {
     if room.take != 0 {
         return false;
@@ -190,14 +190,14 @@ pub fn step_until(
     high: u64,
     records: &[u8],
     view: &[u64; 66],
-    copy: &mut [u8; 520],
-    waiting: &mut [u8; 520],
+    copy: &mut [u8; 544],
+    waiting: &mut [u8; 544],
     block: &mut [u64],
 ) -> Step
-    requires { ⌜ (17 ≤ length (now block)) × (length (now copy) ≡ 520) × (length (now waiting) ≡ 520) × Views (now view) (now records) ⌝ }
+    requires { ⌜ (17 ≤ length (now block)) × Keeps (now records) (now copy) × Keeps (now records) (now waiting) × Views (now view) (now records) ⌝ }
     ensures { λ r. ⌜ Ends true true (now (view .entry)) (now (block .entry)) r (now (block .exit)) ⌝ }
     ensures { λ r. ⌜ ((φ ψ : Formula) → Steps (until low high φ ψ) (now (view .entry)) (now (records .entry)) (now (block .entry)) r (now (block .exit))) ⌝ }
-    ensures { λ _. ⌜ (length (now (copy .exit)) ≡ 520) × (length (now (waiting .exit)) ≡ 520) ⌝ }
+    ensures { λ _. ⌜ Keeps (now (records .entry)) (now (copy .exit)) × Keeps (now (records .entry)) (now (waiting .exit)) ⌝ }
 {
     let at = block[word::TAKEN];
     let total = view[view::TOTAL];
@@ -212,7 +212,8 @@ pub fn step_until(
     let head = block[word::HEAD];
     let waiting_head = block[word::WAITING_HEAD];
     let ahead = window::open(records, view, head, room.look, copy);
-    let starts = window::open(records, view, waiting_head, room.answer, waiting);
+    // Where none waits, both heads stand at one record.
+    let starts = window::share(records, view, waiting_head, room.answer, copy, waiting);
     let closed = view[view::CLOSED] == 1;
     let w = walk_windows(
         low,

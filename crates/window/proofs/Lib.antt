@@ -2,5 +2,6 @@
 pub mod Slices
 pub mod Marks
 pub mod Windows
+pub mod Copies
 pub mod Picking
 pub mod Reading

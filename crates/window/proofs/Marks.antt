@@ -217,5 +217,5 @@ module _ {from q : ℕ} {skipping ended : Bool} {s v : List ℕ} (made : ViewOf 
   pub closed-told : closed v ≡ ended
   closed-told = ap (λ (u : List ℕ). closed u) (made .numbers) ∙ flag-told ended
 
-  pub made-views : from + record-count s < 2 ^ 64 → Views v s
+  pub made-views : from + record-count s < 2 ^ 32 → Views v s
   made-views few = record { numbered = rw first-told few; marks = made .marks }

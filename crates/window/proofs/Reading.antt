@@ -77,10 +77,6 @@ module _ (skips : Bool) (s : List ℕ) (first : ℕ) (L : Log) (g n : ℕ) (show
         same-time (window-of w s copy) s i (place skips s from i) (opened .shows shown-inside i h) ∙
         ap (time-at s) (read-on i h) ∙ shown i h .time
 
-    -- and the head behind all of them is the log's
-    pub window-end : 0 < n → first + w .end ≡ head-of L (g + n)
-    window-end some = ap (λ (e : ℕ). first + e) (opened .end shown-inside) ∙ head-behind n some (omega arith)
-
 -- all that is left of the log is shown: where n more of its positions are passed, the first record wanted is the slice's
 pub wanted-shown : (skips : Bool) (s : List ℕ) (first : ℕ) (L : Log) (q : ℕ) → head-of L q ≤ first → q + before skips s (record-count s) ≡ L .size →
     ((i : ℕ) → q ≤ i → i < L .size → Shows skips s first L i) →

@@ -20,7 +20,8 @@ use Rattle.trace.specs.Format.{record-count, events-at, has-letter, SameRecord}
 use Rattle.trace.specs.Positions.{is-service, seek, spot, place, moved, positions, Inside}
 use Rattle.trace.specs.Making.{put}
 use Rattle.window.specs.View.{slice-first, skips, in-slice}
-use Rattle.window.specs.Window.{some-service, dense, record-of, letter-at, Clear, Counted, Copied, Mixed, Lettered, Opened, Behind, BehindBut, Gathered, Windowed, Passed, Found}
+use Rattle.window.specs.Window.{some-service, dense, own-part, copied, record-of, letter-at, Counted, Copied, Mixed, Lettered, Keeps, Held, Opened, Behind, BehindBut, BehindSome, Gathered, Windowed, Passed, Found}
+use Rattle.window.specs.declared.Kept.{Kept}
 use Rattle.window.specs.declared.Letters.{Letters}
 use Rattle.window.specs.declared.Window.{Window}
 use Rattle.trace.proofs.Making.{stored, byte-behind, length-put}
@@ -208,6 +209,22 @@ listed s at (suc n) k h =
     ap (take (suc n)) (drop-cons s (at + k) 0 (omega arith)) ∙
     ap (λ (l : List ℕ). getD s (at + k) 0 ∷ l) (ap (λ (j : ℕ). take n (drop j s)) next ∙ listed s at n (suc k) (omega arith))
 
+-- eight bytes written as record k
+module _ (copy bytes : List ℕ) (k : ℕ) (eight : length bytes ≡ 8) (room : k * 8 + 8 ≤ length copy) where
+  pub written-long : length (put copy (k * 8) bytes) ≡ length copy
+  written-long = length-put copy (k * 8) bytes (omega arith)
+
+  pub written-here : SameRecord (put copy (k * 8) bytes) k bytes 0
+  written-here b h =
+      rw (zero-add b) (
+      byte-behind (take (k * 8) copy) _ (k * 8) b (length-take-le (k * 8) copy (omega arith)) ∙
+      List·getD-append bytes _ 0 b (omega arith))
+
+  pub written-before : (j : ℕ) → j < k → SameRecord (put copy (k * 8) bytes) j copy j
+  written-before j l b h =
+      let long = length-take-le (k * 8) copy (omega arith) in
+      List·getD-append (take (k * 8) copy) _ 0 (j * 8 + b) (omega arith) ∙ getD-take (k * 8) copy (j * 8 + b) 0 (omega arith)
+
 module _ (s : List ℕ) (i k : ℕ) (copy : List ℕ) (inside : i < record-count s) (room : k * 8 + 8 ≤ length copy) where
   record-long : length (record-of s i) ≡ 8
   record-long = let rest = length-drop (i * 8) s in length-take-le 8 (drop (i * 8) s) (omega arith)
@@ -225,19 +242,14 @@ module _ (s : List ℕ) (i k : ℕ) (copy : List ℕ) (inside : i < record-count
   copied-by e = e ∙ stored copy (k * 8) its-bytes (omega arith) ∙ ap (put copy (k * 8)) record-is
 
   pub copied-long : length (put copy (k * 8) (record-of s i)) ≡ length copy
-  copied-long = let eight = record-long in length-put copy (k * 8) (record-of s i) (omega arith)
+  copied-long = written-long copy (record-of s i) k record-long room
 
   pub copied-here : SameRecord (put copy (k * 8) (record-of s i)) k s i
   copied-here b h =
-      let eight = record-long in
-      let behind = record-of s i in
-      byte-behind (take (k * 8) copy) _ (k * 8) b (length-take-le (k * 8) copy (omega arith)) ∙
-      List·getD-append (record-of s i) _ 0 b (omega arith) ∙ getD-take 8 (drop (i * 8) s) b 0 h ∙ getD-drop (i * 8) s b 0
+      rw (zero-add b) at (written-here copy (record-of s i) k record-long room b h) ∙ getD-take 8 (drop (i * 8) s) b 0 h ∙ getD-drop (i * 8) s b 0
 
   pub copied-before : (j : ℕ) → j < k → SameRecord (put copy (k * 8) (record-of s i)) j copy j
-  copied-before j l b h =
-      let long = length-take-le (k * 8) copy (omega arith) in
-      List·getD-append (take (k * 8) copy) _ 0 (j * 8 + b) (omega arith) ∙ getD-take (k * 8) copy (j * 8 + b) 0 (omega arith)
+  copied-before = written-before copy (record-of s i) k record-long room
 
 -- i of a few records from `from` on are copied, from number k on
 module _ (s : List ℕ) (from : ℕ) (copy : List ℕ) (k : ℕ) where
@@ -275,20 +287,23 @@ module _ (s : List ℕ) (from : ℕ) (copy : List ℕ) (k : ℕ) where
           (true-or-false (is-service s (from + i)))
 
 -- the records of those passed stand in the copy
-pub record Gathering (s : List ℕ) (from n k at : ℕ) (copy : List ℕ) : Type 0 where
-  pub going : Going s from n k at
-  pub long : length copy ≡ 520
+pub record Gathering (s : List ℕ) (from k at : ℕ) (copy : List ℕ) : Type 0 where
+  pub going : Going s from 65 k at
+  pub counted : positions s from + k ≡ positions s at
+  pub long : length copy ≡ 544
   pub done : (j : ℕ) → j < k → SameRecord copy j s (spot s from j)
 
-module _ (s : List ℕ) (from n : ℕ) where
-  pub gathering-none : (copy : List ℕ) → length copy ≡ 520 → Gathering s from n 0 from copy
-  gathering-none copy long = record { going = going-none s from n; long = long; done = λ j h. absurd (omega arith) }
+module _ (s : List ℕ) (from : ℕ) where
+  pub gathering-none : (copy : List ℕ) → length copy ≡ 544 → Gathering s from 0 from copy
+  gathering-none copy long =
+      record { going = going-none s from 65; counted = add-zero (positions s from); long = long; done = λ j h. absurd (omega arith) }
 
-  pub gathering-group : (k at m r : ℕ) (copy copy′ : List ℕ) → Gathering s from n k at copy → k + m ≤ n → at + m ≤ record-count s → Copied s at m copy k copy′ r →
-      Gathering s from n (k + r) (at + m) copy′
+  pub gathering-group : (k at m r : ℕ) (copy copy′ : List ℕ) → Gathering s from k at copy → k + m ≤ 65 → at + m ≤ record-count s → Copied s at m copy k copy′ r →
+      Gathering s from (k + r) (at + m) copy′
   gathering-group k at m r copy copy′ g few inside copied =
       record {
-        going = going-group s from n k at (g .going) m few inside r (copied .counted .sum);
+        going = going-group s from 65 k at (g .going) m few inside r (copied .counted .sum);
+        counted = omega (arith, g .counted, copied .counted .sum);
         long = copied .long ∙ g .long;
         done = λ j h. ⊎-elim (λ l. new j l h) (λ l b byte. copied .before j l b byte ∙ g .done j l b byte) (le-or-lt k j);
       }
@@ -299,23 +314,28 @@ module _ (s : List ℕ) (from n : ℕ) where
           let place = rw same at (g .going .left (j - k)) in
           rw place (rw same at (copied .here (j - k) (omega arith)))
 
-  -- the first of them at once
-  pub gathering-clear : (clear : ℕ) (copy copy′ : List ℕ) → length copy ≡ 520 → Clear s from n clear → Copied s from clear copy 0 copy′ clear →
-      Gathering s from n clear (from + clear) copy′
-  gathering-clear clear copy copy′ long is copied =
-      ⊎-elim
-      (λ h. let none : clear ≡ 0 = omega arith in rw (none, add-zero from) (gathering-none copy′ (copied .long ∙ long)))
-      (λ some.
-      rw zero-add at (gathering-group 0 from clear clear copy copy′ (gathering-none copy long) (omega (arith, is .few)) (is .inside some) copied))
-      (le-or-lt clear 0)
-
-  pub gathered : (k at : ℕ) (copy : List ℕ) → Gathering s from n k at copy → (n ≤ k) ⊎ (record-count s ≤ at) → Gathered s from n copy at
+  pub gathered : (k at : ℕ) (copy : List ℕ) → Gathering s from k at copy → (65 ≤ k) ⊎ (record-count s ≤ at) → Gathered s from copy (record { end = at; count = k })
   gathered k at copy g ended =
       record {
         long = g .long;
-        at = λ inside i h. let all = going-all s from n k at (g .going) ended inside in g .done i (omega arith);
-        behind = going-behind s from n k at (g .going) ended;
+        holds = record {
+          few = g .going .few;
+          onward = g .going .low;
+          bounded = g .going .high;
+          counted = g .counted;
+          at = g .done;
+        };
+        most = λ n few inside. ⊎-elim (λ l. l) (λ l. absurd (none-left n few inside l)) (le-or-lt n k);
       }
+    where
+      none-left : (n : ℕ) → n ≤ 65 → Inside true s from n → k < n → ⊥
+      none-left n few inside l =
+          ⊎-elim
+          (λ all. omega arith)
+          (λ past.
+          let here : spot s from k ≡ spot s at 0 = ap (spot s from) (sym (add-zero k)) ∙ g .going .left 0 in
+          omega (arith, inside k l, spot-past s at past 0))
+          ended
 
 -- BACK FROM AN END
 
@@ -340,21 +360,15 @@ module _ (s : List ℕ) (from end n : ℕ) where
         let one = rw here at (count-one s (at - 1) x is) in
         record { few = omega arith; low = omega arith; high = omega arith; counted = omega arith }
 
-    -- so many positions stand before the end as the head had passed
-    ended-behind : end ≤ max from (record-count s) → (m : ℕ) → 0 < m → Inside true s from (m + n) → end ≡ moved true s from (m + n) → positions s end ≡ positions s from + (m + n)
-    ended-behind bound m some inside is =
-        let room : from ≤ record-count s = ⊎-elim (λ l. l) (λ l. absurd (omega (arith, inside 0 (omega arith), spot-past s from (omega arith) 0))) (le-or-lt from (record-count s)) in
-        ap (positions s) is ∙ moved-counts s from (m + n) room inside .1
-
     -- nothing before it is left
-    pub down-all : end ≤ max from (record-count s) → at ≤ from → BehindBut s from end n at
-    down-all bound none =
+    pub down-all : at ≤ from → BehindBut s from end n at
+    down-all none =
         record {
           onward = d .low;
           bounded = d .high;
-          at = λ m some inside is.
+          at = λ m some sum.
               let here : at ≡ from = omega (arith, d .low) in
-              absurd (omega (arith, ended-behind bound m some inside is, rw here at (d .counted)));
+              absurd (omega (arith, sum, rw here at (d .counted)));
         }
 
     -- the record before it is a position, and none is left to pass
@@ -364,14 +378,13 @@ module _ (s : List ℕ) (from end n : ℕ) where
         record {
           onward = d .low;
           bounded = d .high;
-          at = λ m some inside′ is′.
+          at = λ m some all.
               let i = at - 1 - from in
               let j = m - 1 in
               let high = d .high in
               let here : from + i ≡ at - 1 = omega arith in
               let next : (at - 1) + 1 ≡ at = omega arith in
               let plain : is-service s (from + i) ≡ false = rw here (no-number (is-service s (at - 1)) (omega arith)) in
-              let all = ended-behind bound m some inside′ is′ in
               let one = rw next at (count-one s (at - 1) x is) in
               let most = count-most s from (from + i) (omega arith) in
               let sum : positions s from + j ≡ positions s (from + i) = rw here (omega (arith, d .counted)) in
@@ -379,6 +392,17 @@ module _ (s : List ℕ) (from end n : ℕ) where
               let last : m ≡ suc j = omega arith in
               rw last (omega arith);
         }
+
+-- where a record stands behind some positions, from whichever side it was found
+module _ (s : List ℕ) (from end n more r : ℕ) where
+  pub some-but : end ≤ max from (record-count s) → BehindBut s from end more r → BehindSome s from end n more r
+  some-but bound but =
+      let bounded = but .bounded in
+      record { onward = but .onward; bounded = omega arith; at = λ some inside sum. but .at n some sum }
+
+  pub some-behind : Behind s from n r → BehindSome s from end n more r
+  some-behind behind =
+      record { onward = behind .onward; bounded = behind .bounded; at = λ some inside sum. behind .end inside }
 
 -- OPENING
 
@@ -425,32 +449,22 @@ module _ (skips : Bool) (s : List ℕ) (at n : ℕ) where
       by true kind = rw (fits, none kind)
       by false kind = rw fits
 
-  -- or of which all are looked at
-  pub clear-all : (clear : ℕ) → Clear s at n clear → ltb 0 clear && eqb clear n ≡ true → dense skips s at n ≡ true
-  clear-all clear is e =
-      let both = and-iff (ltb 0 clear) (eqb clear n) .0 e in
-      let all = eqb-true clear n (both .1) in
-      clear-dense (le-leb (at + n) (record-count s) (rw all at (is .inside (ltb-true 0 clear (both .0))))) (λ kind. rw all at (is .none))
-
-  abbrev window : (end : ℕ) (dense : Bool) → Window
-  window end dense = record { at = at; end = end; count = n; dense = dense }
-
-  pub opened-dense : (copy : List ℕ) → length copy ≡ 520 → dense skips s at n ≡ true → Opened skips s at n (window (at + n) true) copy
-  opened-dense copy room e =
+  pub opened-dense : (copy : List ℕ) → Keeps s copy → dense skips s at n ≡ true → Opened skips s at n (own-part at n) copy
+  opened-dense copy keeps e =
       let fits = dense-fits e in
       record {
         start = refl;
-        size = refl;
+        size = omega arith;
         own = λ told. e;
         mixed = λ told. absurd (true-and-false refl told);
         long = let rest = length-drop (at * 8) s in omega arith;
-        room = room;
+        keeps = keeps;
         shows = λ inside i h b few.
             getD-drop (at * 8) s (i * 8 + b) 0 ∙
             ap (λ (j : ℕ). getD s j 0) (let here = place-dense skips refl e i h in omega arith);
         onward = omega arith;
         bounded = omega arith;
-        end = λ inside. sym (moved-dense e n (omega arith));
+        counted = λ told. absurd (true-and-false refl told);
       }
 
   -- no position is passed
@@ -469,22 +483,22 @@ module _ (skips : Bool) (s : List ℕ) (at n : ℕ) where
       (λ some. let kind = mixed inside some in rw kind (behind .end (rw kind at inside)))
       (le-or-lt n 0)
 
-  pub opened-copied : (copy : List ℕ) (r : ℕ) → n ≤ 65 → Mixed skips s at n → Gathered s at n copy r → Opened skips s at n (window r false) copy
-  opened-copied copy r few mixed g =
+  pub opened-copied : (shared : Bool) (copy : List ℕ) (r : Kept) → n ≤ 65 → Mixed skips s at n → Keeps s copy → Held s at n copy r → Opened skips s at n (copied at r shared) copy
+  opened-copied shared copy r few mixed keeps held =
       record {
         start = refl;
-        size = refl;
+        size = held .enough;
         own = λ told. absurd (true-and-false told refl);
         mixed = λ told. mixed;
-        long = let long = g .long in omega arith;
-        room = g .long;
-        shows = λ inside i h. let kind = mixed inside (omega arith) in rw kind (g .at (rw kind at inside) i h);
-        onward = g .behind .onward;
-        bounded = g .behind .bounded;
-        end = mixed-end r mixed (g .behind);
+        long = let long = keeps .long in omega arith;
+        keeps = keeps;
+        shows = λ inside i h. let kind = mixed inside (omega arith) in rw kind (held .shows (rw kind at inside) i h);
+        onward = held .onward;
+        bounded = held .bounded;
+        counted = λ told inside some. held .counted (rw (mixed inside some) at inside);
       }
 
--- LETTERS WITHOUT A WINDOW
+-- LETTERS
 
 module _ (skips : Bool) (s : List ℕ) (letter at n : ℕ) where
   pub lettered-dense : (bits : ℕ) → dense skips s at n ≡ true → Packed (has-letter s letter) at n bits →
@@ -545,33 +559,26 @@ module _ (v s : List ℕ) (head n : ℕ) (w : Window) where
               omega arith;
         }
 
-    pub passed-behind : w .dense ≡ false → (r : ℕ) → Behind s (w .at) n r → Passed v s head n w (slice-first v + r)
-    passed-behind e r behind =
+    -- a copy has at least as many
+    pub passed-few : w .at ≤ w .end × w .end ≤ max (w .at) (record-count s) × n ≤ w .count
+    passed-few =
         let start = begins in
-        let low = behind .onward in
-        record {
-          onward = omega arith;
-          still = λ none. absurd (omega arith);
-          behind = λ m copy few opened inside more.
-              let kind = opened .mixed e inside (omega arith) in
-              let from : Behind s at n r = rw begins at behind in
-              rw kind (ap (λ (x : ℕ). slice-first v + x) (from .end (λ i h. (rw kind at inside) i (omega arith))));
-        }
+        let size = windowed .3 .size in
+        (omega (arith, windowed .3 .onward), omega (arith, windowed .3 .bounded), omega (arith, windowed .2))
 
-    -- the same from its end
-    pub passed-but : w .dense ≡ false → (r : ℕ) → BehindBut s (w .at) (w .end) (w .count - n) r → Passed v s head n w (slice-first v + r)
-    passed-but e r but =
+    pub passed-some : w .dense ≡ false → (r : ℕ) → BehindSome s (w .at) (w .end) n (w .count - n) r → Passed v s head n w (slice-first v + r)
+    passed-some e r found =
         let start = begins in
-        let low = but .onward in
+        let low = found .onward in
         record {
           onward = omega arith;
           still = λ none. absurd (omega arith);
           behind = λ m copy few opened inside more.
               let kind = opened .mixed e inside (omega arith) in
-              let all : n + (w .count - n) ≡ m = omega (arith, opened .size) in
-              let from : BehindBut s at (w .end) (w .count - n) r = rw begins at but in
-              let end : w .end ≡ moved true s at m = rw kind at (opened .end inside) in
-              rw kind (ap (λ (x : ℕ). slice-first v + x) (from .at n more (rw all (rw kind at inside)) (rw all end)));
+              let sum = opened .counted e inside (omega arith) in
+              let all : n + (w .count - n) ≡ w .count = omega (arith, opened .size) in
+              let from : BehindSome s at (w .end) n (w .count - n) r = rw begins at found in
+              rw kind (ap (λ (x : ℕ). slice-first v + x) (from .at more (λ i h. (rw kind at inside) i (omega arith)) (rw all sum)));
         }
 
 -- THE FIRST RECORD WANTED

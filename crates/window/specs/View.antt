@@ -57,9 +57,9 @@ pub record MarkedToo (v : List ℕ) (block : ℕ) (needed : Bool) (v′ : List �
   pub this : needed ≡ true → block-marked v′ block ≡ true
   pub kept : (b : ℕ) → block-marked v b ≡ true → block-marked v′ b ≡ true
 
--- a view that windows can be opened by: no record's number wraps, and where service records are passed over, they are marked
+-- a view that windows can be opened by: no record's number wraps, nor is too large for a copy to keep, and where service records are passed over, they are marked
 pub record Views (v s : List ℕ) : Type 0 where
-  pub numbered : slice-first v + record-count s < 2 ^ 64
+  pub numbered : slice-first v + record-count s < 2 ^ 32
   pub marks : skips v ≡ true → BlockMarks v s
 
 -- service records lie in the slice

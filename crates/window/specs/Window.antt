@@ -1,16 +1,17 @@
 -- A window: the records of the next positions from a reading head on, and no others.
-use Prim.Native.Nat.{ℕ, _+_, _-_, _*_, _≤_, _<_, _^_, max}
+use Prim.Native.Nat.{ℕ, _+_, _-_, _*_, _%_, _≤_, _<_, _^_, max}
 use mathlib.Core.Bool.{Bool, true, false, cond, _&&_}
 use mathlib.Core.Bool.{not as negate}
 use mathlib.Core.Path.{_≡_}
 use mathlib.Core.List.{List}
-use lib.ListN.{length, getD, take, drop}
-use lib.Dec.{leb}
+use lib.ListN.{length, take, drop}
+use lib.Dec.{leb, ltb, eqb}
 use Rattle.mtl.specs.Satisfaction.{any}
 use Rattle.bits.specs.Packed.{Packed}
-use Rattle.trace.specs.Format.{record-count, has-letter, SameRecord}
+use Rattle.trace.specs.Format.{record-count, time-at, has-letter, SameRecord}
 use Rattle.trace.specs.Positions.{is-service, spot, place, moved, positions, before, Inside}
 use Rattle.window.specs.View.{slice-first, skips, in-slice}
+use Rattle.window.specs.declared.Kept.{Kept}
 use Rattle.window.specs.declared.Letters.{Letters}
 use Rattle.window.specs.declared.Picked.{Picked}
 use Rattle.window.specs.declared.Window.{Window}
@@ -33,17 +34,19 @@ window-of w s copy = cond (w .dense) (drop (w .at * 8) s) copy
 
 -- the window that is the records' own part
 abbrev pub own-part : (at n : ℕ) → Window
-own-part at n = record { at = at; end = at + n; count = n; dense = true }
+own-part at n = record { at = at; end = at + n; count = n; dense = true; shared = false }
+
+-- the window of positions that a copy has
+abbrev pub copied : (at : ℕ) → Kept → (shared : Bool) → Window
+copied at held shared = record { at = at; end = held .end; count = held .count; dense = false; shared = shared }
+
+-- the copy in which a window stands: another window's, or its own
+abbrev pub either-of : Window → (other copy : List ℕ) → List ℕ
+either-of w other copy = cond (w .shared) other copy
 
 -- the bytes of record i
 abbrev pub record-of : List ℕ → ℕ → List ℕ
 record-of s i = take 8 (drop (i * 8) s)
-
--- of n records from `from` on the first r are there and are no service records; fewer than there are cost time and no answer
-pub record Clear (s : List ℕ) (from n r : ℕ) : Type 0 where
-  pub few : r ≤ n
-  pub inside : 0 < r → from + r ≤ record-count s
-  pub none : some-service s from r ≡ false
 
 -- of n records from `from` on, r are positions
 pub record Counted (s : List ℕ) (from n r : ℕ) : Type 0 where
@@ -74,21 +77,70 @@ pub record Lettered (skips : Bool) (s : List ℕ) (letter at n : ℕ) (r : Lette
   pub bounded : r .end ≤ max at (record-count s)
   pub end : Inside skips s at n → r .end ≡ moved skips s at n
 
+-- KEPT COPIES
+
+-- the positions from record `from` on whose records stand in a copy one behind the other, and a record behind them
+pub record Holds (s : List ℕ) (from : ℕ) (copy : List ℕ) (r : Kept) : Type 0 where
+  pub few : r .count ≤ 65
+  pub onward : from ≤ r .end
+  pub bounded : r .end ≤ max from (record-count s)
+  pub counted : positions s from + r .count ≡ positions s (r .end)
+  pub at : (i : ℕ) → i < r .count → SameRecord copy i s (place true s from i)
+
+-- 65 positions, or all that the records have from there on
+pub record Gathered (s : List ℕ) (from : ℕ) (copy : List ℕ) (r : Kept) : Type 0 where
+  pub long : length copy ≡ 544
+  pub holds : Holds s from copy r
+  pub most : (n : ℕ) → n ≤ 65 → Inside true s from n → n ≤ r .count
+
+-- behind its 65 records a copy has three numbers, as the times of three records: the record from which on it keeps positions, the record behind
+-- them, and how many they are
+abbrev pub kept-from : (copy : List ℕ) → ℕ
+kept-from copy = time-at copy 65
+
+abbrev pub kept-of : (copy : List ℕ) → Kept
+kept-of copy = record { end = time-at copy 66; count = time-at copy 67 }
+
+-- what it says it keeps it has; a new copy says that it keeps none
+pub record Keeps (s copy : List ℕ) : Type 0 where
+  pub long : length copy ≡ 544
+  pub holds : 0 < kept-of copy .count → Holds s (kept-from copy) copy (kept-of copy)
+
+-- a copy that keeps n positions from this record on
+abbrev pub is-kept : (copy : List ℕ) (at n : ℕ) → Bool
+is-kept copy at n = ltb 0 (kept-of copy .count) && (eqb (kept-from copy) at && leb n (kept-of copy .count))
+
+-- a number written as the time of record i
+pub record Noted (copy : List ℕ) (i x : ℕ) (copy′ : List ℕ) : Type 0 where
+  pub long : length copy′ ≡ length copy
+  pub number : time-at copy′ i ≡ x % 4294967296
+  pub before : (j : ℕ) → j < i → SameRecord copy′ j copy j
+
+-- n positions from record `at` on, and more where the copy has them
+pub record Held (s : List ℕ) (at n : ℕ) (copy : List ℕ) (r : Kept) : Type 0 where
+  pub enough : n ≤ r .count
+  pub onward : at ≤ r .end
+  pub bounded : r .end ≤ max at (record-count s)
+  pub counted : Inside true s at n → positions s at + r .count ≡ positions s (r .end)
+  pub shows : Inside true s at n → (i : ℕ) → i < n → SameRecord copy i s (place true s at i)
+
+-- OPENING
+
 -- a window of n positions from record `at` of the slice on
 pub record Opened (skips : Bool) (s : List ℕ) (at n : ℕ) (w : Window) (copy : List ℕ) : Type 0 where
   pub start : w .at ≡ at
-  pub size : w .count ≡ n
+  pub size : n ≤ w .count
   -- the log's own part has no service records that are passed over; where the log has the positions, it is copied only if some are in the slice
   pub own : w .dense ≡ true → dense skips s at n ≡ true
   pub mixed : w .dense ≡ false → Mixed skips s at n
   -- it has n records, whatever the words hold from which the head was taken; they are the log's where the log has them
   pub long : n ≤ record-count (window-of w s copy)
-  pub room : length copy ≡ 520
+  pub keeps : Keeps s copy
   pub shows : Inside skips s at n → (i : ℕ) → i < n → SameRecord (window-of w s copy) i s (place skips s at i)
-  -- the head behind them
+  -- a copy may have more positions than were asked for; its end stands behind them all
   pub onward : at ≤ w .end
   pub bounded : w .end ≤ max at (record-count s)
-  pub end : Inside skips s at n → w .end ≡ moved skips s at n
+  pub counted : w .dense ≡ false → Inside skips s at n → 0 < n → positions s at + w .count ≡ positions s (w .end)
 
 -- the record behind n positions from `from` on, service records passed over; the end of the records where they have not so many
 pub record Behind (s : List ℕ) (from n r : ℕ) : Type 0 where
@@ -100,13 +152,13 @@ pub record Behind (s : List ℕ) (from n r : ℕ) : Type 0 where
 pub record BehindBut (s : List ℕ) (from end n r : ℕ) : Type 0 where
   pub onward : from ≤ r
   pub bounded : r ≤ end
-  pub at : (m : ℕ) → 0 < m → Inside true s from (m + n) → end ≡ moved true s from (m + n) → r ≡ moved true s from m
+  pub at : (m : ℕ) → 0 < m → positions s from + (m + n) ≡ positions s end → r ≡ moved true s from m
 
--- the records of these positions copied, one behind the other
-pub record Gathered (s : List ℕ) (from n : ℕ) (copy : List ℕ) (r : ℕ) : Type 0 where
-  pub long : length copy ≡ 520
-  pub at : Inside true s from n → (i : ℕ) → i < n → SameRecord copy i s (place true s from i)
-  pub behind : Behind s from n r
+-- the record behind n positions from `from` on, where `end` stands behind these and so many more
+pub record BehindSome (s : List ℕ) (from end n more r : ℕ) : Type 0 where
+  pub onward : from ≤ r
+  pub bounded : r ≤ max from (record-count s)
+  pub at : 0 < n → Inside true s from n → positions s from + (n + more) ≡ positions s end → r ≡ moved true s from n
 
 -- a window opened from this head on, of n positions at least
 abbrev pub Windowed : (v s : List ℕ) (head n : ℕ) → Window → Type 0

@@ -1,5 +1,6 @@
 // Positions and windows. A service record, one with letter 31, is no position. A window has the records of the next positions from a
-// reading head on and no others: it is the log's own part where no service record lies among them, else a copy of them.
+// reading head on and no others: it is the log's own part where no service record lies among them, else a copy of them. A copy is kept, and
+// read by all heads that stand at the record from which on it was made.
 ghost use mathlib.Core.Path.{_≡_};
 ghost use mathlib.Core.Bool.{true, false, _&&_};
 ghost use mathlib.Core.Bool.{not as negate};
@@ -11,19 +12,33 @@ ghost use Rattle.bits.specs.Packed.{number};
 ghost use Rattle.trace.specs.Format.{record-count};
 ghost use Rattle.trace.specs.Positions.{is-service, before};
 ghost use Rattle.trace.specs.Making.{put};
-ghost use Rattle.window.specs.View.{slice-first, skips, in-slice, BlockMarks, Views};
-ghost use Rattle.window.specs.Window.{some-service, dense, window-of, own-part, record-of, Clear, Counted, Copied, Picks, Lettered, Gathered, Mixed, Opened, Behind, BehindBut, Windowed, Passed, Found};
+ghost use Rattle.window.specs.View.{slice-first, skips, in-slice, Views};
+ghost use Rattle.window.specs.Window.{some-service, dense, window-of, own-part, copied, either-of, record-of, kept-of, is-kept, Counted, Copied, Picks, Lettered, Gathered, Noted, Keeps, Held, Mixed, Opened, Behind, BehindBut, BehindSome, Windowed, Passed, Found};
 
 pub mod view;
 
-// Where a window begins in the slice of records, the record behind its last, how many positions it has, and whether their records stand there
-// one after the other.
+// Where a window begins in the slice of records, a record behind its last, how many positions it has, whether their records stand there one
+// after the other, and whether they are in a copy that was made for another window.
 pub struct Window {
     pub at: usize,
     pub end: usize,
     pub count: usize,
     pub dense: bool,
+    pub shared: bool,
 }
+
+// What a copy keeps: how many positions, and the record behind them.
+pub struct Kept {
+    pub end: usize,
+    pub count: usize,
+}
+
+// Where a copy says what it keeps: as the times of three records behind its 65.
+const KEPT_FROM: usize = 65;
+
+const KEPT_END: usize = 66;
+
+const KEPT_COUNT: usize = 67;
 
 // A letter at some positions, as a word of answers, and the record behind the last of them.
 pub struct Letters {
@@ -99,24 +114,6 @@ pub fn count_many(records: &[u8], from: usize, n: usize) -> usize
     found + count_mixed(records, from + i, n - i)
 }
 
-// How many of n records from `from` on stand before the first eight with a service record; n where none has one.
-fn count_clear(records: &[u8], from: usize, n: usize) -> usize
-    requires { ⌜ from + n ≤ record-count (now records) ⌝ }
-    ensures { λ r. ⌜ (r ≤ n) × (some-service (now (records .entry)) from r ≡ false) ⌝ }
-{
-    let mut i: usize = 0;
-    while i + 8 <= n {
-        if group_has_service(records, from + i, 8) {
-            return i;
-        }
-        i += 8;
-    }
-    if group_has_service(records, from + i, n - i) {
-        return i;
-    }
-    n
-}
-
 // Where a head at this record stands in a slice that begins with record `first`.
 fn in_slice(first: u64, head: u64) -> usize
     ensures { λ r. ⌜ r ≡ in-slice first head ⌝ }
@@ -129,8 +126,8 @@ fn in_slice(first: u64, head: u64) -> usize
 }
 
 // Copies record i, as number k of the copy. All bytes are read before the first is written: it is compiled as one word then.
-fn copy_record(records: &[u8], i: usize, copy: &mut [u8; 520], k: usize)
-    requires { ⌜ (i < record-count (now records)) × (k < 65) × (length (now copy) ≡ 520) ⌝ }
+fn copy_record(records: &[u8], i: usize, copy: &mut [u8; 544], k: usize)
+    requires { ⌜ (i < record-count (now records)) × (k < 65) × (length (now copy) ≡ 544) ⌝ }
     ensures { λ _. ⌜ now (copy .exit) ≡ put (now (copy .entry)) (k * 8) (record-of (now (records .entry)) i) ⌝ }
 {
     let from = i * 8;
@@ -149,8 +146,8 @@ fn copy_record(records: &[u8], i: usize, copy: &mut [u8; 520], k: usize)
 }
 
 // Copies n records from `from` on, none of which is a service record, as those from number k on.
-fn copy_plain(records: &[u8], from: usize, n: usize, copy: &mut [u8; 520], k: usize)
-    requires { ⌜ (0 < n → from + n ≤ record-count (now records)) × (k + n ≤ 65) × (length (now copy) ≡ 520) × (some-service (now records) from n ≡ false) ⌝ }
+fn copy_plain(records: &[u8], from: usize, n: usize, copy: &mut [u8; 544], k: usize)
+    requires { ⌜ (0 < n → from + n ≤ record-count (now records)) × (k + n ≤ 65) × (length (now copy) ≡ 544) × (some-service (now records) from n ≡ false) ⌝ }
     ensures { λ _. ⌜ Copied (now (records .entry)) from n (now (copy .entry)) k (now (copy .exit)) n ⌝ }
 {
     let mut i: usize = 0;
@@ -161,8 +158,8 @@ fn copy_plain(records: &[u8], from: usize, n: usize, copy: &mut [u8; 520], k: us
 }
 
 // The same of records among which service records may be: each of those is written over by the next. Gives how many are left.
-fn copy_mixed(records: &[u8], from: usize, n: usize, copy: &mut [u8; 520], k: usize) -> usize
-    requires { ⌜ (from + n ≤ record-count (now records)) × (k + n ≤ 65) × (length (now copy) ≡ 520) ⌝ }
+fn copy_mixed(records: &[u8], from: usize, n: usize, copy: &mut [u8; 544], k: usize) -> usize
+    requires { ⌜ (from + n ≤ record-count (now records)) × (k + n ≤ 65) × (length (now copy) ≡ 544) ⌝ }
     ensures { λ r. ⌜ Copied (now (records .entry)) from n (now (copy .entry)) k (now (copy .exit)) r ⌝ }
 {
     let mut copied: usize = 0;
@@ -176,8 +173,8 @@ fn copy_mixed(records: &[u8], from: usize, n: usize, copy: &mut [u8; 520], k: us
 }
 
 // The same of a group, by what is in it.
-fn copy_group(records: &[u8], from: usize, n: usize, copy: &mut [u8; 520], k: usize) -> usize
-    requires { ⌜ (from + n ≤ record-count (now records)) × (k + n ≤ 65) × (length (now copy) ≡ 520) ⌝ }
+fn copy_group(records: &[u8], from: usize, n: usize, copy: &mut [u8; 544], k: usize) -> usize
+    requires { ⌜ (from + n ≤ record-count (now records)) × (k + n ≤ 65) × (length (now copy) ≡ 544) ⌝ }
     ensures { λ r. ⌜ Copied (now (records .entry)) from n (now (copy .entry)) k (now (copy .exit)) r ⌝ }
 {
     if group_has_service(records, from, n) {
@@ -199,25 +196,78 @@ fn can_take(m: usize, left: usize, at: usize, end: usize) -> bool
     }
 }
 
-// Copies the records of n positions from `from` on, as many as there are: the first `clear` of them at once, since they are no service records,
-// and then eight at a time. Gives the record behind them.
-fn gather(records: &[u8], from: usize, n: usize, clear: usize, copy: &mut [u8; 520]) -> usize
-    requires { ⌜ (n ≤ 65) × (length (now copy) ≡ 520) × Clear (now records) from n clear ⌝ }
-    ensures { λ r. ⌜ Gathered (now (records .entry)) from n (now (copy .exit)) r ⌝ }
+// Copies the records of 65 positions from `from` on, as many as there are, eight records at a time.
+fn gather(records: &[u8], from: usize, copy: &mut [u8; 544]) -> Kept
+    requires { ⌜ length (now copy) ≡ 544 ⌝ }
+    ensures { λ r. ⌜ Gathered (now (records .entry)) from (now (copy .exit)) r ⌝ }
 {
     let end = trace::count(records);
-    copy_plain(records, from, clear, copy, 0);
-    let mut at = from + clear;
-    let mut k = clear;
-    while can_take(8, n - k, at, end) {
+    let mut at = from;
+    let mut k: usize = 0;
+    while can_take(8, 65 - k, at, end) {
         k += copy_group(records, at, 8, copy, k);
         at += 8;
     }
-    while can_take(1, n - k, at, end) {
+    while can_take(1, 65 - k, at, end) {
         k += copy_group(records, at, 1, copy, k);
         at += 1;
     }
-    at
+    Kept { end: at, count: k }
+}
+
+// Writes a number as the time of record i of a copy.
+fn note(copy: &mut [u8; 544], i: usize, x: usize)
+    requires { ⌜ (i < 68) × (length (now copy) ≡ 544) ⌝ }
+    ensures { λ _. ⌜ Noted (now (copy .entry)) i x (now (copy .exit)) ⌝ }
+{
+    trace::write_record(copy, i * 8, (x % 4294967296) as u32, 0);
+}
+
+// What the copy keeps.
+fn kept_of(copy: &[u8; 544]) -> Kept
+    requires { ⌜ length (now copy) ≡ 544 ⌝ }
+    ensures { λ r. ⌜ r ≡ kept-of (now (copy .entry)) ⌝ }
+{
+    Kept {
+        end: trace::time(copy, KEPT_END) as usize,
+        count: trace::time(copy, KEPT_COUNT) as usize,
+    }
+}
+
+// Whether the copy keeps n positions from record `at` on.
+fn is_kept(copy: &[u8; 544], at: usize, n: usize) -> bool
+    requires { ⌜ length (now copy) ≡ 544 ⌝ }
+    ensures { λ r. ⌜ r ≡ is-kept (now (copy .entry)) at n ⌝ }
+{
+    let count = trace::time(copy, KEPT_COUNT);
+    (0 < count) & ((trace::time(copy, KEPT_FROM) == at as u64) & (n as u64 <= count))
+}
+
+// The larger of two.
+fn larger(a: usize, b: usize) -> usize
+    ensures { λ r. ⌜ r ≡ max a b ⌝ }
+{
+    if a < b { b } else { a }
+}
+
+// n positions from record `at` on, in a copy that keeps them; where it keeps others, all that it has room for are copied anew.
+fn hold(records: &[u8], at: usize, n: usize, copy: &mut [u8; 544]) -> Kept
+    requires { ⌜ (n ≤ 65) × (record-count (now records) < 2 ^ 32) × Keeps (now records) (now copy) ⌝ }
+    ensures { λ r. ⌜ Held (now (records .entry)) at n (now (copy .exit)) r ⌝ }
+    ensures { λ _. ⌜ Keeps (now (records .entry)) (now (copy .exit)) ⌝ }
+{
+    if is_kept(copy, at, n) {
+        return kept_of(copy);
+    }
+    let found = gather(records, at, copy);
+    note(copy, KEPT_FROM, at);
+    note(copy, KEPT_END, found.end);
+    note(copy, KEPT_COUNT, found.count);
+    let count = larger(n, found.count);
+    Kept {
+        end: found.end,
+        count,
+    }
 }
 
 // The letter at record i, as a word of one answer, or of none where it is a service record.
@@ -310,33 +360,55 @@ fn is_clear(records: &[u8], view: &[u64; 66], from: usize, n: usize) -> bool
     false
 }
 
-// The same as `count_clear`, of records that may not all be there: then none is counted.
-fn find_clear(records: &[u8], from: usize, n: usize) -> usize
-    ensures { λ r. ⌜ Clear (now (records .entry)) from n r ⌝ }
+// The letter at each of n positions from `at` on, read from a copy of their records.
+fn read_kept(records: &[u8], at: usize, n: usize, letter: u64, copy: &mut [u8; 544]) -> Letters
+    requires { ⌜ (0 < n) × (n ≤ 64) × (letter < 32) × (record-count (now records) < 2 ^ 32) × Keeps (now records) (now copy) ⌝ }
+    ensures { λ r. ⌜ Lettered true (now (records .entry)) letter at n r ⌝ }
+    ensures { λ _. ⌜ Keeps (now (records .entry)) (now (copy .exit)) ⌝ }
 {
-    if has_room(records, from, n) {
-        return count_clear(records, from, n);
-    }
-    0
+    let held = hold(records, at, n, copy);
+    let bits = trace::letter_bits(copy, 0, n, letter);
+    let end = behind_some(records, at, held.end, n, held.count - n);
+    Letters { bits, end }
 }
 
-// The letter at each of n positions from `at` on, where service records may lie among them.
-fn read_mixed(records: &[u8], view: &[u64; 66], at: usize, n: usize, letter: u64) -> Letters
-    requires { ⌜ (n ≤ 64) × (letter < 32) × Views (now view) (now records) ⌝ }
+// The letter at each of n positions from `at` on, where service records may lie among them: from a copy where an operator has one made, since
+// it will read the same positions.
+fn read_mixed(
+    records: &[u8],
+    view: &[u64; 66],
+    at: usize,
+    n: usize,
+    letter: u64,
+    copy: &mut [u8; 544],
+) -> Letters
+    requires { ⌜ (0 < n) × (n ≤ 64) × (letter < 32) × Views (now view) (now records) × Keeps (now records) (now copy) ⌝ }
     ensures { λ r. ⌜ Lettered (skips (now (view .entry))) (now (records .entry)) letter at n r ⌝ }
+    ensures { λ _. ⌜ Keeps (now (records .entry)) (now (copy .exit)) ⌝ }
 {
     if is_clear(records, view, at, n) {
         let bits = trace::letter_bits(records, at, n, letter);
         let end = at + n;
         return Letters { bits, end };
     }
-    pick_letters(records, at, n, letter)
+    if kept_of(copy).count == 0 {
+        return pick_letters(records, at, n, letter);
+    }
+    read_kept(records, at, n, letter, copy)
 }
 
-// The letter at each of n positions from a head on, without a copy of their records.
-pub fn read_letters(records: &[u8], view: &[u64; 66], head: u64, n: u64, letter: u64) -> Letters
-    requires { ⌜ (n ≤ 64) × (letter < 32) × Views (now view) (now records) ⌝ }
+// The letter at each of n positions from a head on.
+pub fn read_letters(
+    records: &[u8],
+    view: &[u64; 66],
+    head: u64,
+    n: u64,
+    letter: u64,
+    copy: &mut [u8; 544],
+) -> Letters
+    requires { ⌜ (0 < n) × (n ≤ 64) × (letter < 32) × Views (now view) (now records) × Keeps (now records) (now copy) ⌝ }
     ensures { λ r. ⌜ Lettered (skips (now (view .entry))) (now (records .entry)) letter (in-slice (slice-first (now (view .entry))) head) n r ⌝ }
+    ensures { λ _. ⌜ Keeps (now (records .entry)) (now (copy .exit)) ⌝ }
 {
     let at = in_slice(view[view::FIRST], head);
     if is_plain(records, view, at, n as usize) {
@@ -344,7 +416,7 @@ pub fn read_letters(records: &[u8], view: &[u64; 66], head: u64, n: u64, letter:
         let end = at + n as usize;
         return Letters { bits, end };
     }
-    read_mixed(records, view, at, n as usize, letter)
+    read_mixed(records, view, at, n as usize, letter, copy)
 }
 
 // The window of n positions whose records stand one after the other from `at` on.
@@ -357,33 +429,37 @@ fn own_part(at: usize, n: usize) -> Window
         end: at + n,
         count: n,
         dense: true,
+        shared: false,
+    }
+}
+
+// The window of positions that a copy has from `at` on.
+fn copied(at: usize, held: Kept, shared: bool) -> Window
+    ensures { λ r. ⌜ r ≡ copied at held shared ⌝ }
+{
+    Window {
+        at,
+        end: held.end,
+        count: held.count,
+        dense: false,
+        shared,
     }
 }
 
 // The window of n positions from `at` on, where service records may lie among them.
-fn open_mixed(records: &[u8], view: &[u64; 66], at: usize, n: usize, copy: &mut [u8; 520]) -> Window
-    requires { ⌜ (n ≤ 65) × (length (now copy) ≡ 520) × Views (now view) (now records) ⌝ }
+fn open_mixed(records: &[u8], view: &[u64; 66], at: usize, n: usize, copy: &mut [u8; 544]) -> Window
+    requires { ⌜ (n ≤ 65) × Keeps (now records) (now copy) × Views (now view) (now records) ⌝ }
     ensures { λ r. ⌜ Opened (skips (now (view .entry))) (now (records .entry)) at n r (now (copy .exit)) ⌝ }
 {
     if is_clear(records, view, at, n) {
         return own_part(at, n);
     }
-    let clear = find_clear(records, at, n);
-    if (0 < clear) & (clear == n) {
-        return own_part(at, n);
-    }
-    let end = gather(records, at, n, clear, copy);
-    Window {
-        at,
-        end,
-        count: n,
-        dense: false,
-    }
+    copied(at, hold(records, at, n, copy), false)
 }
 
 // The window of n positions from a head on; the copy is written where it is needed.
-pub fn open(records: &[u8], view: &[u64; 66], head: u64, n: u64, copy: &mut [u8; 520]) -> Window
-    requires { ⌜ (n ≤ 65) × (length (now copy) ≡ 520) × Views (now view) (now records) ⌝ }
+pub fn open(records: &[u8], view: &[u64; 66], head: u64, n: u64, copy: &mut [u8; 544]) -> Window
+    requires { ⌜ (n ≤ 65) × Keeps (now records) (now copy) × Views (now view) (now records) ⌝ }
     ensures { λ r. ⌜ Opened (skips (now (view .entry))) (now (records .entry)) (in-slice (slice-first (now (view .entry))) head) n r (now (copy .exit)) ⌝ }
 {
     let at = in_slice(view[view::FIRST], head);
@@ -391,6 +467,55 @@ pub fn open(records: &[u8], view: &[u64; 66], head: u64, n: u64, copy: &mut [u8;
         return own_part(at, n as usize);
     }
     open_mixed(records, view, at, n as usize, copy)
+}
+
+// As `open_mixed`, but read from the other copy where that keeps the positions.
+fn share_mixed(
+    records: &[u8],
+    view: &[u64; 66],
+    at: usize,
+    n: usize,
+    other: &[u8; 544],
+    copy: &mut [u8; 544],
+) -> Window
+    requires { ⌜ (n ≤ 65) × Keeps (now records) (now other) × Keeps (now records) (now copy) × Views (now view) (now records) ⌝ }
+    ensures { λ r. ⌜ Opened (skips (now (view .entry))) (now (records .entry)) at n r (either-of r (now (other .entry)) (now (copy .exit))) ⌝ }
+    ensures { λ _. ⌜ Keeps (now (records .entry)) (now (copy .exit)) ⌝ }
+{
+    if is_clear(records, view, at, n) {
+        return own_part(at, n);
+    }
+    if is_kept(other, at, n) {
+        return copied(at, kept_of(other), true);
+    }
+    copied(at, hold(records, at, n, copy), false)
+}
+
+// As `open`, but read from the other copy where that keeps the positions.
+pub fn share(
+    records: &[u8],
+    view: &[u64; 66],
+    head: u64,
+    n: u64,
+    other: &[u8; 544],
+    copy: &mut [u8; 544],
+) -> Window
+    requires { ⌜ (n ≤ 65) × Keeps (now records) (now other) × Keeps (now records) (now copy) × Views (now view) (now records) ⌝ }
+    ensures { λ r. ⌜ Opened (skips (now (view .entry))) (now (records .entry)) (in-slice (slice-first (now (view .entry))) head) n r (either-of r (now (other .entry)) (now (copy .exit))) ⌝ }
+    ensures { λ _. ⌜ Keeps (now (records .entry)) (now (copy .exit)) ⌝ }
+{
+    let at = in_slice(view[view::FIRST], head);
+    if is_plain(records, view, at, n as usize) {
+        return own_part(at, n as usize);
+    }
+    share_mixed(records, view, at, n as usize, other, copy)
+}
+
+// The copy in which a window stands.
+pub fn either<'a>(window: Window, other: &'a [u8], copy: &'a [u8]) -> &'a [u8]
+    ensures { λ r. ⌜ now r ≡ either-of window (now (other .entry)) (now (copy .entry)) ⌝ }
+{
+    if window.shared { other } else { copy }
 }
 
 // The window's records.
@@ -442,15 +567,18 @@ fn behind_but(records: &[u8], from: usize, end: usize, n: usize) -> usize
     at
 }
 
-// Where a head stands after all positions of its window, of which there is one at least.
-pub fn pass_all(window: Window, view: &[u64; 66]) -> u64
-    requires { ⌜ slice-first (now view) + window .end < 2 ^ 64 ⌝ }
-    ensures { λ r. ⌜ r ≡ slice-first (now (view .entry)) + window .end ⌝ }
+// The record behind n positions from `from` on, counted from `end` where that is near: it stands behind so many more.
+fn behind_some(records: &[u8], from: usize, end: usize, n: usize, more: usize) -> usize
+    requires { ⌜ (from ≤ end) × (end ≤ max from (record-count (now records))) ⌝ }
+    ensures { λ r. ⌜ BehindSome (now (records .entry)) from end n more r ⌝ }
 {
-    view[view::FIRST] + window.end as u64
+    if more < 8 {
+        return behind_but(records, from, end, more);
+    }
+    behind(records, from, n)
 }
 
-// Where a head stands after n positions of its window, counted from its end where that is near; where it stood if there are none.
+// Where a head stands after n positions of its window; where it stood if there are none.
 pub fn pass(head: u64, window: Window, records: &[u8], view: &[u64; 66], n: u64) -> u64
     requires { ⌜ Views (now view) (now records) × Windowed (now view) (now records) head n window ⌝ }
     ensures { λ r. ⌜ Passed (now (view .entry)) (now (records .entry)) head n window r ⌝ }
@@ -461,11 +589,8 @@ pub fn pass(head: u64, window: Window, records: &[u8], view: &[u64; 66], n: u64)
     if window.dense {
         return view[view::FIRST] + window.at as u64 + n;
     }
-    let left = window.count - n as usize;
-    if left < 8 {
-        return view[view::FIRST] + behind_but(records, window.at, window.end, left) as u64;
-    }
-    view[view::FIRST] + behind(records, window.at, n as usize) as u64
+    let more = window.count - n as usize;
+    view[view::FIRST] + behind_some(records, window.at, window.end, n as usize, more) as u64
 }
 
 // How many of the records are positions.

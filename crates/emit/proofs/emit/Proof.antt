@@ -7,6 +7,7 @@ use lib.ListN.{length}
 use Rattle.mtl.specs.Formula.{Formula}
 use Rattle.engine.specs.Tops.{Ended, LaidAs}
 use Rattle.window.proofs.Marks.{made-views}
+use Rattle.window.proofs.Copies.{keeps-none}
 use Rattle.engine.proofs.Rows.{zeros}
 use Rattle.held.specs.Code.{plan, Fits}
 use Rattle.emit.proofs.Emitting.{fits-of, emitted}
@@ -55,8 +56,8 @@ give-requires c κs =
         given = p .given;
         noes = p .noes;
       },
-      refl,
-      refl,
+      keeps-none (s .args .records .now),
+      keeps-none (s .args .records .now),
       made-views (c .before .before .before .before .before .before .before .write-view .ensures) (omega (arith, p .wanted, p .records)),
     )
 

@@ -4,13 +4,14 @@ use borrow.Author.Needs.{needs}
 use mathlib.Core.Path.{_≡_, refl, _∙_}
 use native.Mathlib.Omega.{arith}
 use lib.ListN.{length}
+use Rattle.window.specs.Window.{Keeps}
 use Rattle.emit.proofs.Turns.{Underway, underway-none, fitting, ended, copyable, writable, fewer, countable, takes-out, turned}
 use Rattle.emit.proofs.give_one.Statement.{statement}
 use Rattle.emit.proofs.give_one.Tie as tie
 
 abbrev Inv-loop : tie.InvT-loop
 Inv-loop table tops most records view copy₀ waiting₀ words₀ sheet₀ answers₀ done₀ copy waiting words sheet answers done =
-    (length answers ≡ 8) × Underway table tops 1 most view records words₀ sheet₀ done words sheet × (length copy ≡ 520) × (length waiting ≡ 520)
+    (length answers ≡ 8) × Underway table tops 1 most view records words₀ sheet₀ done words sheet × Keeps records copy × Keeps records waiting
 
 abbrev μ-loop : tie.MeasureT-loop
 μ-loop table tops most records view copy₀ waiting₀ words₀ sheet₀ answers₀ done₀ copy waiting words sheet answers done = length sheet₀ - done

@@ -14,12 +14,13 @@ use lib.ListN.{length, drop}
 use borrow.Fn.Kinds.{In}
 use borrow.Fn.PlainCycle.{Measures, is, falls, and}
 use Rattle.mtl.proofs.Bounded.{true-and-false}
+use Rattle.window.specs.Window.{Keeps}
 use Rattle.blocks.specs.Block.{left-count}
 use Rattle.blocks.specs.Kinds.{takes-left, takes-right}
 use Rattle.blocks.specs.Step.{left-to-do}
-use Rattle.engine.specs.Table.{column}
+use Rattle.engine.specs.Table.{RowsOk, column}
 use Rattle.engine.specs.Answer.{Answers}
-use Rattle.engine.specs.Ask.{part, StillStands}
+use Rattle.engine.specs.Ask.{part, StillStands, Fills, Refills}
 use Rattle.engine.specs.declared.Reply.{Reply}
 use Rattle.engine.proofs.Parts.{length-part}
 use Rattle.engine.proofs.Parts.Side.{on-left, on-right}
@@ -35,6 +36,7 @@ use Rattle.engine.proofs.fill.Kinds as fill-kinds
 use Rattle.engine.proofs.+answer+ask+fill.Lts-fill as fill-lts
 use Rattle.engine.proofs.advance.Reads as advance-reads
 use Rattle.engine.proofs.answer_letter.Reads as answer-letter-reads
+use Rattle.engine.proofs.is_apart.Reads as is-apart-reads
 use Rattle.engine.proofs.shifted.Reads as shifted-reads
 use Rattle.engine.proofs.store.Reads as store-reads
 use Rattle.engine.proofs.table.field.Reads as field-reads
@@ -80,7 +82,7 @@ fill-below t = and 6 fill-kinds.ps (falls 6 fill-kinds.ps _<_ μ-fill t) fill.Pr
 
 abbrev answer-Inv-loop : answer-lts.InvT-loop
 answer-Inv-loop table records view copy₀ waiting₀ k shift words₀ left-words right-words own copy waiting words =
-    (length words ≡ length words₀) × (length copy ≡ 520) × (length waiting ≡ 520) × StillStands table view records k words₀ words
+    (length words ≡ length words₀) × Keeps records copy × Keeps records waiting × StillStands table view records k words₀ words
 
 abbrev answer-μ-loop : answer-lts.MeasureT-loop
 answer-μ-loop table records view copy₀ waiting₀ k shift words₀ left-words right-words own copy waiting words =
@@ -108,8 +110,8 @@ answer-made : (t : ℕ) (d : answer-lts.Joined2 (field-reads.Asked, field-reads.
     let fill = d .before .before .before .before .before .before .before .before .before .fill in
     let words = d .if2 .words in
     (length words ≡ length (a .words .now)) ×
-    (length (d .if2 .copy) ≡ 520) ×
-    (length (d .if2 .waiting) ≡ 520) ×
+    Keeps (a .records .now) (d .if2 .copy) ×
+    Keeps (a .records .now) (d .if2 .waiting) ×
     Made (a .table .now) (a .view .now) (a .records .now) (a .k) (d .before .before .before .before .before .before .before .before .before .before .before .before .before .before .before .field2 .result) (d .before .before .before .before .before .before .before .before .before .before .before .before .before .before .field3 .result) (length (a .words .now)) (a .words .now) (d .before .before .before .before .before .before .before .before .before .before .before .before .before .loop .words) (fill .result) (d .if2 .step) words
 answer-made t d =
     let l = d .before .before .before .before .before .before .before .before .before .before .before .before .before in
@@ -121,27 +123,27 @@ answer-made t d =
     ⊎-elim
     (λ w. (
       ap length (w .11) ∙ w .6 .kept .1 .1 .1 .1 .1 .1 .1 .0 ∙ went,
-      ap length (w .9) ∙ w .6 .ensures .1 .0,
-      ap length (w .10) ∙ w .6 .ensures .1 .1,
+      rw (w .9) (w .6 .ensures .1 .0),
+      rw (w .10) (w .6 .ensures .1 .1),
       rw (w .11, w .12) (two-steps (w .0 .taken) went (as-told (w .2 .given .1) made) (w .6 .ensures .0)),
     ))
     (⊎-elim
     (λ w. (
       ap length (w .4) ∙ went,
-      ap length (w .2) ∙ first .ensures .1 .0,
-      ap length (w .3) ∙ first .ensures .1 .1,
+      rw (w .2) (first .ensures .1 .0),
+      rw (w .3) (first .ensures .1 .1),
       rw (w .4, w .5) made,
     ))
     (λ w. (
       ap length (w .3) ∙ went,
-      ap length (w .1) ∙ first .ensures .1 .0,
-      ap length (w .2) ∙ first .ensures .1 .1,
+      rw (w .1) (first .ensures .1 .0),
+      rw (w .2) (first .ensures .1 .1),
       rw (w .3, w .4) made,
     )))
     (d .if2 .came)
 
 -- the row that the caller has read, and the words as they are
-fill-here : (t : ℕ) (d : fill-lts.Start (field-reads.Asked, field-reads.Learnt, shifted-reads.Asked, shifted-reads.Learnt, takes-left-reads.Asked, takes-left-reads.Learnt, ask-below t, ask.Post) (fill-at t) fill.Post) →
+fill-here : (t : ℕ) (d : fill-lts.Start (field-reads.Asked, field-reads.Learnt, shifted-reads.Asked, shifted-reads.Learnt, takes-left-reads.Asked, takes-left-reads.Learnt, ask-below t, ask.Post, is-apart-reads.Asked, is-apart-reads.Learnt) (fill-at t) fill.Post) →
     let a = d .args in Standing (a .table .now) (a .view .now) (a .records .now) (a .k) (column 5 (a .table .now) (a .k)) (column 6 (a .table .now) (a .k)) (length (a .words .now)) (a .words .now) (a .words .now)
 fill-here t d =
     let s = d .pre .1 in
@@ -152,7 +154,7 @@ fill-here t d =
     }
 
 -- whether it takes a left operand
-fill-takes : (t : ℕ) (d : fill-lts.After-takes-left (field-reads.Asked, field-reads.Learnt, shifted-reads.Asked, shifted-reads.Learnt, takes-left-reads.Asked, takes-left-reads.Learnt, ask-below t, ask.Post) (fill-at t) fill.Post) →
+fill-takes : (t : ℕ) (d : fill-lts.After-takes-left (field-reads.Asked, field-reads.Learnt, shifted-reads.Asked, shifted-reads.Learnt, takes-left-reads.Asked, takes-left-reads.Learnt, ask-below t, ask.Post, is-apart-reads.Asked, is-apart-reads.Learnt) (fill-at t) fill.Post) →
     takes-left (column 0 (d .before .before .before .before .before .args .table .now) (d .before .before .before .before .before .args .k)) ≡ d .takes-left .result
 fill-takes t d = sym (ap takes-left (d .before .before .field .ensures)) ∙ sym (d .takes-left .ensures)
 
@@ -161,7 +163,7 @@ right-taken zero some = absurd (omega arith)
 right-taken (suc n) some = rw (eqb·suc-zero n) refl
 
 -- left is asked
-fill-left : (t : ℕ) (d : fill-lts.After-ask (field-reads.Asked, field-reads.Learnt, shifted-reads.Asked, shifted-reads.Learnt, takes-left-reads.Asked, takes-left-reads.Learnt, ask-below t, ask.Post) (fill-at t) fill.Post) →
+fill-left : (t : ℕ) (d : fill-lts.After-ask (field-reads.Asked, field-reads.Learnt, shifted-reads.Asked, shifted-reads.Learnt, takes-left-reads.Asked, takes-left-reads.Learnt, ask-below t, ask.Post, is-apart-reads.Asked, is-apart-reads.Learnt) (fill-at t) fill.Post) →
     let a = d .before .before .before .before .before .before .before .before .before .before .before .args in Topped (a .table .now) (a .view .now) (a .records .now) (a .k) (column 5 (a .table .now) (a .k)) (column 6 (a .table .now) (a .k)) (length (a .words .now)) (a .words .now) (a .words .now) on-left (d .ask .result) (d .ask .last .1 .1 .1 .1 .1 .1 .1 .1 .1 .1 .0)
 fill-left t d =
     let start = d .before .before .before .before .before .before .before .before .before .before .before in
@@ -170,12 +172,12 @@ fill-left t d =
     (rw (d .before .before .before .before .field2 .ensures, s .3, s .4) at (d .ask .ensures .0))
 
 -- before right is asked: left has answers, or there is no left operand
-fill-mid : (t : ℕ) (d : fill-lts.Joined1 (field-reads.Asked, field-reads.Learnt, shifted-reads.Asked, shifted-reads.Learnt, takes-left-reads.Asked, takes-left-reads.Learnt, ask-below t, ask.Post) (fill-at t) fill.Post) →
+fill-mid : (t : ℕ) (d : fill-lts.Joined1 (field-reads.Asked, field-reads.Learnt, shifted-reads.Asked, shifted-reads.Learnt, takes-left-reads.Asked, takes-left-reads.Learnt, ask-below t, ask.Post, is-apart-reads.Asked, is-apart-reads.Learnt) (fill-at t) fill.Post) →
     let a = d .before .before .before .before .before .before .args in
     let own = column 5 (a .table .now) (a .k) + column 6 (a .table .now) (a .k) in
     Standing (a .table .now) (a .view .now) (a .records .now) (a .k) (column 5 (a .table .now) (a .k)) (column 6 (a .table .now) (a .k)) (length (a .words .now)) (a .words .now) (d .if1 .words) ×
-    (length (d .if1 .copy) ≡ 520) ×
-    (length (d .if1 .waiting) ≡ 520) ×
+    Keeps (a .records .now) (d .if1 .copy) ×
+    Keeps (a .records .now) (d .if1 .waiting) ×
     (takes-left (column 0 (a .table .now) (a .k)) ≡ true → 0 < left-count (drop own (d .if1 .words))) ×
     (left-to-do (a .view .now) (drop own (d .if1 .words)) ≤ left-to-do (a .view .now) (drop own (a .words .now)))
 fill-mid t d =
@@ -184,19 +186,45 @@ fill-mid t d =
     (λ w.
     let top = topped (fill-here t start) on-left (fill-takes t (d .before) ∙ w .0 .taken) (w .5 .result) _ (w .5 .kept .1 .1 .1 .1 .1 .1 .1 .1 .1 .1 .0) (rw (w .1 .ensures, start .pre .1 .3, start .pre .1 .4) at (w .5 .ensures .0)) in (
       rw (w .11) (top .here),
-      ap length (w .9) ∙ w .5 .ensures .1 .0,
-      ap length (w .10) ∙ w .5 .ensures .1 .1,
+      rw (w .9) (w .5 .ensures .1 .0),
+      rw (w .10) (w .5 .ensures .1 .1),
       λ takes. rw (w .11) (top .some (true-of (w .8 .left))),
       rw (w .11) (top .less),
     ))
     (λ w. (
       rw (w .3) (fill-here t start),
-      ap length (w .1) ∙ start .pre .1 .6,
-      ap length (w .2) ∙ start .pre .1 .7,
+      rw (w .1) (start .pre .1 .6),
+      rw (w .2) (start .pre .1 .7),
       λ takes. absurd (true-and-false takes (fill-takes t (d .before) ∙ w .0 .left)),
       rw (w .3) (omega arith),
     ))
     (d .if1 .came)
+
+-- right may be asked, in whichever order the copies are lent
+fill-asks : (t : ℕ) (d : fill-lts.Joined1 (field-reads.Asked, field-reads.Learnt, shifted-reads.Asked, shifted-reads.Learnt, takes-left-reads.Asked, takes-left-reads.Learnt, ask-below t, ask.Post, is-apart-reads.Asked, is-apart-reads.Learnt) (fill-at t) fill.Post) →
+    let a = d .before .before .before .before .before .before .args in
+    ((a .k - 1) * 3 + 3 < t) × (a .k - 1 < 128) × RowsOk (a .table .now) (a .k - 1) × (a .split + column 7 (a .table .now) (a .k - 1) ≡ a .own) ×
+    (a .own ≤ length (d .if1 .words)) ×
+    (a .own + 3 + 1 < length (d .if1 .words))
+fill-asks t d =
+    let start = d .before .before .before .before .before .before in
+    let s = start .pre .1 in
+    let read = fill-here t start .read in
+    let m = may-ask read on-right (right-taken _ (s .2)) in
+    let fits = room read in
+    let last = fill-mid t d .0 .last in
+    (omega (arith, m .0, start .pre .0), m .1, m .2, rw (s .3, s .4) (m .3), omega (arith, s .4, s .5), omega (arith, s .4, s .5))
+
+-- and was asked
+fill-told : (t : ℕ) (d : fill-lts.Joined1 (field-reads.Asked, field-reads.Learnt, shifted-reads.Asked, shifted-reads.Learnt, takes-left-reads.Asked, takes-left-reads.Learnt, ask-below t, ask.Post, is-apart-reads.Asked, is-apart-reads.Learnt) (fill-at t) fill.Post) →
+    let a = d .before .before .before .before .before .before .args in
+    (r : Bool) (words : List ℕ) → length words ≡ length (d .if1 .words) →
+    Fills (a .table .now) (a .view .now) (a .records .now) (a .k - 1) (a .split) (a .own) (a .own + 3) (d .if1 .words) r words →
+    Refills (a .table .now) (a .view .now) (a .records .now) (a .k) (a .own) (a .words .now) r words
+fill-told t d r words kept fills =
+    let s = d .before .before .before .before .before .before .pre .1 in
+    let mid = fill-mid t d in
+    rw (s .4) (right-last (mid .3) (mid .4) (topped (mid .0) on-right (right-taken _ (s .2)) r words (kept ∙ mid .0 .last) (rw (s .3, s .4) at fills)))
 
 pub +answer+ask+fill-spec : {M : Type 1} → statement M
 +answer+ask+fill-spec =
@@ -214,10 +242,10 @@ pub +answer+ask+fill-spec : {M : Type 1} → statement M
     -- a letter is read
     (λ c κs. search needs)
     (λ c κs.
-    let pre = c .before .before .before .before .before .pre .1 in
-    (pre .0, pre .1, sym (c .before .before .field .ensures) ∙ c .before .if1 .taken, pre .2, pre .5))
+    let pre = c .before .before .before .before .before .before .pre .1 in
+    (pre .0, pre .1, sym (c .before .before .before .field .ensures) ∙ c .before .before .if1 .taken, pre .2, pre .3, pre .5))
     (λ c. search needs)
-    (λ c. (c .before .before .answer-letter .ensures, (c .before .before .before .before .before .before .before .before .pre .1 .3, c .before .before .before .before .before .before .before .before .pre .1 .4)))
+    (λ c. let letter = c .before .before .answer-letter in (letter .ensures .0, (letter .ensures .1, c .before .before .before .before .before .before .before .before .before .pre .1 .4)))
     -- the row is read
     (λ c κs. search needs)
     (λ c κs. search needs)
@@ -362,7 +390,7 @@ pub +answer+ask+fill-spec : {M : Type 1} → statement M
     )))
     (λ t.
     fill-lts.spec
-    (field-reads.Asked, field-reads.Learnt, shifted-reads.Asked, shifted-reads.Learnt, takes-left-reads.Asked, takes-left-reads.Learnt, ask-below t, ask.Post)
+    (field-reads.Asked, field-reads.Learnt, shifted-reads.Asked, shifted-reads.Learnt, takes-left-reads.Asked, takes-left-reads.Learnt, ask-below t, ask.Post, is-apart-reads.Asked, is-apart-reads.Learnt)
     (fill-at t)
     fill.Post
     (λ c κs. search needs)
@@ -386,26 +414,32 @@ pub +answer+ask+fill-spec : {M : Type 1} → statement M
     let start = c .before .before .before .before .before .before .before .before .before .before .before .before .before .before in
     let top = fill-left t (c .before .before .before) in
     (rw (start .pre .1 .4) (left-short (fill-takes t (c .before .before .before .before .before .before .before .before .before) ∙ c .before .before .before .before .before .before .before .before .if1 .taken) (short-top (false-of (c .if2 .taken)) top)), c .before .before .before .ask .ensures .1))
-    -- right is asked
-    (λ c. let start = c .before .before .before .before .before .before .before .before in
+    (λ c κs. search needs)
+    -- right is asked, the copies exchanged
+    (λ c. let start = c .before .before .before .before .before .before .before .before .before .before in
     let s = start .pre .1 in omega (arith, s .1, may-ask (fill-here t start .read) on-right (right-taken _ (s .2)) .0))
-    (λ c. let start = c .before .before .before .before .before .before .before .before in
+    (λ c. let start = c .before .before .before .before .before .before .before .before .before .before in
     let s = start .pre .1 in omega (arith, s .4, s .5, bound (fill-here t start .read), room (fill-here t start .read)))
     (λ c κs.
-    let start = c .before .before .before .before .before .before .before .before .before in
-    let s = start .pre .1 in
-    let mid = fill-mid t (c .before .before .before) in
-    let read = fill-here t start .read in
-    let m = may-ask read on-right (right-taken _ (s .2)) in
-    let fits = room read in
-    let last = mid .0 .last in
-    let less : (start .args .k - 1) * 3 + 3 < t = omega (arith, m .0, start .pre .0) in
-    (less, (m .1, m .2, rw (s .3, s .4) (m .3), omega (arith, s .4, s .5), omega (arith, s .4, s .5), mid .1, mid .2, s .8)))
-    (λ c. c .before .before .ask2 .kept .1 .1 .1 .1 .1 .1 .1 .1 .1 .1 .0 ∙ fill-mid t (c .before .before .before .before .before .before) .0 .last)
+    let d = c .before .before .before .before .before in
+    let asks = fill-asks t d in
+    let mid = fill-mid t d in
+    (asks .0, (asks .1, asks .2, asks .3, asks .4, asks .5, mid .2, mid .1, d .before .before .before .before .before .before .pre .1 .8)))
+    (λ c. c .before .before .ask2 .kept .1 .1 .1 .1 .1 .1 .1 .1 .1 .1 .0 ∙ fill-mid t (c .before .before .before .before .before .before .before .before) .0 .last)
     (λ c.
-    let start = c .before .before .before .before .before .before .before .before .before .before .before .before in
-    let s = start .pre .1 in
-    let mid = fill-mid t (c .before .before .before .before .before .before) in
     let ask = c .before .before .ask2 in
-    let top = topped (mid .0) on-right (right-taken _ (s .2)) (ask .result) _ (ask .kept .1 .1 .1 .1 .1 .1 .1 .1 .1 .1 .0 ∙ mid .0 .last) (rw (s .3, s .4) at (ask .ensures .0)) in
-    (rw (s .4) (right-last (mid .3) (mid .4) top), ask .ensures .1)))
+    (fill-told t (c .before .before .before .before .before .before .before .before) (ask .result) _ (ask .kept .1 .1 .1 .1 .1 .1 .1 .1 .1 .1 .0) (ask .ensures .0), (ask .ensures .1 .1, ask .ensures .1 .0)))
+    -- or as they are
+    (λ c. let start = c .before .before .before .before .before .before .before .before .before .before in
+    let s = start .pre .1 in omega (arith, s .1, may-ask (fill-here t start .read) on-right (right-taken _ (s .2)) .0))
+    (λ c. let start = c .before .before .before .before .before .before .before .before .before .before in
+    let s = start .pre .1 in omega (arith, s .4, s .5, bound (fill-here t start .read), room (fill-here t start .read)))
+    (λ c κs.
+    let d = c .before .before .before .before .before in
+    let asks = fill-asks t d in
+    let mid = fill-mid t d in
+    (asks .0, (asks .1, asks .2, asks .3, asks .4, asks .5, mid .1, mid .2, d .before .before .before .before .before .before .pre .1 .8)))
+    (λ c. c .before .before .ask3 .kept .1 .1 .1 .1 .1 .1 .1 .1 .1 .1 .0 ∙ fill-mid t (c .before .before .before .before .before .before .before .before) .0 .last)
+    (λ c.
+    let ask = c .before .before .ask3 in
+    (fill-told t (c .before .before .before .before .before .before .before .before) (ask .result) _ (ask .kept .1 .1 .1 .1 .1 .1 .1 .1 .1 .1 .0) (ask .ensures .0), ask .ensures .1)))

@@ -17,23 +17,23 @@ room c =
 
 read-letter-requires : tie.Need-read-letter-requires
 read-letter-requires c κs =
-    let start = c .before .before .before .before in
+    let start = c .before .before .before .before .before in
     let row = start .pre .1 (start .args .k) (omega arith) in
-    (rw (c .before .field .ensures) (row .letter), room start, start .pre .4)
+    (rw (c .before .before .field .ensures) (row .letter), room start, start .pre .5, start .pre .4)
 
 returns : tie.Need-returns
 returns c =
-    let start = c .before .before .before .before .before .before .before .before in
+    let start = c .before .before .before .before .before .before .before .before .before in
     let a = start .args in
     let read = c .before .before .before .read-letter in
-    letter-open (a .table .now) (a .view .now) (a .records .now) (a .k) (a .words .now) _ (read .result .count) (read .result .bits) (start .pre .2) (c .before .before .before .before .before .field .ensures) (c .if1 .taken) (read .ensures .0) (read .ensures .1)
+    (letter-open (a .table .now) (a .view .now) (a .records .now) (a .k) (a .words .now) _ (read .result .count) (read .result .bits) (start .pre .2) (c .before .before .before .before .before .before .field .ensures) (c .if1 .taken) (read .ensures .0) (read .ensures .1 .0), read .ensures .1 .1)
 
 returns-2 : tie.Need-returns-2
 returns-2 c =
-    let start = c .before .before .before .before .before .before .before .before in
+    let start = c .before .before .before .before .before .before .before .before .before in
     let a = start .args in
     let read = c .before .before .before .read-letter in
-    letter-batch (a .table .now) (a .view .now) (a .records .now) (a .k) (a .words .now) _ (read .result .count) (read .result .bits) (start .pre .2) (c .before .before .before .before .before .field .ensures) (c .if1 .left) (read .ensures .0) (read .ensures .1)
+    (letter-batch (a .table .now) (a .view .now) (a .records .now) (a .k) (a .words .now) _ (read .result .count) (read .result .bits) (start .pre .2) (c .before .before .before .before .before .before .field .ensures) (c .if1 .left) (read .ensures .0) (read .ensures .1 .0), read .ensures .1 .1)
 
 pub answer-letter-spec : {M : Type 1} → statement M
 answer-letter-spec =

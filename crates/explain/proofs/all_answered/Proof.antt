@@ -3,6 +3,7 @@ use Prim.Native.Nat.{_-_, _≤_}
 use mathlib.Core.Path.{_≡_, refl, _∙_}
 use native.Mathlib.Omega.{arith}
 use lib.ListN.{length}
+use Rattle.window.specs.Window.{Keeps}
 use Rattle.explain.proofs.Formulas.{Reached, reached-none, reached-next, all-reached, not-reached}
 use Rattle.explain.proofs.all_answered.Statement.{statement}
 use Rattle.explain.proofs.all_answered.Tie as tie
@@ -12,7 +13,7 @@ use Rattle.search.proofs.search.Reads as search-reads
 
 abbrev Inv-loop : tie.InvT-loop
 Inv-loop table records view copy₀ waiting₀ words₀ ends number position k₀ copy waiting words k =
-    (length words ≡ length words₀) × (length copy ≡ 520) × (length waiting ≡ 520) × (k ≤ number) × Reached table view records ends number position k
+    (length words ≡ length words₀) × Keeps records copy × Keeps records waiting × (k ≤ number) × Reached table view records ends number position k
 
 abbrev μ-loop : tie.MeasureT-loop
 μ-loop table records view copy₀ waiting₀ words₀ ends number position k₀ copy waiting words k = number - k

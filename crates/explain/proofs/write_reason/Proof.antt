@@ -11,6 +11,7 @@ use borrow.Author.Tests.{leb-true, le-leb}
 use Rattle.mtl.proofs.Bounded.{true-and-false, or-iff}
 use Rattle.window.specs.View.{total}
 use Rattle.decimal.specs.Text.{ascii}
+use Rattle.window.proofs.Copies.{keeps-none}
 use Rattle.explain.proofs.Formulas.{none-there, none-answered, empty-reasoned, formula-reasoned}
 use borrow.Author.Needs.{needs}
 use Rattle.explain.proofs.write_reason.Statement.{statement}
@@ -59,7 +60,7 @@ all-answered-requires c κs =
     let a = c .before .before .before .before .before .before .before .before .before .args in
     let few = c .before .before .before .before .before .before .before .before .before .pre .2 in
     let (one-of, inside) = neither-far (c .before .before .before .before .before .columns-of .result) (a .formula) (total (a .view .now)) (a .position) (c .before .before .before .if1 .left) in
-    (c .before .before .before .before .before .before .before .before .before .pre .0, refl, refl, omega arith)
+    (c .before .before .before .before .before .before .before .before .before .pre .0, keeps-none (a .records .now), keeps-none (a .records .now), omega arith)
 
 -- src/lib.rt:130:9
 same-length : tie.Need-same-length
@@ -142,7 +143,7 @@ tell-requires c κs =
     let kept = c .before .before .before .before .before .before .before .before .before .all-answered .kept .1 .1 .1 .1 .1 .0 in
     let room = p .words-room in
     let text-room = c .before .before .before .before .before .before .before .before .before .before .before .before .before .before .before .before .before .before .before .pre .1 in
-    record { lent = record { entry = omega arith; rows = rows .0; lows = rows .1; words-room = omega arith; copy-room = c .before .before .before .before .before .before .before .before .before .all-answered .ensures .1 .0; waiting-room = c .before .before .before .before .before .before .before .before .before .all-answered .ensures .1 .1; views = p .views; few = p .few-records }; far = omega arith; space = omega arith }
+    record { lent = record { entry = omega arith; rows = rows .0; lows = rows .1; words-room = omega arith; copy-keeps = c .before .before .before .before .before .before .before .before .before .all-answered .ensures .1 .0; waiting-keeps = c .before .before .before .before .before .before .before .before .before .all-answered .ensures .1 .1; views = p .views; few = p .few-records }; far = omega arith; space = omega arith }
 
 -- src/lib.rt:99:1
 same-length-4 : tie.Need-same-length-4

@@ -6,6 +6,7 @@ use mathlib.Core.List.{List}
 use native.Mathlib.Omega.{arith}
 use lib.ListN.{length}
 use Rattle.mtl.specs.Formula.{Formula}
+use Rattle.window.specs.Window.{Keeps}
 use Rattle.held.specs.Code.{plan, Fits}
 use Rattle.held.proofs.Holding.{Asked, asked-none, one-more, all-asked, none-settled}
 use Rattle.held.proofs.hold.Statement.{statement}
@@ -13,7 +14,7 @@ use Rattle.held.proofs.hold.Tie as tie
 
 abbrev Inv-loop : tie.InvT-loop
 Inv-loop table tops number records view copy₀ waiting₀ words₀ least₀ k₀ copy waiting words least k =
-    (k ≤ number) × (length words ≡ length words₀) × (length copy ≡ 520) × (length waiting ≡ 520) ×
+    (k ≤ number) × (length words ≡ length words₀) × Keeps records copy × Keeps records waiting ×
     ((base : ℕ) (fs : List Formula) → Fits (plan table tops number) base fs (length words₀) → Asked base fs view records words₀ k least words)
 
 abbrev μ-loop : tie.MeasureT-loop

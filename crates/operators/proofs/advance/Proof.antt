@@ -19,7 +19,7 @@ step-or-requires : tie.Need-step-or-requires
 step-or-requires c κs = room (c .before .before .before .before)
 
 step-previous-requires : tie.Need-step-previous-requires
-step-previous-requires c κs = let start = c .before .before .before .before .before in (room start, start .pre .4, start .pre .6)
+step-previous-requires c κs = let start = c .before .before .before .before .before in (room start, start .pre .5, start .pre .6)
 
 step-next-requires : tie.Need-step-next-requires
 step-next-requires c κs = let start = c .before .before .before .before .before in (room start, start .pre .4, start .pre .6)
@@ -54,7 +54,7 @@ returns-3 c =
     let step = c .before .before .step-previous in
     let start = c .before .before .before .before .before .before .before .before in
     promised 3 (step .result) (step .last .1 .1 .1 .1 .1 .0)
-    (c .before .before .before .before .before .match .keys3) (step .ensures .0) (λ c φ ψ. step .ensures .1 .0 ψ) (step .ensures .1 .1, start .pre .5)
+    (c .before .before .before .before .before .match .keys3) (step .ensures .0) (λ c φ ψ. step .ensures .1 .0 ψ) (start .pre .4, step .ensures .1 .1)
 
 returns-4 : tie.Need-returns-4
 returns-4 c =

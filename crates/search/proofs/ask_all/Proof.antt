@@ -4,6 +4,7 @@ use Prim.Native.Nat.{ℕ, _+_, _-_, _≤_, _<_}
 use mathlib.Core.Path.{_≡_, refl, sym, _∙_, ap}
 use native.Mathlib.Omega.{arith}
 use lib.ListN.{length}
+use Rattle.window.specs.Window.{Keeps}
 use Rattle.search.proofs.Asking.{Going, going-none, going-end, going-open, going-some, going-on}
 use Rattle.search.proofs.ask_all.Statement.{statement}
 use Rattle.search.proofs.ask_all.Tie as tie
@@ -17,7 +18,7 @@ use Rattle.search.proofs.first_of.Reads as first-of-reads
 
 abbrev Inv-loop : tie.InvT-loop
 Inv-loop table records view copy₀ waiting₀ k want from to words₀ done₀ first₀ after₀ copy waiting words done first after =
-    (length words ≡ length words₀) × (length copy ≡ 520) × (length waiting ≡ 520) × (done ≤ to) × (first ≤ done) × (after ≤ done) ×
+    (length words ≡ length words₀) × Keeps records copy × Keeps records waiting × (done ≤ to) × (first ≤ done) × (after ≤ done) ×
     Going table view records k want from to words done first after
 
 abbrev μ-loop : tie.MeasureT-loop

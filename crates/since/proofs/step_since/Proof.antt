@@ -8,7 +8,7 @@ use borrow.Author.Needs.{needs}
 use Rattle.window.specs.View.{total}
 use Rattle.blocks.specs.Block.{taken, left-count, right-count, head}
 use Rattle.blocks.proofs.Words.{Available, available}
-use Rattle.blocks.proofs.Reading.{readable, end-fits}
+use Rattle.blocks.proofs.Reading.{readable}
 use Rattle.since.proofs.Turn.{since-left, since-right, since-open, takable, since-onward, since-batch}
 use Rattle.since.proofs.step_since.Statement.{statement}
 use Rattle.since.proofs.step_since.Tie as tie
@@ -67,8 +67,8 @@ returns-3 c =
     let (left, right, room) = both (earlier6) in
     (refl, (since-open (a .low) (a .high) (a .view .now) (a .records .now) (a .block .now) (after-available .available .result) left right room (taking after-available) (c .if3 .taken), start .pre .2))
 
-slice-read-open : tie.Need-slice-read-open
-slice-read-open c = search needs
+slice-read-head : tie.Need-slice-read-head
+slice-read-head c = search needs
 
 open-requires : tie.Need-open-requires
 open-requires c κs =
@@ -109,20 +109,19 @@ take-both-requires c κs =
     (turn .ensures)
     (after-available .available .ensures .1)
 
-pass-all-requires : tie.Need-pass-all-requires
-pass-all-requires c κs =
-    let earlier10 = c .before .before .before .before .before .before .before .before .before .before in
-    let after-slice-known = earlier10 .before .before .before .before .before .before .before .before .before .before .before .before .before .before in
-    let start = after-slice-known .before .before in
-    let a = start .args in
-    end-fits (a .view .now) (head (a .block .now)) (earlier10 .«open» .ensures) (start .pre .3) (after-slice-known .slice-known .given 11 .fits)
+pass-requires : tie.Need-pass-requires
+pass-requires c κs =
+    let after-open = c .before .before .before .before .before .before .before .before .before .before in
+    let after-available = after-open .before .before .before .before in
+    let opened = after-open .«open» in
+    (after-available .before .before .before .before .before .before .before .before .before .before .before .before .pre .3, (after-available .available .result, opened .last .1 .1 .1 .1 .0, omega arith, opened .ensures))
 
 slice-write-block : tie.Need-slice-write-block
 slice-write-block c =
     omega (arith, c .before .before .before .take-both .kept .0, c .before .before .before .before .before .before .before .take-window .kept .1 .1 .1 .1 .1 .1 .0, c .before .before .before .before .before .before .before .before .before .before .before .before .before .before .before .before .before .before .before .before .before .before .before .before .before .before .before .pre .1)
 
 same-length : tie.Need-same-length
-same-length c = length-set (c .before .before .before .take-both .last .0) 11 (c .pass-all .result) ∙ c .before .before .before .take-both .kept .0 ∙ c .before .before .before .before .before .before .before .take-window .kept .1 .1 .1 .1 .1 .1 .0
+same-length c = length-set (c .before .before .before .take-both .last .0) 11 (c .pass .result) ∙ c .before .before .before .take-both .kept .0 ∙ c .before .before .before .before .before .before .before .take-window .kept .1 .1 .1 .1 .1 .1 .0
 
 returns-4 : tie.Need-returns-4
 returns-4 c =
@@ -140,21 +139,25 @@ returns-4 c =
     let av = taking after-available in
     let some = pos-of-ne-zero (after-if3 .if3 .left) in
     let opened = earlier11 .«open» .ensures in (
-      rw (after-take-both .take-both .ensures, c .pass-all .ensures)
+      rw (after-take-both .take-both .ensures)
           (since-onward (a .low) (a .high) (a .view .now) (a .records .now) (a .block .now) (after-available .available .result) left right room av some (earlier11 .«open» .result) _ opened
           (turn .last .1 .1 .1 .1 .1 .1 .0)
           (turn .kept .1 .1 .1 .1 .1 .1 .0)
           (turn .result)
-          (turn .ensures)),
+          (turn .ensures)
+          (c .pass .result)
+          (c .pass .ensures)),
       (
-        rw (after-take-both .take-both .ensures, c .pass-all .ensures)
+        rw (after-take-both .take-both .ensures)
             (since-batch (a .low) (a .high) (a .view .now) (a .records .now) (a .block .now) (after-available .available .result) left right room av some (earlier11 .«open» .result) _ opened
             (turn .last .1 .1 .1 .1 .1 .1 .0)
             (turn .kept .1 .1 .1 .1 .1 .1 .0)
             (turn .result)
             (turn .ensures)
+            (c .pass .result)
+            (c .pass .ensures)
             (λ i. after-shared-slice-known .shared-slice-known .given i .fits)),
-        opened .room,
+        opened .keeps,
       ),
     )
 
@@ -173,11 +176,11 @@ step-since-spec =
     element-copy-out-available
     available-requires
     returns-3
-    slice-read-open
+    slice-read-head
     open-requires
     take-window-requires
     take-both-requires
-    pass-all-requires
+    pass-requires
     slice-write-block
     same-length
     returns-4)

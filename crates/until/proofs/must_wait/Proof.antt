@@ -60,7 +60,7 @@ returns-first c =
               unknown = c .first-waits .ensures e;
             }),
       ),
-      (o .«open» .ensures .room, t .open2 .ensures .room),
+      (o .«open» .ensures .keeps, t .open2 .ensures .keeps),
     )
 
 pub must-wait-spec : {M : Type 1} → statement M

@@ -8,6 +8,7 @@ use mathlib.Core.Path.{_≡_, refl}
 use lib.ListN.{length}
 use borrow.Author.Needs.{needs}
 use Rattle.window.specs.View.{total}
+use Rattle.window.specs.Window.{either-of, Keeps}
 use Rattle.blocks.specs.Block.{taken, answered}
 use Rattle.until.proofs.Steps.{
   Opens,
@@ -32,44 +33,42 @@ use Rattle.until.proofs.step_until.Statement.{statement}
 use Rattle.until.proofs.step_until.Tie as tie
 
 -- what is known after the windows were opened
-opened : (c : tie.After-open2) →
-    let k = c .before .before .before .before .before .before .before .before .before .before .before .before in
+opened : (c : tie.After-share) →
+    let o = c .before .before .before .«open» in
+    let k = c .before .before .before .before .before .before .before .before .before .before .before .before .before in
     let a = k .before .before .before .before .before .before .before .before .args in
-    Opens (a .view .now) (a .records .now) (a .block .now) (k .room-of .result) (c .before .before .«open» .result) (c .before .before .«open» .last .1 .1 .1 .1 .0) (c .open2 .result)
-    (c .open2 .last .1 .1 .1 .1 .0)
+    Opens (a .view .now) (a .records .now) (a .block .now) (k .room-of .result) (o .result) (o .last .1 .1 .1 .1 .0) (c .share .result)
+    (either-of (c .share .result) (o .last .1 .1 .1 .1 .0) (c .share .last .1 .1 .1 .1 .1 .0))
 opened c =
-    let k = c .before .before .before .before .before .before .before .before .before .before .before .before in
+    let k = c .before .before .before .before .before .before .before .before .before .before .before .before .before in
     let a = k .before .before .before .before .before .before .before .before in
     record {
       room = a .pre .0;
       byte = λ i. k .before .before .before .before .before .before .before .shared-slice-known .given i .fits;
       behind = stands-inside _ _ _ (k .before .before .if1 .left) .0;
       fits = k .room-of .ensures;
-      next = c .before .before .«open» .ensures;
-      start = c .open2 .ensures;
+      next = c .before .before .before .«open» .ensures;
+      start = c .share .ensures .0;
     }
 
 -- what is known after the walk
 went : (c : tie.After-walk-windows) →
-    let o = c .before .before .before .before .before .before .before in
-    let k = o .before .before .before .before .before .before .before .before .before .before .before .before in
+    let after-share = c .before .before .before .before .before .before .before in
+    let o = after-share .before .before .before .«open» in
+    let k = after-share .before .before .before .before .before .before .before .before .before .before .before .before .before in
     let a = k .before .before .before .before .before .before .before .before .args in
-    Went (a .low) (a .high) (o .before .before .before .before .before .before .before .before .before .before .before .smaller .result) (a .view .now) (a .records .now) (a .block .now) (k .room-of .result) (o .before .before .«open» .result)
-    (o .before .before .«open» .last .1 .1 .1 .1 .0)
-    (o .open2 .result)
-    (o .open2 .last .1 .1 .1 .1 .0)
+    Went (a .low) (a .high) (after-share .before .before .before .before .before .before .before .before .before .before .before .before .smaller .result) (a .view .now) (a .records .now) (a .block .now) (k .room-of .result) (o .result) (o .last .1 .1 .1 .1 .0)
+    (after-share .share .result)
+    (either-of (after-share .share .result) (o .last .1 .1 .1 .1 .0) (after-share .share .last .1 .1 .1 .1 .1 .0))
     (c .walk-windows .result)
 went c =
-    let o = c .before .before .before .before .before .before .before in
-    record {
-      opens = opened o;
-      clamp = o .before .before .before .before .before .before .before .before .before .before .before .smaller .ensures;
-      walk = c .walk-windows .ensures;
-    }
+    let after-share = c .before .before .before .before .before .before .before in
+    record { opens = opened after-share; clamp = after-share .before .before .before .before .before .before .before .before .before .before .before .before .smaller .ensures; walk = c .walk-windows .ensures }
 
--- the copies keep their lengths
-copies : (c : tie.After-open2) → (length (c .before .before .«open» .last .1 .1 .1 .1 .0) ≡ 520) × (length (c .open2 .last .1 .1 .1 .1 .0) ≡ 520)
-copies c = let o = opened c in (o .next .room, o .start .room)
+-- the copies keep what they say
+copies : (c : tie.After-share) →
+    let s = c .before .before .before .before .before .before .before .before .before .before .before .before .before .before .before .before .before .before .before .before .before .args .records .now in Keeps s (c .before .before .before .«open» .last .1 .1 .1 .1 .0) × Keeps s (c .share .last .1 .1 .1 .1 .1 .0)
+copies c = (opened c .next .keeps, c .share .ensures .1)
 
 returns-outside : tie.Need-returns
 returns-outside c =
@@ -123,7 +122,7 @@ walk-requires c κs = let o = opened (c .before .before .before .before .before 
 returns-wanted : tie.Need-returns-3
 returns-wanted c =
     let k = c .before .before .before .before .before .before in
-    let a = k .before .before .before .before .before .before .before .before .before .before .before .before .before .before .before .before .before .before .before .before .before .before .before .before .before .before .before .args in
+    let a = k .before .before .before .before .before .before .before .before .before .before .before .before .before .before .before .before .before .before .before .before .before .before .before .before .before .before .before .before .args in
     let t = c .wanted2 in (
       wanted-ends (a .view .now) (a .block .now) (t .result) (t .ensures),
       (
@@ -134,10 +133,10 @@ returns-wanted c =
     )
 
 pass-ahead : tie.Need-pass-requires
-pass-ahead c κs = (c .before .before .before .before .before .before .before .before .before .before .before .before .before .before .before .before .before .before .before .before .before .before .before .before .before .before .before .before .before .before .pre .3, ahead-windowed (went (c .before .before .before)))
+pass-ahead c κs = (c .before .before .before .before .before .before .before .before .before .before .before .before .before .before .before .before .before .before .before .before .before .before .before .before .before .before .before .before .before .before .before .pre .3, ahead-windowed (went (c .before .before .before)))
 
 pass-starts : tie.Need-pass-requires-2
-pass-starts c κs = (c .before .before .before .before .before .before .before .before .before .before .before .before .before .before .before .before .before .before .before .before .before .before .before .before .before .before .before .before .before .before .before .pre .3, starts-windowed (went (c .before .before .before .before)))
+pass-starts c κs = (c .before .before .before .before .before .before .before .before .before .before .before .before .before .before .before .before .before .before .before .before .before .before .before .before .before .before .before .before .before .before .before .before .pre .3, starts-windowed (went (c .before .before .before .before)))
 
 put-back-requires : tie.Need-put-back-requires
 put-back-requires c κs = put-back-fits (went (c .before .before .before .before .before))
@@ -187,8 +186,8 @@ step-until-spec =
     returns-waits
     (λ c. search needs)
     (λ c. search needs)
-    (λ c κs. search needs)
-    (λ c κs. let pre = c .before .before .before .before .before .before .before .before .before .before .before .before .before .before .before .before .before .before .before .pre in (search needs, c .before .before .before .before .before .before .must-wait .ensures .1 .1, pre .3))
+    (λ c κs. (search needs, c .before .before .before .before .must-wait .ensures .1 .0, c .before .before .before .before .before .before .before .before .before .before .before .before .before .before .before .before .before .pre .3))
+    (λ c κs. let pre = c .before .before .before .before .before .before .before .before .before .before .before .before .before .before .before .before .before .before .before .before .pre in (search needs, c .before .before .«open» .ensures .keeps, c .before .before .before .before .before .before .before .must-wait .ensures .1 .1, pre .3))
     (λ c. search needs)
     walk-requires
     (λ c κs. walk-fits (went (c .before .before .before .before .before) .opens) .0)

@@ -13,22 +13,24 @@ next-time-requires c κs =
     rw (k .read .ensures) (k .before .before .before .before .before .pre .1 .0 .long)
 
 read-starts : tie.Need-read-requires-2
-read-starts c κs = c .before .before .before .before .before .before .before .pre .1 .1 .inside
+read-starts c κs = c .before .before .before .before .before .before .before .before .pre .1 .1 .inside
 
 walk-requires : tie.Need-walk-words-requires
 walk-requires c κs =
     let gap = c .before .before .before .gap in
+    let after-either = c .before .before .before .before .before .before .before in
     let starts = c .before .before .before .before .before .before .read2 in
-    let next = c .before .before .before .before .before .before .before .before .before .read in
-    let pre = c .before .before .before .before .before .before .before .before .before .before .before .before .before .before .pre in
+    let next = after-either .before .before .before .read in
+    let pre = c .before .before .before .before .before .before .before .before .before .before .before .before .before .before .before .pre in
     let long = pre .1 .0 .long in
-    (pre .0 .1, rw (next .ensures) (omega arith), rw (gap .ensures) (pre .0 .3), rw (gap .ensures, starts .ensures) (pre .1 .1 .long))
+    (pre .0 .1, rw (next .ensures) (omega arith), rw (gap .ensures) (pre .0 .3), rw (gap .ensures, starts .ensures, after-either .either .ensures) (pre .1 .1 .long))
 
 returns : tie.Need-returns
 returns c =
     let k = c .before .before .before .before in
     let q = k .before .before .before in
-    rw (c .before .last-of .ensures, k .gap .ensures, q .read2 .ensures, q .before .next-time .ensures, q .before .before .time-of-none .ensures, q .before .before .before .read .ensures)
+    let e = q .before in
+    rw (c .before .last-of .ensures, k .gap .ensures, q .read2 .ensures, e .either .ensures, e .before .next-time .ensures, e .before .before .time-of-none .ensures, e .before .before .before .read .ensures)
     at (c .walk-words .ensures)
 
 pub walk-windows-spec : {M : Type 1} → statement M
@@ -38,6 +40,7 @@ walk-windows-spec =
     read-ahead
     (λ c κs. search needs)
     next-time-requires
+    (λ c κs. search needs)
     read-starts
     (λ c. search needs)
     (λ c. search needs)

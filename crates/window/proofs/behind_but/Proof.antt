@@ -26,7 +26,7 @@ returns-all : tie.Need-returns Inv-loop μ-loop
 returns-all c =
     let a = c .before .before .before .args in
     let l = c .before .loop in
-    down-all (a .records .now) (a .from) (a .end) (a .n) (l .left) (l .at) (l .inv) (omega arith) (omega arith)
+    down-all (a .records .now) (a .from) (a .end) (a .n) (l .left) (l .at) (l .inv) (omega arith)
 
 returns-here : tie.Need-returns-2 Inv-loop μ-loop
 returns-here c =

@@ -2,18 +2,16 @@
 -- Assumes nothing.
 use Prim.Native.Nat.{_+_, _-_, _≤_}
 use native.Mathlib.Omega.{arith}
-use mathlib.Core.Logic.{⊎-elim}
 use borrow.Author.Needs.{needs}
-use Rattle.mtl.proofs.Bounded.{le-or-lt}
-use Rattle.window.proofs.Windows.{ended, Gathering, gathering-clear, gathering-group, gathered}
+use Rattle.window.proofs.Windows.{ended, Gathering, gathering-none, gathering-group, gathered}
 use Rattle.window.proofs.gather.Statement.{statement}
 use Rattle.window.proofs.gather.Tie as tie
 
 abbrev Inv-loop : tie.InvT-loop
-Inv-loop records from n clear copy₀ end at₀ k₀ copy at k = Gathering records from n k at copy
+Inv-loop records from copy₀ end at₀ k₀ copy at k = Gathering records from k at copy
 
 abbrev μ-loop : tie.MeasureT-loop
-μ-loop records from n clear copy₀ end at₀ k₀ copy at k = end - at
+μ-loop records from copy₀ end at₀ k₀ copy at k = end - at
 
 abbrev Inv-loop2 : tie.InvT-loop2
 Inv-loop2 = Inv-loop
@@ -23,41 +21,39 @@ abbrev μ-loop2 : tie.MeasureT-loop2
 
 loop-holds : tie.Need-loop-holds Inv-loop μ-loop Inv-loop2 μ-loop2
 loop-holds c =
-    let start = c .before .before .before .before in
+    let start = c .before .before in
     let a = start .args in
-    gathering-clear (a .records .now) (a .from) (a .n) (a .clear) (a .copy .now) (c .copy-plain .last .1 .1 .1 .0) (start .pre .1) (start .pre .2) (c .copy-plain .ensures)
+    gathering-none (a .records .now) (a .from) (a .copy .now) (start .pre)
 
 -- what the loops' tests say
-fits : (c : tie.Then1 Inv-loop μ-loop Inv-loop2 μ-loop2) →
-    (c .before .before .loop .k + 8 ≤ c .before .before .before .before .before .before .before .args .n) × (c .before .before .loop .at + 8 ≤ c .before .before .before .before .before .count .result)
+fits : (c : tie.Then1 Inv-loop μ-loop Inv-loop2 μ-loop2) → (c .before .before .loop .k + 8 ≤ 65) × (c .before .before .loop .at + 8 ≤ c .before .before .before .count .result)
 fits c = omega (arith, c .before .can-take .ensures .0 (c .if1 .taken), c .before .before .loop .inv .going .few)
 
 fits-2 : (c : tie.Then2 Inv-loop μ-loop Inv-loop2 μ-loop2) →
-    (c .before .before .loop2 .k + 1 ≤ c .before .before .before .before .before .before .before .before .before .before .args .n) ×
-    (c .before .before .loop2 .at + 1 ≤ c .before .before .before .before .before .before .before .before .count .result)
+    (c .before .before .loop2 .k + 1 ≤ 65) × (c .before .before .loop2 .at + 1 ≤ c .before .before .before .before .before .before .count .result)
 fits-2 c = omega (arith, c .before .can-take2 .ensures .0 (c .if2 .taken), c .before .before .loop2 .inv .going .few)
 
 loop-again : tie.Need-loop-again Inv-loop μ-loop Inv-loop2 μ-loop2
 loop-again c =
-    let a = c .before .before .before .before .before .before .before .before .before .args in
+    let a = c .before .before .before .before .before .before .before .args in
     let l = c .before .before .before .before .loop in
     let (few, inside) = fits (c .before .before) in
     let g = c .copy-group in
-    gathering-group (a .records .now) (a .from) (a .n) (l .k) (l .at) 8 (g .result) (l .copy) (g .last .1 .1 .1 .0) (l .inv) few (omega arith) (g .ensures)
+    gathering-group (a .records .now) (a .from) (l .k) (l .at) 8 (g .result) (l .copy) (g .last .1 .1 .1 .0) (l .inv) few (omega arith) (g .ensures)
 
 loop2-again : tie.Need-loop2-again Inv-loop μ-loop Inv-loop2 μ-loop2
 loop2-again c =
-    let a = c .before .before .before .before .before .before .before .before .before .before .before .before .args in
+    let a = c .before .before .before .before .before .before .before .before .before .before .args in
     let l = c .before .before .before .before .loop2 in
     let (few, inside) = fits-2 (c .before .before) in
     let g = c .copy-group2 in
-    gathering-group (a .records .now) (a .from) (a .n) (l .k) (l .at) 1 (g .result) (l .copy) (g .last .1 .1 .1 .0) (l .inv) few (omega arith) (g .ensures)
+    gathering-group (a .records .now) (a .from) (l .k) (l .at) 1 (g .result) (l .copy) (g .last .1 .1 .1 .0) (l .inv) few (omega arith) (g .ensures)
 
 returns : tie.Need-returns Inv-loop μ-loop Inv-loop2 μ-loop2
 returns c =
-    let a = c .before .before .before .before .before .before .before .before .before .before .args in
+    let a = c .before .before .before .before .before .before .before .before .args in
     let l = c .before .before .loop2 in
-    gathered (a .records .now) (a .from) (a .n) (l .k) (l .at) (l .copy) (l .inv)
+    gathered (a .records .now) (a .from) (l .k) (l .at) (l .copy) (l .inv)
     (ended (c .before .can-take2 .ensures .1 (c .if2 .left)) (omega arith))
 
 pub gather-spec : {M : Type 1} → statement M
@@ -69,8 +65,6 @@ gather-spec =
     Inv-loop2
     μ-loop2
     (λ c κs. search needs)
-    (λ c κs. let start = c .before .before .before in let clear = start .pre .2 in (clear .inside, omega (arith, clear .few), start .pre .1, clear .none))
-    (λ c. let clear = c .before .before .before .before .pre .2 in ⊎-elim (λ h. omega arith) (λ some. omega (arith, clear .inside some)) (le-or-lt (c .before .before .before .before .args .clear) 0))
     loop-holds
     (λ c. c .loop .inv .going .few)
     (λ c κs. search needs)

@@ -19,7 +19,7 @@ letter-bits-requires : tie.Need-letter-bits-requires
 letter-bits-requires c κs =
     let start = c .before .before .before .before .before in
     let a = start .args in
-    (dense-fits (skips (a .view .now)) (a .records .now) (c .before .before .in-slice .result) (a .n) (told c), start .pre .0, start .pre .1)
+    (dense-fits (skips (a .view .now)) (a .records .now) (c .before .before .in-slice .result) (a .n) (told c), start .pre .1, start .pre .2)
 
 add-end : tie.Need-add-end
 add-end c =
@@ -28,12 +28,15 @@ add-end c =
 
 returns : tie.Need-returns
 returns c =
-    let a = c .before .before .before .before .before .before .args in
-    let at = c .before .before .before .in-slice in
-    rw (← at .ensures) (lettered-dense (skips (a .view .now)) (a .records .now) (a .letter) (at .result) (a .n) (c .letter-bits .result) (told (c .before)) (c .letter-bits .ensures))
+    let start = c .before .before .before .before .before .before in
+    let a = start .args in
+    let at = c .before .before .before .in-slice in (
+      rw (← at .ensures) (lettered-dense (skips (a .view .now)) (a .records .now) (a .letter) (at .result) (a .n) (c .letter-bits .result) (told (c .before)) (c .letter-bits .ensures)),
+      start .pre .4,
+    )
 
 returns-2 : tie.Need-returns-2
-returns-2 c = rw (← c .before .before .before .in-slice .ensures) (c .read-mixed .ensures)
+returns-2 c = (rw (← c .before .before .before .before .in-slice .ensures) (c .read-mixed .ensures .0), c .read-mixed .ensures .1)
 
 pub read-letters-spec : {M : Type 1} → statement M
 read-letters-spec =

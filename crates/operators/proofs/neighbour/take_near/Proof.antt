@@ -46,7 +46,7 @@ returns c =
     let opened = c .before .before .before .before .before .before .before .before .before .«open» .ensures in (
       rw (c .before .before .before .take-right .ensures)
           (took-near (a .low) (a .high) (a .view .now) (a .records .now) (a .block .now) (a .count) (start .pre .0) _ _ opened (near .result) (c .pass .result) (near .ensures) (c .pass .ensures)),
-      opened .room,
+      opened .keeps,
     )
 
 pub take-near-spec : {M : Type 1} → statement M

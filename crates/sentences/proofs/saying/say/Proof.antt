@@ -33,7 +33,7 @@ returns c =
     let a = c .before .before .before .before .before .before .args in
     let lent = c .before .before .before .before .before .before .pre .0 in (
       said-letter (a .table .now) (a .view .now) (a .records .now) (a .k) (a .i) (c .say-letter .result) (c .before .field2 .result) (c .before .field2 .ensures) (sym (c .before .before .before .field .ensures) ∙ c .before .before .if1 .taken) (c .say-letter .ensures .0) (c .say-letter .ensures .1),
-      (lent .copy-room, lent .waiting-room),
+      (lent .copy-keeps, lent .waiting-keeps),
     )
 
 -- src/saying.rt:257:9
@@ -46,7 +46,7 @@ returns-2 c =
     let a = c .before .before .before .before .before .before .args in
     let lent = c .before .before .before .before .before .before .pre .0 in (
       said-connective (a .table .now) (a .view .now) (a .records .now) (a .k) (a .i) (c .say-connective .result) (c .before .before .before .field .result) (sym (c .before .before .before .field .ensures)) (c .before .before .if1 .left) (c .before .if2 .taken) (c .say-connective .ensures),
-      (lent .copy-room, lent .waiting-room),
+      (lent .copy-keeps, lent .waiting-keeps),
     )
 
 -- src/saying.rt:260:44
@@ -68,7 +68,7 @@ returns-3 c =
     let lent = c .before .before .before .before .before .before .before .before .before .pre .0 in (
       said-previous (a .table .now) (a .view .now) (a .records .now) (a .k) (a .i) (c .say-previous .result) (c .before .before .field3 .result) (c .before .field4 .result) (c .before .before .field3 .ensures) (c .before .field4 .ensures) (sym (c .before .before .before .before .before .before .field .ensures) ∙ c .before .before .before .if3 .taken)
           (c .say-previous .ensures .0) (c .say-previous .ensures .1),
-      (lent .copy-room, lent .waiting-room),
+      (lent .copy-keeps, lent .waiting-keeps),
     )
 
 -- src/saying.rt:263:40
@@ -90,7 +90,7 @@ returns-4 c =
     let lent = c .before .before .before .before .before .before .before .before .before .before .pre .0 in (
       said-next (a .table .now) (a .view .now) (a .records .now) (a .k) (a .i) (c .say-next .result) (c .before .before .field5 .result) (c .before .field6 .result) (c .before .before .field5 .ensures) (c .before .field6 .ensures) (sym (c .before .before .before .before .before .before .before .field .ensures) ∙ c .before .before .before .if4 .taken)
           (c .say-next .ensures .0) (c .say-next .ensures .1),
-      (lent .copy-room, lent .waiting-room),
+      (lent .copy-keeps, lent .waiting-keeps),
     )
 
 -- src/saying.rt:266:9

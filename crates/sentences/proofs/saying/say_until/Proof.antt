@@ -87,7 +87,7 @@ search-requires c κs =
     let (below, same) = row .left (ap takes-left (c .before .before .before .before .before .before .before .before .before .before .before .pre .2)) in
     let at = c .before .before .before .field3 .ensures in
     let few = lent .entry in
-    (omega arith, λ j h. lent .rows j (omega arith), lent .words-room, lent .copy-room, lent .waiting-room, lent .views)
+    (omega arith, λ j h. lent .rows j (omega arith), lent .words-room, lent .copy-keeps, lent .waiting-keeps, lent .views)
 
 -- src/saying.rt:220:9
 choose-requires : tie.Need-choose-requires
