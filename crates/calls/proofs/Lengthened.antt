@@ -7,7 +7,7 @@ use mathlib.Core.List.{List, _++_}
 use native.Mathlib.Nat.{zero-add}
 use native.Mathlib.Omega.{arith}
 use lib.Dec.{leb, ltb, eqb}
-use lib.ListN.{length, getD, take, drop, length-append, List·getD-append}
+use lib.ListN.{length, getD, take, length-append, List·getD-append}
 use lib.Seq.{drop-append-le, take-append-le, take-all, getD-append-add}
 use borrow.Author.Tests.{le-leb, le-ltb, ltb-false}
 use Rattle.mtl.specs.Log.{Log, closing, NeverFalls}

@@ -1,6 +1,6 @@
 -- Where an operator's reading heads stand, by kind: in a block with the same heads, in a fresh one, on a longer log, and within the
 -- records. Assumes nothing.
-use Prim.Native.Nat.{ℕ, zero, suc, _-_, _≤_, _<_}
+use Prim.Native.Nat.{ℕ, zero, suc, _-_, _≤_}
 use mathlib.Core.Path.{_≡_, refl, sym, ap, _∙_}
 use mathlib.Core.List.{List}
 use native.Mathlib.Omega.{arith}

@@ -9,7 +9,7 @@ use Rattle.mtl.specs.Formula.Formula.{letter, not, or, previous, next, since, u
 use Rattle.mtl.specs.Log.{Log, NeverFalls}
 use Rattle.blocks.specs.Block.{Onward}
 use Rattle.blocks.specs.Step.{Agrees, Stepped, Steps, Ends}
-use Rattle.blocks.specs.declared.Step.the-variants.{Batch, Open}
+use Rattle.blocks.specs.declared.Step.the-variants.{Batch}
 use Rattle.blocks.proofs.Onward.{onward-refl}
 use Rattle.operators.specs.Letter.{stretch-step}
 use Rattle.operators.proofs.Simple.{some-step}

@@ -9,7 +9,7 @@ use Rattle.mtl.specs.Formula.{Formula}
 use Rattle.mtl.specs.Log.{Log, NeverFalls}
 use Rattle.mtl.specs.Progress.{settled-to}
 use Rattle.blocks.specs.Block.{word, taken, left-count, right-count}
-use Rattle.blocks.specs.Step.{Agrees, Batched, Steps, Ends, has-left, has-right, left-of, right-of, left-to-do}
+use Rattle.blocks.specs.Step.{Agrees, Batched, Steps, Ends, has-left, left-of, right-of, left-to-do}
 use Rattle.blocks.specs.Kinds.{takes-left, takes-right}
 use Rattle.blocks.specs.declared.Step.{Step}
 use Rattle.engine.specs.State.{State}

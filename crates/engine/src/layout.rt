@@ -10,7 +10,7 @@ ghost use Rattle.blocks.specs.Kinds.{takes-left};
 ghost use Rattle.engine.specs.Table.{column};
 ghost use mathlib.Core.List.{List};
 ghost use Rattle.mtl.specs.Formula.{Formula};
-ghost use Rattle.engine.specs.Layout.{subformula-first, first-from, left-from, row-of, Laid};
+ghost use Rattle.engine.specs.Layout.{first-from, left-from, row-of, Laid};
 ghost use Rattle.engine.specs.Tops.{Tops, LaidAs};
 ghost use Rattle.rule.specs.declared.Entry.{Entry};
 use super::table;

@@ -8,7 +8,6 @@ ghost use Rattle.window.specs.Window.{Keeps};
 ghost use Rattle.engine.specs.Answer.{Answers};
 ghost use Rattle.engine.specs.Ask.{Advances, Refills, Fills, stored};
 ghost use Rattle.engine.specs.Table.{RowsOk, column};
-ghost use Rattle.blocks.specs.Kinds.{takes-left};
 
 pub mod layout;
 pub mod table;

@@ -21,7 +21,7 @@ use Rattle.blocks.proofs.Words.{empty-buffer}
 use Rattle.engine.specs.State.{needed-words, own-at, words-before, State, OnwardAll, OnwardFormula}
 use Rattle.engine.proofs.Onward.{formula-refl, formula-trans, all-formula}
 use Rattle.engine.specs.Answer.{first-read}
-use Rattle.engine.specs.Ask.{part, back, stored, Asks, Fills}
+use Rattle.engine.specs.Ask.{back, stored, Asks, Fills}
 use Rattle.engine.specs.Tops.{top-column}
 use Rattle.engine.proofs.Parts.{part-back, drop-back}
 use Rattle.engine.proofs.Held.{HeldWords, held-state, formula-held}

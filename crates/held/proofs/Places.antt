@@ -1,13 +1,11 @@
 -- Where the formulas' words and the answers that they hold stand, one formula behind the other. Assumes nothing.
-use Prim.Native.Nat.{ℕ, zero, suc, _+_, _-_, _≤_, _<_}
-use mathlib.Core.Logic.{⊎-elim}
-use mathlib.Core.Path.{_≡_, refl, sym, ap, ap₂, _∙_}
+use Prim.Native.Nat.{ℕ, suc, _+_, _-_, _≤_, _<_}
+use mathlib.Core.Path.{_≡_, ap, ap₂, _∙_}
 use mathlib.Core.List.{List}
 use native.Mathlib.Omega.{arith}
-use lib.ListN.{length, getD, take, drop}
+use lib.ListN.{length, take, drop}
 use lib.Seq.{getD-take, getD-drop}
 use Rattle.mtl.specs.Formula.{Formula}
-use Rattle.mtl.proofs.Bounded.{le-or-lt}
 use Rattle.rule.specs.Postfix.{formula}
 use Rattle.blocks.specs.Block.{word}
 use Rattle.engine.specs.State.{needed-words, own-at, words-before}

@@ -1,7 +1,6 @@
 -- What a checkpoint's words stand for between two verdicts: each formula's last entry is a buffered operand, whose answers that were not
 -- given yet stand in words 12 and 13 of its own block.
 use Prim.Native.Nat.{ℕ, _+_, _≤_, _<_}
-use mathlib.Core.Bool.{true}
 use mathlib.Core.Path.{_≡_}
 use mathlib.Core.List.{List}
 use lib.ListN.{length, take, drop}

@@ -15,7 +15,6 @@ use Rattle.rule.specs.declared.measuring.Ends.{Ends}
 use Rattle.rule.specs.Entries.{version, count, decoded}
 use Rattle.rule.specs.Postfix.{most-formulas, formulas, formulas-or, formula}
 use Rattle.rule.specs.Refusal.{refusal}
-use Rattle.rule.specs.Words.{offset}
 use Rattle.rule.specs.Accepted.{WellFormed, Whole}
 use Rattle.rule.specs.Contract.{EndsOf}
 use Rattle.rule.proofs.Acceptance.{accepted}

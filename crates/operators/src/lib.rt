@@ -1,6 +1,5 @@
 // One step of an entry on its own block, by kind: the six operators that have operands, whose answers come out of the block; and a
 // letter's reading.
-ghost use mathlib.Core.Path.{_≡_};
 ghost use Prim.Native.Nat.{ℕ, _≤_, _<_, _^_};
 ghost use lib.ListN.{length};
 ghost use Rattle.mtl.specs.Formula.{Formula};

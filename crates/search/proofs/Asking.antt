@@ -1,9 +1,8 @@
 -- The answers of one entry, asked from cleared words on, batch by batch. Assumes nothing.
 use Prim.Native.Nat.{ℕ, _+_, _-_, _≤_, _<_, min}
-use mathlib.Core.Bool.{Bool, true, false}
+use mathlib.Core.Bool.{Bool}
 use mathlib.Core.Bool.{not as negate}
-use mathlib.Core.Logic.{⊎-elim}
-use mathlib.Core.Path.{_≡_, refl, sym, _∙_, ap}
+use mathlib.Core.Path.{_≡_, refl}
 use mathlib.Core.List.{List}
 use native.Mathlib.Omega.{arith}
 use lib.ListN.{length, getD}
@@ -11,17 +10,15 @@ use Rattle.mtl.specs.Formula.{Formula}
 use Rattle.mtl.specs.Log.{Log, NeverFalls}
 use Rattle.mtl.specs.Satisfaction.{sat}
 use Rattle.mtl.specs.Progress.{run, settled-to}
-use Rattle.mtl.proofs.Bounded.{le-or-lt}
 use Rattle.bits.specs.Packed.{Packed}
 use Rattle.bits.proofs.Laws.{packed-first}
-use Rattle.blocks.specs.Step.{Agrees, Batched}
+use Rattle.blocks.specs.Step.{Agrees}
 use Rattle.engine.specs.Table.{Has, column}
 use Rattle.engine.specs.State.{State}
 use Rattle.engine.specs.Answer.{first-read, Answers}
 use Rattle.engine.specs.declared.Reply.the-variants.{Batch, Open}
 use Rattle.reasons.specs.Search.{first-where, after-last}
-use Rattle.search.specs.declared.Scan.{Scan}
-use Rattle.search.specs.Scan.{sought, Scanned, Starts, Scans}
+use Rattle.search.specs.Scan.{sought, Starts, Scans}
 
 agrees-later : (v s : List ℕ) (L : Log) (g : ℕ) → Agrees v s L 0 → Agrees v s L g
 agrees-later v s L g a = record { ends = a .ends; size = a .size; shows = λ i b h. a .shows i (omega arith) h }

@@ -2,12 +2,11 @@
 use Prim.Native.Nat.{ℕ, zero, suc, _+_, _-_, _≤_, _<_}
 use mathlib.Core.Bool.{Bool, true, false, cond, _&&_}
 use mathlib.Core.Bool.{not as negate}
-use mathlib.Core.Logic.{_⊎_, inl, inr, ⊎-elim}
+use mathlib.Core.Logic.{_⊎_, ⊎-elim}
 use mathlib.Core.Path.{_≡_, refl, sym, _∙_, ap}
 use native.Mathlib.Omega.{arith}
 use lib.Dec.{leb}
-use Rattle.mtl.specs.Progress.{run}
-use Rattle.mtl.proofs.Bounded.{true-or-false, true-and-false, false-iff, not-iff, le-or-lt, run-le, run-holds, run-stops, run-least}
+use Rattle.mtl.proofs.Bounded.{true-and-false, false-iff, not-iff, le-or-lt, run-le, run-holds, run-stops, run-least}
 use Rattle.bits.specs.Packed.{bit, last-zero, Packed}
 use Rattle.reasons.specs.Search.{first-where, after-last}
 use Rattle.reasons.proofs.Searches.{last-holds, none-after}

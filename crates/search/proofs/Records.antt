@@ -1,13 +1,11 @@
 -- The log that the records are is shown whole by the view of all records. Assumes nothing.
-use Prim.Native.Nat.{ℕ, zero, suc, _+_, _*_, _-_, _≤_, _<_}
+use Prim.Native.Nat.{ℕ, suc, _+_, _*_, _-_, _≤_, _<_}
 use mathlib.Core.Bool.{Bool, true, false}
-use mathlib.Core.Logic.{⊎-elim}
 use mathlib.Core.Path.{_≡_, refl, sym, _∙_, ap}
 use mathlib.Core.List.{List}
 use native.Mathlib.Nat.{zero-add}
 use native.Mathlib.Omega.{arith}
 use lib.ListN.{getD}
-use Rattle.mtl.proofs.Bounded.{le-or-lt}
 use Rattle.trace.specs.Format.{record-count}
 use Rattle.trace.specs.Positions.{place, positions, before}
 use Rattle.window.specs.View.{total, skips, served, ViewOf}

@@ -1,14 +1,13 @@
 -- A log that is shown whole: the record of a position, and the first position whose time is not below a bound. Assumes nothing.
-use Prim.Native.Nat.{ℕ, _+_, _*_, _-_, _≤_, _<_}
-use mathlib.Core.Bool.{Bool, true, false}
-use mathlib.Core.Logic.{⊎-elim}
-use mathlib.Core.Path.{_≡_, refl, sym, _∙_, ap, subst}
+use Prim.Native.Nat.{ℕ, _-_, _≤_, _<_}
+use mathlib.Core.Bool.{Bool, false}
+use mathlib.Core.Path.{_≡_, sym, _∙_, ap}
 use mathlib.Core.List.{List}
 use native.Mathlib.Omega.{arith}
 use lib.Dec.{leb}
-use borrow.Author.Tests.{le-leb, lt-leb}
+use borrow.Author.Tests.{le-leb}
 use Rattle.mtl.specs.Log.{Log}
-use Rattle.mtl.proofs.Bounded.{le-or-lt, leb-iff, true-and-false}
+use Rattle.mtl.proofs.Bounded.{leb-iff}
 use Rattle.trace.specs.Format.{record-count, time-at}
 use Rattle.trace.specs.Positions.{place, before}
 use Rattle.window.specs.View.{total, skips}

@@ -1,6 +1,6 @@
 -- Words of zeros stand for every subformula of a rule at position 0. Assumes nothing.
 use Prim.Native.Nat.{ℕ, suc, _+_, _-_, _≤_, _<_}
-use mathlib.Core.Path.{_≡_, refl, sym, _∙_, ap, subst}
+use mathlib.Core.Path.{_≡_, sym, _∙_, subst}
 use mathlib.Core.List.{List}
 use native.Mathlib.Omega.{arith}
 use mathlib.Core.Logic.{⊎-elim}
@@ -10,7 +10,7 @@ use lib.Seq.{ext-getD, getD-take, getD-drop, length-take-le}
 use Rattle.mtl.specs.Formula.{Formula}
 use Rattle.mtl.specs.Log.{Log}
 use Rattle.rule.specs.declared.Entry.{Entry}
-use Rattle.rule.specs.Words.{offset, limit}
+use Rattle.rule.specs.Words.{offset}
 use Rattle.rule.specs.Operands.{subformula-words, FormulaAt}
 use Rattle.rule.specs.Accepted.{WellFormed}
 use Rattle.engine.specs.State.{State}

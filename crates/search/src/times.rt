@@ -2,7 +2,7 @@
 ghost use mathlib.Core.Path.{_≡_};
 ghost use Prim.Native.Nat.{_≤_, _<_};
 ghost use Rattle.mtl.specs.Log.{Log};
-ghost use Rattle.trace.specs.Format.{record-count, time-at, has-letter as Format·has-letter};
+ghost use Rattle.trace.specs.Format.{record-count};
 ghost use Rattle.search.specs.Times.{WholeLog, first-record, first-time};
 use window::view;
 

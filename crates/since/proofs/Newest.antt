@@ -1,18 +1,18 @@
 -- since with low 0: the newest witness decides, and the last right is the newest. Whole words of positions at once.
-use Prim.Native.Nat.{ℕ, zero, suc, _+_, _-_, _/_, _%_, _≤_, _<_, _^_}
+use Prim.Native.Nat.{ℕ, zero, suc, _+_, _-_, _%_, _≤_, _<_, _^_}
 use native.Mathlib.Nat.{add-zero, div-eq-of-lt, eq-or-lt-of-le, lt-of-lt-of-le}
 use native.Mathlib.Numerals.{add-one}
 use native.Mathlib.Omega.{arith}
 use mathlib.Core.Bool.{Bool, true, false, cond, _&&_, _||_, true≢false}
 use mathlib.Core.Bool.{not as negate}
-use mathlib.Core.List.{List, [], _∷_}
+use mathlib.Core.List.{List}
 use mathlib.Core.Logic.{_⊎_, inl, inr, ⊎-elim}
 use mathlib.Core.Path.{_≡_, refl, sym, ap, ap₂, _∙_}
 use lib.Bits.{bitAnd, bitOr}
 use lib.Dec.{eqb, leb, ltb}
 use lib.ListN.{length, getD}
 use lib.Pow.{pow-mono}
-use borrow.Author.Tests.{leb-true, le-leb, lt-ltb, ltb-true, ltb-false, ne-eqb}
+use borrow.Author.Tests.{leb-true, le-leb, ltb-true, ltb-false, ne-eqb}
 use Rattle.mtl.specs.Formula.{unbounded}
 use Rattle.mtl.specs.Satisfaction.{since-at}
 use Rattle.mtl.proofs.Bounded.{true-and-false, true-or-false, le-or-lt, same-test, and-iff, at-most-small, since-at-iff}

@@ -5,7 +5,7 @@ use native.Mathlib.Omega.{arith}
 use mathlib.Core.Bool.{Bool, true, false, cond, _&&_, _||_, true≢false}
 use mathlib.Core.Bool.{not as negate}
 use mathlib.Core.List.{List, [], _∷_}
-use mathlib.Core.Logic.{_⊎_, inl, inr, ⊎-elim}
+use mathlib.Core.Logic.{_⊎_, inl, ⊎-elim}
 use mathlib.Core.Path.{_≡_, refl, sym, ap, ap₂, _∙_}
 use lib.Bits.{bitAnd, bitOr}
 use lib.Dec.{eqb, leb, ltb}
@@ -18,9 +18,9 @@ use Rattle.bits.specs.Packed.{bit, number, last-zero, Packed, FilledUp}
 use Rattle.bits.proofs.Laws.{bit-rest, bit-not, bit-or, bit-and, bit-mod}
 use Rattle.bits.proofs.Zeros.{last-is-zero, one-behind-last}
 use Rattle.rule.specs.Words.{ring-words}
-use Rattle.blocks.specs.Ring.{Ring, Rings, Witness, Serves, Witnesses, unexpired, kept, pushed, turned, turns, oldest-of, newest-at, pushes, word-turned, Rises, Shown, Takes}
+use Rattle.blocks.specs.Ring.{Ring, Rings, Witness, Serves, Witnesses, unexpired, kept, pushed, oldest-of, newest-at, pushes, word-turned, Rises, Shown, Takes}
 use Rattle.since.specs.Old.{old-enough}
-use Rattle.since.proofs.Witnesses.{longer, shorter, no-later, turn-keeps}
+use Rattle.since.proofs.Witnesses.{longer, shorter, no-later}
 use Rattle.since.proofs.Shown.{next, before-next, was-near, falls-here, time-small, shown-rises}
 use Rattle.since.proofs.Turn.{after-turns, keeps, keep}
 use Rattle.since.proofs.Runs.{zero-within}

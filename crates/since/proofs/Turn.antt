@@ -8,7 +8,7 @@ use mathlib.Core.List.{List, [], _∷_}
 use mathlib.Core.Path.{_≡_, refl, sym, ap, _∙_}
 use lib.ListN.{length, getD, set, length-set}
 use borrow.Author.Tests.{ne-eqb}
-use Rattle.mtl.specs.Formula.{Formula, unbounded}
+use Rattle.mtl.specs.Formula.{Formula}
 use Rattle.mtl.specs.Formula.Formula.{since}
 use Rattle.mtl.specs.Log.{Log, NeverFalls, head-of}
 use Rattle.mtl.specs.Satisfaction.{sat, since-at}

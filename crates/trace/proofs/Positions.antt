@@ -11,7 +11,7 @@ use Rattle.mtl.specs.Log.{Log, head-of, closing, Placed, NeverFalls}
 use Rattle.mtl.specs.Wanted.{wanted-record}
 use Rattle.mtl.proofs.Bounded.{le-or-lt}
 use Rattle.trace.specs.Format.{record-count}
-use Rattle.trace.specs.Positions.{is-service, passing, seek, spot, place, moved, positions, before}
+use Rattle.trace.specs.Positions.{is-service, passing, seek, spot, place, moved, before}
 use Rattle.trace.specs.Log.{log-of}
 use Rattle.trace.proofs.Laws.{Keeps}
 use Rattle.trace.proofs.Counting.{count-few, spot-holds, spot-rises, spot-last, spot-counts}

@@ -6,7 +6,7 @@ ghost use lib.Dec.{ltb};
 ghost use Rattle.bits.specs.Packed.{number, Packed};
 ghost use Rattle.trace.specs.Format.{word-at, record-count, time-at, has-letter, version-of, skips-of, is-trimmed, dropped as dropped-of, records-of, total-records, wrong-mark, wrong-version, wrong-spare, too-short, malformed, from-record, records-from};
 ghost use Rattle.trace.specs.Order.{falls, FallsBetween, starts-below, disordered, last-time};
-ghost use Rattle.trace.specs.Making.{log-header, word-bytes, record-bytes, trimmed-bytes, put};
+ghost use Rattle.trace.specs.Making.{log-header, record-bytes, trimmed-bytes, put};
 
 // The big-endian number in the four bytes from `at` on.
 fn word(bytes: &[u8], at: usize) -> u64

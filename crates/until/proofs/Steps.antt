@@ -23,7 +23,7 @@ use Rattle.window.specs.View.{slice-first, total, skips, closed, in-slice}
 use Rattle.window.specs.Window.{window-of, Opened, Windowed, Passed}
 use Rattle.window.specs.declared.Window.{Window}
 use Rattle.window.proofs.Reading.{shown-time-bound}
-use Rattle.blocks.specs.Block.{word, taken, left-count, left-bits, right-count, right-bits, answered, last-left, last-right, last-taken-time, head, waiting-head, Onward, Heads, Until, Buffer, Ready}
+use Rattle.blocks.specs.Block.{word, taken, left-count, left-bits, right-count, right-bits, answered, last-left, last-right, head, waiting-head, Onward, Heads, Until, Buffer, Ready}
 use Rattle.blocks.specs.Step.{Agrees, Moved, Stepped, Ends}
 use Rattle.walks.specs.Settle.{pick, settle-spec, time-of-none, next-of, ReadsTimes, Reached, StillWaits, Walk}
 use Rattle.until.specs.Code.{HasRecords, starts-of, ahead-of, last-taken, walked, FitsRoom, Stuck, Wants}

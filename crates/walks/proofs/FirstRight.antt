@@ -7,7 +7,7 @@ use mathlib.Core.Logic.{⊎-elim}
 use mathlib.Core.Path.{_≡_, refl, sym, _∙_, ap}
 use Rattle.mtl.proofs.Bounded.{true-and-false}
 use Rattle.bits.specs.Packed.{bit, FilledDown, Prolonged}
-use Rattle.walks.proofs.Words.{Known, Yes, No, Verdict, Unsettled, Settles}
+use Rattle.walks.proofs.Words.{Known, Verdict, Unsettled, Settles}
 
 module _ {left right n known : ℕ} (k : Known left right n known) (own : ℕ) (filled : FilledDown left right own) where
   -- the first event from i on, which is what the filled word has at i

@@ -14,7 +14,7 @@ use Rattle.bits.proofs.Laws.{packed-same}
 use Rattle.bits.proofs.Filling.{no-bit}
 use Rattle.walks.specs.Settle.{next-of, latest-right, is-late, Met}
 use Rattle.walks.proofs.Log.{Rises}
-use Rattle.walks.proofs.Words.{Known, Yes, No, Verdict, Unsettled, Settles}
+use Rattle.walks.proofs.Words.{Known, Verdict, Unsettled, Settles}
 
 -- the larger of two times that may be missing is one of them
 either : (t u : ℕ) (l r : Bool) → 0 < max (cond l t 0) (cond r u 0) →

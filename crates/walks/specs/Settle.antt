@@ -10,7 +10,7 @@ use Rattle.mtl.specs.Formula.Formula.{until as until-formula}
 use Rattle.mtl.specs.Log.{Log, NeverFalls}
 use Rattle.mtl.specs.Satisfaction.{sat}
 use Rattle.bits.specs.Packed.{bit, number}
-use Rattle.blocks.specs.Block.{taken, answered, Until, Buffer}
+use Rattle.blocks.specs.Block.{Until, Buffer}
 use Rattle.walks.specs.declared.Last.{Last}
 use Rattle.walks.specs.declared.Walked.{Walked}
 use Rattle.walks.specs.declared.Settled.{Settled}

@@ -5,7 +5,7 @@ use native.Mathlib.Nat.{zero-add}
 use mathlib.Core.Bool.{true, _&&_}
 use mathlib.Core.List.{List}
 use mathlib.Core.Logic.{⊎-elim}
-use mathlib.Core.Path.{_≡_, refl, sym, ap, _∙_}
+use mathlib.Core.Path.{_≡_, refl, sym, _∙_}
 use lib.Dec.{leb, ltb, eqb}
 use lib.ListN.{length, replicate}
 use borrow.Author.Tests.{ltb-true, leb-true, eqb-true}
@@ -13,7 +13,7 @@ use Rattle.mtl.proofs.Bounded.{le-or-lt, and-iff}
 use Rattle.bits.specs.Packed.{Packed}
 use Rattle.bits.proofs.Laws.{packed-same}
 use Rattle.trace.specs.Format.{record-count, time-at, has-letter, SameRecord}
-use Rattle.trace.specs.Positions.{place, positions}
+use Rattle.trace.specs.Positions.{place}
 use Rattle.trace.specs.Making.{word-bytes, record-bytes, put}
 use Rattle.trace.proofs.Laws.{same-time, same-letter}
 use Rattle.trace.proofs.Making.{word-back}

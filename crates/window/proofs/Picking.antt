@@ -6,7 +6,7 @@ use mathlib.Core.Bool.{Bool, true, false}
 use mathlib.Core.List.{List}
 use mathlib.Core.Logic.{_⊎_}
 use mathlib.Core.Path.{_≡_, refl, ap}
-use lib.Pow.{pow-mono, shl-exact}
+use lib.Pow.{pow-mono}
 use Rattle.mtl.specs.Satisfaction.{any}
 use Rattle.mtl.proofs.Bounded.{any-false-iff}
 use Rattle.bits.specs.Packed.{number, Packed}

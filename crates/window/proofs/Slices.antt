@@ -1,24 +1,22 @@
 -- SLICES: what is handed over of a log's records shows every position from the first wanted on. Assumes nothing.
-use Prim.Native.Nat.{ℕ, zero, suc, _+_, _-_, _*_, _≤_, _<_}
+use Prim.Native.Nat.{ℕ, zero, suc, _+_, _-_, _≤_, _<_}
 use native.Mathlib.Omega.{arith}
 use native.Mathlib.Nat.{add-zero}
-use mathlib.Core.Bool.{Bool, true, false, cond}
+use mathlib.Core.Bool.{Bool, true, false}
 use mathlib.Core.List.{List}
 use mathlib.Core.Logic.{_⊎_, inl, inr, ⊎-elim}
 use mathlib.Core.Path.{_≡_, refl, sym, ap, _∙_}
-use lib.Dec.{ltb, eqb}
-use lib.ListN.{getD, take, length-take, length-drop}
-use lib.Seq.{getD-take, getD-drop}
+use lib.Dec.{eqb}
 use borrow.Author.Tests.{le-ltb, ltb-false}
 use Rattle.mtl.specs.Log.{Log, head-of, closing}
 use Rattle.mtl.proofs.Bounded.{le-or-lt, true-or-false}
 use Rattle.bits.specs.Packed.{number}
-use Rattle.trace.specs.Format.{record-count, time-at, has-letter, from-record, SameRecord}
-use Rattle.trace.specs.Positions.{is-service, passing, seek, spot, place, moved, positions, before}
+use Rattle.trace.specs.Format.{record-count, time-at, has-letter}
+use Rattle.trace.specs.Positions.{is-service, seek, spot, place, moved, positions, before}
 use Rattle.trace.specs.Log.{log-of}
 use Rattle.window.specs.View.{in-slice, served, Shows}
 use Rattle.trace.proofs.Parts.{Cut, time-part, letter-part, positions-part, before-cut, finds-cut}
-use Rattle.trace.proofs.Counting.{count-few, count-most, count-grows, count-service, seek-high, seek-same, head-counts, head-finds, spot-seek, spot-last}
+use Rattle.trace.proofs.Counting.{count-few, count-most, count-grows, count-service, seek-high, seek-same, head-counts, spot-last}
 use Rattle.trace.proofs.Positions.{seek-past, seek-position, spot-plain, head-moved, head-closing}
 
 -- where a head of position i stands in the slice, i being wanted

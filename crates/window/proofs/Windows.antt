@@ -8,16 +8,16 @@ use mathlib.Core.Bool.{not as negate}
 use mathlib.Core.List.{List, [], _∷_}
 use mathlib.Core.Logic.{_⊎_, inl, inr, ⊎-elim}
 use mathlib.Core.Path.{_≡_, refl, sym, ap, subst, _∙_}
-use lib.Dec.{ltb, leb, eqb}
+use lib.Dec.{ltb, leb}
 use lib.ListN.{length, getD, take, drop, length-drop, List·getD-append}
 use lib.Seq.{sets, getD-take, getD-drop, drop-cons, length-take-le}
-use borrow.Author.Tests.{lt-ltb, ltb-true, le-leb, eqb-true, not-true}
+use borrow.Author.Tests.{lt-ltb, ltb-true, le-leb, not-true}
 use Rattle.mtl.proofs.Bounded.{le-or-lt, true-or-false, true-and-false, and-iff, leb-iff, any-false-iff}
 use Rattle.mtl.specs.Satisfaction.{any}
 use Rattle.bits.specs.Packed.{number, Packed}
 use Rattle.bits.proofs.Laws.{number-bit, packed-none, packed-same}
 use Rattle.trace.specs.Format.{record-count, events-at, has-letter, SameRecord}
-use Rattle.trace.specs.Positions.{is-service, seek, spot, place, moved, positions, Inside}
+use Rattle.trace.specs.Positions.{is-service, spot, place, moved, positions, Inside}
 use Rattle.trace.specs.Making.{put}
 use Rattle.window.specs.View.{slice-first, skips, in-slice}
 use Rattle.window.specs.Window.{some-service, dense, own-part, copied, record-of, letter-at, Counted, Copied, Mixed, Lettered, Keeps, Held, Opened, Behind, BehindBut, BehindSome, Gathered, Windowed, Passed, Found}
@@ -25,7 +25,7 @@ use Rattle.window.specs.declared.Kept.{Kept}
 use Rattle.window.specs.declared.Letters.{Letters}
 use Rattle.window.specs.declared.Window.{Window}
 use Rattle.trace.proofs.Making.{stored, byte-behind, length-put}
-use Rattle.trace.proofs.Counting.{spot-last, head-finds, moved-counts, count-one, count-grows, count-most}
+use Rattle.trace.proofs.Counting.{spot-last, head-finds, count-one, count-grows, count-most}
 use Rattle.trace.proofs.Positions.{seek-position, spot-service, spot-position, spot-past, spot-plain}
 
 -- what a loop's test of two parts says, and what it says when the loop ends

@@ -1,6 +1,6 @@
 -- What a call knows of its log, and the part of the records that the reading heads are handed: those from record `from` on. Records
 -- before it may have been overwritten or dropped.
-use Prim.Native.Nat.{ℕ, _+_, _-_, _*_, _/_, _%_, _<_, _^_, max}
+use Prim.Native.Nat.{ℕ, _+_, _-_, _/_, _%_, _<_, _^_, max}
 use mathlib.Core.Bool.{Bool, true, _||_}
 use mathlib.Core.Path.{_≡_}
 use mathlib.Core.List.{List, [], _∷_, _++_}
@@ -8,7 +8,7 @@ use lib.ListN.{length, getD, drop}
 use lib.Dec.{leb, ltb, eqb}
 use Rattle.mtl.specs.Log.{Log, head-of}
 use Rattle.bits.specs.Packed.{bit, number}
-use Rattle.trace.specs.Format.{record-count, time-at, has-letter, records-of, dropped}
+use Rattle.trace.specs.Format.{record-count, time-at, has-letter}
 use Rattle.trace.specs.Positions.{is-service, place, before}
 
 -- the four numbers with which a view begins: the record with which the slice begins; how many positions the log has, those before the slice

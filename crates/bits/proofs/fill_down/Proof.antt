@@ -1,5 +1,5 @@
 -- `bits::fill_down` meets its contract: with each turn of the loop it has looked twice as far. Assumes nothing.
-use Prim.Native.Nat.{_-_, _≤_, _<_}
+use Prim.Native.Nat.{_-_, _<_}
 use native.Mathlib.Omega.{arith}
 use borrow.Author.Needs.{needs}
 use borrow.Author.Tests.{ltb-false}

@@ -24,7 +24,7 @@ use Rattle.engine.specs.Ask.{part, StillStands, Fills, Refills}
 use Rattle.engine.specs.declared.Reply.{Reply}
 use Rattle.engine.proofs.Parts.{length-part}
 use Rattle.engine.proofs.Parts.Side.{on-left, on-right}
-use Rattle.engine.proofs.Drive.{stands-first, Reading, Standing, Turn, bound, room, may-advance, may-ask, batch-turn, none-turn, again-stands, open-turn, Topped, topped, left-short, short-top, right-last, Made, one-step, two-steps, as-told, again-less, wanted-open, wanted-less, wanted-stands, asked-open, asked-none, asked-batch}
+use Rattle.engine.proofs.Drive.{stands-first, Reading, Standing, bound, room, may-advance, may-ask, batch-turn, none-turn, again-stands, open-turn, Topped, topped, left-short, short-top, right-last, Made, one-step, two-steps, as-told, again-less, wanted-open, wanted-less, wanted-stands, asked-open, asked-none, asked-batch}
 use Rattle.engine.proofs.answer.Reads as answer
 use Rattle.engine.proofs.answer.Kinds as answer-kinds
 use Rattle.engine.proofs.+answer+ask+fill.Lts-answer as answer-lts

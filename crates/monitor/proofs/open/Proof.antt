@@ -6,7 +6,6 @@ use lib.Seq.{length-take-le}
 use lib.ListN.{length}
 use borrow.Author.Needs.{needs}
 use Rattle.rule.specs.Entries.{version}
-use Rattle.rule.specs.Refusal.{refusal}
 use Rattle.rule.proofs.Acceptance.{accepted}
 use Rattle.rule.proofs.Headers.{Decoded, few-to-decode, measured-once}
 use Rattle.checks.specs.Contract.{sized-number, sized-of}

@@ -1,5 +1,4 @@
 -- `ring::oldest` meets its contract.
-use Prim.Native.Nat.{_≤_}
 use native.Mathlib.Omega.{arith}
 use borrow.Author.Needs.{needs}
 use Rattle.ring.proofs.Cells.{none-oldest, some-oldest}

@@ -6,7 +6,7 @@ use mathlib.Core.Bool.{not as negate}
 use mathlib.Core.Logic.{⊎-elim}
 use mathlib.Core.Path.{_≡_, refl, sym, _∙_}
 use lib.Dec.{ltb}
-use lib.ListN.{length, length-set, getD}
+use lib.ListN.{length, length-set}
 use borrow.Author.Needs.{needs}
 use borrow.Author.Tests.{ltb-true}
 use Rattle.mtl.proofs.Bounded.{and-iff}

@@ -1,10 +1,9 @@
 -- `search::after_no` meets its contract.
 use borrow.Author.Needs.{needs}
-use Prim.Native.Nat.{ℕ, _+_, _≤_}
+use Prim.Native.Nat.{ℕ, _+_}
 use mathlib.Core.Bool.{not as negate}
-use mathlib.Core.Path.{_≡_, sym, _∙_, ap}
+use mathlib.Core.Path.{sym, _∙_, ap}
 use native.Mathlib.Omega.{arith}
-use Rattle.reasons.specs.Search.{after-last}
 use Rattle.search.proofs.Finding.{last-in-word, last-stays, last-more}
 use Rattle.search.proofs.after_no.Statement.{statement}
 use Rattle.search.proofs.after_no.Tie as tie

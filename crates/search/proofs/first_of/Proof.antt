@@ -1,6 +1,6 @@
 -- `search::first_of` meets its contract.
-use Prim.Native.Nat.{ℕ, _+_, _≤_}
-use mathlib.Core.Path.{_≡_, sym, _∙_, ap}
+use Prim.Native.Nat.{ℕ, _+_}
+use mathlib.Core.Path.{sym, _∙_, ap}
 use native.Mathlib.Omega.{arith}
 use Rattle.search.specs.Scan.{sought}
 use Rattle.search.proofs.Finding.{first-stays, first-more, first-in-word}

@@ -1,7 +1,7 @@
 -- `search::hits` meets its contract.
 use borrow.Author.Needs.{needs}
 use mathlib.Core.Bool.{not as negate}
-use mathlib.Core.Path.{_≡_, refl, sym, _∙_, ap}
+use mathlib.Core.Path.{refl, ap}
 use borrow.Author.Tests.{le-leb, lt-leb}
 use native.Mathlib.Omega.{arith}
 use Rattle.search.proofs.hits.Statement.{statement}

@@ -1,8 +1,7 @@
 -- `search::search` meets its contract.
-use Prim.Native.Nat.{ℕ, _-_, _≤_}
+use Prim.Native.Nat.{_-_}
 use mathlib.Core.Path.{_≡_, _∙_}
 use native.Mathlib.Omega.{arith}
-use lib.ListN.{length}
 use lib.Seq.{length-take-le}
 use Rattle.engine.specs.Table.{column}
 use borrow.Author.Needs.{needs}

@@ -1,11 +1,11 @@
 -- `since::find_by_runs` meets its contract: from `end` on the word says which positions are old enough, and the one before `end` has no mark.
-use Prim.Native.Nat.{ℕ, _-_, _≤_, _<_, _^_}
+use Prim.Native.Nat.{_-_, _≤_, _<_, _^_}
 use native.Mathlib.Omega.{arith}
 use mathlib.Core.Bool.{true, false}
 use mathlib.Core.Bool.{not as negate}
 use mathlib.Core.Path.{_≡_, ap, _∙_}
 use borrow.Author.Needs.{needs}
-use Rattle.bits.specs.Packed.{bit, last-zero}
+use Rattle.bits.specs.Packed.{bit}
 use Rattle.bits.proofs.Laws.{bit-not}
 use Rattle.bits.proofs.Zeros.{last-is-zero}
 use Rattle.trace.specs.Format.{time-at}

@@ -1,14 +1,8 @@
 -- `since::keep_reached` meets its contract, by the laws of proofs/Newest.
-use Prim.Native.Nat.{ℕ, _-_, _≤_}
-use native.Mathlib.Nat.{zero-add}
+use Prim.Native.Nat.{_-_, _≤_}
 use native.Mathlib.Omega.{arith}
-use mathlib.Core.Path.{ap}
 use borrow.Author.Needs.{needs}
-use borrow.Author.Tests.{leb-true}
-use Rattle.bits.specs.Packed.{bit}
-use Rattle.bits.proofs.Laws.{packed-and}
 use Rattle.trace.specs.Format.{time-at}
-use Rattle.blocks.specs.Ring.{in-reach}
 use Rattle.since.proofs.Newest.{all-in-reach}
 use Rattle.since.proofs.Runs.{reached-are}
 use Rattle.since.proofs.keep_reached.Statement.{statement}

@@ -1,5 +1,4 @@
 -- `since::turn_word` meets its contract: what left's last fail leaves, and right's times from there on.
-use native.Mathlib.Omega.{arith}
 use borrow.Author.Needs.{needs}
 use Rattle.ring.proofs.Cells.{followed}
 use Rattle.since.proofs.turn_word.Statement.{statement}

@@ -1,5 +1,5 @@
 -- `walks::first_bits` meets its contract: a remainder by a power of two leaves the first bits, and 64 bits are all. Assumes nothing.
-use Prim.Native.Nat.{ℕ, _%_, _^_}
+use Prim.Native.Nat.{ℕ, _%_}
 use native.Mathlib.Omega.{arith}
 use mathlib.Core.Path.{_≡_, ap}
 use lib.Pow.{pow-pos}

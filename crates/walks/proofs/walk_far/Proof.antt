@@ -1,9 +1,9 @@
 -- `walks::walk_far` meets its contract, by the laws of UntilFar. Assumes nothing.
-use Prim.Native.Nat.{ℕ, _+_, _-_, _≤_, _<_, _^_}
+use Prim.Native.Nat.{_-_, _≤_, _<_, _^_}
 use native.Mathlib.Nat.{lt-of-le-of-lt}
 use native.Mathlib.Omega.{arith}
 use mathlib.Core.Logic.{⊎-elim}
-use mathlib.Core.Path.{_≡_, refl, sym, _∙_}
+use mathlib.Core.Path.{_∙_}
 use lib.Bits.{bitAnd, and-le-l}
 use borrow.Author.Needs.{needs}
 use Rattle.mtl.proofs.Bounded.{le-or-lt}

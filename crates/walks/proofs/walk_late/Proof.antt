@@ -1,5 +1,5 @@
 -- `walks::walk_late` meets its contract, by the laws of UntilWords and UntilLate. Assumes nothing.
-use Prim.Native.Nat.{ℕ, _-_, _≤_, _<_, _^_}
+use Prim.Native.Nat.{_-_, _≤_, _<_, _^_}
 use native.Mathlib.Nat.{lt-of-lt-of-le}
 use native.Mathlib.Omega.{arith}
 use mathlib.Core.Path.{refl, _∙_}

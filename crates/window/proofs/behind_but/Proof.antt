@@ -1,5 +1,5 @@
 -- `window::behind_but` meets its contract: what is passed from the end down is counted. Assumes nothing.
-use Prim.Native.Nat.{ℕ, _+_, _-_, _≤_, _<_}
+use Prim.Native.Nat.{_-_}
 use native.Mathlib.Omega.{arith}
 use borrow.Author.Needs.{needs}
 use Rattle.window.proofs.Windows.{Down, down-none, down-on, down-all, down-here}

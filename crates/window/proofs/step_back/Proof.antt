@@ -1,11 +1,8 @@
 -- `window::step_back` meets its contract: from record `at` on stand as many positions as were counted, and the last one
 -- counted stands there. Assumes nothing.
-use Prim.Native.Nat.{ℕ, _+_, _-_, _≤_, _<_}
+use Prim.Native.Nat.{_-_, _<_}
 use native.Mathlib.Omega.{arith}
-use mathlib.Core.Logic.{⊎-elim}
-use mathlib.Core.Path.{_≡_}
 use borrow.Author.Needs.{needs}
-use Rattle.trace.specs.Format.{record-count}
 use Rattle.window.proofs.Windows.{Back, back-none, back-on, back-found, goes-on, stops}
 use Rattle.window.proofs.step_back.Statement.{statement}
 use Rattle.window.proofs.step_back.Tie as tie

@@ -1,5 +1,5 @@
 -- `search::times::time_of` meets its contract.
-use mathlib.Core.Path.{_≡_, _∙_, ap}
+use mathlib.Core.Path.{_∙_, ap}
 use native.Mathlib.Omega.{arith}
 use Rattle.trace.specs.Format.{time-at}
 use borrow.Author.Needs.{needs}
