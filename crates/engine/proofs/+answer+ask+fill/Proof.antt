@@ -1,7 +1,7 @@
 -- The cycle of calls {answer, fill, ask}. An entry's operands are filled, and asked, at earlier entries: the measures are k * 3 + 2, k * 3 + 1
 -- and operand * 3 + 3. At the head of the loop the words stand for whatever formula they stood for at first; what is left to do falls.
 use borrow.Author.Needs.{needs}
-use Prim.Native.Nat.{ℕ, zero, suc, _+_, _*_, _-_, _<_, _≤_}
+use Prim.Native.Nat.{ℕ, zero, suc, _+_, _*_, _-_, _<_, _≤_, _^_}
 use mathlib.Core.Bool.{Bool, true, false}
 use mathlib.Core.Bool.{not as negate}
 use mathlib.Core.Logic.{⊎-elim}
@@ -199,6 +199,13 @@ fill-mid t d =
       rw (w .3) (omega arith),
     ))
     (d .if1 .came)
+
+-- an entry before it, and room for right's answers
+fill-right : (t : ℕ) (d : fill-lts.Start (field-reads.Asked, field-reads.Learnt, shifted-reads.Asked, shifted-reads.Learnt, takes-left-reads.Asked, takes-left-reads.Learnt, ask-below t, ask.Post, is-apart-reads.Asked, is-apart-reads.Learnt) (fill-at t) fill.Post) → (0 < d .args .k) × (d .args .own + 3 < 2 ^ 64)
+fill-right t d =
+    let s = d .pre .1 in
+    let read = fill-here t d .read in
+    (omega (arith, s .1, may-ask read on-right (right-taken _ (s .2)) .0), omega (arith, s .4, s .5, bound read, room read))
 
 -- right may be asked, in whichever order the copies are lent
 fill-asks : (t : ℕ) (d : fill-lts.Joined1 (field-reads.Asked, field-reads.Learnt, shifted-reads.Asked, shifted-reads.Learnt, takes-left-reads.Asked, takes-left-reads.Learnt, ask-below t, ask.Post, is-apart-reads.Asked, is-apart-reads.Learnt) (fill-at t) fill.Post) →
@@ -416,30 +423,14 @@ pub +answer+ask+fill-spec : {M : Type 1} → statement M
     (rw (start .pre .1 .4) (left-short (fill-takes t (c .before .before .before .before .before .before .before .before .before) ∙ c .before .before .before .before .before .before .before .before .if1 .taken) (short-top (false-of (c .if2 .taken)) top)), c .before .before .before .ask .ensures .1))
     (λ c κs. search needs)
     -- right is asked, the copies exchanged
-    (λ c. let start = c .before .before .before .before .before .before .before .before .before .before in
-    let s = start .pre .1 in omega (arith, s .1, may-ask (fill-here t start .read) on-right (right-taken _ (s .2)) .0))
-    (λ c. let start = c .before .before .before .before .before .before .before .before .before .before in
-    let s = start .pre .1 in omega (arith, s .4, s .5, bound (fill-here t start .read), room (fill-here t start .read)))
-    (λ c κs.
-    let d = c .before .before .before .before .before in
-    let asks = fill-asks t d in
-    let mid = fill-mid t d in
-    (asks .0, (asks .1, asks .2, asks .3, asks .4, asks .5, mid .2, mid .1, d .before .before .before .before .before .before .pre .1 .8)))
+    (λ c. omega (arith, fill-right t (c .before .before .before .before .before .before .before .before .before .before) .0))
+    (λ c. omega (arith, fill-right t (c .before .before .before .before .before .before .before .before .before .before) .1))
+    (λ c κs. let d = c .before .before .before .before .before in let asks = fill-asks t d in let mid = fill-mid t d in (asks .0, (asks .1, asks .2, asks .3, asks .4, asks .5, mid .2, mid .1, d .before .before .before .before .before .before .pre .1 .8)))
     (λ c. c .before .before .ask2 .kept .1 .1 .1 .1 .1 .1 .1 .1 .1 .1 .0 ∙ fill-mid t (c .before .before .before .before .before .before .before .before) .0 .last)
-    (λ c.
-    let ask = c .before .before .ask2 in
-    (fill-told t (c .before .before .before .before .before .before .before .before) (ask .result) _ (ask .kept .1 .1 .1 .1 .1 .1 .1 .1 .1 .1 .0) (ask .ensures .0), (ask .ensures .1 .1, ask .ensures .1 .0)))
+    (λ c. let ask = c .before .before .ask2 in (fill-told t (c .before .before .before .before .before .before .before .before) (ask .result) _ (ask .kept .1 .1 .1 .1 .1 .1 .1 .1 .1 .1 .0) (ask .ensures .0), (ask .ensures .1 .1, ask .ensures .1 .0)))
     -- or as they are
-    (λ c. let start = c .before .before .before .before .before .before .before .before .before .before in
-    let s = start .pre .1 in omega (arith, s .1, may-ask (fill-here t start .read) on-right (right-taken _ (s .2)) .0))
-    (λ c. let start = c .before .before .before .before .before .before .before .before .before .before in
-    let s = start .pre .1 in omega (arith, s .4, s .5, bound (fill-here t start .read), room (fill-here t start .read)))
-    (λ c κs.
-    let d = c .before .before .before .before .before in
-    let asks = fill-asks t d in
-    let mid = fill-mid t d in
-    (asks .0, (asks .1, asks .2, asks .3, asks .4, asks .5, mid .1, mid .2, d .before .before .before .before .before .before .pre .1 .8)))
+    (λ c. omega (arith, fill-right t (c .before .before .before .before .before .before .before .before .before .before) .0))
+    (λ c. omega (arith, fill-right t (c .before .before .before .before .before .before .before .before .before .before) .1))
+    (λ c κs. let d = c .before .before .before .before .before in let asks = fill-asks t d in let mid = fill-mid t d in (asks .0, (asks .1, asks .2, asks .3, asks .4, asks .5, mid .1, mid .2, d .before .before .before .before .before .before .pre .1 .8)))
     (λ c. c .before .before .ask3 .kept .1 .1 .1 .1 .1 .1 .1 .1 .1 .1 .0 ∙ fill-mid t (c .before .before .before .before .before .before .before .before) .0 .last)
-    (λ c.
-    let ask = c .before .before .ask3 in
-    (fill-told t (c .before .before .before .before .before .before .before .before) (ask .result) _ (ask .kept .1 .1 .1 .1 .1 .1 .1 .1 .1 .1 .0) (ask .ensures .0), ask .ensures .1)))
+    (λ c. let ask = c .before .before .ask3 in (fill-told t (c .before .before .before .before .before .before .before .before) (ask .result) _ (ask .kept .1 .1 .1 .1 .1 .1 .1 .1 .1 .1 .0) (ask .ensures .0), ask .ensures .1)))
