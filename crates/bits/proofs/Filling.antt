@@ -6,11 +6,11 @@ use mathlib.Core.Bool.{Bool, true, false, _&&_, _||_}
 use mathlib.Core.Bool.{not as negate}
 use mathlib.Core.Logic.{_⊎_, ⊎-elim}
 use mathlib.Core.Path.{_≡_, refl, sym, ap, ap₂, _∙_}
-use borrow.Author.Tests.{lt-ltb, le-ltb}
+use borrow.Author.Tests.{lt-ltb, le-ltb, le-leb, lt-leb}
 use lib.Bits.{bitAnd, bitOr}
-use lib.Dec.{eqb, ltb}
+use lib.Dec.{eqb, leb, ltb}
 use lib.Pow.{pow-mono, pow-pos}
-use Rattle.bits.specs.Packed.{bit, FilledDown, FilledUp, Prolonged}
+use Rattle.bits.specs.Packed.{bit, FilledDown, FilledUp, Prolonged, OnesBetween}
 use Rattle.bits.proofs.Laws.{bit-rest, bit-mod, bit-not, bit-or, bit-and, bit-below, above, le-or-lt}
 
 module _ (left right : ℕ → Bool) where
@@ -253,3 +253,27 @@ module _ (word n : ℕ) (few : n < 64) where
       by : (x : Bool) → x || false ≡ x
       by true = refl
       by false = refl
+
+-- a word of ones, cut off
+cut : (end i : ℕ) → end ≤ 64 → bit (18446744073709551615 / 2 ^ (64 - end)) i ≡ ltb i end
+cut end i few =
+    bit-rest 18446744073709551615 (64 - end) i
+    ∙ ⊎-elim
+    (λ out. no-bit 64 18446744073709551615 (64 - end + i) (omega arith) (omega arith) ∙ sym (le-ltb i end out))
+    (λ inside. ones-bit 64 (64 - end + i) (omega arith) ∙ sym (lt-ltb i end inside))
+    (le-or-lt end i)
+
+pub ones-are : (from end : ℕ) → from ≤ 64 → end ≤ 64 → 18446744073709551615 / 2 ^ (64 - from) < 2 ^ 64 →
+    OnesBetween from end (bitAnd (2 ^ 64 - 1 - 18446744073709551615 / 2 ^ (64 - from)) (18446744073709551615 / 2 ^ (64 - end)))
+ones-are from end few few′ small i h =
+    bit-and (2 ^ 64 - 1 - 18446744073709551615 / 2 ^ (64 - from)) (18446744073709551615 / 2 ^ (64 - end)) i
+    ∙ ap₂ (λ (x y : Bool). x && y)
+    (bit-not 64 (18446744073709551615 / 2 ^ (64 - from)) i small h ∙ ap negate (cut from i few) ∙ turned)
+    (cut end i few′)
+  where
+    turned : negate (ltb i from) ≡ leb from i
+    turned =
+        ⊎-elim
+        (λ out. ap negate (le-ltb i from out) ∙ sym (le-leb from i out))
+        (λ inside. ap negate (lt-ltb i from inside) ∙ sym (lt-leb from i inside))
+        (le-or-lt from i)

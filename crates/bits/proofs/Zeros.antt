@@ -2,7 +2,7 @@
 use Prim.Native.Nat.{ℕ, zero, suc, _+_, _*_, _-_, _/_, _%_, _≤_, _<_, _^_, min}
 use native.Mathlib.Nat.{eq-or-lt-of-le, mod-lt, pow-suc}
 use native.Mathlib.Omega.{arith}
-use mathlib.Core.Bool.{Bool, true, false, cond}
+use mathlib.Core.Bool.{Bool, true, false, cond, true≢false}
 use mathlib.Core.Bool.{not as negate}
 use mathlib.Core.Logic.{_⊎_, ⊎-elim}
 use mathlib.Core.Path.{_≡_, refl, sym, ap, _∙_}
@@ -142,3 +142,25 @@ module _ (w : ℕ) (small : w < 2 ^ 64) where
         ones = λ i h. turned-bit i (omega arith) false (f .zeros-before i (omega arith));
         ends = λ h. let s : first ≡ at = omega arith in ap (bit w) s ∙ turned-bit at (omega arith) true (f .one (omega arith));
       }
+
+-- where it lies
+pub zero-within : (n w : ℕ) → last-zero n w ≤ n
+unfolding last-zero
+zero-within zero w = omega arith
+zero-within (suc n) w = by (bit w n) (zero-within n w)
+  where
+    by : (x : Bool) → last-zero n w ≤ n → cond x (last-zero n w) (suc n) ≤ suc n
+    by true h = omega arith
+    by false h = omega arith
+
+-- the last of them is not 0
+pub zero-before : (n w : ℕ) → 0 < n → bit w (n - 1) ≡ true → last-zero n w < n
+unfolding last-zero
+zero-before zero w some e = absurd (omega arith)
+zero-before (suc n) w some e =
+    let s : suc n - 1 ≡ n = omega arith in
+    by (bit w n) (ap (bit w) (sym s) ∙ e) (zero-within n w)
+  where
+    by : (x : Bool) → x ≡ true → last-zero n w ≤ n → cond x (last-zero n w) (suc n) < suc n
+    by true f h = omega arith
+    by false f h = absurd (true≢false (sym f))

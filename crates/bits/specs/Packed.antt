@@ -2,7 +2,7 @@
 use Prim.Native.Nat.{ℕ, zero, suc, _+_, _-_, _*_, _/_, _%_, _^_, _≤_, _<_}
 use mathlib.Core.Bool.{Bool, true, false, cond, _&&_, _||_}
 use mathlib.Core.Path.{_≡_}
-use lib.Dec.{eqb}
+use lib.Dec.{leb, ltb, eqb}
 
 -- bit i, the one worth 2 to the i
 abbrev pub bit : (word i : ℕ) → Bool
@@ -51,3 +51,7 @@ FilledUp left right word =
 pub record Prolonged (word front n longer : ℕ) : Type 0 where
   pub front-bits : (i : ℕ) → i < n → bit longer i ≡ bit front i
   pub own : (i : ℕ) → n ≤ i → i < 64 → bit longer i ≡ bit word (i - n)
+
+-- the bits from `from` to `end` are one, and no others
+abbrev pub OnesBetween : (from end word : ℕ) → Type 0
+OnesBetween from end word = (i : ℕ) → i < 64 → bit word i ≡ leb from i && ltb i end

@@ -1,9 +1,11 @@
 // Words of answers: bit i of a word, the one worth 2 to the i, answers the i-th of up to 64 positions.
 ghost use mathlib.Core.Path.{_≡_};
 ghost use Prim.Native.Nat.{ℕ, _+_, _-_, _/_, _%_, _≤_, _<_, _^_};
-ghost use Rattle.bits.specs.Packed.{bit, number, with-bit, zeros, last-zero, FirstZero, FilledDown, FilledUp, Prolonged};
+ghost use Rattle.bits.specs.Packed.{bit, number, with-bit, zeros, last-zero, FirstZero, FilledDown, FilledUp, Prolonged, OnesBetween};
 
 pub mod bytes;
+
+const ALL_ONES: u64 = 18446744073709551615;
 
 // 1 for true.
 pub fn flag(x: bool) -> u64
@@ -112,4 +114,12 @@ pub fn prolong(word: u64, front: u64, n: u64) -> u64
     ensures { λ r. ⌜ Prolonged word front n r ⌝ }
 {
     front | (word << n)
+}
+
+// The word whose bits from `from` to `end` are 1.
+pub fn ones_between(from: u64, end: u64) -> u64
+    requires { ⌜ (from ≤ 64) × (end ≤ 64) ⌝ }
+    ensures { λ r. ⌜ OnesBetween from end r ⌝ }
+{
+    !rest(ALL_ONES, 64 - from) & rest(ALL_ONES, 64 - end)
 }

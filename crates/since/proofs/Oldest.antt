@@ -16,14 +16,13 @@ use Rattle.mtl.specs.Satisfaction.{since-at}
 use Rattle.mtl.proofs.Bounded.{true-and-false, true-or-false, le-or-lt, same-test, and-iff, at-most-small, since-at-iff}
 use Rattle.bits.specs.Packed.{bit, number, last-zero, Packed, FilledUp}
 use Rattle.bits.proofs.Laws.{bit-rest, bit-not, bit-or, bit-and, bit-mod}
-use Rattle.bits.proofs.Zeros.{last-is-zero, one-behind-last}
+use Rattle.bits.proofs.Zeros.{last-is-zero, one-behind-last, zero-within}
 use Rattle.rule.specs.Words.{ring-words}
 use Rattle.blocks.specs.Ring.{Ring, Rings, Witness, Serves, Witnesses, unexpired, kept, pushed, oldest-of, newest-at, pushes, word-turned, Rises, Shown, Takes}
 use Rattle.since.specs.Old.{old-enough}
 use Rattle.since.proofs.Witnesses.{longer, shorter, no-later}
 use Rattle.since.proofs.Shown.{next, before-next, was-near, falls-here, time-small, shown-rises}
 use Rattle.since.proofs.Turn.{after-turns, keeps, keep}
-use Rattle.since.proofs.Runs.{zero-within}
 use Rattle.since.proofs.Newest.{alive-at, alive-is, begin-first, begin-later, not-before}
 
 -- with low above 0 a time in the ring serves for none that is earlier

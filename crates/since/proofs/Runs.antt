@@ -2,7 +2,7 @@
 use Prim.Native.Nat.{ℕ, zero, suc, _+_, _-_, _/_, _≤_, _<_, _^_}
 use native.Mathlib.Nat.{add-zero, zero-add}
 use native.Mathlib.Omega.{arith}
-use mathlib.Core.Bool.{Bool, true, false, cond, _&&_, _||_, true≢false}
+use mathlib.Core.Bool.{Bool, true, false, cond, _&&_, _||_}
 use mathlib.Core.Bool.{not as negate}
 use mathlib.Core.Logic.{⊎-elim}
 use mathlib.Core.Path.{_≡_, refl, sym, ap, ap₂, _∙_}
@@ -10,58 +10,13 @@ use lib.Bits.{bitAnd, bitOr}
 use lib.Dec.{leb, ltb}
 use borrow.Author.Tests.{le-leb, lt-leb, le-ltb, lt-ltb}
 use Rattle.mtl.proofs.Bounded.{le-or-lt}
-use Rattle.bits.specs.Packed.{bit, last-zero, Packed}
-use Rattle.bits.proofs.Laws.{bit-rest, bit-not, bit-or, bit-and, packed-same, packed-not, packed-and}
-use Rattle.bits.proofs.Filling.{no-bit, zero-bit, ones-bit}
-use Rattle.bits.proofs.Zeros.{one-behind-last}
+use Rattle.bits.specs.Packed.{bit, last-zero, Packed, OnesBetween}
+use Rattle.bits.proofs.Laws.{bit-rest, bit-not, bit-or, packed-same, packed-not, packed-and}
+use Rattle.bits.proofs.Filling.{zero-bit}
+use Rattle.bits.proofs.Zeros.{one-behind-last, zero-within}
 use Rattle.blocks.specs.Ring.{newest-at, in-reach, Rises}
-use Rattle.since.specs.Old.{old-enough, FirstOld, OnesBetween}
+use Rattle.since.specs.Old.{old-enough, FirstOld}
 use Rattle.since.proofs.Newest.{newest-none, newest-more}
-
-pub zero-within : (n w : ℕ) → last-zero n w ≤ n
-unfolding last-zero
-zero-within zero w = omega arith
-zero-within (suc n) w = by (bit w n) (zero-within n w)
-  where
-    by : (x : Bool) → last-zero n w ≤ n → cond x (last-zero n w) (suc n) ≤ suc n
-    by true h = omega arith
-    by false h = omega arith
-
--- the last of them is not 0
-pub zero-before : (n w : ℕ) → 0 < n → bit w (n - 1) ≡ true → last-zero n w < n
-unfolding last-zero
-zero-before zero w some e = absurd (omega arith)
-zero-before (suc n) w some e =
-    let s : suc n - 1 ≡ n = omega arith in
-    by (bit w n) (ap (bit w) (sym s) ∙ e) (zero-within n w)
-  where
-    by : (x : Bool) → x ≡ true → last-zero n w ≤ n → cond x (last-zero n w) (suc n) < suc n
-    by true f h = omega arith
-    by false f h = absurd (true≢false (sym f))
-
--- a word of ones, cut off
-cut : (end i : ℕ) → end ≤ 64 → bit (18446744073709551615 / 2 ^ (64 - end)) i ≡ ltb i end
-cut end i few =
-    bit-rest 18446744073709551615 (64 - end) i
-    ∙ ⊎-elim
-    (λ out. no-bit 64 18446744073709551615 (64 - end + i) (omega arith) (omega arith) ∙ sym (le-ltb i end out))
-    (λ inside. ones-bit 64 (64 - end + i) (omega arith) ∙ sym (lt-ltb i end inside))
-    (le-or-lt end i)
-
-pub ones-are : (from end : ℕ) → from ≤ 64 → end ≤ 64 → 18446744073709551615 / 2 ^ (64 - from) < 2 ^ 64 →
-    OnesBetween from end (bitAnd (2 ^ 64 - 1 - 18446744073709551615 / 2 ^ (64 - from)) (18446744073709551615 / 2 ^ (64 - end)))
-ones-are from end few few′ small i h =
-    bit-and (2 ^ 64 - 1 - 18446744073709551615 / 2 ^ (64 - from)) (18446744073709551615 / 2 ^ (64 - end)) i
-    ∙ ap₂ (λ (x y : Bool). x && y)
-    (bit-not 64 (18446744073709551615 / 2 ^ (64 - from)) i small h ∙ ap negate (cut from i few) ∙ turned)
-    (cut end i few′)
-  where
-    turned : negate (ltb i from) ≡ leb from i
-    turned =
-        ⊎-elim
-        (λ out. ap negate (le-ltb i from out) ∙ sym (le-leb from i out))
-        (λ inside. ap negate (lt-ltb i from inside) ∙ sym (lt-leb from i inside))
-        (le-or-lt from i)
 
 module _ (low : ℕ) (at : ℕ → ℕ) (marks first n : ℕ) where
   -- positions without a mark: the last mark stays

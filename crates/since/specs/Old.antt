@@ -1,9 +1,7 @@
 -- Which positions lie at least low after the last that is marked. `at` tells their times.
 use Prim.Native.Nat.{ℕ, suc, _-_, _≤_, _<_}
-use mathlib.Core.Bool.{Bool, _&&_}
-use mathlib.Core.Path.{_≡_}
-use lib.Dec.{leb, ltb}
-use Rattle.bits.specs.Packed.{bit}
+use mathlib.Core.Bool.{Bool}
+use lib.Dec.{leb}
 use Rattle.blocks.specs.Ring.{newest-at}
 
 -- position i does; where none is marked, it lies at least low after `first`
@@ -16,7 +14,3 @@ pub record FirstOld (low last : ℕ) (at : ℕ → ℕ) (from end r : ℕ) : Typ
   pub within : r ≤ end
   pub before : (i : ℕ) → from ≤ i → i < r → at i - last < low
   pub there : r < end → low ≤ at r - last
-
--- the bits from `from` to `end` are one, and no others
-abbrev pub OnesBetween : (from end word : ℕ) → Type 0
-OnesBetween from end word = (i : ℕ) → i < 64 → bit word i ≡ leb from i && ltb i end

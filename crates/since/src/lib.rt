@@ -14,15 +14,13 @@ ghost use Rattle.blocks.specs.Block.{left-bits, right-bits};
 ghost use Rattle.blocks.specs.Step.{Steps, Ends};
 ghost use Rattle.rule.specs.Words.{ring-words};
 ghost use Rattle.blocks.specs.Ring.{Ring, Rings, Turns, newest-at, oldest-of, in-reach, word-turned, Rises, Takes};
-ghost use Rattle.since.specs.Old.{old-enough, FirstOld, OnesBetween};
+ghost use Rattle.since.specs.Old.{old-enough, FirstOld};
 ghost use Rattle.bits.specs.Packed.{bit, Packed, FilledUp};
 use blocks::Step;
 use blocks::time;
 use blocks::word;
 use window::Window;
 use window::view;
-
-const ALL_ONES: u64 = 18446744073709551615;
 
 // Up to so many runs are gone through one by one.
 const FEW_RUNS: u64 = 6;
@@ -126,14 +124,6 @@ fn find_old(low: u64, window: &[u8], from: usize, end: usize, last: u64) -> usiz
     i
 }
 
-// The word whose bits from `from` to `end` are 1.
-fn ones_between(from: usize, end: usize) -> u64
-    requires { ⌜ (from ≤ 64) × (end ≤ 64) ⌝ }
-    ensures { λ r. ⌜ OnesBetween from end r ⌝ }
-{
-    !bits::rest(ALL_ONES, 64 - from as u64) & bits::rest(ALL_ONES, 64 - end as u64)
-}
-
 // As find_by_groups, from one run of positions without a mark to the one before it. Times never fall, so that those of a run that are old
 // enough are its last.
 fn find_by_runs(low: u64, window: &[u8], n: usize, marks: u64, first: u64) -> u64
@@ -146,7 +136,7 @@ fn find_by_runs(low: u64, window: &[u8], n: usize, marks: u64, first: u64) -> u6
         let from = bits::find_last_zero(!marks, end);
         let last = newest_marked(window, end as usize, marks, first);
         let old = find_old(low, window, from as usize, end as usize, last);
-        answers = answers | ones_between(old, end as usize);
+        answers = answers | bits::ones_between(old as u64, end);
         end = bits::find_last_zero(marks, from);
     }
     answers

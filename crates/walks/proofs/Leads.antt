@@ -15,16 +15,10 @@ use Rattle.bits.specs.Packed.{bit, FilledDown, last-zero}
 use Rattle.bits.proofs.Laws.{bit-and, bit-not, bit-rest, bit-mod}
 use Rattle.bits.proofs.Filling.{no-bit}
 use Rattle.bits.proofs.Zeros.{last-is-zero, one-behind-last}
-use Rattle.walks.specs.Settle.{next-of, Rising, latest-right, is-late}
+use Rattle.walks.specs.Settle.{next-of, Rising, latest-right, is-late, Words}
 use Rattle.walks.proofs.Logic.{neither}
 use Rattle.walks.proofs.LatestRight.{latest-of-none, latest-of-more}
 use Rattle.walks.proofs.Log.{Rises}
-
--- the words: `own` has those at which right holds or from which left leads on to it, `leads` these alone
-pub record Words (left right n own on : ℕ) : Type 0 where
-  pub none : (i : ℕ) → n ≤ i → i ≤ 64 → bit own i ≡ false
-  pub here : (i : ℕ) → i < n → bit own i ≡ bit right i || bit on i
-  pub led : (i : ℕ) → bit on i ≡ bit left i && bit own (suc i)
 
 -- as the code makes them
 abbrev pub leads : (left own : ℕ) → ℕ

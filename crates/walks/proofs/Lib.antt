@@ -11,3 +11,4 @@ pub mod Told
 pub mod Over
 pub mod LatestRight
 pub mod Leads
+pub mod Stretches

@@ -102,6 +102,19 @@ latest-right time left right (suc n) i =
 abbrev pub is-late : (low : ℕ) (time : ℕ → ℕ) (left right n i : ℕ) → Bool
 is-late low time left right n i = leb (time i + low) (latest-right time left right (n - i) i)
 
+-- the words: `own` has those of n positions at which right holds or from which left leads on to it, `leads` these alone
+pub record Words (left right n own leads : ℕ) : Type 0 where
+  pub none : (i : ℕ) → n ≤ i → i ≤ 64 → bit own i ≡ false
+  pub here : (i : ℕ) → i < n → bit own i ≡ bit right i || bit leads i
+  pub led : (i : ℕ) → bit leads i ≡ bit left i && bit own (suc i)
+
+-- of the positions from `from` to `end` those up to r lie at least low before a time, and no others, where times never fall
+pub record LastMet (low to : ℕ) (time : ℕ → ℕ) (from end r : ℕ) : Type 0 where
+  pub behind : from ≤ r
+  pub within : r ≤ end
+  pub there : from < r → time (r - 1) + low ≤ to
+  pub after : (i : ℕ) → r ≤ i → i < end → to < time i + low
+
 -- the first `met` of n positions lie at least low before a time, and no more of them from the first on
 pub record Met (low : ℕ) (start : ℕ → ℕ) (to n met : ℕ) : Type 0 where
   pub most : met ≤ n

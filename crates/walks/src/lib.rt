@@ -3,10 +3,13 @@ ghost use mathlib.Core.Path.{_≡_};
 ghost use mathlib.Core.Bool.{true, false, cond};
 ghost use Prim.Native.Nat.{ℕ, _+_, _-_, _%_, _≤_, _<_, _^_, min};
 ghost use Rattle.trace.specs.Format.{record-count, time-at};
-ghost use Rattle.bits.specs.Packed.{Packed};
-ghost use Rattle.walks.specs.Settle.{settle-spec, time-of-none, next-of, look-spec, take-spec, Rising, latest-right, is-late, first-right, is-soon, Met, Far, Walk, ByWords, Outreaches, is-told, Calm};
+ghost use Rattle.bits.specs.Packed.{bit, Packed};
+ghost use Rattle.walks.specs.Settle.{settle-spec, time-of-none, next-of, look-spec, take-spec, Rising, latest-right, is-late, Words, LastMet, first-right, is-soon, Met, Far, Walk, ByWords, Outreaches, is-told, Calm};
 ghost use Rattle.walks.specs.declared.Settled.the-variants.{Unknown};
 use blocks::time;
+
+// Up to so many stretches are gone through one by one.
+const FEW_STRETCHES: u64 = 4;
 
 // What is known of the next position to answer.
 pub enum Settled {
@@ -220,15 +223,56 @@ fn first_bits(word: u64, n: u64) -> u64
     if n < 64 { word % (1 << n) } else { word }
 }
 
+// Up to which of the positions from `from` to `end` they lie at least low before the time `to`.
+fn find_met(low: u64, ahead: &[u8], from: u64, end: u64, to: u64) -> u64
+    requires { ⌜ (low ≤ 2 ^ 32) × (from ≤ end) × (end ≤ record-count (now ahead)) ⌝ }
+    ensures { λ r. ⌜ LastMet low to (time-at (now (ahead .entry))) from end r ⌝ }
+{
+    let mut i = end;
+    while from < i {
+        if trace::time(ahead, i as usize - 1) + low <= to {
+            break;
+        }
+        i -= 1;
+    }
+    i
+}
+
+// As `find_late`, from one stretch of positions that lead on to the one before it. They have the right of the one behind them, and times never
+// fall, so that those that lie low before it are the stretch's first.
+fn find_by_stretches(low: u64, ahead: &[u8], n: u64, leads: u64, own: u64) -> Late
+    requires { ⌜ (0 < low) × (low < 2 ^ 32) × (0 < n) × (n ≤ 64) × (n ≤ record-count (now ahead)) × (bit leads (n - 1) ≡ false) ⌝ }
+    ensures { λ r. ⌜ ((left right : ℕ) → Words left right n own leads → Rising (time-at (now (ahead .entry))) n → Packed (is-late low (time-at (now (ahead .entry))) left right n) 0 n (r .bits) × (r .right ≡ latest-right (time-at (now (ahead .entry))) left right n 0)) ⌝ }
+{
+    let mut latest = trace::time(ahead, 0);
+    let mut bits: u64 = 0;
+    let mut end = bits::find_last_zero(!leads, n);
+    while 0 < end {
+        let from = bits::find_last_zero(leads, end);
+        let to = trace::time(ahead, end as usize);
+        let met = find_met(low, ahead, from, end, to);
+        bits = bits | bits::ones_between(from, met);
+        latest = pick(from == 0, to, latest);
+        end = bits::find_last_zero(!leads, from);
+    }
+    Late {
+        bits,
+        right: keep_if(bits::test(own, 0), latest),
+    }
+}
+
 // Which of n positions lie at least low before the latest right that left leads to from there on. Times never fall, so one from which left
 // leads on to a right behind it has the same latest right as the next; any other has none but its own, and is not late. From the last one
-// that leads on down, without a branch: whether an operand holds is hard to predict.
+// that leads on down, without a branch: whether an operand holds is hard to predict. Where they are few, by stretches.
 fn find_late(low: u64, ahead: &[u8], n: u64, left: u64, right: u64) -> Late
     requires { ⌜ (0 < low) × (low < 2 ^ 32) × (0 < n) × (n ≤ 64) × (n ≤ record-count (now ahead)) ⌝ }
     ensures { λ r. ⌜ (Rising (time-at (now (ahead .entry))) n → Packed (is-late low (time-at (now (ahead .entry))) left right n) 0 n (r .bits) × (r .right ≡ latest-right (time-at (now (ahead .entry))) left right n 0)) ⌝ }
 {
     let own = bits::fill_down(left, first_bits(right, n));
     let leads = left & (own >> 1);
+    if bits::count_zeros(!leads | (leads << 1), n) <= FEW_STRETCHES {
+        return find_by_stretches(low, ahead, n, leads, own);
+    }
     let mut i = bits::find_last_zero(!leads, n);
     let mut latest = trace::time(ahead, i as usize);
     let mut bits: u64 = 0;

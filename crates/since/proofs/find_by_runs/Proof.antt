@@ -7,10 +7,10 @@ use mathlib.Core.Path.{_≡_, ap, _∙_}
 use borrow.Author.Needs.{needs}
 use Rattle.bits.specs.Packed.{bit}
 use Rattle.bits.proofs.Laws.{bit-not}
-use Rattle.bits.proofs.Zeros.{last-is-zero}
+use Rattle.bits.proofs.Zeros.{last-is-zero, zero-before}
 use Rattle.trace.specs.Format.{time-at}
 use Rattle.blocks.specs.Ring.{Rises}
-use Rattle.since.proofs.Runs.{zero-before, Settled, settled-none, settled-more, settled-all}
+use Rattle.since.proofs.Runs.{Settled, settled-none, settled-more, settled-all}
 use Rattle.since.proofs.find_by_runs.Statement.{statement}
 use Rattle.since.proofs.find_by_runs.Tie as tie
 

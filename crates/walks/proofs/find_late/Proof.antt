@@ -10,13 +10,13 @@ use lib.Dec.{leb}
 use lib.Pow.{pow-add, pow-mono, pow-pos}
 use borrow.Author.Needs.{needs}
 use borrow.Author.Tests.{lt-leb}
-use Rattle.mtl.proofs.Bounded.{le-or-lt}
+use Rattle.mtl.proofs.Bounded.{le-or-lt, true-or-false}
 use Rattle.bits.specs.Packed.{bit, number, Packed}
 use Rattle.bits.proofs.Laws.{number-lt, packed-front}
 use Rattle.bits.proofs.Filling.{zero-bit}
 use Rattle.trace.specs.Format.{time-at}
-use Rattle.walks.specs.Settle.{Rising, latest-right, is-late}
-use Rattle.walks.proofs.Leads.{Words, leads, words-are, UpTo, leads-up-to, leads-inside, right-from-none, own-right, not-late, same-right}
+use Rattle.walks.specs.Settle.{Rising, latest-right, is-late, Words}
+use Rattle.walks.proofs.Leads.{leads, words-are, UpTo, leads-up-to, leads-inside, right-from-none, own-right, not-late, same-right}
 use Rattle.walks.proofs.find_late.Statement.{statement}
 use Rattle.walks.proofs.find_late.Tie as tie
 
@@ -121,28 +121,56 @@ abbrev μ-loop : tie.MeasureT-loop
 μ-loop low ahead n left right own leads i₀ latest₀ bits₀ i latest bits = i
 
 -- the words of those that lead on
-words : (z : tie.After-find-last-zero Inv-loop μ-loop) →
-    let f = z .before in
+words-of : (f : tie.After-fill-down Inv-loop μ-loop) →
     let a = f .before .before .before .args in
     Words (a .left) (a .right) (a .n) (f .fill-down .result) (leads (a .left) (f .fill-down .result))
-words z =
-    let f = z .before in
+words-of f =
     let a = f .before .before .before .args in
     words-are (a .left) (a .right) (a .n) (f .fill-down .result) (omega arith) (omega arith) (rw (f .before .first-bits .ensures) at (f .fill-down .ensures))
 
+-- the last does not
+last-off : (f : tie.After-fill-down Inv-loop μ-loop) →
+    let a = f .before .before .before .args in bit (leads (a .left) (f .fill-down .result)) (a .n - 1) ≡ false
+last-off f =
+    let a = f .before .before .before .args in
+    ⊎-elim
+    (λ on.
+    let (l, o, below) = leads-inside (time-at (a .ahead .now)) (a .left) (a .right) (a .n) (omega arith) (words-of f) (a .n - 1) (omega arith) on in
+    absurd (omega arith))
+    (λ off. off)
+    (true-or-false (bit (leads (a .left) (f .fill-down .result)) (a .n - 1)))
+
+find-by-stretches-requires : tie.Need-find-by-stretches-requires Inv-loop μ-loop
+find-by-stretches-requires c κs =
+    let f = c .before .before in
+    let pre = f .before .before .before .pre in
+    (pre .0, pre .1, pre .2, pre .3, pre .4, last-off f)
+
+returns-stretches : tie.Need-returns Inv-loop μ-loop
+returns-stretches c rising =
+    let f = c .before .before .before in
+    let a = f .before .before .before .args in
+    c .find-by-stretches .ensures (a .left) (a .right) (words-of f) rising
+
+words : (z : tie.After-find-last-zero Inv-loop μ-loop) →
+    let f = z .before .before .before in
+    let a = f .before .before .before .args in
+    Words (a .left) (a .right) (a .n) (f .fill-down .result) (leads (a .left) (f .fill-down .result))
+words z = words-of (z .before .before .before)
+
 -- the last of them
 up-to : (z : tie.After-find-last-zero Inv-loop μ-loop) →
-    let f = z .before in
+    let f = z .before .before .before in
     let a = f .before .before .before .args in
     UpTo (leads (a .left) (f .fill-down .result)) (a .n) (z .find-last-zero .result)
 up-to z =
-    let f = z .before in
+    let f = z .before .before .before in
     let a = f .before .before .before .args in
     leads-up-to (leads (a .left) (f .fill-down .result)) (a .n) (omega arith) (omega (arith, and-le-l (a .left) (f .fill-down .result / 2 ^ 1))) (z .find-last-zero .ensures)
 
-inside : (z : tie.After-find-last-zero Inv-loop μ-loop) → z .find-last-zero .result < z .before .before .before .before .args .n
+inside : (z : tie.After-find-last-zero Inv-loop μ-loop) → z .find-last-zero .result < z .before .before .before .before .before .before .args .n
 inside z =
-    let f = z .before in
+    let f = z .before .before .before in
     let a = f .before .before .before .args in
     end-inside (a .low) (time-at (a .ahead .now)) (a .left) (a .right) (a .n) (f .fill-down .result) (leads (a .left) (f .fill-down .result)) (omega arith) (omega arith) (omega arith) (words z)
     (z .find-last-zero .result)
@@ -155,7 +183,7 @@ time-requires z κs = omega (arith, inside z)
 loop-holds : tie.Need-loop-holds Inv-loop μ-loop
 loop-holds c =
     let z = c .before in
-    let f = z .before in
+    let f = z .before .before .before in
     let a = f .before .before .before .args in
     rw (c .time .ensures .0)
     (none-yet (a .low) (time-at (a .ahead .now)) (a .left) (a .right) (a .n) (f .fill-down .result) (leads (a .left) (f .fill-down .result)) (omega arith) (omega arith) (omega arith) (words z)
@@ -168,7 +196,7 @@ fits : (c : tie.After-pick Inv-loop μ-loop) → c .before .before .before .befo
 fits c =
     let l = c .before .before .before .before .loop in
     let z = c .before .before .before .before .before .before in
-    let f = z .before in
+    let f = z .before .before .before in
     let a = f .before .before .before .args in
     bound (a .low) (time-at (a .ahead .now)) (a .left) (a .right) (a .n) (f .fill-down .result) (leads (a .left) (f .fill-down .result)) (omega arith) (omega arith) (omega arith) (words z)
     (l .i)
@@ -183,7 +211,7 @@ mul-bits c = record { fits = omega (arith, fits c) }
 add-bits : tie.Need-add-bits Inv-loop μ-loop
 add-bits c =
     let t = c .before .before .before in
-    let a = t .before .before .before .before .before .before .before .before .args in
+    let a = t .before .before .before .before .before .before .before .before .before .before .args in
     record { fits = omega (arith, fits (c .before), c .flag .ensures, number-lt (leb (t .time2 .result + a .low) (c .before .pick .result))) }
 
 loop-again : tie.Need-loop-again Inv-loop μ-loop
@@ -192,7 +220,7 @@ loop-again c =
     let t = p .before .before in
     let l = t .before .before .loop in
     let z = t .before .before .before .before in
-    let f = z .before in
+    let f = z .before .before .before in
     let a = f .before .before .before .args in
     rw (c .flag .ensures, t .time2 .ensures .0)
     (more (a .low) (time-at (a .ahead .now)) (a .left) (a .right) (a .n) (f .fill-down .result) (leads (a .left) (f .fill-down .result)) (omega arith) (omega arith) (omega arith) (words z)
@@ -204,12 +232,12 @@ loop-again c =
     (p .pick .ensures ∙ rw (p .before .test .ensures, t .time2 .ensures .0) refl)
     (l .inv))
 
-returns : tie.Need-returns Inv-loop μ-loop
+returns : tie.Need-returns-2 Inv-loop μ-loop
 returns c rising =
     let t = c .before in
     let l = t .before .before .loop in
     let z = t .before .before .before .before in
-    let f = z .before in
+    let f = z .before .before .before in
     let a = f .before .before .before .args in
     let e : l .i ≡ 0 = omega arith in
     let all : a .n - l .i ≡ a .n = omega arith in
@@ -236,6 +264,9 @@ find-late-spec =
     μ-loop
     (λ c κs. search needs)
     (λ c κs. search needs)
+    (λ c κs. search needs)
+    find-by-stretches-requires
+    returns-stretches
     (λ c κs. search needs)
     time-requires
     loop-holds

@@ -1,10 +1,10 @@
--- `since::ones_between` meets its contract.
+-- `bits::ones_between` meets its contract.
 use Prim.Native.Nat.{_<_, _^_}
 use native.Mathlib.Omega.{arith}
 use borrow.Author.Needs.{needs}
-use Rattle.since.proofs.Runs.{ones-are}
-use Rattle.since.proofs.ones_between.Statement.{statement}
-use Rattle.since.proofs.ones_between.Tie as tie
+use Rattle.bits.proofs.Filling.{ones-are}
+use Rattle.bits.proofs.ones_between.Statement.{statement}
+use Rattle.bits.proofs.ones_between.Tie as tie
 
 returns : tie.Need-returns
 returns c =
