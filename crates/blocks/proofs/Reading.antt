@@ -15,10 +15,11 @@ use Rattle.bits.specs.Packed.{Packed}
 use Rattle.bits.proofs.Laws.{packed-same}
 use Rattle.trace.specs.Format.{record-count, time-at}
 use Rattle.window.specs.View.{slice-first, skips, in-slice, Shows}
-use Rattle.window.specs.Window.{window-of, some-service, letter-at, Lettered, Opened, Passed}
+use Rattle.trace.specs.Positions.{place}
+use Rattle.window.specs.Window.{window-of, some-service, letter-at, Lettered, Opened, Passed, FirstTime}
 use Rattle.window.specs.declared.Letters.{Letters}
 use Rattle.window.specs.declared.Window.{Window}
-use Rattle.window.proofs.Reading.{shown-inside, shown-letter, head-behind, window-time}
+use Rattle.window.proofs.Reading.{shown-inside, shown-time, shown-letter, head-behind, window-time}
 use Rattle.blocks.specs.Step.{Agrees}
 
 -- whatever the words hold: the window can be read
@@ -52,6 +53,17 @@ module _ {v s : List ℕ} {L : Log} {g : ℕ} (agrees : Agrees v s L g) {h : ℕ
   letters-end some =
       ap (λ (e : ℕ). slice-first v + e) (letters .end (shown-inside (skips v) s (slice-first v) L p n (shows agrees p n from inside))) ∙
       head-behind (skips v) s (slice-first v) L p n (shows agrees p n from inside) n some (omega arith)
+
+-- their times
+module _ {v s : List ℕ} {L : Log} {g : ℕ} (agrees : Agrees v s L g) {h : ℕ} (p : ℕ) (head : h ≡ head-of L p) (from : g ≤ p) {n : ℕ} (inside : p + n ≤ L .size) where
+  pub read-slice : (i : ℕ) → i < n → time-at s (place (skips v) s (in-slice (slice-first v) h) i) ≡ L .time (p + i)
+  read-slice = rw head (shown-time (skips v) s (slice-first v) L p n (shows agrees p n from inside))
+
+  -- that of the first, as it is read without a window
+  pub read-first : 0 < n → (r : ℕ) → FirstTime v s h r → r ≡ L .time p
+  read-first some r first =
+      let window = shown-inside (skips v) s (slice-first v) L p n (shows agrees p n from inside) in
+      first (rw head (λ i l. window i (omega arith))) ∙ read-slice 0 some ∙ ap (L .time) (add-zero p)
 
 -- a window of them
 module _ {v s : List ℕ} {L : Log} {g : ℕ} (agrees : Agrees v s L g) {h : ℕ} (p : ℕ) (head : h ≡ head-of L p) (from : g ≤ p) {n : ℕ} (inside : p + n ≤ L .size)

@@ -1,6 +1,6 @@
 -- until's step on a block: the windows opened from its heads show the log, and what a walk over them does to its words.
 use Prim.Native.Nat.{ℕ, zero, suc, _+_, _-_, _≤_, _<_, _^_, min}
-use mathlib.Core.Bool.{Bool, true, false, _||_, true≢false}
+use mathlib.Core.Bool.{Bool, true, false, cond, _||_, true≢false}
 use mathlib.Core.List.{List, [], _∷_}
 use mathlib.Core.Logic.{_⊎_, inl, inr, ⊎-elim}
 use mathlib.Core.Path.{_≡_, refl, sym, _∙_, ap}
@@ -8,7 +8,7 @@ use native.Mathlib.Nat.{add-zero}
 use native.Mathlib.Omega.{arith}
 use lib.Dec.{eqb, leb, ltb}
 use lib.ListN.{length, getD}
-use borrow.Author.Tests.{ltb-true, ltb-false, lt-ltb, le-ltb}
+use borrow.Author.Tests.{ltb-true, ltb-false, lt-ltb, le-ltb, ne-eqb}
 use Rattle.mtl.specs.Formula.{Formula, unbounded}
 use Rattle.mtl.specs.Formula.Formula.{until}
 use Rattle.mtl.specs.Log.{Log, NeverFalls, head-of}
@@ -20,22 +20,24 @@ use Rattle.bits.specs.Packed.{number}
 use Rattle.bits.proofs.Laws.{number-lt, packed-none}
 use Rattle.trace.specs.Format.{time-at}
 use Rattle.window.specs.View.{slice-first, total, skips, closed, in-slice}
-use Rattle.window.specs.Window.{window-of, Opened, Windowed, Passed}
+use Rattle.trace.specs.Positions.{place}
+use Rattle.window.specs.Window.{window-of, Opened, Windowed, Passed, FirstTime}
 use Rattle.window.specs.declared.Window.{Window}
 use Rattle.window.proofs.Reading.{shown-time-bound}
 use Rattle.blocks.specs.Block.{word, taken, left-count, left-bits, right-count, right-bits, answered, last-left, last-right, head, waiting-head, Onward, Heads, Until, Buffer, Ready}
 use Rattle.blocks.specs.Step.{Agrees, Moved, Stepped, Ends}
 use Rattle.walks.specs.Settle.{pick, settle-spec, time-of-none, next-of, ReadsTimes, Reached, StillWaits, Walk}
-use Rattle.until.specs.Code.{HasRecords, starts-of, ahead-of, last-taken, walked, FitsRoom, Stuck, Wants}
+use Rattle.until.specs.Code.{HasRecords, starts-of, ahead-of, last-taken, walked, FitsRoom, OpensAhead, Waiting, Strides, Stuck, Wants}
 use Rattle.walks.specs.declared.Last.{Last}
 use Rattle.until.specs.declared.Room.{Room}
+use Rattle.until.specs.declared.Stride.{Stride}
 use Rattle.walks.specs.declared.Walked.{Walked}
 use Rattle.walks.specs.declared.Settled.the-variants.{Unknown}
 use Rattle.blocks.specs.declared.Step.{Step}
 use Rattle.blocks.specs.declared.Step.the-variants.{Batch, Left, Right, Again, Open}
 use Rattle.blocks.proofs.Words.{Store, put, after, word-stores, stores-onward, fits, less-to-do, available}
 use Rattle.blocks.proofs.Taking.{both-stores, first-of, taken-both}
-use Rattle.blocks.proofs.Reading.{readable, read-time, head-passed}
+use Rattle.blocks.proofs.Reading.{readable, read-slice, read-first, read-time, head-passed}
 use Rattle.walks.proofs.Logic as logic
 use Rattle.walks.proofs.Single.{Sees, sees-log, finds, none-waits}
 
@@ -75,16 +77,7 @@ waiting-fits : (g at take answer : ℕ) → g ≤ at → answer ≡ min (at - g 
     (g + answer ≤ at + take) × ((i : ℕ) → i ≤ 64 → g + i ≤ at + take → i ≤ answer)
 waiting-fits g at take answer h e = (omega arith, λ i few l. omega arith)
 
--- two windows opened from a block's heads
-pub record Opens (v s b : List ℕ) (r : Room) (ahead : Window) (copy : List ℕ) (starts : Window) (waiting : List ℕ) : Type 0 where
-  pub room : 17 ≤ length b
-  pub byte : (i : ℕ) → getD s i 0 < 256
-  pub behind : answered b ≤ taken b
-  pub fits : FitsRoom b (total v) r
-  pub next : Opened (skips v) s (in-slice (slice-first v) (head b)) (r .look) ahead copy
-  pub start : Opened (skips v) s (in-slice (slice-first v) (waiting-head b)) (r .answer) starts waiting
-
-module _ {v s b : List ℕ} {r : Room} {ahead : Window} {copy : List ℕ} {starts : Window} {waiting : List ℕ} (opens : Opens v s b r ahead copy starts waiting) where
+module _ {v s b : List ℕ} {r : Room} {ahead : Window} {copy : List ℕ} (opens : OpensAhead v s b r ahead copy) where
   looks : (r .take ≤ r .look) × (taken b + r .look ≤ total v) × (taken b + r .take < total v → r .take < r .look) × (taken b + r .take ≡ total v → r .look ≤ r .take)
   looks = ahead-fits (taken b) (r .take) (r .look) (total v) (opens .fits .inside) (opens .fits .ahead)
 
@@ -101,22 +94,104 @@ module _ {v s b : List ℕ} {r : Room} {ahead : Window} {copy : List ℕ} {start
   pub ahead-holds : HasRecords ahead s copy (r .look)
   ahead-holds = record { inside = readable v (head b) (opens .next); long = opens .next .long }
 
-  pub starts-holds : HasRecords starts s waiting (min (taken b - answered b + r .take) 64)
-  starts-holds = record { inside = readable v (waiting-head b) (opens .start); long = rw (opens .fits .waiting) at (opens .start .long) }
+  pub some-holds : HasRecords ahead s copy (r .take)
+  some-holds = let long = ahead-holds .long in let l = looks .0 in record { inside = ahead-holds .inside; long = omega arith }
 
-  -- what they show is the log
-  reads : {L : Log} {g : ℕ} → Agrees v s L g → answered b ≡ g → head b ≡ head-of L (taken b) → waiting-head b ≡ head-of L g →
-      ReadsTimes (starts-of starts s waiting) (ahead-of ahead s copy (r .take) (r .look) (closed v)) L g (taken b) (r .take)
-  reads {L = L} {g = g} agrees at here there =
+  -- those that wait lie within the log
+  module _ {L : Log} {g : ℕ} (agrees : Agrees v s L g) (at : answered b ≡ g) where
+    waiting-inside : g + r .answer ≤ L .size
+    waiting-inside = let inside = answers .0 in let fit = opens .fits .inside in let size = agrees .size in omega arith
+
+  -- their window, and the times that it shows
+  module _ {starts : Window} {waiting : List ℕ} (opened : Opened (skips v) s (in-slice (slice-first v) (waiting-head b)) (r .answer) starts waiting) where
+    pub starts-holds : HasRecords starts s waiting (min (taken b - answered b + r .take) 64)
+    starts-holds = record { inside = readable v (waiting-head b) opened; long = rw (opens .fits .waiting) at (opened .long) }
+
+    pub window-waits : Waiting v s b r (starts-of starts s waiting)
+    window-waits L g agrees at there = read-time agrees g there (omega arith) (waiting-inside agrees at) opened
+
+  -- the time of the first, and those of the others, none of which is read
+  module _ (first : ℕ) where
+    abbrev pub from-first : ℕ → ℕ
+    from-first i = cond (eqb i 0) first (time-at s (place (skips v) s (in-slice (slice-first v) (waiting-head b)) i))
+
+    pub first-waits : FirstTime v s (waiting-head b) first → Waiting v s b r from-first
+    first-waits read L g agrees at there zero h =
+        read-first agrees g there (omega arith) (waiting-inside agrees at) h first read ∙ ap (L .time) (sym (add-zero g))
+    first-waits read L g agrees at there (suc i) h =
+        rw (ne-eqb (suc i) 0 (omega arith)) (read-slice agrees g there (omega arith) (waiting-inside agrees at) (suc i) h)
+
+  -- a walk, by whatever times of those that wait
+  module _ {low most : ℕ} {start : ℕ → ℕ} {w : Walked}
+      (walk : Walk low most start (ahead-of ahead s copy (r .take) (r .look) (closed v)) (taken b - answered b) (r .take) (left-bits b) (right-bits b) (last-taken b) w) where
+    answered-some : w .count ≤ r .answer
+    answered-some =
+        let l = walk .limits in
+        let most = l .most in
+        let behind = opens .behind in
+        let count = l .behind in
+        answers .1 (w .count) (l .few) (omega arith)
+
+    beyond-some : w .count - (taken b - answered b) ≤ r .look
+    beyond-some = let l = looks .0 in let most = walk .limits .most in let count = walk .limits .behind in omega arith
+
+    pub starts-windowed : {starts : Window} {waiting : List ℕ} → Opened (skips v) s (in-slice (slice-first v) (waiting-head b)) (r .answer) starts waiting →
+        Windowed v s (waiting-head b) (w .count) starts
+    starts-windowed {waiting = waiting} opened = (r .answer, waiting, answered-some, opened)
+
+    pub beyond-windowed : Windowed v s (head b) (w .count - (taken b - answered b)) ahead
+    beyond-windowed = (r .look, copy, beyond-some, opens .next)
+
+  -- by their window
+  pub by-window : {low most : ℕ} {starts : Window} {waiting : List ℕ} → Opened (skips v) s (in-slice (slice-first v) (waiting-head b)) (r .answer) starts waiting →
+      {w : Walked} {k : ℕ} →
+      Walk low most (starts-of starts s waiting) (ahead-of ahead s copy (r .take) (r .look) (closed v)) (taken b - answered b) (r .take) (left-bits b) (right-bits b) (last-taken b) w →
+      Passed v s (waiting-head b) (w .count) starts k → Strides low most v s b r ahead copy (record { walked = w; head = k })
+  by-window {starts = starts} {waiting} opened {w} {k} walk passed =
+      record {
+        start = starts-of starts s waiting;
+        waits = window-waits opened;
+        walk = walk;
+        onward = λ L g agrees at there here. head-passed agrees g there (omega arith) (waiting-inside agrees at) opened (w .count) k (answered-some walk) passed;
+      }
+
+  -- by the first of them: none is answered, or all are
+  module _ (first : ℕ) (read : FirstTime v s (waiting-head b) first) {low most : ℕ} {w : Walked}
+      (walk : Walk low most (from-first first) (ahead-of ahead s copy (r .take) (r .look) (closed v)) (taken b - answered b) (r .take) (left-bits b) (right-bits b) (last-taken b) w) where
+    pub by-first-none : w .count ≡ 0 → Strides low most v s b r ahead copy (record { walked = w; head = waiting-head b })
+    by-first-none none =
+        record {
+          start = from-first first;
+          waits = first-waits first read;
+          walk = walk;
+          onward = λ L g agrees at there here. there ∙ ap (head-of L) (omega arith);
+        }
+
+    pub by-first-all : taken b - answered b < w .count → {k : ℕ} → Passed v s (head b) (w .count - (taken b - answered b)) ahead k →
+        Strides low most v s b r ahead copy (record { walked = w; head = k })
+    by-first-all all {k} passed =
+        record {
+          start = from-first first;
+          waits = first-waits first read;
+          walk = walk;
+          onward = λ L g agrees at there here.
+              let size = agrees .size in
+              let behind = opens .behind in
+              head-passed agrees (taken b) here (omega arith) (rw size at (looks .1)) (opens .next) (w .count - (taken b - answered b)) k (beyond-some walk) passed ∙
+              ap (head-of L) (omega arith);
+        }
+
+  -- what is read is the log
+  reads : {start : ℕ → ℕ} → Waiting v s b r start → ((i : ℕ) → getD s i 0 < 256) → {L : Log} {g : ℕ} → Agrees v s L g → answered b ≡ g → head b ≡ head-of L (taken b) → waiting-head b ≡ head-of L g →
+      ReadsTimes start (ahead-of ahead s copy (r .take) (r .look) (closed v)) L g (taken b) (r .take)
+  reads waits byte {L = L} {g = g} agrees at here there =
       let size = agrees .size in
       let behind = opens .behind in
-      let inside = answers .0 in
       let fit = opens .fits .inside in
       let ahead-time = read-time agrees (taken b) here (omega arith) (rw size at (looks .1)) (opens .next) in
-      let start-time = read-time agrees g there (omega arith) (omega arith) (opens .start) in
       record {
-        bound = λ i h l. shown-time-bound (opens .byte) (agrees .shows i h l);
-        waiting = λ i few l. start-time i (let m = answers .1 (suc i) few (omega arith) in omega arith);
+        bound = λ i h l. shown-time-bound byte (agrees .shows i h l);
+        waiting = λ i few l. waits L g agrees at there i (let m = answers .1 (suc i) few (omega arith) in omega arith);
         ahead = λ i l h.
             ⊎-elim
             (λ m.
@@ -231,30 +306,30 @@ stuck-fresh low most v s b byte e high φ ψ L g clamp falls agrees ready d =
         none-left clamp φ ψ L falls sees (taken-behind ready) (last-taken b) (stands-at ready) refl (ready .core .reached) (both-taken ready d)
 
 -- the first that waits is not settled by the windows' first records
-pub record First (low most : ℕ) (v s b : List ℕ) (end : ℕ) (ahead : Window) (copy : List ℕ) (starts : Window) (waiting : List ℕ) : Type 0 where
+pub record First (low most : ℕ) (v s b : List ℕ) (end : ℕ) (ahead : Window) (copy : List ℕ) (first : ℕ) : Type 0 where
   pub byte : (i : ℕ) → getD s i 0 < 256
   pub some : answered b < taken b
   pub inside : taken b ≤ total v
   pub ends : end ≡ min 1 (total v - taken b)
   pub next : Opened (skips v) s (in-slice (slice-first v) (head b)) end ahead copy
-  pub start : Opened (skips v) s (in-slice (slice-first v) (waiting-head b)) 1 starts waiting
+  pub start : FirstTime v s (waiting-head b) first
   pub unknown :
-      settle-spec low most (starts-of starts s waiting 0) (last-taken b) (next-of (time-at (window-of ahead s copy)) end (time-of-none (closed v)) 0) ≡ Unknown
+      settle-spec low most first (last-taken b) (next-of (time-at (window-of ahead s copy)) end (time-of-none (closed v)) 0) ≡ Unknown
 
-pub stuck-first : {low most : ℕ} {v s b : List ℕ} {end : ℕ} {ahead : Window} {copy : List ℕ} {starts : Window} {waiting : List ℕ} →
-    First low most v s b end ahead copy starts waiting → Stuck low most v s b
-stuck-first {low} {most} {v} {s} {b} {end} {ahead} {copy} {starts} {waiting} f high φ ψ L g clamp falls agrees ready d =
+pub stuck-first : {low most : ℕ} {v s b : List ℕ} {end : ℕ} {ahead : Window} {copy : List ℕ} {first : ℕ} →
+    First low most v s b end ahead copy first → Stuck low most v s b
+stuck-first {low} {most} {v} {s} {b} {end} {ahead} {copy} {first} f high φ ψ L g clamp falls agrees ready d =
     let at = ready .core .own .0 in
     let size = agrees .size in
     let some = f .some in
     let inside = f .inside in
     let ends = f .ends in
-    let sees : Sees L g (taken b) (starts-of starts s waiting 0) (next-of (time-at (window-of ahead s copy)) end (time-of-none (closed v)) 0) false =
+    let sees : Sees L g (taken b) first (next-of (time-at (window-of ahead s copy)) end (time-of-none (closed v)) 0) false =
     record {
       none-taken = λ t. absurd (true≢false (sym t));
       some-taken = λ t. omega arith;
       bound = λ i a l. shown-time-bound (f .byte) (agrees .shows i a l);
-      here = λ l. read-time agrees g (ready .core .heads .1) (omega arith) (omega arith) (f .start) 0 (omega arith) ∙ ap (L .time) (add-zero g);
+      here = λ l. read-first agrees g (ready .core .heads .1) (omega arith) {n = 1} (omega arith) (omega arith) first (f .start);
       ahead = λ l.
           rw (lt-ltb 0 end (omega arith))
           (read-time agrees (taken b) (ready .core .heads .0) (omega arith) (omega arith) (f .next) 0 (omega arith) ∙ ap (L .time) (add-zero (taken b)));
@@ -262,34 +337,34 @@ stuck-first {low} {most} {v} {s} {b} {end} {ahead} {copy} {starts} {waiting} f h
     } in
     none-left clamp φ ψ L falls sees (taken-behind ready) (last-taken b) (stands-at ready) (f .unknown) (ready .core .reached) (both-taken ready d)
 
--- a step on block b that has walked over two windows
-pub record Went (low high most : ℕ) (v s b : List ℕ) (r : Room) (ahead : Window) (copy : List ℕ) (starts : Window) (waiting : List ℕ) (w : Walked) : Type 0 where
-  pub opens : Opens v s b r ahead copy starts waiting
+-- a step on block b that has walked over the window ahead
+pub record Went (low high most : ℕ) (v s b : List ℕ) (r : Room) (ahead : Window) (copy : List ℕ) (t : Stride) : Type 0 where
+  pub opens : OpensAhead v s b r ahead copy
+  pub byte : (i : ℕ) → getD s i 0 < 256
   pub clamp : most ≡ min high unbounded
-  pub walk :
-      Walk low most (starts-of starts s waiting) (ahead-of ahead s copy (r .take) (r .look) (closed v)) (taken b - answered b) (r .take) (left-bits b)
-      (right-bits b) (last-taken b) w
+  pub strides : Strides low most v s b r ahead copy t
 
-module _ {low high most : ℕ} {v s b : List ℕ} {r : Room} {ahead : Window} {copy : List ℕ} {starts : Window} {waiting : List ℕ} {w : Walked}
-    (went : Went low high most v s b r ahead copy starts waiting w) where
-  abbrev opens : Opens v s b r ahead copy starts waiting
+module _ {low high most : ℕ} {v s b : List ℕ} {r : Room} {ahead : Window} {copy : List ℕ} {t : Stride} (went : Went low high most v s b r ahead copy t) where
+  abbrev opens : OpensAhead v s b r ahead copy
   opens = went .opens
 
-  took-some : w .took ≤ r .look
-  took-some = let most = went .walk .limits .most in let l = looks opens .0 in omega arith
+  abbrev w : Walked
+  w = t .walked
 
-  answered-some : w .count ≤ r .answer
-  answered-some =
-      let l = went .walk .limits in
-      let most = l .most in
-      let behind = opens .behind in
-      let count = l .behind in
-      answers opens .1 (w .count) (l .few) (omega arith)
+  abbrev start : ℕ → ℕ
+  start = went .strides .start
+
+  abbrev walk :
+      Walk low most start (ahead-of ahead s copy (r .take) (r .look) (closed v)) (taken b - answered b) (r .take) (left-bits b) (right-bits b) (last-taken b) w
+  walk = went .strides .walk
+
+  took-some : w .took ≤ r .look
+  took-some = let most = walk .limits .most in let l = looks opens .0 in omega arith
 
   -- what it has taken and answered can be written, and the heads moved on
   pub put-back-fits : (17 ≤ length b) × (w .took ≤ left-count b) × (w .took ≤ right-count b) × (taken b + w .took < 2 ^ 64) × (answered b + w .count < 2 ^ 64)
   put-back-fits =
-      let l = went .walk .limits in
+      let l = walk .limits in
       let most = l .most in
       let count = l .behind in
       let behind = opens .behind in
@@ -301,26 +376,23 @@ module _ {low high most : ℕ} {v s b : List ℕ} {r : Room} {ahead : Window} {c
   pub ahead-windowed : Windowed v s (head b) (w .took) ahead
   ahead-windowed = (r .look, copy, took-some, opens .next)
 
-  pub starts-windowed : Windowed v s (waiting-head b) (w .count) starts
-  starts-windowed = (r .answer, waiting, answered-some, opens .start)
-
-  module _ {h k : ℕ} (ahead-passed : Passed v s (head b) (w .took) ahead h) (starts-passed : Passed v s (waiting-head b) (w .count) starts k) where
+  module _ {h : ℕ} (ahead-passed : Passed v s (head b) (w .took) ahead h) where
     abbrev b′ : List ℕ
-    b′ = walked w h k b
+    b′ = walked w h (t .head) b
 
-    at : (i : ℕ) → word b′ i ≡ after (walked-stores w h k b) (word b) i
-    at = let room = opens .room in word-stores (walked-stores w h k b) b (omega arith)
+    at : (i : ℕ) → word b′ i ≡ after (walked-stores w h (t .head) b) (word b) i
+    at = let room = opens .room in word-stores (walked-stores w h (t .head) b) b (omega arith)
 
     pub walked-onward : Onward 12 b b′
     walked-onward =
         let room = opens .room in
         let on = ahead-passed .onward in
-        stores-onward (walked-stores w h k b) b (omega arith) (omega arith) (omega arith)
+        stores-onward (walked-stores w h (t .head) b) b (omega arith) (omega arith) (omega arith)
 
     -- what is left to do falls with every position taken
     pub took-ends : 0 < w .took → Ends true true v b Again b′
     took-ends some =
-        let most = went .walk .limits .most in
+        let most = walk .limits .most in
         let inside = opens .fits .inside in
         (less-to-do v b b′ (w .took) some (omega arith) (at 0), walked-onward)
 
@@ -349,19 +421,19 @@ module _ {low high most : ℕ} {v s b : List ℕ} {r : Room} {ahead : Window} {c
     lead : taken b ≡ g + (taken b - answered b)
     lead = let i = ready .core .own .0 in let behind = opens .behind in omega arith
 
-    seen : ReadsTimes (starts-of starts s waiting) (ahead-of ahead s copy (r .take) (r .look) (closed v)) L g (taken b) (r .take)
-    seen = reads opens agrees (ready .core .own .0) (ready .core .heads .0) (ready .core .heads .1)
+    seen : ReadsTimes start (ahead-of ahead s copy (r .take) (r .look) (closed v)) L g (taken b) (r .take)
+    seen = reads opens (went .strides .waits) (went .byte) agrees (ready .core .own .0) (ready .core .heads .0) (ready .core .heads .1)
 
     reached : Reached low high φ ψ L g (taken b) (w .bits) (w .count) (w .took) (w .last)
-    reached = went .walk .walks high φ ψ L g (taken b) (went .clamp) lead falls seen lefts rights begun
+    reached = walk .walks high φ ψ L g (taken b) (went .clamp) lead falls seen lefts rights begun
 
     -- the block after it
-    module _ {h k : ℕ} (ahead-passed : Passed v s (head b) (w .took) ahead h) (starts-passed : Passed v s (waiting-head b) (w .count) starts k) where
+    module _ {h : ℕ} (ahead-passed : Passed v s (head b) (w .took) ahead h) where
       abbrev b″ : List ℕ
-      b″ = walked w h k b
+      b″ = walked w h (t .head) b
 
-      word-is : (i : ℕ) → word b″ i ≡ after (walked-stores w h k b) (word b) i
-      word-is = at ahead-passed starts-passed
+      word-is : (i : ℕ) → word b″ i ≡ after (walked-stores w h (t .head) b) (word b) i
+      word-is = at ahead-passed
 
       -- the heads stand behind what was taken and answered
       heads : Heads (until low high φ ψ) L (g + w .count) b″
@@ -372,7 +444,7 @@ module _ {low high most : ℕ} {v s b : List ℕ} {r : Room} {ahead : Window} {c
           let inside = answers opens .0 in
           let fit = opens .fits .inside in
           let next = head-passed agrees (taken b) (ready .core .heads .0) (omega arith) (rw size at (looks opens .1)) (opens .next) (w .took) h took-some ahead-passed in
-          let start = head-passed agrees g (ready .core .heads .1) (omega arith) (omega arith) (opens .start) (w .count) k answered-some starts-passed in
+          let start = went .strides .onward L g agrees (ready .core .own .0) (ready .core .heads .1) (ready .core .heads .0) in
           (word-is 11 ∙ next ∙ ap (head-of L) (sym (word-is 0)), word-is 16 ∙ start)
 
       stands : Ready (until low high φ ψ) L (g + w .count) b″ × Moved (until low high φ ψ) b b″
@@ -384,8 +456,8 @@ module _ {low high most : ℕ} {v s b : List ℕ} {r : Room} {ahead : Window} {c
           let z = lefts .within in
           let l = number-lt (w .last .left) in
           let m = number-lt (w .last .right) in
-          let most = went .walk .limits .most in
-          let t = went .walk .limits .bound (range .last-time) in
+          let most = walk .limits .most in
+          let t = walk .limits .bound (range .last-time) in
           let left = opens .fits .left in
           let right = opens .fits .right in
           taken-both (until low high φ ψ) b (w .took) (g + w .count) b″ y
@@ -408,17 +480,17 @@ module _ {low high most : ℕ} {v s b : List ℕ} {r : Room} {ahead : Window} {c
     -- with nothing to take, g stays open
     module _ (none : w .count ≡ 0) (nothing : w .took ≡ 0) where
       -- what is known of it
-      unknown : StillWaits low most (starts-of starts s waiting) (ahead-of ahead s copy (r .take) (r .look) (closed v)) (taken b - answered b) (r .take) (w .count) (w .took) (w .last)
-      unknown = went .walk .waiting none nothing
+      unknown : StillWaits low most start (ahead-of ahead s copy (r .take) (r .look) (closed v)) (taken b - answered b) (r .take) (w .count) (w .took) (w .last)
+      unknown = walk .waiting none nothing
 
       behind : taken b + w .took ≤ both-settled φ ψ L
       behind = let x = lefts .within in let y = rights .within in omega arith
 
-      sees : Sees L (g + w .count) (taken b + w .took) (starts-of starts s waiting (w .count)) (ahead-of ahead s copy (r .take) (r .look) (closed v) (w .took)) (leb (taken b - answered b + w .took) (w .count))
+      sees : Sees L (g + w .count) (taken b + w .took) (start (w .count)) (ahead-of ahead s copy (r .take) (r .look) (closed v) (w .took)) (leb (taken b - answered b + w .took) (w .count))
       sees =
-          sees-log (starts-of starts s waiting) (ahead-of ahead s copy (r .take) (r .look) (closed v)) (taken b - answered b) (r .take) (w .count) (w .took)
+          sees-log start (ahead-of ahead s copy (r .take) (r .look) (closed v)) (taken b - answered b) (r .take) (w .count) (w .took)
           (omega arith)
-          (went .walk .limits .most)
+          (walk .limits .most)
           lead
           (fits lefts)
           seen

@@ -8,20 +8,22 @@ use lib.ListN.{length, set}
 use lib.Dec.{eqb}
 use Rattle.mtl.specs.Formula.{Formula, unbounded}
 use Rattle.mtl.specs.Formula.Formula.{until as until-formula}
-use Rattle.mtl.specs.Log.{Log, NeverFalls}
+use Rattle.mtl.specs.Log.{Log, NeverFalls, head-of}
 use Rattle.mtl.specs.Progress.{settled-to}
 use Rattle.bits.specs.Packed.{number}
 use Rattle.trace.specs.Format.{record-count, time-at}
-use Rattle.window.specs.Window.{window-of}
+use Rattle.window.specs.View.{slice-first, total, skips, closed, in-slice}
+use Rattle.window.specs.Window.{window-of, Opened}
 use Rattle.window.specs.declared.Window.{Window}
-use Rattle.blocks.specs.Block.{taken, left-count, right-count, answered, last-left, last-right, last-taken-time, took-both, Ready}
+use Rattle.blocks.specs.Block.{taken, left-count, left-bits, right-count, right-bits, answered, last-left, last-right, last-taken-time, head, waiting-head, took-both, Ready}
 use Rattle.blocks.specs.Step.{Agrees}
 use Rattle.walks.specs.declared.Last.{Last}
 use Rattle.until.specs.declared.Room.{Room}
+use Rattle.until.specs.declared.Stride.{Stride}
 use Rattle.walks.specs.declared.Walked.{Walked}
 use Rattle.blocks.specs.declared.Step.{Step}
 use Rattle.blocks.specs.declared.Step.the-variants.{Batch, Left, Right, Again, Open}
-use Rattle.walks.specs.Settle.{time-of-none, next-of}
+use Rattle.walks.specs.Settle.{time-of-none, next-of, Walk}
 
 -- a window that has n records
 pub record HasRecords (w : Window) (s copy : List ℕ) (n : ℕ) : Type 0 where
@@ -68,6 +70,28 @@ pub record FitsRoom (b : List ℕ) (total : ℕ) (r : Room) : Type 0 where
       r .take ≡ min (left-count b) (right-count b)
   pub ahead : r .look ≡ min (r .take + 1) (total - taken b)
   pub waiting : r .answer ≡ min (taken b - answered b + r .take) 64
+
+-- the window ahead, opened from a block's head
+pub record OpensAhead (v s b : List ℕ) (r : Room) (ahead : Window) (copy : List ℕ) : Type 0 where
+  pub room : 17 ≤ length b
+  pub behind : answered b ≤ taken b
+  pub fits : FitsRoom b (total v) r
+  pub next : Opened (skips v) s (in-slice (slice-first v) (head b)) (r .look) ahead copy
+
+-- the times of those that wait, where view and slice tell a log in which the block stands
+abbrev pub Waiting : (v s b : List ℕ) → Room → (start : ℕ → ℕ) → Type 0
+Waiting v s b r start =
+    (L : Log) (g : ℕ) → Agrees v s L g → answered b ≡ g → waiting-head b ≡ head-of L g → (i : ℕ) → i < r .answer → start i ≡ L .time (g + i)
+
+-- a walk over the window ahead, by the times of those that wait, and their head behind those that it answers
+pub record Strides (low most : ℕ) (v s b : List ℕ) (r : Room) (ahead : Window) (copy : List ℕ) (t : Stride) : Type 0 where
+  pub start : ℕ → ℕ
+  pub waits : Waiting v s b r start
+  pub walk :
+      Walk low most start (ahead-of ahead s copy (r .take) (r .look) (closed v)) (taken b - answered b) (r .take) (left-bits b) (right-bits b)
+      (last-taken b) (t .walked)
+  pub onward : (L : Log) (g : ℕ) → Agrees v s L g → answered b ≡ g → waiting-head b ≡ head-of L g → head b ≡ head-of L (taken b) →
+      t .head ≡ head-of L (g + t .walked .count)
 
 -- the next position to answer waits for one to be taken: where an operand has no more answers, neither has the until; `most` as in `Walks`
 abbrev pub Stuck : (low most : ℕ) (v s b : List ℕ) → Type 0

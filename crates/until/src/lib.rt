@@ -1,7 +1,8 @@
 // until: two reading heads and no history.
 ghost use mathlib.Core.Path.{_≡_};
 ghost use mathlib.Core.Bool.{true, false};
-ghost use Prim.Native.Nat.{_+_, _-_, _≤_, _<_, _^_, min};
+ghost use mathlib.Core.Logic.{_⊎_};
+ghost use Prim.Native.Nat.{ℕ, _+_, _-_, _≤_, _<_, _^_, min};
 ghost use lib.ListN.{length};
 ghost use Rattle.mtl.specs.Formula.{Formula};
 ghost use Rattle.mtl.specs.Formula.Formula.{until};
@@ -10,8 +11,9 @@ ghost use Rattle.window.specs.View.{Views, total};
 ghost use Rattle.window.specs.Window.{window-of, either-of, Keeps};
 ghost use Rattle.blocks.specs.Block.{taken, left-count, left-bits, right-count, right-bits, answered};
 ghost use Rattle.blocks.specs.Step.{Steps, Ends};
-ghost use Rattle.walks.specs.Settle.{settle-spec, time-of-none, next-of, Walk};
-ghost use Rattle.until.specs.Code.{HasRecords, starts-of, ahead-of, last-taken, walked, Wants, Stuck, FitsRoom};
+ghost use Rattle.walks.specs.Settle.{settle-spec, time-of-none, next-of, Walk, ByWords};
+ghost use Rattle.walks.specs.declared.Last.{Last as LastTaken};
+ghost use Rattle.until.specs.Code.{HasRecords, starts-of, ahead-of, last-taken, walked as walked-block, Wants, Stuck, FitsRoom, OpensAhead, Strides};
 ghost use Rattle.walks.specs.declared.Settled.the-variants.{Unknown};
 use blocks::Step;
 use blocks::time;
@@ -30,10 +32,16 @@ pub struct Room {
     answer: u64,
 }
 
+// A walk, and where the head of those that wait stands behind it.
+pub struct Stride {
+    walked: Walked,
+    head: u64,
+}
+
 // Writes a walk's end back, and the two reading heads.
 fn put_back(block: &mut [u64], w: Walked, ahead: u64, waiting: u64)
     requires { ⌜ (17 ≤ length (now block)) × (w .took ≤ left-count (now block)) × (w .took ≤ right-count (now block)) × (taken (now block) + w .took < 2 ^ 64) × (answered (now block) + w .count < 2 ^ 64) ⌝ }
-    ensures { λ _. ⌜ now (block .exit) ≡ walked w ahead waiting (now (block .entry)) ⌝ }
+    ensures { λ _. ⌜ now (block .exit) ≡ walked-block w ahead waiting (now (block .entry)) ⌝ }
 {
     let answered = block[word::ANSWERED] + w.count;
     blocks::take_both(block, w.took);
@@ -120,25 +128,24 @@ fn room_of(block: &[u64], total: u64) -> Room
     }
 }
 
-// Whether the first that waits is not settled by what was taken, nor by the first of `end` positions ahead; there is one at most.
+// Whether the first that waits, which has this time, is not settled by what was taken, nor by the first of `end` positions ahead; there is one
+// at most.
 fn first_waits<'a>(
     low: u64,
     high: u64,
+    start: u64,
     records: &'a [u8],
-    starts: Window,
-    waiting: &'a [u8],
     ahead: Window,
     copy: &'a [u8],
     end: u64,
     closed: bool,
     block: &[u64],
 ) -> bool
-    requires { ⌜ (16 ≤ length (now block)) × HasRecords ahead (now records) (now copy) end × HasRecords starts (now records) (now waiting) 1 ⌝ }
-    ensures { λ r. ⌜ (r ≡ true → settle-spec low high (starts-of starts (now (records .entry)) (now (waiting .entry)) 0) (last-taken (now (block .entry))) (next-of (time-at (window-of ahead (now (records .entry)) (now (copy .entry)))) end (time-of-none closed) 0) ≡ Unknown) ⌝ }
+    requires { ⌜ (16 ≤ length (now block)) × HasRecords ahead (now records) (now copy) end ⌝ }
+    ensures { λ r. ⌜ (r ≡ true → settle-spec low high start (last-taken (now (block .entry))) (next-of (time-at (window-of ahead (now (records .entry)) (now (copy .entry)))) end (time-of-none closed) 0) ≡ Unknown) ⌝ }
 {
     let next = window::read(ahead, records, copy);
     let next_at = walks::next_time(next, 0, end, walks::time_of_none(closed));
-    let start = trace::time(window::read(starts, records, waiting), 0);
     match walks::settle(low, high, start, last_of(block), next_at) {
         Settled::Known(holds) => false,
         Settled::Unknown => true,
@@ -146,20 +153,19 @@ fn first_waits<'a>(
 }
 
 // Whether nothing can be answered before an operand has answered more: nothing can be taken, and none waits or the first that does is not
-// settled. So a step that only asks for an operand opens no more than two windows of one record.
+// settled. So a step that only asks for an operand opens no more than a window of one record.
 fn must_wait(
     low: u64,
     high: u64,
     records: &[u8],
     view: &[u64; 66],
     copy: &mut [u8; 544],
-    waiting: &mut [u8; 544],
     block: &[u64],
     room: Room,
 ) -> bool
-    requires { ⌜ (17 ≤ length (now block)) × Keeps (now records) (now copy) × Keeps (now records) (now waiting) × (answered (now block) ≤ taken (now block)) × FitsRoom (now block) (total (now view)) room × Views (now view) (now records) ⌝ }
+    requires { ⌜ (17 ≤ length (now block)) × Keeps (now records) (now copy) × (answered (now block) ≤ taken (now block)) × FitsRoom (now block) (total (now view)) room × Views (now view) (now records) ⌝ }
     ensures { λ r. ⌜ (r ≡ true → (room .take ≡ 0) × Stuck low high (now (view .entry)) (now (records .entry)) (now (block .entry))) ⌝ }
-    ensures { λ _. ⌜ Keeps (now (records .entry)) (now (copy .exit)) × Keeps (now (records .entry)) (now (waiting .exit)) ⌝ }
+    ensures { λ _. ⌜ Keeps (now (records .entry)) (now (copy .exit)) ⌝ }
 {
     if room.take != 0 {
         return false;
@@ -168,9 +174,94 @@ fn must_wait(
         return true;
     }
     let ahead = window::open(records, view, block[word::HEAD], room.look, copy);
-    let starts = window::open(records, view, block[word::WAITING_HEAD], 1, waiting);
+    let start = window::first_time(records, view, block[word::WAITING_HEAD]);
     let closed = view[view::CLOSED] == 1;
     first_waits(
+        low,
+        high,
+        start,
+        records,
+        ahead,
+        copy,
+        room.look,
+        closed,
+        block,
+    )
+}
+
+// Whether the first that waits, which has this time, tells enough to walk over n positions of the window ahead by whole words; low is 0.
+fn tells<'a>(
+    high: u64,
+    start: u64,
+    records: &'a [u8],
+    ahead: Window,
+    copy: &'a [u8],
+    n: u64,
+    block: &[u64],
+) -> bool
+    requires { ⌜ (16 ≤ length (now block)) × HasRecords ahead (now records) (now copy) n ⌝ }
+    ensures { λ r. ⌜ (r ≡ true → (starts : ℕ → ℕ) → starts 0 ≡ start → ByWords 0 high starts (time-at (window-of ahead (now (records .entry)) (now (copy .entry)))) (taken (now (block .entry)) - answered (now (block .entry))) n (last-taken (now (block .entry)))) ⌝ }
+{
+    walks::by_first(
+        0,
+        high,
+        start,
+        window::read(ahead, records, copy),
+        time::gap(block[word::ANSWERED], block[word::TAKEN]),
+        n,
+        last_of(block),
+    )
+}
+
+// That walk.
+fn walk_ahead<'a>(records: &'a [u8], ahead: Window, copy: &'a [u8], n: u64, block: &[u64]) -> Walked
+    requires { ⌜ (16 ≤ length (now block)) × (0 < n) × (n ≤ 64) × (taken (now block) - answered (now block) < 64) × HasRecords ahead (now records) (now copy) n ⌝ }
+    ensures { λ r. ⌜ ((high after : ℕ) (start : ℕ → ℕ) (from : LastTaken) → ByWords 0 high start (time-at (window-of ahead (now (records .entry)) (now (copy .entry)))) (taken (now (block .entry)) - answered (now (block .entry))) n from → Walk 0 high start (next-of (time-at (window-of ahead (now (records .entry)) (now (copy .entry)))) n after) (taken (now (block .entry)) - answered (now (block .entry))) n (left-bits (now (block .entry))) (right-bits (now (block .entry))) from r) ⌝ }
+    ensures { λ r. ⌜ (r .count ≡ 0) ⊎ (taken (now (block .entry)) - answered (now (block .entry)) < r .count) ⌝ }
+{
+    walks::walk_inside(
+        window::read(ahead, records, copy),
+        time::gap(block[word::ANSWERED], block[word::TAKEN]),
+        n,
+        block[word::LEFT_BITS],
+        block[word::RIGHT_BITS],
+    )
+}
+
+// Walks over what both operands have answered. Those that wait are read only where their first does not tell enough.
+fn walk_on<'a>(
+    low: u64,
+    high: u64,
+    records: &'a [u8],
+    view: &[u64; 66],
+    ahead: Window,
+    copy: &'a [u8; 544],
+    waiting: &mut [u8; 544],
+    room: Room,
+    block: &[u64],
+) -> Stride
+    requires { ⌜ OpensAhead (now view) (now records) (now block) room ahead (now copy) × Keeps (now records) (now copy) × Keeps (now records) (now waiting) × Views (now view) (now records) ⌝ }
+    ensures { λ r. ⌜ Strides low high (now (view .entry)) (now (records .entry)) (now (block .entry)) room ahead (now (copy .entry)) r ⌝ }
+    ensures { λ _. ⌜ Keeps (now (records .entry)) (now (waiting .exit)) ⌝ }
+{
+    let waiting_head = block[word::WAITING_HEAD];
+    if low == 0 {
+        let start = window::first_time(records, view, waiting_head);
+        if tells(high, start, records, ahead, copy, room.take, block) {
+            let walked = walk_ahead(records, ahead, copy, room.take, block);
+            if walked.count == 0 {
+                let head = waiting_head;
+                return Stride { walked, head };
+            }
+            // All that wait are answered: their head stands among those ahead then.
+            let some = walked.count - time::gap(block[word::ANSWERED], block[word::TAKEN]);
+            let head = window::pass(block[word::HEAD], ahead, records, view, some);
+            return Stride { walked, head };
+        }
+    }
+    // Where none waits, both heads stand at one record.
+    let starts = window::share(records, view, waiting_head, room.answer, copy, waiting);
+    let walked = walk_windows(
         low,
         high,
         records,
@@ -178,10 +269,13 @@ fn must_wait(
         waiting,
         ahead,
         copy,
+        room.take,
         room.look,
-        closed,
+        view[view::CLOSED] == 1,
         block,
-    )
+    );
+    let head = window::pass(waiting_head, starts, records, view, walked.count);
+    Stride { walked, head }
 }
 
 // Walks over what both operands have answered, from the next position to answer and the next to take.
@@ -206,28 +300,13 @@ pub fn step_until(
     }
     let room = room_of(block, total);
     let most = blocks::smaller(high, walks::LONGEST_GAP);
-    if must_wait(low, most, records, view, copy, waiting, block, room) {
+    if must_wait(low, most, records, view, copy, block, room) {
         return wanted(block);
     }
     let head = block[word::HEAD];
-    let waiting_head = block[word::WAITING_HEAD];
     let ahead = window::open(records, view, head, room.look, copy);
-    // Where none waits, both heads stand at one record.
-    let starts = window::share(records, view, waiting_head, room.answer, copy, waiting);
-    let closed = view[view::CLOSED] == 1;
-    let w = walk_windows(
-        low,
-        most,
-        records,
-        starts,
-        waiting,
-        ahead,
-        copy,
-        room.take,
-        room.look,
-        closed,
-        block,
-    );
+    let stride = walk_on(low, most, records, view, ahead, copy, waiting, room, block);
+    let w = stride.walked;
     // Only forged words bring this about, now that the step need not wait.
     if w.count == 0 {
         if w.took == 0 {
@@ -238,7 +317,7 @@ pub fn step_until(
         block,
         w,
         window::pass(head, ahead, records, view, w.took),
-        window::pass(waiting_head, starts, records, view, w.count),
+        stride.head,
     );
     if w.count == 0 {
         return Step::Again;

@@ -1,5 +1,6 @@
 // The walks of an until: from words of its operands' answers to a word of its own, by whole words where that can be.
 ghost use mathlib.Core.Path.{_≡_};
+ghost use mathlib.Core.Logic.{_⊎_};
 ghost use mathlib.Core.Bool.{true, false, cond};
 ghost use Prim.Native.Nat.{ℕ, _+_, _-_, _%_, _≤_, _<_, _^_, min};
 ghost use Rattle.trace.specs.Format.{record-count, time-at};
@@ -177,9 +178,10 @@ fn taken_for(lead: u64, known: u64, n: u64) -> u64
 
 // A walk by whole words: low is 0, no position to take lies more than high after the first that waits, and nothing that was taken settles
 // one that waits. So each is settled by the first behind it at which right holds or left fails.
-fn walk_inside(ahead: &[u8], lead: u64, n: u64, left: u64, right: u64) -> Walked
+pub fn walk_inside(ahead: &[u8], lead: u64, n: u64, left: u64, right: u64) -> Walked
     requires { ⌜ (0 < n) × (n ≤ 64) × (n ≤ record-count (now ahead)) × (lead < 64) ⌝ }
     ensures { λ r. ⌜ ((high after : ℕ) (start : ℕ → ℕ) (from : Last) → ByWords 0 high start (time-at (now (ahead .entry))) lead n from → Walk 0 high start (next-of (time-at (now (ahead .entry))) n after) lead n left right from r) ⌝ }
+    ensures { λ r. ⌜ (r .count ≡ 0) ⊎ (lead < r .count) ⌝ }
 {
     let known = bits::find_last_zero(left & !right, n);
     if known == 0 {
@@ -414,19 +416,38 @@ fn outreaches(high: u64, ahead: &[u8], lead: u64, n: u64, from: Last) -> bool
     quiet & (high < time::gap(first, last))
 }
 
-// Whether a walk can go by whole words. No rule has a low above the longest gap: a time and low can be added.
-fn by_words(low: u64, high: u64, starts: &[u8], ahead: &[u8], lead: u64, n: u64, from: Last) -> bool
-    requires { ⌜ (n ≤ record-count (now ahead)) × (lead + n < 2 ^ 64) × (min (lead + n) 64 ≤ record-count (now starts)) ⌝ }
-    ensures { λ r. ⌜ (r ≡ true → ByWords low high (time-at (now (starts .entry))) (time-at (now (ahead .entry))) lead n from) ⌝ }
+// Whether a walk can go by whole words, where the first that waits has this time: of the others none need be read for it. No rule has a low
+// above the longest gap: a time and low can be added.
+pub fn by_first(
+    low: u64,
+    high: u64,
+    start: u64,
+    ahead: &[u8],
+    lead: u64,
+    n: u64,
+    from: Last,
+) -> bool
+    requires { ⌜ n ≤ record-count (now ahead) ⌝ }
+    ensures { λ r. ⌜ (r ≡ true → (starts : ℕ → ℕ) → starts 0 ≡ start → ByWords low high starts (time-at (now (ahead .entry))) lead n from) ⌝ }
 {
     if (n == 0) | (64 <= lead) | (LONGEST_GAP < low) {
         return false;
     }
-    let start = trace::time(starts, 0);
     let met = from.right & (low <= time::gap(start, from.time));
     let quiet = (lead == 0) | (from.left & !met);
     let last = trace::time(ahead, n as usize - 1);
     quiet & (time::gap(start, last) <= high)
+}
+
+// Whether a walk can go by whole words.
+fn by_words(low: u64, high: u64, starts: &[u8], ahead: &[u8], lead: u64, n: u64, from: Last) -> bool
+    requires { ⌜ (n ≤ record-count (now ahead)) × (lead + n < 2 ^ 64) × (min (lead + n) 64 ≤ record-count (now starts)) ⌝ }
+    ensures { λ r. ⌜ (r ≡ true → ByWords low high (time-at (now (starts .entry))) (time-at (now (ahead .entry))) lead n from) ⌝ }
+{
+    if n == 0 {
+        return false;
+    }
+    by_first(low, high, trace::time(starts, 0), ahead, lead, n, from)
 }
 
 // n yes.
@@ -437,7 +458,7 @@ fn yes_for(n: u64) -> u64
     if n < 64 { (1 << n) - 1 } else { ALL_YES }
 }
 
-// Whether the last position taken settles all that wait: left fails there, or right holds and low is 0. As in `by_words`, a time and low can
+// Whether the last position taken settles all that wait: left fails there, or right holds and low is 0. As in `by_first`, a time and low can
 // be added.
 fn is_told(low: u64, lead: u64, last: Last) -> bool
     ensures { λ r. ⌜ r ≡ is-told low lead last ⌝ }
@@ -546,7 +567,7 @@ fn walk_over(
     }
 }
 
-// As `walk`, by whole words where that can be.
+// As `walk`, by whole words where that can be. Where low is 0 and the first that waits tells enough, `walk_inside` is for it.
 pub fn walk_words(
     low: u64,
     high: u64,
@@ -574,9 +595,6 @@ pub fn walk_words(
             return walk_calm(ahead, n, left, right);
         }
         return walk(low, high, starts, ahead, lead, n, after, left, right, from);
-    }
-    if by_words(low, high, starts, ahead, lead, n, from) {
-        return walk_inside(ahead, lead, n, left, right);
     }
     if outreaches(high, ahead, lead, n, from) {
         return walk_far(high, starts, ahead, lead, n, left, right);

@@ -66,6 +66,10 @@ module _ (skips : Bool) (s : List ℕ) (first : ℕ) (L : Log) (g n : ℕ) (show
   head-behind zero some h = absurd (omega arith)
   head-behind (suc m) some h = let here = read-on m h in let next = next-head m h in omega arith
 
+  -- its time is the log's
+  pub shown-time : (i : ℕ) → i < n → time-at s (place skips s from i) ≡ L .time (g + i)
+  shown-time i h = ap (time-at s) (read-on i h) ∙ shown i h .time
+
   -- and so is its letter
   pub shown-letter : (k i : ℕ) → i < n → letter-at skips s k from i ≡ L .letters (g + i) k
   shown-letter k i h = ap (has-letter s k) (read-on i h) ∙ shown i h .letters k
@@ -74,8 +78,7 @@ module _ (skips : Bool) (s : List ℕ) (first : ℕ) (L : Log) (g n : ℕ) (show
   module _ (w : Window) (copy : List ℕ) (opened : Opened skips s from n w copy) where
     pub window-time : (i : ℕ) → i < n → time-at (window-of w s copy) i ≡ L .time (g + i)
     window-time i h =
-        same-time (window-of w s copy) s i (place skips s from i) (opened .shows shown-inside i h) ∙
-        ap (time-at s) (read-on i h) ∙ shown i h .time
+        same-time (window-of w s copy) s i (place skips s from i) (opened .shows shown-inside i h) ∙ shown-time i h
 
 -- all that is left of the log is shown: where n more of its positions are passed, the first record wanted is the slice's
 pub wanted-shown : (skips : Bool) (s : List ℕ) (first : ℕ) (L : Log) (q : ℕ) → head-of L q ≤ first → q + before skips s (record-count s) ≡ L .size →

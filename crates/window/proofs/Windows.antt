@@ -581,6 +581,28 @@ module _ (v s : List ℕ) (head n : ℕ) (w : Window) where
               rw kind (ap (λ (x : ℕ). slice-first v + x) (from .at more (λ i h. (rw kind at inside) i (omega arith)) (rw all sum)));
         }
 
+-- THE FIRST POSITION FROM A HEAD ON
+
+module _ (skips : Bool) (s : List ℕ) (at : ℕ) where
+  -- where no service record is passed over it is the record at the head
+  pub first-plain : negate skips && leb (at + 1) (record-count s) ≡ true → (at < record-count s) × (place skips s at 0 ≡ at)
+  first-plain e =
+      let both = and-iff (negate skips) (leb (at + 1) (record-count s)) .0 e in
+      let room = leb-iff (at + 1) (record-count s) .0 (both .1) in
+      (omega arith, rw (not-true skips (both .0)) (add-zero at))
+
+  -- else it is the one before the record behind it
+  pub first-mixed : negate skips && leb (at + 1) (record-count s) ≡ false → (end : ℕ) → Behind s at 1 end → Inside skips s at 1 →
+      (0 < end) × (end ≤ record-count s) × (end - 1 ≡ place skips s at 0)
+  unfolding moved
+  first-mixed e end behind inside = by skips e inside
+    where
+      by : (b : Bool) → negate b && leb (at + 1) (record-count s) ≡ false → Inside b s at 1 → (0 < end) × (end ≤ record-count s) × (end - 1 ≡ place b s at 0)
+      by true f here = let is = behind .end here in let room = here 0 (omega arith) in (omega arith, omega arith, omega arith)
+      by false f here =
+          let room = here 0 (omega arith) in
+          absurd (true-and-false (leb-iff (at + 1) (record-count s) .1 (omega arith)) f)
+
 -- THE FIRST RECORD WANTED
 
 -- of n positions counted from the end down all but `left`, and record p is the last one

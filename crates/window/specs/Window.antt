@@ -176,3 +176,8 @@ pub record Passed (v s : List ℕ) (head n : ℕ) (w : Window) (r : ℕ) : Type 
 pub record Found (skips : Bool) (s : List ℕ) (n r : ℕ) : Type 0 where
   pub bounded : r ≤ record-count s
   pub at : n ≤ before skips s (record-count s) → r ≡ place skips s 0 (before skips s (record-count s) - n)
+
+-- the time of the first position from this head on, where the slice has one
+abbrev pub FirstTime : (v s : List ℕ) (head r : ℕ) → Type 0
+FirstTime v s head r =
+    Inside (skips v) s (in-slice (slice-first v) head) 1 → r ≡ time-at s (place (skips v) s (in-slice (slice-first v) head) 0)

@@ -13,7 +13,7 @@ ghost use Rattle.trace.specs.Format.{record-count};
 ghost use Rattle.trace.specs.Positions.{is-service, before};
 ghost use Rattle.trace.specs.Making.{put};
 ghost use Rattle.window.specs.View.{slice-first, skips, in-slice, Views};
-ghost use Rattle.window.specs.Window.{some-service, dense, window-of, own-part, copied, either-of, record-of, kept-of, is-kept, Counted, Copied, Picks, Lettered, Gathered, Noted, Keeps, Held, Mixed, Opened, Behind, BehindBut, BehindSome, Windowed, Passed, Found};
+ghost use Rattle.window.specs.Window.{some-service, dense, window-of, own-part, copied, either-of, record-of, kept-of, is-kept, Counted, Copied, Picks, Lettered, Gathered, Noted, Keeps, Held, Mixed, Opened, Behind, BehindBut, BehindSome, Windowed, Passed, Found, FirstTime};
 
 pub mod view;
 
@@ -591,6 +591,22 @@ pub fn pass(head: u64, window: Window, records: &[u8], view: &[u64; 66], n: u64)
     }
     let more = window.count - n as usize;
     view[view::FIRST] + behind_some(records, window.at, window.end, n as usize, more) as u64
+}
+
+// The time of the first position from a head on, where there is one.
+pub fn first_time(records: &[u8], view: &[u64; 66], head: u64) -> u64
+    requires { ⌜ Views (now view) (now records) ⌝ }
+    ensures { λ r. ⌜ FirstTime (now (view .entry)) (now (records .entry)) head r ⌝ }
+{
+    let at = in_slice(view[view::FIRST], head);
+    if is_plain(records, view, at, 1) {
+        return trace::time(records, at);
+    }
+    let end = behind(records, at, 1);
+    if (0 < end) & (end <= trace::count(records)) {
+        return trace::time(records, end - 1);
+    }
+    0
 }
 
 // How many of the records are positions.

@@ -9,40 +9,33 @@ use Rattle.until.proofs.must_wait.Statement.{statement}
 use Rattle.until.proofs.must_wait.Tie as tie
 
 returns-some : tie.Need-returns
-returns-some c = let pre = c .before .before .before .before .pre in (λ e. absurd (true≢false (sym e)), (pre .1, pre .2))
+returns-some c = (λ e. absurd (true≢false (sym e)), c .before .before .before .before .pre .1)
 
 returns-none : tie.Need-returns-2
 returns-none c =
     let e = c .before .before .before in
     let k = e .before .before .before in
     let a = k .before .args in
-    let pre = k .before .pre in
-    (λ t. (e .if1 .left, stuck-fresh (a .low) (a .high) (a .view .now) (a .records .now) (a .block .now) (λ i. k .shared-slice-known .given i .fits) (c .if2 .taken)), (pre .1, pre .2))
+    (λ t. (e .if1 .left, stuck-fresh (a .low) (a .high) (a .view .now) (a .records .now) (a .block .now) (λ i. k .shared-slice-known .given i .fits) (c .if2 .taken)), k .before .pre .1)
 
 first-waits-requires : tie.Need-first-waits-requires
 first-waits-requires c κs =
-    let t = c .before .before .before .before .before in
-    let o = t .before .before .before in
+    let o = c .before .before .before .before .before in
     let s = o .before .before .before .before .before .before .before .before .before .before in
-    let a = s .args in
     let room = s .pre .0 in
     let next = o .«open» .ensures in
-    let start = t .open2 .ensures in (
-      omega arith,
-      record { inside = readable (a .view .now) _ next; long = next .long },
-      record { inside = readable (a .view .now) _ start; long = start .long },
-    )
+    (omega arith, record { inside = readable (s .args .view .now) _ next; long = next .long })
 
 returns-first : tie.Need-returns-3
 returns-first c =
-    let t = c .before .before .before .before .before .before in
-    let o = t .before .before .before in
+    let t = c .before .before .before .before in
+    let o = t .before .before in
     let e2 = o .before .before .before in
     let e1 = e2 .before .before .before in
     let k = e1 .before .before .before in
     let s = k .before in
-    let behind = s .pre .3 in
-    let fits = s .pre .4 in
+    let behind = s .pre .2 in
+    let fits = s .pre .3 in
     let none = e1 .if1 .left in
     let inside = fits .inside in
     let ends = fits .ahead in
@@ -56,11 +49,11 @@ returns-first c =
               inside = omega arith;
               ends = omega arith;
               next = o .«open» .ensures;
-              start = t .open2 .ensures;
+              start = t .first-time .ensures;
               unknown = c .first-waits .ensures e;
             }),
       ),
-      (o .«open» .ensures .keeps, t .open2 .ensures .keeps),
+      o .«open» .ensures .keeps,
     )
 
 pub must-wait-spec : {M : Type 1} → statement M

@@ -8,19 +8,16 @@ use mathlib.Core.Path.{refl}
 use lib.ListN.{length}
 use borrow.Author.Needs.{needs}
 use Rattle.window.specs.View.{total}
-use Rattle.window.specs.Window.{either-of, Keeps}
+use Rattle.window.specs.Window.{Keeps}
 use Rattle.blocks.specs.Block.{taken, answered}
+use Rattle.until.specs.Code.{OpensAhead}
 use Rattle.until.proofs.Steps.{
-  Opens,
   Went,
   stands-outside,
   stands-inside,
   walk-fits,
-  ahead-holds,
-  starts-holds,
   put-back-fits,
   ahead-windowed,
-  starts-windowed,
   walked-onward,
   wanted-ends,
   wants-more,
@@ -32,43 +29,39 @@ use Rattle.until.proofs.Steps.{
 use Rattle.until.proofs.step_until.Statement.{statement}
 use Rattle.until.proofs.step_until.Tie as tie
 
--- what is known after the windows were opened
-opened : (c : tie.After-share) →
-    let o = c .before .before .before .«open» in
-    let k = c .before .before .before .before .before .before .before .before .before .before .before .before .before in
+-- what is known after the window ahead was opened
+opened : (c : tie.After-open) →
+    let k = c .before .before .before .before .before .before .before .before in
     let a = k .before .before .before .before .before .before .before .before .args in
-    Opens (a .view .now) (a .records .now) (a .block .now) (k .room-of .result) (o .result) (o .last .1 .1 .1 .1 .0) (c .share .result)
-    (either-of (c .share .result) (o .last .1 .1 .1 .1 .0) (c .share .last .1 .1 .1 .1 .1 .0))
+    OpensAhead (a .view .now) (a .records .now) (a .block .now) (k .room-of .result) (c .«open» .result) (c .«open» .last .1 .1 .1 .1 .0)
 opened c =
-    let k = c .before .before .before .before .before .before .before .before .before .before .before .before .before in
-    let a = k .before .before .before .before .before .before .before .before in
-    record {
-      room = a .pre .0;
-      byte = λ i. k .before .before .before .before .before .before .before .shared-slice-known .given i .fits;
-      behind = stands-inside _ _ _ (k .before .before .if1 .left) .0;
-      fits = k .room-of .ensures;
-      next = c .before .before .before .«open» .ensures;
-      start = c .share .ensures .0;
-    }
+    let k = c .before .before .before .before .before .before .before .before in
+    let s = k .before .before .before .before .before .before .before .before in
+    record { room = s .pre .0; behind = stands-inside _ _ _ (k .before .before .if1 .left) .0; fits = k .room-of .ensures; next = c .«open» .ensures }
 
 -- what is known after the walk
-went : (c : tie.After-walk-windows) →
-    let after-share = c .before .before .before .before .before .before .before in
-    let o = after-share .before .before .before .«open» in
-    let k = after-share .before .before .before .before .before .before .before .before .before .before .before .before .before in
+went : (c : tie.After-walk-on) →
+    let o = c .before .before .before .before in
+    let k = o .before .before .before .before .before .before .before .before in
     let a = k .before .before .before .before .before .before .before .before .args in
-    Went (a .low) (a .high) (after-share .before .before .before .before .before .before .before .before .before .before .before .before .smaller .result) (a .view .now) (a .records .now) (a .block .now) (k .room-of .result) (o .result) (o .last .1 .1 .1 .1 .0)
-    (after-share .share .result)
-    (either-of (after-share .share .result) (o .last .1 .1 .1 .1 .0) (after-share .share .last .1 .1 .1 .1 .1 .0))
-    (c .walk-windows .result)
+    Went (a .low) (a .high) (o .before .before .before .before .before .before .before .smaller .result) (a .view .now) (a .records .now) (a .block .now) (k .room-of .result) (o .«open» .result) (o .«open» .last .1 .1 .1 .1 .0)
+    (c .walk-on .result)
 went c =
-    let after-share = c .before .before .before .before .before .before .before in
-    record { opens = opened after-share; clamp = after-share .before .before .before .before .before .before .before .before .before .before .before .before .smaller .ensures; walk = c .walk-windows .ensures }
+    let o = c .before .before .before .before in
+    let k = o .before .before .before .before .before .before .before .before in
+    record {
+      opens = opened o;
+      byte = λ i. k .before .before .before .before .before .before .before .shared-slice-known .given i .fits;
+      clamp = o .before .before .before .before .before .before .before .smaller .ensures;
+      strides = c .walk-on .ensures .0;
+    }
 
 -- the copies keep what they say
-copies : (c : tie.After-share) →
-    let s = c .before .before .before .before .before .before .before .before .before .before .before .before .before .before .before .before .before .before .before .before .before .args .records .now in Keeps s (c .before .before .before .«open» .last .1 .1 .1 .1 .0) × Keeps s (c .share .last .1 .1 .1 .1 .1 .0)
-copies c = (opened c .next .keeps, c .share .ensures .1)
+copies : (c : tie.After-walk-on) →
+    let o = c .before .before .before .before in
+    let s = o .before .before .before .before .before .before .before .before .before .before .before .before .before .before .before .before .args .records .now in
+    Keeps s (o .«open» .last .1 .1 .1 .1 .0) × Keeps s (c .walk-on .last .1 .1 .1 .1 .1 .1 .0)
+copies c = (c .before .before .before .before .«open» .ensures .keeps, c .walk-on .ensures .1)
 
 returns-outside : tie.Need-returns
 returns-outside c =
@@ -96,47 +89,53 @@ room-of-requires c κs =
 
 must-wait-requires : tie.Need-must-wait-requires
 must-wait-requires c κs =
-    let k = c .before .before .before .before in
+    let k = c .before .before .before in
     let pre = k .before .before .before .before .before .before .before .before .pre in
-    (pre .0, pre .1, pre .2, stands-inside _ _ _ (k .before .before .if1 .left) .0, k .room-of .ensures, pre .3)
+    (pre .0, pre .1, stands-inside _ _ _ (k .before .before .if1 .left) .0, k .room-of .ensures, pre .3)
 
 returns-waits : tie.Need-returns-2
 returns-waits c =
     let m = c .before .before in
     let w = m .before in
-    let k = w .before .before .before .before .before in
-    let a = k .before .before .before .before .before .before .before .before .args in
+    let k = w .before .before .before .before in
+    let s = k .before .before .before .before .before .before .before .before in
+    let a = s .args in
     let t = c .wanted in
     let stuck = w .must-wait .ensures .0 (m .if2 .taken) in (
       wanted-ends (a .view .now) (a .block .now) (t .result) (t .ensures),
       (
         λ φ ψ L g falls agrees ready.
-            wants-more ready agrees (k .room-of .ensures) (stuck .0) (stuck .1 (a .high) φ ψ L g (w .before .before .before .before .smaller .ensures) falls agrees ready) (t .result) (t .ensures),
-        w .must-wait .ensures .1,
+            wants-more ready agrees (k .room-of .ensures) (stuck .0) (stuck .1 (a .high) φ ψ L g (w .before .before .before .smaller .ensures) falls agrees ready) (t .result) (t .ensures),
+        (w .must-wait .ensures .1, s .pre .2),
       ),
     )
 
-walk-requires : tie.Need-walk-windows-requires
-walk-requires c κs = let o = opened (c .before .before .before .before .before .before) in (walk-fits o, (ahead-holds o, starts-holds o))
+open-requires : tie.Need-open-requires
+open-requires c κs =
+    let w = c .before .before .before in
+    (search needs, w .must-wait .ensures .1, w .before .before .before .before .before .before .before .before .before .before .before .before .pre .3)
+
+walk-on-requires : tie.Need-walk-on-requires
+walk-on-requires c κs =
+    let o = c .before .before .before in
+    let pre = o .before .before .before .before .before .before .before .before .before .before .before .before .before .before .before .before .pre in
+    (opened o, o .«open» .ensures .keeps, pre .2, pre .3)
 
 returns-wanted : tie.Need-returns-3
 returns-wanted c =
-    let k = c .before .before .before .before .before .before in
-    let a = k .before .before .before .before .before .before .before .before .before .before .before .before .before .before .before .before .before .before .before .before .before .before .before .before .before .before .before .before .args in
+    let k = c .before .before .before .before .before .before .before in
+    let a = k .before .before .before .before .before .before .before .before .before .before .before .before .before .before .before .before .before .before .before .before .args in
     let t = c .wanted2 in (
       wanted-ends (a .view .now) (a .block .now) (t .result) (t .ensures),
       (
         λ φ ψ L g falls agrees ready.
             wants (went k) φ ψ L g falls agrees ready (c .before .before .before .before .if3 .taken) (c .before .before .if4 .taken) (t .result) (t .ensures),
-        copies (k .before .before .before .before .before .before .before),
+        copies k,
       ),
     )
 
 pass-ahead : tie.Need-pass-requires
-pass-ahead c κs = (c .before .before .before .before .before .before .before .before .before .before .before .before .before .before .before .before .before .before .before .before .before .before .before .before .before .before .before .before .before .before .before .pre .3, ahead-windowed (went (c .before .before .before)))
-
-pass-starts : tie.Need-pass-requires-2
-pass-starts c κs = (c .before .before .before .before .before .before .before .before .before .before .before .before .before .before .before .before .before .before .before .before .before .before .before .before .before .before .before .before .before .before .before .before .pre .3, starts-windowed (went (c .before .before .before .before)))
+pass-ahead c κs = let k = c .before .before .before .before in (k .before .before .before .before .before .before .before .before .before .before .before .before .before .before .before .before .before .before .before .before .pre .3, ahead-windowed (went k))
 
 put-back-requires : tie.Need-put-back-requires
 put-back-requires c κs = put-back-fits (went (c .before .before .before .before .before))
@@ -146,14 +145,13 @@ returns-took c =
     let p = c .before .before .before .before in
     let k = p .before .before .before .before .before .before in
     let none = c .if5 .taken in
-    let some : 0 < k .walk-windows .result .took =
-    ⊎-elim (λ t. let l = t .2 .left in omega arith) (λ t. let l = t .left in absurd (omega arith)) (p .before .before .before .before .if3 .came) in
+    let some : 0 < k .walk-on .result .walked .took =
+    ⊎-elim (λ t. let l = t .2 .left in omega arith) (λ t. let l = t .left in absurd (omega arith)) (p .before .before .before .if3 .came) in
     rw (p .put-back .ensures) (
-      took-ends (went k) (p .before .before .pass .ensures) (p .before .pass2 .ensures) some,
+      took-ends (went k) (p .before .pass .ensures) some,
       (
-        λ φ ψ L g falls agrees ready.
-            takes-some (went k) φ ψ L g falls agrees ready (p .before .before .pass .ensures) (p .before .pass2 .ensures) none,
-        copies (k .before .before .before .before .before .before .before),
+        λ φ ψ L g falls agrees ready. takes-some (went k) φ ψ L g falls agrees ready (p .before .pass .ensures) none,
+        copies k,
       ),
     )
 
@@ -162,11 +160,11 @@ returns-answers c =
     let p = c .before .before .before .before in
     let k = p .before .before .before .before .before .before in
     rw (p .put-back .ensures) (
-      walked-onward (went k) (p .before .before .pass .ensures) (p .before .pass2 .ensures),
+      walked-onward (went k) (p .before .pass .ensures),
       (
         λ φ ψ L g falls agrees ready.
-            answers-some (went k) φ ψ L g falls agrees ready (p .before .before .pass .ensures) (p .before .pass2 .ensures) (omega arith),
-        copies (k .before .before .before .before .before .before .before),
+            answers-some (went k) φ ψ L g falls agrees ready (p .before .pass .ensures) (omega arith),
+        copies k,
       ),
     )
 
@@ -181,20 +179,16 @@ step-until-spec =
     room-of-requires
     (λ c κs. search needs)
     must-wait-requires
-    (λ c κs. let room = c .before .before .before .before .before .before .before .before .before .before .before .before .before .before .before .pre .0 in omega arith)
+    (λ c κs. let room = c .before .before .before .before .before .before .before .before .before .before .before .before .before .before .pre .0 in omega arith)
     (λ c. search needs)
     returns-waits
     (λ c. search needs)
-    (λ c. search needs)
-    (λ c κs. (search needs, c .before .before .before .before .must-wait .ensures .1 .0, c .before .before .before .before .before .before .before .before .before .before .before .before .before .before .before .before .before .pre .3))
-    (λ c κs. let pre = c .before .before .before .before .before .before .before .before .before .before .before .before .before .before .before .before .before .before .before .before .pre in (search needs, c .before .before .«open» .ensures .keeps, c .before .before .before .before .before .before .before .must-wait .ensures .1 .1, pre .3))
-    (λ c. search needs)
-    walk-requires
-    (λ c κs. walk-fits (went (c .before .before .before .before .before) .opens) .0)
+    open-requires
+    walk-on-requires
+    (λ c κs. walk-fits (went (c .before .before .before .before .before .before) .opens) .0)
     (λ c. search needs)
     returns-wanted
     pass-ahead
-    pass-starts
     put-back-requires
     (λ c. search needs)
     returns-took

@@ -1,6 +1,7 @@
 -- `walks::walk_inside` meets its contract, by the laws of UntilWords. Assumes nothing.
 use Prim.Native.Nat.{_-_, _≤_}
 use native.Mathlib.Omega.{arith}
+use mathlib.Core.Logic.{inl, inr}
 use mathlib.Core.Path.{refl, _∙_}
 use borrow.Author.Needs.{needs}
 use Rattle.trace.specs.Format.{time-at}
@@ -23,33 +24,39 @@ took c =
     takes-few (a .lead) (z .find-last-zero .result) (a .n) (c .taken-for .result) (omega arith) (omega arith) (z .find-last-zero .ensures .1) (c .taken-for .ensures)
 
 returns-none : tie.Need-returns
-returns-none c high after start from by =
+returns-none c =
     let z = c .before .before in
-    let a = z .before .before .args in
-    let next = next-of (time-at (a .ahead .now)) (a .n) after in
-    settled-walk (by-next after by) (omega arith) (λ rises. soon-none next (known z) start (a .lead) (c .before .if1 .taken)) 0 (a .n) refl (λ h. refl, λ h. absurd (omega arith)) (c .take .result)
-    (c .take .ensures .0 ∙ taken-at (time-at (a .ahead .now)) (a .n) after (a .n - 1) (a .left) (a .right) (omega arith))
-    (c .take .ensures .1)
+    let a = z .before .before .args in (
+      λ high after start from by.
+          let next = next-of (time-at (a .ahead .now)) (a .n) after in
+          settled-walk (by-next after by) (omega arith) (λ rises. soon-none next (known z) start (a .lead) (c .before .if1 .taken)) 0 (a .n) refl (λ h. refl, λ h. absurd (omega arith)) (c .take .result)
+          (c .take .ensures .0 ∙ taken-at (time-at (a .ahead .now)) (a .n) after (a .n - 1) (a .left) (a .right) (omega arith))
+          (c .take .ensures .1),
+      inl refl,
+    )
 
 take-requires : tie.Need-take-requires-2
 take-requires c κs = omega (arith, took (c .before .before .before .before .before))
 
 returns-some : tie.Need-returns-2
-returns-some c high after start from by =
+returns-some c =
     let p = c .before .before in
     let q = p .before in
     let f = q .before .before in
     let t = f .before in
     let z = t .before .before in
     let a = z .before .before .args in
-    let next = next-of (time-at (a .ahead .now)) (a .n) after in
-    let most = z .find-last-zero .ensures .1 in
-    settled-walk (by-next after by) (omega arith)
-    (λ rises.
-    soon-some next (known z) start (a .lead) (omega arith) (f .fill-down .ensures) (λ i h. q .repeat .ensures .1 i h ∙ q .before .test .ensures) (p .prolong .ensures))
-    (c .before .smaller .result) (t .taken-for .result) (c .before .smaller .ensures) (t .taken-for .ensures) (c .take2 .result)
-    (c .take2 .ensures .0 ∙ taken-at (time-at (a .ahead .now)) (a .n) after (t .taken-for .result - 1) (a .left) (a .right) (omega (arith, took t)))
-    (c .take2 .ensures .1)
+    let most = z .find-last-zero .ensures .1 in (
+      λ high after start from by.
+          let next = next-of (time-at (a .ahead .now)) (a .n) after in
+          settled-walk (by-next after by) (omega arith)
+          (λ rises.
+          soon-some next (known z) start (a .lead) (omega arith) (f .fill-down .ensures) (λ i h. q .repeat .ensures .1 i h ∙ q .before .test .ensures) (p .prolong .ensures))
+          (c .before .smaller .result) (t .taken-for .result) (c .before .smaller .ensures) (t .taken-for .ensures) (c .take2 .result)
+          (c .take2 .ensures .0 ∙ taken-at (time-at (a .ahead .now)) (a .n) after (t .taken-for .result - 1) (a .left) (a .right) (omega (arith, took t)))
+          (c .take2 .ensures .1),
+      inr (omega (arith, c .before .smaller .ensures)),
+    )
 
 pub walk-inside-spec : {M : Type 1} → statement M
 walk-inside-spec =

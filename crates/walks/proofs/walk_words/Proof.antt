@@ -32,52 +32,40 @@ returns-calm c =
     let a = k .before .before .before .before .before .before .before .before .before .args in
     c .walk-calm .ensures (a .low) (a .high) (a .lead) (a .after) (time-at (a .starts .now)) (a .from) (k .before .is-calm .ensures (k .if4 .taken))
 
-walk-inside-requires : tie.Need-walk-inside-requires
-walk-inside-requires c κs =
-    let w = c .before .by-words2 .ensures (c .if5 .taken) in
-    (w .some, omega arith, omega arith, w .few)
-
-returns-words : tie.Need-returns-5
-returns-words c =
-    let k = c .before in
-    let e = k .before .before in
-    let a = e .before .before .before .args in
-    rw (e .if1 .left) (c .walk-inside .ensures (a .high) (a .after) _ (a .from) (rw (e .if1 .left) at (k .before .by-words2 .ensures (k .if5 .taken))))
-
 walk-far-requires : tie.Need-walk-far-requires
 walk-far-requires c κs =
-    let w = c .before .outreaches .ensures (c .if6 .taken) in
+    let w = c .before .outreaches .ensures (c .if5 .taken) in
     let few = w .few in
     let some = w .some in
     (w .small, w .some, omega arith, omega arith, w .few, omega arith)
 
-returns-far : tie.Need-returns-6
+returns-far : tie.Need-returns-5
 returns-far c =
     let k = c .before in
-    let e = k .before .before .before .before in
+    let e = k .before .before in
     let a = e .before .before .before .args in
-    rw (e .if1 .left) (c .walk-far .ensures (a .after) (a .from) (k .before .outreaches .ensures (k .if6 .taken)))
+    rw (e .if1 .left) (c .walk-far .ensures (a .after) (a .from) (k .before .outreaches .ensures (k .if5 .taken)))
 
 walk-told-requires-2 : tie.Need-walk-told-requires-2
-walk-told-requires-2 c κs = (sym (c .before .is-told2 .ensures) ∙ c .if7 .taken, omega arith)
+walk-told-requires-2 c κs = (sym (c .before .is-told2 .ensures) ∙ c .if6 .taken, omega arith)
 
 -- low is 0
-none : (t : tie.After-is-told2) → t .before .before .before .before .before .before .before .before .args .low ≡ 0
-none t = t .before .before .before .before .before .if1 .left
+none : (t : tie.After-is-told2) → t .before .before .before .before .before .before .args .low ≡ 0
+none t = t .before .before .before .if1 .left
 
 walk-over-requires : tie.Need-walk-over-requires
 walk-over-requires c κs =
     let e = c .before in
     let t = e .before in
-    let a = t .before .before .before .before .before .before .before .before .args in
-    let (small, waiting, some) = may-take (a .high) (a .lead) (a .n) (c .if8 .taken) in
-    let (held, unmet) = quiet-last (a .low) (a .lead) (a .from) (sym (t .is-told2 .ensures) ∙ e .if7 .left) waiting (none t) in
+    let a = t .before .before .before .before .before .before .args in
+    let (small, waiting, some) = may-take (a .high) (a .lead) (a .n) (c .if7 .taken) in
+    let (held, unmet) = quiet-last (a .low) (a .lead) (a .from) (sym (t .is-told2 .ensures) ∙ e .if6 .left) waiting (none t) in
     (small, waiting, some, omega arith, omega arith, omega arith, held, unmet)
 
-returns-over : tie.Need-returns-8
+returns-over : tie.Need-returns-7
 returns-over c =
     let t = c .before .before .before in
-    let a = t .before .before .before .before .before .before .before .before .args in
+    let a = t .before .before .before .before .before .before .args in
     rw (none t) (c .walk-over .ensures (a .after))
 
 pub walk-words-spec : {M : Type 1} → statement M
@@ -95,9 +83,6 @@ walk-words-spec =
     returns-calm
     (λ c κs. search needs)
     (λ c. search needs)
-    (λ c κs. search needs)
-    walk-inside-requires
-    returns-words
     (λ c κs. search needs)
     walk-far-requires
     returns-far
