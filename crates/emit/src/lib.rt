@@ -36,6 +36,7 @@ fn give_many(
     view: &[u64; 66],
     copy: &mut [u8; 544],
     waiting: &mut [u8; 544],
+    shift: u64,
     words: &mut [u64],
     sheet: &mut [u8],
 ) -> Emitted
@@ -46,7 +47,17 @@ fn give_many(
     let mut answers = [0u64; 8];
     let mut done: usize = 0;
     loop {
-        let least = held::hold(table, tops, number, records, view, copy, waiting, words);
+        let least = held::hold(
+            table,
+            tops,
+            number,
+            records,
+            view,
+            copy,
+            waiting,
+            shift,
+            words,
+        );
         let count = blocks::available(done as u64, least, sheet.len() as u64);
         if count == 0 {
             return Emitted {
@@ -70,6 +81,7 @@ fn give_one(
     view: &[u64; 66],
     copy: &mut [u8; 544],
     waiting: &mut [u8; 544],
+    shift: u64,
     words: &mut [u64],
     sheet: &mut [u8],
 ) -> Emitted
@@ -79,7 +91,7 @@ fn give_one(
     let mut answers = [0u64; 8];
     let mut done: usize = 0;
     loop {
-        let ready = held::hold(table, tops, 1, records, view, copy, waiting, words);
+        let ready = held::hold(table, tops, 1, records, view, copy, waiting, shift, words);
         let n = blocks::available(done as u64, ready, sheet.len() as u64);
         if n == 0 {
             return Emitted {
@@ -104,6 +116,7 @@ fn give(
     view: &[u64; 66],
     copy: &mut [u8; 544],
     waiting: &mut [u8; 544],
+    shift: u64,
     words: &mut [u64],
     sheet: &mut [u8],
 ) -> Emitted
@@ -119,6 +132,7 @@ fn give(
             view,
             copy,
             waiting,
+            shift,
             words,
             sheet,
         );
@@ -132,6 +146,7 @@ fn give(
         view,
         copy,
         waiting,
+        shift,
         words,
         sheet,
     )
@@ -167,6 +182,18 @@ fn write_view(
     let earlier = wanted_position(depth, words[header::GIVEN]);
     let first = words[header::WANTED];
     view::write_view(records, first, earlier, skips, closed, view);
+}
+
+// Where the batches of letters end: from where the letters stand when a call begins, their words are full ones. They stand behind the
+// positions of the records seen before; no answer depends on it.
+fn shift_of(records: &[u8], view: &[u64; 66], depth: u64, words: &[u64]) -> u64
+    requires { ⌜ 8 ≤ length (now words) ⌝ }
+{
+    let earlier = wanted_position(depth, words[header::GIVEN]);
+    let seen = blocks::time::gap(words[header::WANTED], words[header::SEEN]);
+    let old = blocks::smaller(seen, trace::count(records) as u64) as usize;
+    let before = window::positions(&records[..old * 8], view[view::SKIPS] == 1);
+    64 - (earlier % 64 + before % 64) % 64
 }
 
 // Notes what was seen of the log.
@@ -210,6 +237,7 @@ pub fn emit(
     let tops = engine::layout::lay_tops(&ends, number, &table, base);
     let mut view = [0u64; 66];
     write_view(records, skips, closed, depth, words, &mut view);
+    let shift = shift_of(records, &view, depth, words);
     let mut copy = [0u8; 544];
     let mut waiting = [0u8; 544];
     let emitted = give(
@@ -221,6 +249,7 @@ pub fn emit(
         &view,
         &mut copy,
         &mut waiting,
+        shift,
         words,
         sheet,
     );

@@ -40,6 +40,7 @@ fn hold_one(
     view: &[u64; 66],
     copy: &mut [u8; 544],
     waiting: &mut [u8; 544],
+    shift: u64,
     words: &mut [u64],
 ) -> u64
     requires { ⌜ (k < number) × Fitting (plan (now table) (now tops) number) (length (now words)) × Keeps (now records) (now copy) × Keeps (now records) (now waiting) × Views (now view) (now records) ⌝ }
@@ -50,8 +51,6 @@ fn hold_one(
     let entry = tops::place(tops, k, tops::ENTRY);
     let from = tops::place(tops, k, tops::FROM);
     let to = tops::place(tops, k, tops::TO);
-    // From where the letters stand when a call begins, their words are full ones.
-    let shift = 64 - words[header::SEEN] % 64;
     engine::ask(
         table,
         records,
@@ -78,6 +77,7 @@ pub fn hold(
     view: &[u64; 66],
     copy: &mut [u8; 544],
     waiting: &mut [u8; 544],
+    shift: u64,
     words: &mut [u64],
 ) -> u64
     requires { ⌜ Fitting (plan (now table) (now tops) number) (length (now words)) × Keeps (now records) (now copy) × Keeps (now records) (now waiting) × Views (now view) (now records) ⌝ }
@@ -90,7 +90,18 @@ pub fn hold(
     }
     let mut k: usize = 0;
     while k < number {
-        let count = hold_one(table, tops, number, k, records, view, copy, waiting, words);
+        let count = hold_one(
+            table,
+            tops,
+            number,
+            k,
+            records,
+            view,
+            copy,
+            waiting,
+            shift,
+            words,
+        );
         least = blocks::smaller(least, count);
         k += 1;
     }

@@ -45,12 +45,15 @@ lay-tops-requires c κs =
 write-view-requires : tie.Need-write-view-requires
 write-view-requires c κs = let p = c .before .before .before .before .before .before .before .before .before .before .pre in (omega (arith, p .size, p .header .0), p .given, refl)
 
+shift-of-requires : tie.Need-shift-of-requires
+shift-of-requires c κs = let p = c .before .before .before .before .before .before .before .before .before .before .before .before .before .pre in omega (arith, p .size, p .header .0)
+
 give-requires : tie.Need-give-requires
 give-requires c κs =
-    let s = c .before .before .before .before .before .before .before .before .before .before .before .before .before .before .before .before .before .before in
+    let s = c .before .before .before .before .before .before .before .before .before .before .before .before .before .before .before .before .before .before .before .before .before in
     let p = s .pre in (
       record {
-        fits = (s .args .base, p .the-formulas, laid (c .before .before .before .before .before .before .before .before .before .before), p .header .2);
+        fits = (s .args .base, p .the-formulas, laid (c .before .before .before .before .before .before .before .before .before .before .before .before .before), p .header .2);
         formulas = p .formulas;
         small = p .small;
         given = p .given;
@@ -58,21 +61,21 @@ give-requires c κs =
       },
       keeps-none (s .args .records .now),
       keeps-none (s .args .records .now),
-      made-views (c .before .before .before .before .before .before .before .write-view .ensures) (omega (arith, p .wanted, p .records)),
+      made-views (c .before .before .before .before .before .before .before .before .before .before .write-view .ensures) (omega (arith, p .wanted, p .records)),
     )
 
 note-requires : tie.Need-note-requires
 note-requires c κs =
-    let s = c .before .before .before .before .before .before .before .before .before .before .before .before .before .before .before .before .before .before .before .before .before .before .before .before .before in
+    let s = c .before .before .before .before .before .before .before .before .before .before .before .before .before .before .before .before .before .before .before .before .before .before .before .before .before .before .before .before in
     let p = s .pre in
-    let g = c .before .before .before .before .before .before .give .ensures (s .args .base) (p .the-formulas) (laid (c .before .before .before .before .before .before .before .before .before .before .before .before .before .before .before .before .before)) (p .header .2) in
+    let g = c .before .before .before .before .before .before .give .ensures (s .args .base) (p .the-formulas) (laid (c .before .before .before .before .before .before .before .before .before .before .before .before .before .before .before .before .before .before .before .before)) (p .header .2) in
     (omega (arith, g .words-length, p .size, p .header .0), omega (arith, g .frame .header 7 (omega arith) (λ e. omega arith), p .wanted))
 
 returns : tie.Need-returns
 returns c fs ended deep =
     let after-note = c .before .before in
     let after-give = after-note .before .before .before .before .before .before .before in
-    let after-write-view = after-give .before .before .before .before .before .before .before .before in
+    let after-write-view = after-give .before .before .before .before .before .before .before .before .before .before .before in
     let after-lay-tops = after-write-view .before .before .before in
     let after-lay-out = after-lay-tops .before .before .before in
     let after-shared-slice-known = after-lay-out .before .before .before .before in
@@ -83,8 +86,8 @@ returns c fs ended deep =
     let y = after-note .note in
     let fits = fits-of (a .entries) (a .count) (a .t3) (a .number) (a .most) (a .base) (a .depth) (a .records .now) (a .words .now) (after-lay-out .lay-out .last .1 .1 .0)
     (after-lay-tops .lay-tops .result) (s .pre) fs ended (after-lay-tops .lay-tops .ensures (a .entries) (a .count) fs (entries-laid after-lay-out fs ended)) in
-    emitted (a .skips) (a .closed) (a .records .now) (a .words .now) (a .sheet .now) (view .last .1 .1 .1 .1 .1 .0) (g .result) (g .last .1 .1 .1 .1 .1 .1 .1 .1 .0)
-    (g .last .1 .1 .1 .1 .1 .1 .1 .1 .1 .0) (y .last .1 .1 .1 .1 .0) fits (λ i. after-shared-slice-known .shared-slice-known .given i .fits)
+    emitted (a .skips) (a .closed) (a .records .now) (a .words .now) (a .sheet .now) (view .last .1 .1 .1 .1 .1 .0) (g .result) (g .last .1 .1 .1 .1 .1 .1 .1 .1 .1 .0)
+    (g .last .1 .1 .1 .1 .1 .1 .1 .1 .1 .1 .0) (y .last .1 .1 .1 .1 .0) fits (λ i. after-shared-slice-known .shared-slice-known .given i .fits)
     (rw deep at (view .ensures)) (g .ensures (a .base) fs fits (s .pre .header .2)) (rw deep at (y .ensures))
 
 pub emit-spec : {M : Type 1} → statement M
@@ -94,6 +97,7 @@ emit-spec =
     lay-out-requires
     lay-tops-requires
     write-view-requires
+    shift-of-requires
     give-requires
     note-requires
     (λ c. search needs)

@@ -10,11 +10,11 @@ use Rattle.emit.proofs.give_many.Statement.{statement}
 use Rattle.emit.proofs.give_many.Tie as tie
 
 abbrev Inv-loop : tie.InvT-loop
-Inv-loop table tops number most records view copy₀ waiting₀ words₀ sheet₀ columns answers₀ done₀ copy waiting words sheet answers done =
+Inv-loop table tops number most records view copy₀ waiting₀ shift words₀ sheet₀ columns answers₀ done₀ copy waiting words sheet answers done =
     (length answers ≡ 8) × Underway table tops number most view records words₀ sheet₀ done words sheet × Keeps records copy × Keeps records waiting
 
 abbrev μ-loop : tie.MeasureT-loop
-μ-loop table tops number most records view copy₀ waiting₀ words₀ sheet₀ columns answers₀ done₀ copy waiting words sheet answers done = length sheet₀ - done
+μ-loop table tops number most records view copy₀ waiting₀ shift words₀ sheet₀ columns answers₀ done₀ copy waiting words sheet answers done = length sheet₀ - done
 
 loop-holds : tie.Need-loop-holds Inv-loop μ-loop
 loop-holds c =
@@ -29,7 +29,7 @@ hold-requires c κs =
     (fitting (p .0) (l .inv .1), l .inv .2, l .inv .3, p .3)
 
 same-length : tie.Need-same-length Inv-loop μ-loop
-same-length c = c .before .before .before .before .hold .kept .1 .1 .1 .1 .1 .1 .1 .0 ∙ c .before .before .before .before .before .before .before .before .loop .inv .1 .words-length
+same-length c = c .before .before .before .before .hold .kept .1 .1 .1 .1 .1 .1 .1 .1 .0 ∙ c .before .before .before .before .before .before .before .before .loop .inv .1 .words-length
 
 same-length-2 : tie.Need-same-length-2 Inv-loop μ-loop
 same-length-2 c = c .before .before .before .before .before .before .before .before .loop .inv .1 .sheet-length
@@ -50,23 +50,23 @@ write-answers-requires c κs =
     let s = c .before .before .before .before .before .before .before .before .before .before .before .before .before .before .before .before .before .before in
     let p = s .pre .0 in
     let l = c .before .before .before .before .before .before .before .before .before .before .before .before .before .loop in
-    let (room, word) = writable p (l .inv .1) (c .before .before .before .before .before .before .before .before .before .hold .ensures .0) (c .before .before .before .before .before .before .available .result) (c .before .before .before .before .before .before .available .ensures .0) (omega (arith, s .good .1 .1 .1 .1 .1 .1 .1 .1 .1 .0 .1)) in
+    let (room, word) = writable p (l .inv .1) (c .before .before .before .before .before .before .before .before .before .hold .ensures .0) (c .before .before .before .before .before .before .available .result) (c .before .before .before .before .before .before .available .ensures .0) (omega (arith, s .good .1 .1 .1 .1 .1 .1 .1 .1 .1 .1 .0 .1)) in
     (room, word, omega (arith, c .before .before .before .before .before .before .before .before .before .before .before .before .before .before .columns-of .ensures, p .formulas, p .small .1))
 
 take-verdicts-requires : tie.Need-take-verdicts-requires Inv-loop μ-loop
 take-verdicts-requires c κs =
     let s = c .before .before .before .before .before .before .before .before .before .before .before .before .before .before .before .before .before .before .before .before .before .before in
-    takes-out (s .pre .0) (c .before .before .before .before .before .before .before .before .before .before .before .before .before .before .before .before .before .loop .inv .1) (c .before .before .before .before .before .before .before .before .before .before .before .before .before .hold .ensures .0) (c .before .before .before .before .before .before .before .before .before .before .available .result) (c .before .before .before .before .before .before .before .before .before .before .available .ensures .0) (omega (arith, s .good .1 .1 .1 .1 .1 .1 .1 .1 .1 .0 .1))
+    takes-out (s .pre .0) (c .before .before .before .before .before .before .before .before .before .before .before .before .before .before .before .before .before .loop .inv .1) (c .before .before .before .before .before .before .before .before .before .before .before .before .before .hold .ensures .0) (c .before .before .before .before .before .before .before .before .before .before .available .result) (c .before .before .before .before .before .before .before .before .before .before .available .ensures .0) (omega (arith, s .good .1 .1 .1 .1 .1 .1 .1 .1 .1 .1 .0 .1))
 
 add-done : tie.Need-add-done Inv-loop μ-loop
 add-done c =
     let s = c .before .before .before .before .before .before .before .before .before .before .before .before .before .before .before .before .before .before .before .before .before .before .before .before .before in
-    record { fits = countable (s .pre .0) (c .before .before .before .before .before .before .before .before .before .before .before .before .before .before .before .before .before .before .before .before .loop .inv .1) (c .before .before .before .before .before .before .before .before .before .before .before .before .before .before .before .before .hold .ensures .0) (c .before .before .before .before .before .before .before .before .before .before .before .before .before .available .result) (c .before .before .before .before .before .before .before .before .before .before .before .before .before .available .ensures .0) (omega (arith, s .good .1 .1 .1 .1 .1 .1 .1 .1 .1 .0 .1)) }
+    record { fits = countable (s .pre .0) (c .before .before .before .before .before .before .before .before .before .before .before .before .before .before .before .before .before .before .before .before .loop .inv .1) (c .before .before .before .before .before .before .before .before .before .before .before .before .before .before .before .before .hold .ensures .0) (c .before .before .before .before .before .before .before .before .before .before .before .before .before .available .result) (c .before .before .before .before .before .before .before .before .before .before .before .before .before .available .ensures .0) (omega (arith, s .good .1 .1 .1 .1 .1 .1 .1 .1 .1 .1 .0 .1)) }
 
 loop-less : tie.Need-loop-less Inv-loop μ-loop
 loop-less c =
     let s = c .before .before .before .before .before .before .before .before .before .before .before .before .before .before .before .before .before .before .before .before .before .before .before .before .before in
-    fewer (s .pre .0) (c .before .before .before .before .before .before .before .before .before .before .before .before .before .before .before .before .before .before .before .before .loop .inv .1) (c .before .before .before .before .before .before .before .before .before .before .before .before .before .before .before .before .hold .ensures .0) (c .before .before .before .before .before .before .before .before .before .before .before .before .before .available .result) (c .before .before .before .before .before .before .before .before .before .before .before .before .before .available .ensures .0) (omega (arith, s .good .1 .1 .1 .1 .1 .1 .1 .1 .1 .0 .1)) (omega arith)
+    fewer (s .pre .0) (c .before .before .before .before .before .before .before .before .before .before .before .before .before .before .before .before .before .before .before .before .loop .inv .1) (c .before .before .before .before .before .before .before .before .before .before .before .before .before .before .before .before .hold .ensures .0) (c .before .before .before .before .before .before .before .before .before .before .before .before .before .available .result) (c .before .before .before .before .before .before .before .before .before .before .before .before .before .available .ensures .0) (omega (arith, s .good .1 .1 .1 .1 .1 .1 .1 .1 .1 .1 .0 .1)) (omega arith)
 
 loop-again : tie.Need-loop-again Inv-loop μ-loop
 loop-again c =
@@ -74,7 +74,7 @@ loop-again c =
     let h = c .before .before .before .before .before .before .before .before .before .before .before .before .before .before .before .before .hold in
     let a = c .before .before .before .before .before .before .before .before .before .copy-answers in (
       a .ensures .long,
-      turned (s .pre .0) (c .before .before .before .before .before .before .before .before .before .before .before .before .before .before .before .before .before .before .before .before .loop .inv .1) (h .ensures .0) (c .before .before .before .before .before .before .before .before .before .before .before .before .before .available .result) (c .before .before .before .before .before .before .before .before .before .before .before .before .before .available .ensures .0) (omega (arith, s .good .1 .1 .1 .1 .1 .1 .1 .1 .1 .0 .1))
+      turned (s .pre .0) (c .before .before .before .before .before .before .before .before .before .before .before .before .before .before .before .before .before .before .before .before .loop .inv .1) (h .ensures .0) (c .before .before .before .before .before .before .before .before .before .before .before .before .before .available .result) (c .before .before .before .before .before .before .before .before .before .before .before .before .before .available .ensures .0) (omega (arith, s .good .1 .1 .1 .1 .1 .1 .1 .1 .1 .1 .0 .1))
           (a .last .1 .1 .1 .0) (c .before .before .before .before .before .before .before .before .before .before .before .before .before .before .before .before .before .before .before .before .before .columns-of .result) (c .before .before .before .before .before .before .before .before .before .before .before .before .before .before .before .before .before .before .before .before .before .columns-of .ensures) (a .ensures) _ _ (c .before .before .take-verdicts .ensures) (c .before .before .before .before .before .before .write-answers .ensures),
       h .ensures .1 .0,
       h .ensures .1 .1,

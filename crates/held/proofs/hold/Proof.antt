@@ -13,12 +13,12 @@ use Rattle.held.proofs.hold.Statement.{statement}
 use Rattle.held.proofs.hold.Tie as tie
 
 abbrev Inv-loop : tie.InvT-loop
-Inv-loop table tops number records view copy₀ waiting₀ words₀ least₀ k₀ copy waiting words least k =
+Inv-loop table tops number records view copy₀ waiting₀ shift words₀ least₀ k₀ copy waiting words least k =
     (k ≤ number) × (length words ≡ length words₀) × Keeps records copy × Keeps records waiting ×
     ((base : ℕ) (fs : List Formula) → Fits (plan table tops number) base fs (length words₀) → Asked base fs view records words₀ k least words)
 
 abbrev μ-loop : tie.MeasureT-loop
-μ-loop table tops number records view copy₀ waiting₀ words₀ least₀ k₀ copy waiting words least k = number - k
+μ-loop table tops number records view copy₀ waiting₀ shift words₀ least₀ k₀ copy waiting words least k = number - k
 
 slice-read-not-given : tie.Need-slice-read-not-given Inv-loop μ-loop
 slice-read-not-given c = let f = c .before .before .before .pre .0 .2 in omega (arith, f .header, f .all)
@@ -49,12 +49,12 @@ loop-again c =
     let l = c .before .before .before .before .before .before .before .before .loop in
     let h = c .before .before .before .hold-one in (
       omega arith,
-      h .kept .1 .1 .1 .1 .1 .1 .1 .1 .0 ∙ l .inv .1,
+      h .kept .1 .1 .1 .1 .1 .1 .1 .1 .1 .0 ∙ l .inv .1,
       h .ensures .1 .0,
       h .ensures .1 .1,
       λ base fs fits.
           rw (c .smaller .ensures)
-          (one-more (fits .header) (l .inv .4 base fs fits) (h .result) (h .last .1 .1 .1 .1 .1 .1 .1 .1 .0) (omega (arith, fits .laid .number))
+          (one-more (fits .header) (l .inv .4 base fs fits) (h .result) (h .last .1 .1 .1 .1 .1 .1 .1 .1 .1 .0) (omega (arith, fits .laid .number))
           (h .ensures .0 base fs (rw (l .inv .1) fits) (omega (arith, fits .laid .number)))),
     )
 
