@@ -20,7 +20,7 @@ use Rattle.trace.specs.Format.{record-count, events-at, has-letter, SameRecord}
 use Rattle.trace.specs.Positions.{is-service, spot, place, moved, positions, Inside}
 use Rattle.trace.specs.Making.{put}
 use Rattle.window.specs.View.{slice-first, skips, in-slice}
-use Rattle.window.specs.Window.{some-service, dense, own-part, copied, record-of, letter-at, Counted, Copied, Mixed, Lettered, Keeps, Held, Opened, Behind, BehindBut, BehindSome, Gathered, Windowed, Passed, Found}
+use Rattle.window.specs.Window.{some-service, dense, own-part, copied, record-of, letter-at, Counted, Transcribed, Copied, Mixed, Lettered, Keeps, Held, Opened, Behind, BehindBut, BehindSome, Gathered, Windowed, Passed, Found}
 use Rattle.window.specs.declared.Kept.{Kept}
 use Rattle.window.specs.declared.Letters.{Letters}
 use Rattle.window.specs.declared.Window.{Window}
@@ -250,6 +250,53 @@ module _ (s : List ℕ) (i k : ℕ) (copy : List ℕ) (inside : i < record-count
 
   pub copied-before : (j : ℕ) → j < k → SameRecord (put copy (k * 8) (record-of s i)) j copy j
   copied-before = written-before copy (record-of s i) k record-long room
+
+  pub transcribed-one : {after : List ℕ} → after ≡ sets copy (k * 8) its-bytes → Transcribed s i 1 copy k after
+  transcribed-one e =
+      rw (copied-by e)
+      record {
+        long = copied-long;
+        before = copied-before;
+        here = λ j h. let first : j ≡ 0 = omega arith in rw (first, add-zero k, add-zero i) copied-here;
+      }
+
+-- records copied as they are, and more behind them
+module _ (s : List ℕ) (from n m : ℕ) {copy : List ℕ} (k : ℕ) {now next : List ℕ} where
+  pub transcribed-more : Transcribed s from n copy k now → Transcribed s (from + n) m now (k + n) next → Transcribed s from (n + m) copy k next
+  transcribed-more first more =
+      record {
+        long = more .long ∙ first .long;
+        before = λ j h b byte. more .before j (omega arith) b byte ∙ first .before j h b byte;
+        here = λ j h. ⊎-elim (λ l. new j l h) (λ l b byte. more .before (k + j) (omega arith) b byte ∙ first .here j l b byte) (le-or-lt n j);
+      }
+    where
+      new : (j : ℕ) → n ≤ j → j < n + m → SameRecord next (k + j) s (from + j)
+      new j l h =
+          let number : k + n + (j - n) ≡ k + j = omega arith in
+          let record-number : from + n + (j - n) ≡ from + j = omega arith in
+          rw (number, record-number) at (more .here (j - n) (omega arith))
+
+module _ (s : List ℕ) (from n : ℕ) {copy : List ℕ} (k : ℕ) {now : List ℕ} (whole : Transcribed s from n copy k now) where
+  -- where none is a service record, all are positions
+  pub copied-plain : from + n ≤ record-count s → some-service s from n ≡ false → Copied s from n copy k now n
+  copied-plain inside none =
+      record {
+        counted = counted-all s from n none;
+        long = whole .long;
+        before = whole .before;
+        here = λ j h.
+            rw (spot-plain s from n inside (any-false-iff n (λ i. is-service s (from + i)) .0 none) j h) (whole .here j h);
+      }
+
+  -- else they are copied again
+  pub copied-again : {next : List ℕ} {r : ℕ} → Copied s from n now k next r → Copied s from n copy k next r
+  copied-again again =
+      record {
+        counted = again .counted;
+        long = again .long ∙ whole .long;
+        before = λ j h b byte. again .before j h b byte ∙ whole .before j h b byte;
+        here = again .here;
+      }
 
 -- i of a few records from `from` on are copied, from number k on
 module _ (s : List ℕ) (from : ℕ) (copy : List ℕ) (k : ℕ) where

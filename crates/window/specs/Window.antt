@@ -53,6 +53,12 @@ pub record Counted (s : List ℕ) (from n r : ℕ) : Type 0 where
   pub few : r ≤ n
   pub sum : positions s from + r ≡ positions s (from + n)
 
+-- n records from `from` on, copied as they are as the records from number k on
+pub record Transcribed (s : List ℕ) (from n : ℕ) (copy : List ℕ) (k : ℕ) (copy′ : List ℕ) : Type 0 where
+  pub long : length copy′ ≡ length copy
+  pub before : (j : ℕ) → j < k → SameRecord copy′ j copy j
+  pub here : (j : ℕ) → j < n → SameRecord copy′ (k + j) s (from + j)
+
 -- the r positions of n records from `from` on, copied as the records from number k on
 pub record Copied (s : List ℕ) (from n : ℕ) (copy : List ℕ) (k : ℕ) (copy′ : List ℕ) (r : ℕ) : Type 0 where
   pub counted : Counted s from n r

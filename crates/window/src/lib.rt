@@ -13,7 +13,7 @@ ghost use Rattle.trace.specs.Format.{record-count};
 ghost use Rattle.trace.specs.Positions.{is-service, before};
 ghost use Rattle.trace.specs.Making.{put};
 ghost use Rattle.window.specs.View.{slice-first, skips, in-slice, Views};
-ghost use Rattle.window.specs.Window.{some-service, dense, window-of, own-part, copied, either-of, record-of, kept-of, is-kept, Counted, Copied, Picks, Lettered, Gathered, Noted, Keeps, Held, Mixed, Opened, Behind, BehindBut, BehindSome, Windowed, Passed, Found, FirstTime};
+ghost use Rattle.window.specs.Window.{some-service, dense, window-of, own-part, copied, either-of, record-of, kept-of, is-kept, Counted, Transcribed, Copied, Picks, Lettered, Gathered, Noted, Keeps, Held, Mixed, Opened, Behind, BehindBut, BehindSome, Windowed, Passed, Found, FirstTime};
 
 pub mod view;
 
@@ -145,19 +145,45 @@ fn copy_record(records: &[u8], i: usize, copy: &mut [u8; 544], k: usize)
     );
 }
 
-// Copies n records from `from` on, none of which is a service record, as those from number k on.
-fn copy_plain(records: &[u8], from: usize, n: usize, copy: &mut [u8; 544], k: usize)
-    requires { ⌜ (0 < n → from + n ≤ record-count (now records)) × (k + n ≤ 65) × (length (now copy) ≡ 544) × (some-service (now records) from n ≡ false) ⌝ }
-    ensures { λ _. ⌜ Copied (now (records .entry)) from n (now (copy .entry)) k (now (copy .exit)) n ⌝ }
+// Copies records i and i + 1, as numbers k and k + 1. All bytes are read before the first is written: it is compiled as one move of sixteen.
+fn copy_pair(records: &[u8], i: usize, copy: &mut [u8; 544], k: usize)
+    requires { ⌜ (i + 2 ≤ record-count (now records)) × (k + 2 ≤ 65) × (length (now copy) ≡ 544) ⌝ }
+    ensures { λ _. ⌜ Transcribed (now (records .entry)) i 2 (now (copy .entry)) k (now (copy .exit)) ⌝ }
 {
-    let mut i: usize = 0;
-    while i < n {
-        copy_record(records, from + i, copy, k + i);
-        i += 1;
-    }
+    let from = i * 8;
+    let a0 = records[from];
+    let a1 = records[from + 1];
+    let a2 = records[from + 2];
+    let a3 = records[from + 3];
+    let a4 = records[from + 4];
+    let a5 = records[from + 5];
+    let a6 = records[from + 6];
+    let a7 = records[from + 7];
+    let next = (i + 1) * 8;
+    let b0 = records[next];
+    let b1 = records[next + 1];
+    let b2 = records[next + 2];
+    let b3 = records[next + 3];
+    let b4 = records[next + 4];
+    let b5 = records[next + 5];
+    let b6 = records[next + 6];
+    let b7 = records[next + 7];
+    bits::bytes::write_eight(copy, k * 8, a0, a1, a2, a3, a4, a5, a6, a7);
+    bits::bytes::write_eight(copy, (k + 1) * 8, b0, b1, b2, b3, b4, b5, b6, b7);
 }
 
-// The same of records among which service records may be: each of those is written over by the next. Gives how many are left.
+// Copies eight records from `from` on as they are, as those from number k on.
+fn copy_eight(records: &[u8], from: usize, copy: &mut [u8; 544], k: usize)
+    requires { ⌜ (from + 8 ≤ record-count (now records)) × (k + 8 ≤ 65) × (length (now copy) ≡ 544) ⌝ }
+    ensures { λ _. ⌜ Transcribed (now (records .entry)) from 8 (now (copy .entry)) k (now (copy .exit)) ⌝ }
+{
+    copy_pair(records, from, copy, k);
+    copy_pair(records, from + 2, copy, k + 2);
+    copy_pair(records, from + 4, copy, k + 4);
+    copy_pair(records, from + 6, copy, k + 6);
+}
+
+// Copies the positions among n records from `from` on: a service record is written over by the next record. Gives how many they are.
 fn copy_mixed(records: &[u8], from: usize, n: usize, copy: &mut [u8; 544], k: usize) -> usize
     requires { ⌜ (from + n ≤ record-count (now records)) × (k + n ≤ 65) × (length (now copy) ≡ 544) ⌝ }
     ensures { λ r. ⌜ Copied (now (records .entry)) from n (now (copy .entry)) k (now (copy .exit)) r ⌝ }
@@ -172,16 +198,17 @@ fn copy_mixed(records: &[u8], from: usize, n: usize, copy: &mut [u8; 544], k: us
     copied
 }
 
-// The same of a group, by what is in it.
-fn copy_group(records: &[u8], from: usize, n: usize, copy: &mut [u8; 544], k: usize) -> usize
-    requires { ⌜ (from + n ≤ record-count (now records)) × (k + n ≤ 65) × (length (now copy) ≡ 544) ⌝ }
-    ensures { λ r. ⌜ Copied (now (records .entry)) from n (now (copy .entry)) k (now (copy .exit)) r ⌝ }
+// The same of eight records. They are copied before the look at them, since behind a look they are not moved in pairs; where a service record
+// is found, they are copied again one by one.
+fn copy_group(records: &[u8], from: usize, copy: &mut [u8; 544], k: usize) -> usize
+    requires { ⌜ (from + 8 ≤ record-count (now records)) × (k + 8 ≤ 65) × (length (now copy) ≡ 544) ⌝ }
+    ensures { λ r. ⌜ Copied (now (records .entry)) from 8 (now (copy .entry)) k (now (copy .exit)) r ⌝ }
 {
-    if group_has_service(records, from, n) {
-        copy_mixed(records, from, n, copy, k)
+    copy_eight(records, from, copy, k);
+    if group_has_service(records, from, 8) {
+        copy_mixed(records, from, 8, copy, k)
     } else {
-        copy_plain(records, from, n, copy, k);
-        n
+        8
     }
 }
 
@@ -205,11 +232,11 @@ fn gather(records: &[u8], from: usize, copy: &mut [u8; 544]) -> Kept
     let mut at = from;
     let mut k: usize = 0;
     while can_take(8, 65 - k, at, end) {
-        k += copy_group(records, at, 8, copy, k);
+        k += copy_group(records, at, copy, k);
         at += 8;
     }
     while can_take(1, 65 - k, at, end) {
-        k += copy_group(records, at, 1, copy, k);
+        k += copy_mixed(records, at, 1, copy, k);
         at += 1;
     }
     Kept { end: at, count: k }

@@ -39,14 +39,14 @@ loop-again c =
     let l = c .before .before .before .before .loop in
     let (few, inside) = fits (c .before .before) in
     let g = c .copy-group in
-    gathering-group (a .records .now) (a .from) (l .k) (l .at) 8 (g .result) (l .copy) (g .last .1 .1 .1 .0) (l .inv) few (omega arith) (g .ensures)
+    gathering-group (a .records .now) (a .from) (l .k) (l .at) 8 (g .result) (l .copy) (g .last .1 .1 .0) (l .inv) few (omega arith) (g .ensures)
 
 loop2-again : tie.Need-loop2-again Inv-loop μ-loop Inv-loop2 μ-loop2
 loop2-again c =
     let a = c .before .before .before .before .before .before .before .before .before .before .args in
     let l = c .before .before .before .before .loop2 in
     let (few, inside) = fits-2 (c .before .before) in
-    let g = c .copy-group2 in
+    let g = c .copy-mixed in
     gathering-group (a .records .now) (a .from) (l .k) (l .at) 1 (g .result) (l .copy) (g .last .1 .1 .1 .0) (l .inv) few (omega arith) (g .ensures)
 
 returns : tie.Need-returns Inv-loop μ-loop Inv-loop2 μ-loop2
@@ -77,7 +77,7 @@ gather-spec =
     (λ c. c .loop2 .inv .going .few)
     (λ c κs. search needs)
     (λ c κs. omega (arith, fits-2 (c .before), c .before .before .before .loop2 .inv .long))
-    (λ c. omega (arith, fits-2 (c .before .before), c .copy-group2 .ensures .counted .few))
+    (λ c. omega (arith, fits-2 (c .before .before), c .copy-mixed .ensures .counted .few))
     (λ c. omega (arith, fits-2 (c .before .before)))
     (λ c. omega (arith, fits-2 (c .before .before)))
     loop2-again
