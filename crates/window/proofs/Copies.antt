@@ -1,40 +1,76 @@
 -- KEPT COPIES: what a copy keeps, after it was gathered and after it is found again. Assumes nothing.
 use Prim.Native.Nat.{ℕ, _+_, _-_, _*_, _%_, _≤_, _<_, _^_, max}
 use native.Mathlib.Omega.{arith}
-use native.Mathlib.Nat.{zero-add}
+use native.Mathlib.Nat.{add-zero, zero-add}
 use mathlib.Core.Bool.{true, _&&_}
-use mathlib.Core.List.{List}
+use mathlib.Core.List.{List, [], _∷_}
 use mathlib.Core.Logic.{⊎-elim}
-use mathlib.Core.Path.{_≡_, refl, sym, _∙_}
+use mathlib.Core.Path.{_≡_, refl, sym, ap, _∙_}
 use lib.Dec.{leb, ltb, eqb}
-use lib.ListN.{length, replicate}
+use lib.ListN.{length, getD, replicate}
+use lib.Seq.{sets}
 use borrow.Author.Tests.{ltb-true, leb-true, eqb-true}
 use Rattle.mtl.proofs.Bounded.{le-or-lt, and-iff}
 use Rattle.bits.specs.Packed.{Packed}
 use Rattle.bits.proofs.Laws.{packed-same}
 use Rattle.trace.specs.Format.{record-count, time-at, has-letter, SameRecord}
 use Rattle.trace.specs.Positions.{place}
-use Rattle.trace.specs.Making.{word-bytes, record-bytes, put}
+use Rattle.trace.specs.Making.{word-bytes, put}
 use Rattle.trace.proofs.Laws.{same-time, same-letter}
-use Rattle.trace.proofs.Making.{word-back}
-use Rattle.window.specs.Window.{letter-at, kept-from, kept-of, is-kept, Lettered, BehindSome, Holds, Gathered, Noted, Keeps, Held}
+use Rattle.trace.proofs.Making.{stored, word-back}
+use Rattle.window.specs.Window.{letter-at, kept-from, kept-of, is-kept, Lettered, BehindSome, Holds, Gathered, Noted, Said, Keeps, Held}
 use Rattle.window.specs.declared.Kept.{Kept}
-use Rattle.window.proofs.Windows.{written-long, written-here, written-before}
+use Rattle.window.proofs.Windows.{written-long, written-here, written-before, written-after}
 
 -- a new copy keeps none
 pub keeps-none : (s : List ℕ) → Keeps s (replicate 544 0)
 keeps-none s = record { long = refl; holds = λ some. absurd (omega arith) }
 
 -- a number written as a time
-pub noted : (copy : List ℕ) (i x : ℕ) → i * 8 + 8 ≤ length copy → {after : List ℕ} → after ≡ put copy (i * 8) (record-bytes (x % 4294967296) 0) → Noted copy i x after
+pub noted : (copy : List ℕ) (i x : ℕ) → i * 8 + 8 ≤ length copy → {after : List ℕ} → after ≡ sets copy (i * 8) (word-bytes (x % 4294967296)) → Noted copy i x after
 noted copy i x room is =
-    let bytes = record-bytes (x % 4294967296) 0 in
-    rw is
+    let y = x % 4294967296 in
+    let bytes = word-bytes y in
+    let here = written-here copy bytes i (omega arith) room in
+    rw (is ∙ stored copy (i * 8) bytes (omega arith))
     record {
-      long = written-long copy bytes i refl room;
-      number = same-time (put copy (i * 8) bytes) bytes i 0 (written-here copy bytes i refl room) ∙ word-back (x % 4294967296) (word-bytes 0) (omega arith);
-      before = written-before copy bytes i refl room;
+      long = written-long copy bytes i (omega arith) room;
+      number =
+          rw (rw (add-zero (i * 8)) at (here 0 (omega arith)), here 1 (omega arith), here 2 (omega arith), here 3 (omega arith))
+          (word-back y [] (omega arith));
+      before = written-before copy bytes i (omega arith) room;
+      after = written-after copy bytes i (omega arith) room;
     }
+
+-- how many are kept, written as a byte, and the end of some as a time
+module _ (copy : List ℕ) (r : Kept) (room : length copy ≡ 544) {first : List ℕ} (is : first ≡ sets copy 536 (r .count ∷ [])) where
+  abbrev byte : List ℕ
+  byte = r .count ∷ []
+
+  is-put : first ≡ put copy (67 * 8) byte
+  is-put = is ∙ stored copy 536 byte (omega arith)
+
+  pub count-long : length first ≡ length copy
+  count-long = ap length is-put ∙ written-long copy byte 67 (omega arith) (omega arith)
+
+  count-here : getD first 536 0 ≡ r .count
+  count-here = rw is-put (written-here copy byte 67 (omega arith) (omega arith) 0 (omega arith))
+
+  count-before : (j : ℕ) → j < 67 → SameRecord first j copy j
+  count-before j h = rw is-put (written-before copy byte 67 (omega arith) (omega arith) j h)
+
+  pub said-none : r .count ≡ 0 → Said copy r first
+  said-none none =
+      record { long = count-long; count = count-here; end = λ some. absurd (omega arith); before = λ j h. count-before j (omega arith) }
+
+  pub said-some : {next : List ℕ} → Noted first 66 (r .end) next → Said copy r next
+  said-some end =
+      record {
+        long = end .long ∙ count-long;
+        count = end .after 67 (omega arith) 0 (omega arith) ∙ count-here;
+        end = λ some. end .number;
+        before = λ j h b byte. end .before j h b byte ∙ count-before j (omega arith) b byte;
+      }
 
 -- what a copy says it keeps from this record on, it has
 pub found : (s copy : List ℕ) (at n : ℕ) → Keeps s copy → is-kept copy at n ≡ true → Held s at n copy (kept-of copy)
@@ -53,14 +89,11 @@ found s copy at n keeps e =
       shows = λ inside i h. holds .at i (omega arith);
     }
 
--- what was gathered, and noted behind it
-module _ (s : List ℕ) (at : ℕ) (copy : List ℕ) (r : Kept) (gathered : Gathered s at copy r) {first second third : List ℕ} (from : Noted copy 65 at first)
-    (end : Noted first 66 (r .end) second) (count : Noted second 67 (r .count) third) where
-  cell : (j : ℕ) → j < 65 → SameRecord third j copy j
-  cell j h b byte = count .before j (omega arith) b byte ∙ end .before j (omega arith) b byte ∙ from .before j h b byte
-
+-- what was gathered, and what the copy says of it
+module _ (s : List ℕ) (at : ℕ) {copy first second third : List ℕ} (r : Kept) (from : Noted copy 65 at first) (gathered : Gathered s at first second r)
+    (said : Said second r third) where
   shown : (i : ℕ) → i < r .count → SameRecord third i s (place true s at i)
-  shown i h b byte = cell i (omega (arith, gathered .holds .few)) b byte ∙ gathered .holds .at i h b byte
+  shown i h b byte = said .before i (omega (arith, gathered .holds .few)) b byte ∙ gathered .holds .at i h b byte
 
   -- a position that is there has a record
   there : 0 < r .count → at < record-count s
@@ -75,17 +108,16 @@ module _ (s : List ℕ) (at : ℕ) (copy : List ℕ) (r : Kept) (gathered : Gath
 
   pub keeps-new : record-count s < 2 ^ 32 → Keeps s third
   keeps-new few =
-      let many : time-at third 67 ≡ r .count = omega (arith, count .number, gathered .holds .few) in
       record {
-        long = count .long ∙ end .long ∙ from .long ∙ gathered .long;
+        long = said .long ∙ gathered .long;
         holds = λ some.
             let holds = gathered .holds in
-            let inside = there (rw many at some) in
+            let some-found = rw (said .count) at some in
+            let inside = there some-found in
             let begin : time-at third 65 ≡ at =
-            same-time third second 65 65 (count .before 65 (omega arith)) ∙ same-time second first 65 65 (end .before 65 (omega arith)) ∙ omega (arith, from .number) in
-            let last : time-at third 66 ≡ r .end =
-            same-time third second 66 66 (count .before 66 (omega arith)) ∙ omega (arith, end .number, holds .bounded) in
-            rw (begin, last, many)
+            same-time third second 65 65 (said .before 65 (omega arith)) ∙ same-time second first 65 65 (gathered .after 65 (omega arith)) ∙ omega (arith, from .number) in
+            let last : time-at third 66 ≡ r .end = omega (arith, said .end some-found, holds .bounded) in
+            rw (begin, last, said .count)
             record { few = holds .few; onward = holds .onward; bounded = holds .bounded; counted = holds .counted; at = shown };
       }
 

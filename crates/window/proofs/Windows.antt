@@ -5,7 +5,7 @@ use native.Mathlib.Nat.{add-zero, zero-add}
 use native.Mathlib.Numerals.{add-one}
 use mathlib.Core.Bool.{Bool, true, false, _&&_}
 use mathlib.Core.Bool.{not as negate}
-use mathlib.Core.List.{List, [], _∷_}
+use mathlib.Core.List.{List, [], _∷_, _++_}
 use mathlib.Core.Logic.{_⊎_, inl, inr, ⊎-elim}
 use mathlib.Core.Path.{_≡_, refl, sym, ap, subst, _∙_}
 use lib.Dec.{ltb, leb}
@@ -209,25 +209,39 @@ listed s at (suc n) k h =
     ap (take (suc n)) (drop-cons s (at + k) 0 (omega arith)) ∙
     ap (λ (l : List ℕ). getD s (at + k) 0 ∷ l) (ap (λ (j : ℕ). take n (drop j s)) next ∙ listed s at n (suc k) (omega arith))
 
--- eight bytes written as record k
-module _ (copy bytes : List ℕ) (k : ℕ) (eight : length bytes ≡ 8) (room : k * 8 + 8 ≤ length copy) where
+-- up to eight bytes written where record k stands
+module _ (copy bytes : List ℕ) (k : ℕ) (few : length bytes ≤ 8) (room : k * 8 + 8 ≤ length copy) where
   pub written-long : length (put copy (k * 8) bytes) ≡ length copy
   written-long = length-put copy (k * 8) bytes (omega arith)
 
-  pub written-here : SameRecord (put copy (k * 8) bytes) k bytes 0
+  pub written-here : (b : ℕ) → b < length bytes → getD (put copy (k * 8) bytes) (k * 8 + b) 0 ≡ getD bytes b 0
   written-here b h =
-      rw (zero-add b) (
-      byte-behind (take (k * 8) copy) _ (k * 8) b (length-take-le (k * 8) copy (omega arith)) ∙
-      List·getD-append bytes _ 0 b (omega arith))
+      byte-behind (take (k * 8) copy) _ (k * 8) b (length-take-le (k * 8) copy (omega arith)) ∙ List·getD-append bytes _ 0 b h
 
   pub written-before : (j : ℕ) → j < k → SameRecord (put copy (k * 8) bytes) j copy j
   written-before j l b h =
       let long = length-take-le (k * 8) copy (omega arith) in
       List·getD-append (take (k * 8) copy) _ 0 (j * 8 + b) (omega arith) ∙ getD-take (k * 8) copy (j * 8 + b) 0 (omega arith)
 
+  pub written-after : (j : ℕ) → k < j → SameRecord (put copy (k * 8) bytes) j copy j
+  written-after j l b h =
+      let n = length bytes in
+      let rest = drop (k * 8 + n) copy in
+      let m = j * 8 + b - (k * 8 + n) in
+      let behind : k * 8 + (n + m) ≡ j * 8 + b = omega arith in
+      let there : k * 8 + n + m ≡ j * 8 + b = omega arith in
+      ap (λ (i : ℕ). getD (put copy (k * 8) bytes) i 0) (sym behind) ∙
+      byte-behind (take (k * 8) copy) (bytes ++ rest) (k * 8) (n + m) (length-take-le (k * 8) copy (omega arith)) ∙
+      byte-behind bytes rest n m refl ∙
+      getD-drop (k * 8 + n) copy m 0 ∙
+      ap (λ (i : ℕ). getD copy i 0) there
+
 module _ (s : List ℕ) (i k : ℕ) (copy : List ℕ) (inside : i < record-count s) (room : k * 8 + 8 ≤ length copy) where
   record-long : length (record-of s i) ≡ 8
   record-long = let rest = length-drop (i * 8) s in length-take-le 8 (drop (i * 8) s) (omega arith)
+
+  record-few : length (record-of s i) ≤ 8
+  record-few = omega (arith, record-long)
 
   abbrev pub its-bytes : List ℕ
   its-bytes =
@@ -242,14 +256,17 @@ module _ (s : List ℕ) (i k : ℕ) (copy : List ℕ) (inside : i < record-count
   copied-by e = e ∙ stored copy (k * 8) its-bytes (omega arith) ∙ ap (put copy (k * 8)) record-is
 
   pub copied-long : length (put copy (k * 8) (record-of s i)) ≡ length copy
-  copied-long = written-long copy (record-of s i) k record-long room
+  copied-long = written-long copy (record-of s i) k record-few room
 
   pub copied-here : SameRecord (put copy (k * 8) (record-of s i)) k s i
   copied-here b h =
-      rw (zero-add b) at (written-here copy (record-of s i) k record-long room b h) ∙ getD-take 8 (drop (i * 8) s) b 0 h ∙ getD-drop (i * 8) s b 0
+      written-here copy (record-of s i) k record-few room b (omega (arith, record-long)) ∙ getD-take 8 (drop (i * 8) s) b 0 h ∙ getD-drop (i * 8) s b 0
 
   pub copied-before : (j : ℕ) → j < k → SameRecord (put copy (k * 8) (record-of s i)) j copy j
-  copied-before = written-before copy (record-of s i) k record-long room
+  copied-before = written-before copy (record-of s i) k record-few room
+
+  pub copied-after : (j : ℕ) → k < j → SameRecord (put copy (k * 8) (record-of s i)) j copy j
+  copied-after = written-after copy (record-of s i) k record-few room
 
   pub transcribed-one : {after : List ℕ} → after ≡ sets copy (k * 8) its-bytes → Transcribed s i 1 copy k after
   transcribed-one e =
@@ -258,6 +275,7 @@ module _ (s : List ℕ) (i k : ℕ) (copy : List ℕ) (inside : i < record-count
         long = copied-long;
         before = copied-before;
         here = λ j h. let first : j ≡ 0 = omega arith in rw (first, add-zero k, add-zero i) copied-here;
+        after = λ j h. copied-after j (omega arith);
       }
 
 -- records copied as they are, and more behind them
@@ -268,6 +286,7 @@ module _ (s : List ℕ) (from n m : ℕ) {copy : List ℕ} (k : ℕ) {now next :
         long = more .long ∙ first .long;
         before = λ j h b byte. more .before j (omega arith) b byte ∙ first .before j h b byte;
         here = λ j h. ⊎-elim (λ l. new j l h) (λ l b byte. more .before (k + j) (omega arith) b byte ∙ first .here j l b byte) (le-or-lt n j);
+        after = λ j h b byte. more .after j (omega arith) b byte ∙ first .after j (omega arith) b byte;
       }
     where
       new : (j : ℕ) → n ≤ j → j < n + m → SameRecord next (k + j) s (from + j)
@@ -286,6 +305,7 @@ module _ (s : List ℕ) (from n : ℕ) {copy : List ℕ} (k : ℕ) {now : List �
         before = whole .before;
         here = λ j h.
             rw (spot-plain s from n inside (any-false-iff n (λ i. is-service s (from + i)) .0 none) j h) (whole .here j h);
+        after = whole .after;
       }
 
   -- else they are copied again
@@ -296,6 +316,7 @@ module _ (s : List ℕ) (from n : ℕ) {copy : List ℕ} (k : ℕ) {now : List �
         long = again .long ∙ whole .long;
         before = λ j h b byte. again .before j h b byte ∙ whole .before j h b byte;
         here = again .here;
+        after = λ j h b byte. again .after j h b byte ∙ whole .after j h b byte;
       }
 
 -- i of a few records from `from` on are copied, from number k on
@@ -307,6 +328,7 @@ module _ (s : List ℕ) (from : ℕ) (copy : List ℕ) (k : ℕ) where
         long = refl;
         before = λ j h b byte. refl;
         here = λ j h. absurd (omega arith);
+        after = λ j h b byte. refl;
       }
 
   -- one more, as number k + r: it stays if it is a position
@@ -319,6 +341,8 @@ module _ (s : List ℕ) (from : ℕ) (copy : List ℕ) (k : ℕ) where
         long = copied-long s (from + i) (k + r) now inside room ∙ so-far .long;
         before = λ j h b byte. older j (omega arith) b byte ∙ so-far .before j h b byte;
         here = λ j h. ⊎-elim (λ l. last j l h) (λ l b byte. older (k + j) (omega arith) b byte ∙ so-far .here j l b byte) (le-or-lt r j);
+        after = λ j h b byte.
+            copied-after s (from + i) (k + r) now inside room j (omega (arith, so-far .counted .few)) b byte ∙ so-far .after j (omega arith) b byte;
       }
     where
       older : (j : ℕ) → j < k + r → SameRecord (put now ((k + r) * 8) (record-of s (from + i))) j now j
@@ -334,25 +358,33 @@ module _ (s : List ℕ) (from : ℕ) (copy : List ℕ) (k : ℕ) where
           (true-or-false (is-service s (from + i)))
 
 -- the records of those passed stand in the copy
-pub record Gathering (s : List ℕ) (from k at : ℕ) (copy : List ℕ) : Type 0 where
+pub record Gathering (s : List ℕ) (from : ℕ) (copy₀ : List ℕ) (k at : ℕ) (copy : List ℕ) : Type 0 where
   pub going : Going s from 65 k at
   pub counted : positions s from + k ≡ positions s at
   pub long : length copy ≡ 544
   pub done : (j : ℕ) → j < k → SameRecord copy j s (spot s from j)
+  pub after : (j : ℕ) → 65 ≤ j → SameRecord copy j copy₀ j
 
-module _ (s : List ℕ) (from : ℕ) where
-  pub gathering-none : (copy : List ℕ) → length copy ≡ 544 → Gathering s from 0 from copy
-  gathering-none copy long =
-      record { going = going-none s from 65; counted = add-zero (positions s from); long = long; done = λ j h. absurd (omega arith) }
+module _ (s : List ℕ) (from : ℕ) (copy₀ : List ℕ) where
+  pub gathering-none : length copy₀ ≡ 544 → Gathering s from copy₀ 0 from copy₀
+  gathering-none long =
+      record {
+        going = going-none s from 65;
+        counted = add-zero (positions s from);
+        long = long;
+        done = λ j h. absurd (omega arith);
+        after = λ j h b byte. refl;
+      }
 
-  pub gathering-group : (k at m r : ℕ) (copy copy′ : List ℕ) → Gathering s from k at copy → k + m ≤ 65 → at + m ≤ record-count s → Copied s at m copy k copy′ r →
-      Gathering s from (k + r) (at + m) copy′
+  pub gathering-group : (k at m r : ℕ) (copy copy′ : List ℕ) → Gathering s from copy₀ k at copy → k + m ≤ 65 → at + m ≤ record-count s → Copied s at m copy k copy′ r →
+      Gathering s from copy₀ (k + r) (at + m) copy′
   gathering-group k at m r copy copy′ g few inside copied =
       record {
         going = going-group s from 65 k at (g .going) m few inside r (copied .counted .sum);
         counted = omega (arith, g .counted, copied .counted .sum);
         long = copied .long ∙ g .long;
         done = λ j h. ⊎-elim (λ l. new j l h) (λ l b byte. copied .before j l b byte ∙ g .done j l b byte) (le-or-lt k j);
+        after = λ j h b byte. copied .after j (omega arith) b byte ∙ g .after j h b byte;
       }
     where
       new : (j : ℕ) → k ≤ j → j < k + r → SameRecord copy′ j s (spot s from j)
@@ -361,8 +393,13 @@ module _ (s : List ℕ) (from : ℕ) where
           let place = rw same at (g .going .left (j - k)) in
           rw place (rw same at (copied .here (j - k) (omega arith)))
 
-  pub gathered : (k at : ℕ) (copy : List ℕ) → Gathering s from k at copy → (65 ≤ k) ⊎ (record-count s ≤ at) → Gathered s from copy (record { end = at; count = k })
-  gathered k at copy g ended =
+  -- from here on, whatever was written before
+  pub gathering-anew : {k at : ℕ} {copy : List ℕ} → Gathering s from copy₀ k at copy → Gathering s from copy k at copy
+  gathering-anew g =
+      record { going = g .going; counted = g .counted; long = g .long; done = g .done; after = λ j h b byte. refl }
+
+  pub gathered : (k at : ℕ) (now copy : List ℕ) → ((j : ℕ) → 65 ≤ j → SameRecord now j copy₀ j) → Gathering s from now k at copy → (65 ≤ k) ⊎ (record-count s ≤ at) → Gathered s from copy₀ copy (record { end = at; count = k })
+  gathered k at now copy same g ended =
       record {
         long = g .long;
         holds = record {
@@ -372,6 +409,7 @@ module _ (s : List ℕ) (from : ℕ) where
           counted = g .counted;
           at = g .done;
         };
+        after = λ j h b byte. g .after j h b byte ∙ same j h b byte;
         most = λ n few inside. ⊎-elim (λ l. l) (λ l. absurd (none-left n few inside l)) (le-or-lt n k);
       }
     where

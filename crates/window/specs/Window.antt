@@ -4,7 +4,7 @@ use mathlib.Core.Bool.{Bool, true, false, cond, _&&_}
 use mathlib.Core.Bool.{not as negate}
 use mathlib.Core.Path.{_≡_}
 use mathlib.Core.List.{List}
-use lib.ListN.{length, take, drop}
+use lib.ListN.{length, getD, take, drop}
 use lib.Dec.{leb, ltb, eqb}
 use Rattle.mtl.specs.Satisfaction.{any}
 use Rattle.bits.specs.Packed.{Packed}
@@ -58,6 +58,7 @@ pub record Transcribed (s : List ℕ) (from n : ℕ) (copy : List ℕ) (k : ℕ)
   pub long : length copy′ ≡ length copy
   pub before : (j : ℕ) → j < k → SameRecord copy′ j copy j
   pub here : (j : ℕ) → j < n → SameRecord copy′ (k + j) s (from + j)
+  pub after : (j : ℕ) → k + n ≤ j → SameRecord copy′ j copy j
 
 -- the r positions of n records from `from` on, copied as the records from number k on
 pub record Copied (s : List ℕ) (from n : ℕ) (copy : List ℕ) (k : ℕ) (copy′ : List ℕ) (r : ℕ) : Type 0 where
@@ -65,6 +66,7 @@ pub record Copied (s : List ℕ) (from n : ℕ) (copy : List ℕ) (k : ℕ) (cop
   pub long : length copy′ ≡ length copy
   pub before : (j : ℕ) → j < k → SameRecord copy′ j copy j
   pub here : (j : ℕ) → j < r → SameRecord copy′ (k + j) s (spot s from j)
+  pub after : (j : ℕ) → k + n ≤ j → SameRecord copy′ j copy j
 
 -- a letter at the i-th position that stands at record r or behind it
 abbrev pub letter-at : (skips : Bool) → List ℕ → (letter r i : ℕ) → Bool
@@ -93,19 +95,20 @@ pub record Holds (s : List ℕ) (from : ℕ) (copy : List ℕ) (r : Kept) : Type
   pub counted : positions s from + r .count ≡ positions s (r .end)
   pub at : (i : ℕ) → i < r .count → SameRecord copy i s (place true s from i)
 
--- 65 positions, or all that the records have from there on
-pub record Gathered (s : List ℕ) (from : ℕ) (copy : List ℕ) (r : Kept) : Type 0 where
-  pub long : length copy ≡ 544
-  pub holds : Holds s from copy r
+-- 65 positions, or all that the records have from there on; what stands behind 65 records stays
+pub record Gathered (s : List ℕ) (from : ℕ) (copy copy′ : List ℕ) (r : Kept) : Type 0 where
+  pub long : length copy′ ≡ 544
+  pub holds : Holds s from copy′ r
+  pub after : (j : ℕ) → 65 ≤ j → SameRecord copy′ j copy j
   pub most : (n : ℕ) → n ≤ 65 → Inside true s from n → n ≤ r .count
 
--- behind its 65 records a copy has three numbers, as the times of three records: the record from which on it keeps positions, the record behind
--- them, and how many they are
+-- behind its 65 records a copy has three numbers: as the times of two records, the record from which on it keeps positions and the record
+-- behind them; as one byte, how many they are
 abbrev pub kept-from : (copy : List ℕ) → ℕ
 kept-from copy = time-at copy 65
 
 abbrev pub kept-of : (copy : List ℕ) → Kept
-kept-of copy = record { end = time-at copy 66; count = time-at copy 67 }
+kept-of copy = record { end = time-at copy 66; count = getD copy 536 0 }
 
 -- what it says it keeps it has; a new copy says that it keeps none
 pub record Keeps (s copy : List ℕ) : Type 0 where
@@ -121,6 +124,14 @@ pub record Noted (copy : List ℕ) (i x : ℕ) (copy′ : List ℕ) : Type 0 whe
   pub long : length copy′ ≡ length copy
   pub number : time-at copy′ i ≡ x % 4294967296
   pub before : (j : ℕ) → j < i → SameRecord copy′ j copy j
+  pub after : (j : ℕ) → i < j → SameRecord copy′ j copy j
+
+-- how many positions are kept, and of some the record behind them, written where a copy says it
+pub record Said (copy : List ℕ) (r : Kept) (copy′ : List ℕ) : Type 0 where
+  pub long : length copy′ ≡ length copy
+  pub count : kept-of copy′ .count ≡ r .count
+  pub end : 0 < r .count → kept-of copy′ .end ≡ r .end % 4294967296
+  pub before : (j : ℕ) → j < 66 → SameRecord copy′ j copy j
 
 -- n positions from record `at` on, and more where the copy has them
 pub record Held (s : List ℕ) (at n : ℕ) (copy : List ℕ) (r : Kept) : Type 0 where

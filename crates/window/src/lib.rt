@@ -13,7 +13,7 @@ ghost use Rattle.trace.specs.Format.{record-count};
 ghost use Rattle.trace.specs.Positions.{is-service, before};
 ghost use Rattle.trace.specs.Making.{put};
 ghost use Rattle.window.specs.View.{slice-first, skips, in-slice, Views};
-ghost use Rattle.window.specs.Window.{some-service, dense, window-of, own-part, copied, either-of, record-of, kept-of, is-kept, Counted, Transcribed, Copied, Picks, Lettered, Gathered, Noted, Keeps, Held, Mixed, Opened, Behind, BehindBut, BehindSome, Windowed, Passed, Found, FirstTime};
+ghost use Rattle.window.specs.Window.{some-service, dense, window-of, own-part, copied, either-of, record-of, kept-of, is-kept, Counted, Transcribed, Copied, Picks, Lettered, Gathered, Noted, Said, Keeps, Held, Mixed, Opened, Behind, BehindBut, BehindSome, Windowed, Passed, Found, FirstTime};
 
 pub mod view;
 
@@ -33,12 +33,12 @@ pub struct Kept {
     pub count: usize,
 }
 
-// Where a copy says what it keeps: as the times of three records behind its 65.
+// Where a copy says what it keeps, behind its 65 records: as the times of two more, and in the byte behind those.
 const KEPT_FROM: usize = 65;
 
 const KEPT_END: usize = 66;
 
-const KEPT_COUNT: usize = 67;
+const KEPT_COUNT: usize = 536;
 
 // A letter at some positions, as a word of answers, and the record behind the last of them.
 pub struct Letters {
@@ -226,7 +226,7 @@ fn can_take(m: usize, left: usize, at: usize, end: usize) -> bool
 // Copies the records of 65 positions from `from` on, as many as there are, eight records at a time.
 fn gather(records: &[u8], from: usize, copy: &mut [u8; 544]) -> Kept
     requires { ⌜ length (now copy) ≡ 544 ⌝ }
-    ensures { λ r. ⌜ Gathered (now (records .entry)) from (now (copy .exit)) r ⌝ }
+    ensures { λ r. ⌜ Gathered (now (records .entry)) from (now (copy .entry)) (now (copy .exit)) r ⌝ }
 {
     let end = trace::count(records);
     let mut at = from;
@@ -242,12 +242,30 @@ fn gather(records: &[u8], from: usize, copy: &mut [u8; 544]) -> Kept
     Kept { end: at, count: k }
 }
 
-// Writes a number as the time of record i of a copy.
+// Writes a number as the time of record i of a copy. No other byte is written beside its four: they are compiled as one word then, which is read
+// again without a wait.
 fn note(copy: &mut [u8; 544], i: usize, x: usize)
     requires { ⌜ (i < 68) × (length (now copy) ≡ 544) ⌝ }
     ensures { λ _. ⌜ Noted (now (copy .entry)) i x (now (copy .exit)) ⌝ }
 {
-    trace::write_record(copy, i * 8, (x % 4294967296) as u32, 0);
+    let at = i * 8;
+    let y = (x % 4294967296) as u32;
+    copy[at] = (y / 16777216 % 256) as u8;
+    copy[at + 1] = (y / 65536 % 256) as u8;
+    copy[at + 2] = (y / 256 % 256) as u8;
+    copy[at + 3] = (y % 256) as u8;
+}
+
+// Says how many positions a copy keeps, and of some the record behind them. The end of none is not asked for, and the test keeps the stores
+// of the two apart.
+fn say(copy: &mut [u8; 544], found: Kept)
+    requires { ⌜ (found .count ≤ 65) × (length (now copy) ≡ 544) ⌝ }
+    ensures { λ _. ⌜ Said (now (copy .entry)) found (now (copy .exit)) ⌝ }
+{
+    copy[KEPT_COUNT] = found.count as u8;
+    if found.count != 0 {
+        note(copy, KEPT_END, found.end);
+    }
 }
 
 // What the copy keeps.
@@ -257,7 +275,7 @@ fn kept_of(copy: &[u8; 544]) -> Kept
 {
     Kept {
         end: trace::time(copy, KEPT_END) as usize,
-        count: trace::time(copy, KEPT_COUNT) as usize,
+        count: bits::bytes::wide(copy[KEPT_COUNT]) as usize,
     }
 }
 
@@ -266,7 +284,7 @@ fn is_kept(copy: &[u8; 544], at: usize, n: usize) -> bool
     requires { ⌜ length (now copy) ≡ 544 ⌝ }
     ensures { λ r. ⌜ r ≡ is-kept (now (copy .entry)) at n ⌝ }
 {
-    let count = trace::time(copy, KEPT_COUNT);
+    let count = bits::bytes::wide(copy[KEPT_COUNT]);
     (0 < count) & ((trace::time(copy, KEPT_FROM) == at as u64) & (n as u64 <= count))
 }
 
@@ -286,10 +304,10 @@ fn hold(records: &[u8], at: usize, n: usize, copy: &mut [u8; 544]) -> Kept
     if is_kept(copy, at, n) {
         return kept_of(copy);
     }
-    let found = gather(records, at, copy);
+    // before the records are copied, apart from the stores behind that
     note(copy, KEPT_FROM, at);
-    note(copy, KEPT_END, found.end);
-    note(copy, KEPT_COUNT, found.count);
+    let found = gather(records, at, copy);
+    say(copy, found);
     let count = larger(n, found.count);
     Kept {
         end: found.end,

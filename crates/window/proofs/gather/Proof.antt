@@ -3,12 +3,12 @@
 use Prim.Native.Nat.{_+_, _-_, _≤_}
 use native.Mathlib.Omega.{arith}
 use borrow.Author.Needs.{needs}
-use Rattle.window.proofs.Windows.{ended, Gathering, gathering-none, gathering-group, gathered}
+use Rattle.window.proofs.Windows.{ended, Gathering, gathering-none, gathering-group, gathering-anew, gathered}
 use Rattle.window.proofs.gather.Statement.{statement}
 use Rattle.window.proofs.gather.Tie as tie
 
 abbrev Inv-loop : tie.InvT-loop
-Inv-loop records from copy₀ end at₀ k₀ copy at k = Gathering records from k at copy
+Inv-loop records from copy₀ end at₀ k₀ copy at k = Gathering records from copy₀ k at copy
 
 abbrev μ-loop : tie.MeasureT-loop
 μ-loop records from copy₀ end at₀ k₀ copy at k = end - at
@@ -39,21 +39,26 @@ loop-again c =
     let l = c .before .before .before .before .loop in
     let (few, inside) = fits (c .before .before) in
     let g = c .copy-group in
-    gathering-group (a .records .now) (a .from) (l .k) (l .at) 8 (g .result) (l .copy) (g .last .1 .1 .0) (l .inv) few (omega arith) (g .ensures)
+    gathering-group (a .records .now) (a .from) (a .copy .now) (l .k) (l .at) 8 (g .result) (l .copy) (g .last .1 .1 .0) (l .inv) few (omega arith) (g .ensures)
+
+loop2-holds : tie.Need-loop2-holds Inv-loop μ-loop Inv-loop2 μ-loop2
+loop2-holds c = let a = c .before .before .before .before .before .args in gathering-anew (a .records .now) (a .from) (a .copy .now) (c .before .before .loop .inv)
 
 loop2-again : tie.Need-loop2-again Inv-loop μ-loop Inv-loop2 μ-loop2
 loop2-again c =
     let a = c .before .before .before .before .before .before .before .before .before .before .args in
+    let first = c .before .before .before .before .before .before .before .loop in
     let l = c .before .before .before .before .loop2 in
     let (few, inside) = fits-2 (c .before .before) in
     let g = c .copy-mixed in
-    gathering-group (a .records .now) (a .from) (l .k) (l .at) 1 (g .result) (l .copy) (g .last .1 .1 .1 .0) (l .inv) few (omega arith) (g .ensures)
+    gathering-group (a .records .now) (a .from) (first .copy) (l .k) (l .at) 1 (g .result) (l .copy) (g .last .1 .1 .1 .0) (l .inv) few (omega arith) (g .ensures)
 
 returns : tie.Need-returns Inv-loop μ-loop Inv-loop2 μ-loop2
 returns c =
     let a = c .before .before .before .before .before .before .before .before .args in
+    let first = c .before .before .before .before .before .loop in
     let l = c .before .before .loop2 in
-    gathered (a .records .now) (a .from) (l .k) (l .at) (l .copy) (l .inv)
+    gathered (a .records .now) (a .from) (a .copy .now) (l .k) (l .at) (first .copy) (l .copy) (first .inv .after) (l .inv)
     (ended (c .before .can-take2 .ensures .1 (c .if2 .left)) (omega arith))
 
 pub gather-spec : {M : Type 1} → statement M
@@ -73,7 +78,7 @@ gather-spec =
     (λ c. omega (arith, fits (c .before .before)))
     (λ c. omega (arith, fits (c .before .before)))
     loop-again
-    (λ c. c .before .before .loop .inv)
+    loop2-holds
     (λ c. c .loop2 .inv .going .few)
     (λ c κs. search needs)
     (λ c κs. omega (arith, fits-2 (c .before), c .before .before .before .loop2 .inv .long))

@@ -17,16 +17,13 @@ returns c =
 
 returns-2 : tie.Need-returns-2
 returns-2 c =
-    let count = c .before .note3 in
-    let after-note2 = c .before .before .before in
-    let after-note = after-note2 .before .before in
-    let gather = after-note .before .before .gather in
-    let start = c .before .before .before .before .before .before .before .before .before .before .before .before .before in
-    let a = start .args in
-    let from = after-note .note .ensures in
-    let end = after-note2 .note2 .ensures in (
-      rw (c .larger .ensures) (held-new (a .records .now) (a .at) (gather .last .1 .1 .0) (gather .result) (gather .ensures) from end (count .ensures) (a .n) (start .pre .0)),
-      keeps-new (a .records .now) (a .at) (gather .last .1 .1 .0) (gather .result) (gather .ensures) from end (count .ensures) (start .pre .1),
+    let say = c .before .say in
+    let gather = c .before .before .before .gather in
+    let note = c .before .before .before .before .before .note in
+    let start = c .before .before .before .before .before .before .before .before .before .before .before in
+    let a = start .args in (
+      rw (c .larger .ensures) (held-new (a .records .now) (a .at) (gather .result) (note .ensures) (gather .ensures) (say .ensures) (a .n) (start .pre .0)),
+      keeps-new (a .records .now) (a .at) (gather .result) (note .ensures) (gather .ensures) (say .ensures) (start .pre .1),
     )
 
 pub hold-spec : {M : Type 1} → statement M
@@ -36,9 +33,8 @@ hold-spec =
     (λ c κs. c .before .before .pre .2 .long)
     (λ c κs. c .before .before .before .before .before .pre .2 .long)
     returns
-    (λ c κs. c .before .before .before .before .before .pre .2 .long)
-    (λ c κs. (omega arith, c .before .gather .ensures .long))
-    (λ c κs. (omega arith, c .before .note .ensures .long ∙ c .before .before .before .gather .ensures .long))
-    (λ c κs. (omega arith, c .before .note2 .ensures .long ∙ c .before .before .before .note .ensures .long ∙ c .before .before .before .before .before .gather .ensures .long))
+    (λ c κs. (omega arith, c .before .before .before .before .before .pre .2 .long))
+    (λ c κs. c .before .note .ensures .long ∙ c .before .before .before .before .before .before .before .pre .2 .long)
+    (λ c κs. (c .before .gather .ensures .holds .few, c .before .gather .ensures .long))
     (λ c κs. search needs)
     returns-2)

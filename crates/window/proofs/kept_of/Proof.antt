@@ -5,7 +5,7 @@ use Rattle.window.proofs.kept_of.Statement.{statement}
 use Rattle.window.proofs.kept_of.Tie as tie
 
 returns : tie.Need-returns
-returns c = rw (← c .before .before .time .ensures .0, ← c .time2 .ensures .0) refl
+returns c = rw (← c .before .before .time .ensures .0, ← c .wide .ensures .0) refl
 
 pub kept-of-spec : {M : Type 1} → statement M
-kept-of-spec = tie.close (tie.spec (λ c κs. search needs) (λ c κs. search needs) returns)
+kept-of-spec = tie.close (tie.spec (λ c κs. search needs) (λ c. search needs) (λ c κs. search needs) returns)
