@@ -155,7 +155,7 @@ module _ {v s b : List ℕ} {r : Room} {ahead : Window} {copy : List ℕ} (opens
         onward = λ L g agrees at there here. head-passed agrees g there (omega arith) (waiting-inside agrees at) opened (w .count) k (answered-some walk) passed;
       }
 
-  -- by the first of them: none is answered, or all are
+  -- by the first of them, or by the last taken: none is answered, or all are
   module _ (first : ℕ) (read : FirstTime v s (waiting-head b) first) {low most : ℕ} {w : Walked}
       (walk : Walk low most (from-first first) (ahead-of ahead s copy (r .take) (r .look) (closed v)) (taken b - answered b) (r .take) (left-bits b) (right-bits b) (last-taken b) w) where
     pub by-first-none : w .count ≡ 0 → Strides low most v s b r ahead copy (record { walked = w; head = waiting-head b })
@@ -165,6 +165,17 @@ module _ {v s b : List ℕ} {r : Room} {ahead : Window} {copy : List ℕ} (opens
           waits = first-waits first read;
           walk = walk;
           onward = λ L g agrees at there here. there ∙ ap (head-of L) (omega arith);
+        }
+
+    -- with none taken for it
+    pub by-last : w .count ≡ taken b - answered b → Strides low most v s b r ahead copy (record { walked = w; head = head b })
+    by-last all =
+        let behind = opens .behind in
+        record {
+          start = from-first first;
+          waits = first-waits first read;
+          walk = walk;
+          onward = λ L g agrees at there here. here ∙ ap (head-of L) (omega arith);
         }
 
     pub by-first-all : taken b - answered b < w .count → {k : ℕ} → Passed v s (head b) (w .count - (taken b - answered b)) ahead k →

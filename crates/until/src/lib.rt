@@ -228,7 +228,8 @@ fn walk_ahead<'a>(records: &'a [u8], ahead: Window, copy: &'a [u8], n: u64, bloc
     )
 }
 
-// Walks over what both operands have answered. Those that wait are read only where their first does not tell enough.
+// Walks over what both operands have answered. Those that wait are read only where neither their first nor the last position taken tells
+// enough.
 fn walk_on<'a>(
     low: u64,
     high: u64,
@@ -256,6 +257,13 @@ fn walk_on<'a>(
             // All that wait are answered: their head stands among those ahead then.
             let some = walked.count - time::gap(block[word::ANSWERED], block[word::TAKEN]);
             let head = window::pass(block[word::HEAD], ahead, records, view, some);
+            return Stride { walked, head };
+        }
+        let lead = time::gap(block[word::ANSWERED], block[word::TAKEN]);
+        let last = last_of(block);
+        if (lead <= 64) & walks::is_told(0, lead, last) {
+            let walked = walks::answer_told(lead, last);
+            let head = block[word::HEAD];
             return Stride { walked, head };
         }
     }

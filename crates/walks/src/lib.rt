@@ -460,7 +460,7 @@ fn yes_for(n: u64) -> u64
 
 // Whether the last position taken settles all that wait: left fails there, or right holds and low is 0. As in `by_first`, a time and low can
 // be added.
-fn is_told(low: u64, lead: u64, last: Last) -> bool
+pub fn is_told(low: u64, lead: u64, last: Last) -> bool
     ensures { λ r. ⌜ r ≡ is-told low lead last ⌝ }
 {
     (0 < lead) & (low <= LONGEST_GAP) & (!last.left | (last.right & (low == 0)))
@@ -480,6 +480,20 @@ fn walk_told(low: u64, starts: &[u8], lead: u64, from: Last) -> Walked
     Walked {
         bits: yes_for(met),
         count,
+        took: 0,
+        last: from,
+    }
+}
+
+// The same for all that wait, where low is 0: none of their times is read.
+pub fn answer_told(lead: u64, from: Last) -> Walked
+    requires { ⌜ (is-told 0 lead from ≡ true) × (lead ≤ 64) ⌝ }
+    ensures { λ r. ⌜ ((high n left right : ℕ) (start next : ℕ → ℕ) → Walk 0 high start next lead n left right from r) ⌝ }
+    ensures { λ r. ⌜ r .count ≡ lead ⌝ }
+{
+    Walked {
+        bits: yes_for(keep_if(from.right, lead)),
+        count: lead,
         took: 0,
         last: from,
     }

@@ -1,17 +1,21 @@
--- `until::walk_on` meets its contract, by the laws of UntilSteps: by the first that waits alone, or by the window of those that wait.
+-- `until::walk_on` meets its contract, by the laws of UntilSteps: by the first that waits alone, by the last position taken, or by the
+-- window of those that wait.
 -- Assumes nothing.
 use Prim.Native.Nat.{_-_, _<_}
 use native.Mathlib.Omega.{arith}
 use mathlib.Core.Logic.{⊎-elim}
-use mathlib.Core.Path.{refl}
+use mathlib.Core.Path.{refl, sym, _∙_}
+use lib.Dec.{leb}
 use borrow.Author.Needs.{needs}
+use borrow.Author.Tests.{leb-true}
+use Rattle.mtl.proofs.Bounded.{and-iff}
 use Rattle.trace.specs.Format.{time-at}
 use Rattle.window.specs.View.{closed}
 use Rattle.window.specs.Window.{window-of}
 use Rattle.blocks.specs.Block.{taken, answered, left-bits, right-bits}
 use Rattle.walks.specs.Settle.{time-of-none, next-of, Walk, ByWords}
 use Rattle.until.specs.Code.{ahead-of, last-taken}
-use Rattle.until.proofs.Steps.{walk-fits, ahead-holds, some-holds, starts-holds, starts-windowed, beyond-windowed, from-first, by-window, by-first-none, by-first-all}
+use Rattle.until.proofs.Steps.{walk-fits, ahead-holds, some-holds, starts-holds, starts-windowed, beyond-windowed, from-first, by-window, by-first-none, by-last, by-first-all}
 use Rattle.until.proofs.walk_on.Statement.{statement}
 use Rattle.until.proofs.walk_on.Tie as tie
 
@@ -85,6 +89,30 @@ returns-all c =
     let s = f .before .before .before .before .before in
     (by-first-all (s .pre .0) (f .first-time .result) (f .first-time .ensures) (walked w) (all e) (rw (g .gap .ensures) at (c .pass .ensures)), s .pre .2)
 
+answer-told-requires : tie.Need-answer-told-requires
+answer-told-requires c κs =
+    let t = c .before in
+    let lead = t .before .before .gap2 .result in
+    let both = and-iff (leb lead 64) (t .is-told .result) .0 (c .if4 .taken) in
+    (sym (t .is-told .ensures) ∙ both .1, leb-true lead 64 (both .0))
+
+returns-told : tie.Need-returns-3
+returns-told c =
+    let t = c .before in
+    let l = t .before .before .before in
+    let f = l .before .before .before .before .before .before .before in
+    let s = f .before .before .before .before .before in
+    let a = s .args in
+    let b = a .block .now in
+    let lead = l .before .gap2 .ensures in (
+      by-last (s .pre .0) (f .first-time .result) (f .first-time .ensures)
+          (rw (f .before .if1 .taken)
+          (rw (lead, l .last-of .ensures)
+          at (t .answer-told .ensures .0 (a .high) (a .room .take) (left-bits b) (right-bits b) (from-first (s .pre .0) (f .first-time .result)) (ahead-of (a .ahead) (a .records .now) (a .copy .now) (a .room .take) (a .room .look) (closed (a .view .now))))))
+          (t .answer-told .ensures .1 ∙ lead),
+      s .pre .2,
+    )
+
 share-requires : tie.Need-share-requires
 share-requires c κs =
     let pre = c .before .before .before .before .before .pre in
@@ -102,7 +130,7 @@ pass-starts c κs =
     let pre = h .before .before .before .before .before .before .pre in
     (pre .3, starts-windowed (pre .0) (c .walk-windows .ensures) (h .share .ensures .0))
 
-returns-window : tie.Need-returns-3
+returns-window : tie.Need-returns-4
 returns-window c =
     let w = c .before in
     let h = w .before .before .before .before .before in
@@ -125,6 +153,14 @@ walk-on-spec =
     (λ c. let room = c .before .before .before .before .before .before .before .before .before .before .before .before .before .before .before .before .before .pre .0 .room in omega arith)
     pass-ahead
     returns-all
+    (λ c. search needs)
+    (λ c. search needs)
+    (λ c κs. search needs)
+    (λ c κs. search needs)
+    (λ c κs. search needs)
+    answer-told-requires
+    (λ c. search needs)
+    returns-told
     share-requires
     (λ c. search needs)
     walk-windows-requires
