@@ -53,6 +53,9 @@ loop2-again c =
     let g = c .copy-mixed in
     gathering-group (a .records .now) (a .from) (first .copy) (l .k) (l .at) 1 (g .result) (l .copy) (g .last .1 .1 .1 .0) (l .inv) few (omega arith) (g .ensures)
 
+copy-mixed-requires : tie.Need-copy-mixed-requires Inv-loop μ-loop Inv-loop2 μ-loop2
+copy-mixed-requires c κs = let long = c .before .before .before .loop2 .inv .long in omega (arith, fits-2 (c .before))
+
 returns : tie.Need-returns Inv-loop μ-loop Inv-loop2 μ-loop2
 returns c =
     let a = c .before .before .before .before .before .before .before .before .args in
@@ -81,7 +84,7 @@ gather-spec =
     loop2-holds
     (λ c. c .loop2 .inv .going .few)
     (λ c κs. search needs)
-    (λ c κs. omega (arith, fits-2 (c .before), c .before .before .before .loop2 .inv .long))
+    copy-mixed-requires
     (λ c. omega (arith, fits-2 (c .before .before), c .copy-mixed .ensures .counted .few))
     (λ c. omega (arith, fits-2 (c .before .before)))
     (λ c. omega (arith, fits-2 (c .before .before)))
