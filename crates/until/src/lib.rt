@@ -12,8 +12,8 @@ ghost use Rattle.window.specs.Window.{window-of, either-of, Keeps};
 ghost use Rattle.blocks.specs.Block.{taken, left-count, left-bits, right-count, right-bits, answered};
 ghost use Rattle.blocks.specs.Step.{Steps, Ends};
 ghost use Rattle.walks.specs.Settle.{settle-spec, time-of-none, next-of, Walk, ByWords};
-ghost use Rattle.walks.specs.declared.Last.{Last as LastTaken};
-ghost use Rattle.until.specs.Code.{HasRecords, starts-of, ahead-of, last-taken, walked as walked-block, Wants, Stuck, FitsRoom, OpensAhead, Strides};
+ghost use Rattle.walks.specs.declared.Last.{Last};
+ghost use Rattle.until.specs.Code.{HasRecords, starts-of, ahead-of, last-taken, walked, Wants, Stuck, FitsRoom, OpensAhead, Strides};
 ghost use Rattle.walks.specs.declared.Settled.the-variants.{Unknown};
 use blocks::Step;
 use blocks::time;
@@ -41,7 +41,7 @@ pub struct Stride {
 // Writes a walk's end back, and the two reading heads.
 fn put_back(block: &mut [u64], w: Walked, ahead: u64, waiting: u64)
     requires { ⌜ (17 ≤ length (now block)) × (w .took ≤ left-count (now block)) × (w .took ≤ right-count (now block)) × (taken (now block) + w .took < 2 ^ 64) × (answered (now block) + w .count < 2 ^ 64) ⌝ }
-    ensures { λ _. ⌜ now (block .exit) ≡ walked-block w ahead waiting (now (block .entry)) ⌝ }
+    ensures { λ _. ⌜ now (block .exit) ≡ walked w ahead waiting (now (block .entry)) ⌝ }
 {
     let answered = block[word::ANSWERED] + w.count;
     blocks::take_both(block, w.took);
@@ -216,7 +216,7 @@ fn tells<'a>(
 // That walk.
 fn walk_ahead<'a>(records: &'a [u8], ahead: Window, copy: &'a [u8], n: u64, block: &[u64]) -> Walked
     requires { ⌜ (16 ≤ length (now block)) × (0 < n) × (n ≤ 64) × (taken (now block) - answered (now block) < 64) × HasRecords ahead (now records) (now copy) n ⌝ }
-    ensures { λ r. ⌜ ((high after : ℕ) (start : ℕ → ℕ) (from : LastTaken) → ByWords 0 high start (time-at (window-of ahead (now (records .entry)) (now (copy .entry)))) (taken (now (block .entry)) - answered (now (block .entry))) n from → Walk 0 high start (next-of (time-at (window-of ahead (now (records .entry)) (now (copy .entry)))) n after) (taken (now (block .entry)) - answered (now (block .entry))) n (left-bits (now (block .entry))) (right-bits (now (block .entry))) from r) ⌝ }
+    ensures { λ r. ⌜ ((high after : ℕ) (start : ℕ → ℕ) (from : Last) → ByWords 0 high start (time-at (window-of ahead (now (records .entry)) (now (copy .entry)))) (taken (now (block .entry)) - answered (now (block .entry))) n from → Walk 0 high start (next-of (time-at (window-of ahead (now (records .entry)) (now (copy .entry)))) n after) (taken (now (block .entry)) - answered (now (block .entry))) n (left-bits (now (block .entry))) (right-bits (now (block .entry))) from r) ⌝ }
     ensures { λ r. ⌜ (r .count ≡ 0) ⊎ (taken (now (block .entry)) - answered (now (block .entry)) < r .count) ⌝ }
 {
     walks::walk_inside(

@@ -1,4 +1,4 @@
--- `until::must_wait` meets its contract, by the laws of UntilSteps. Assumes nothing.
+-- `until::must_wait` meets its contract, by the laws of proofs/Steps. Assumes nothing.
 use native.Mathlib.Omega.{arith}
 use mathlib.Core.Bool.{true≢false}
 use mathlib.Core.Path.{sym}

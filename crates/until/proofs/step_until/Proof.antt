@@ -1,4 +1,4 @@
--- `until::step_until` meets its contract, by the laws of UntilSteps: an operand wanted at once, or after a walk; positions taken; positions
+-- `until::step_until` meets its contract, by the laws of proofs/Steps: an operand wanted at once, or after a walk; positions taken; positions
 -- answered.
 -- Assumes nothing.
 use Prim.Native.Nat.{_≤_, _<_}

@@ -1,4 +1,4 @@
--- `until::walk_on` meets its contract, by the laws of UntilSteps: by the first that waits alone, by the last position taken, or by the
+-- `until::walk_on` meets its contract, by the laws of proofs/Steps: by the first that waits alone, by the last position taken, or by the
 -- window of those that wait.
 -- Assumes nothing.
 use Prim.Native.Nat.{_-_, _<_}

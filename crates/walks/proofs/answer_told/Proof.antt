@@ -1,4 +1,4 @@
--- `walks::answer_told` meets its contract, by the laws of UntilTold. Assumes nothing.
+-- `walks::answer_told` meets its contract, by the laws of proofs/Told. Assumes nothing.
 use Prim.Native.Nat.{ℕ}
 use native.Mathlib.Omega.{arith}
 use mathlib.Core.Logic.{inl}

@@ -1,4 +1,4 @@
--- `walks::by_first` meets its contract, by the laws of UntilWords. Assumes nothing.
+-- `walks::by_first` meets its contract, by the laws of proofs/Words. Assumes nothing.
 use Prim.Native.Nat.{_^_, _<_}
 use native.Mathlib.Omega.{arith}
 use mathlib.Core.Bool.{true≢false}

@@ -1,4 +1,4 @@
--- `walks::is_calm` meets its contract, by the laws of UntilOver. Assumes nothing.
+-- `walks::is_calm` meets its contract, by the laws of proofs/Over. Assumes nothing.
 use native.Mathlib.Omega.{arith}
 use mathlib.Core.Bool.{true≢false}
 use mathlib.Core.Path.{refl, sym, _∙_}

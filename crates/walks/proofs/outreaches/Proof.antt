@@ -1,4 +1,4 @@
--- `walks::outreaches` meets its contract, by the laws of UntilFar. Assumes nothing.
+-- `walks::outreaches` meets its contract, by the laws of proofs/Far. Assumes nothing.
 use native.Mathlib.Omega.{arith}
 use mathlib.Core.Bool.{true≢false}
 use mathlib.Core.Path.{refl, sym, _∙_}

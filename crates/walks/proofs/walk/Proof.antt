@@ -1,4 +1,4 @@
--- `walks::walk` meets its contract. The loop's invariant is its promise, by the laws of UntilWalk. Assumes nothing.
+-- `walks::walk` meets its contract. The loop's invariant is its promise, by the laws of proofs/Single. Assumes nothing.
 use Prim.Native.Nat.{_+_, _-_, _<_, _^_}
 use native.Mathlib.Omega.{arith}
 use mathlib.Core.Path.{_≡_, sym, _∙_}

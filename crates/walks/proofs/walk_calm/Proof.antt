@@ -1,4 +1,4 @@
--- `walks::walk_calm` meets its contract, by the laws of UntilOver. Assumes nothing.
+-- `walks::walk_calm` meets its contract, by the laws of proofs/Over. Assumes nothing.
 use native.Mathlib.Omega.{arith}
 use borrow.Author.Needs.{needs}
 use Rattle.walks.proofs.Over.{calm-over, over-walk}

@@ -1,4 +1,4 @@
--- `walks::walk_far` meets its contract, by the laws of UntilFar. Assumes nothing.
+-- `walks::walk_far` meets its contract, by the laws of proofs/Far. Assumes nothing.
 use Prim.Native.Nat.{_-_, _≤_, _<_, _^_}
 use native.Mathlib.Nat.{lt-of-le-of-lt}
 use native.Mathlib.Omega.{arith}

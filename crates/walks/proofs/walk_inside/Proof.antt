@@ -1,4 +1,4 @@
--- `walks::walk_inside` meets its contract, by the laws of UntilWords. Assumes nothing.
+-- `walks::walk_inside` meets its contract, by the laws of proofs/Words. Assumes nothing.
 use Prim.Native.Nat.{_-_, _≤_}
 use native.Mathlib.Omega.{arith}
 use mathlib.Core.Logic.{inl, inr}

@@ -1,4 +1,4 @@
--- `walks::walk_late` meets its contract, by the laws of UntilWords and UntilLate. Assumes nothing.
+-- `walks::walk_late` meets its contract, by the laws of proofs/Words and proofs/LatestRight. Assumes nothing.
 use Prim.Native.Nat.{_-_, _≤_, _<_, _^_}
 use native.Mathlib.Nat.{lt-of-lt-of-le}
 use native.Mathlib.Omega.{arith}

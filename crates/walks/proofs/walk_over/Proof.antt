@@ -1,4 +1,4 @@
--- `walks::walk_over` meets its contract, by the laws of UntilOver. Assumes nothing.
+-- `walks::walk_over` meets its contract, by the laws of proofs/Over. Assumes nothing.
 use native.Mathlib.Omega.{arith}
 use mathlib.Core.Path.{refl}
 use lib.Dec.{leb, ltb}

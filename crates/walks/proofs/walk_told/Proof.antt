@@ -1,4 +1,4 @@
--- `walks::walk_told` meets its contract, by the laws of UntilTold. Assumes nothing.
+-- `walks::walk_told` meets its contract, by the laws of proofs/Told. Assumes nothing.
 use native.Mathlib.Omega.{arith}
 use mathlib.Core.Logic.{inl, inr, ⊎-elim}
 use mathlib.Core.Path.{_∙_}
