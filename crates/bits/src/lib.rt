@@ -1,4 +1,6 @@
 // Words of answers: bit i of a word, the one worth 2 to the i, answers the i-th of up to 64 positions.
+#![tactic(auto)]
+
 ghost use Rattle.std.specs.Prelude.{◌≡◌, ℕ, ◌+◌, ◌-◌, ◌/◌, ◌%◌, ◌≤◌, ◌<◌, ◌^◌};
 ghost use Rattle.bits.specs.Packed.{bit, number, with_bit, zeros, last_zero, FirstZero, FilledDown, FilledUp, Prolonged, OnesBetween};
 

@@ -1,5 +1,7 @@
 // An entry's block of words, and what one step on it finds. The buffers of operands in it are words of answers, taken out from the
 // front.
+#![tactic(auto)]
+
 ghost use Rattle.std.specs.Prelude.{◌≡◌, ◌+◌, ◌-◌, ◌≤◌, ◌<◌, ◌^◌, min, length};
 ghost use Rattle.blocks.specs.Block.{taken, left_count, right_count, took_right, took_both};
 
@@ -7,7 +9,7 @@ pub mod time;
 pub mod word;
 
 // What one step finds.
-#[derive(Drop)]
+#[derive(Clone, Copy)]
 pub enum Step {
     // A word of answers for count positions from the next one on.
     Batch { bits: u64, count: u64 },

@@ -12,7 +12,7 @@ use blocks::word;
 use rule::Entry;
 
 // What one walk over the blocks finds.
-#[derive(Drop)]
+#[derive(Clone, Copy)]
 pub struct Faults {
     pub copies: bool,
     pub ranges: bool,

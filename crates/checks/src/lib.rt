@@ -1,4 +1,6 @@
 // Refusals 1 to 14 (3 no longer occurs) and 20 to 25 of a call on a checkpoint: the first that applies. Nothing is written.
+#![tactic(auto)]
+
 ghost use Rattle.std.specs.Prelude.{◌≡◌, ◌+◌, ◌-◌, ◌≤◌, ◌<◌, length, ltb};
 ghost use Rattle.rule.specs.Words.{header_words, offset};
 ghost use Rattle.checks.specs.Contract.{sized_number, sized_by, checked_number, checked_by, Covers, own_checked};
@@ -10,7 +12,7 @@ use checkpoint::{header, words};
 use rule::{Entry, Measured, refuse};
 
 // Refusals 1 to 9, or the words that the rule needs.
-#[derive(Drop)]
+#[derive(Clone, Copy)]
 pub enum Sized {
     Words(usize),
     Stopped(u32),
@@ -28,7 +30,7 @@ impl Sized {
 }
 
 // Refusals 10 to 14 and 20 to 25, in `check_own` 1 to 9 as well, or none of them.
-#[derive(Drop)]
+#[derive(Clone, Copy)]
 pub enum Checked {
     Passed,
     Failed(u32),

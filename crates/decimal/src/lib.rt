@@ -1,4 +1,6 @@
 // Bytes, numbers and words written into a lent text, one behind the other.
+#![tactic(auto)]
+
 ghost use Rattle.std.specs.Prelude.{◌+◌, ◌≤◌, length};
 ghost use Rattle.decimal.specs.Text.{decimal, verdict_word, Writes};
 

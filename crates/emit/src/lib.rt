@@ -1,4 +1,6 @@
 // The verdicts of one call: as many as all formulas hold answers for and the sheet has room for, and what is noted of the log.
+#![tactic(auto)]
+
 ghost use Rattle.std.specs.Prelude.{◌≡◌, cond, suc, ◌+◌, ◌-◌, ◌≤◌, ◌<◌, ◌^◌, max, length};
 ghost use Rattle.window.specs.View.{Views};
 ghost use Rattle.window.specs.Window.{Keeps};
@@ -12,7 +14,7 @@ use rule::Entry;
 use window::view;
 
 // How many verdicts a call gave, and whether more are settled.
-#[derive(Drop)]
+#[derive(Clone, Copy)]
 pub struct Emitted {
     pub count: usize,
     pub more: bool,

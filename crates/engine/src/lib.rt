@@ -1,4 +1,6 @@
 // Answers a formula's positions one batch after the other, from a log's records and the lent words of a checkpoint.
+#![tactic(auto)]
+
 ghost use Rattle.std.specs.Prelude.{◌≡◌, true, false, ◌+◌, ◌≤◌, ◌<◌, length};
 ghost use Rattle.window.specs.View.{Views};
 ghost use Rattle.window.specs.Window.{Keeps};
@@ -13,7 +15,7 @@ pub mod tops;
 use blocks::{Step, word};
 
 // What an entry answers: a word of answers for count positions from its next one on, or that it is open.
-#[derive(Drop)]
+#[derive(Clone, Copy)]
 pub enum Reply {
     Batch { bits: u64, count: u64 },
     Open,

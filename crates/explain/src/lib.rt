@@ -1,4 +1,6 @@
 // The reason for a verdict, as text: document 02, paper 13.
+#![tactic(auto)]
+
 ghost use Rattle.std.specs.Prelude.{◌≡◌, ◌+◌, ◌≤◌, ◌<◌, List, length};
 ghost use Rattle.mtl.specs.Formula.{Formula};
 ghost use Rattle.rule.specs.Accepted.{WellFormed};
@@ -13,7 +15,7 @@ ghost use Rattle.explain.specs.Code.{Prepared, AllAnswered, Reasons, ReasonsOf, 
 use rule::{Entry, Measured};
 
 // What `explain` answers: the length of the text.
-#[derive(Drop)]
+#[derive(Clone, Copy)]
 pub enum Explained {
     Written { length: usize },
     Refused(u32),
@@ -31,7 +33,7 @@ impl Explained {
 }
 
 // Where a reason ends in its text, or that there is none.
-#[derive(Drop)]
+#[derive(Clone, Copy)]
 enum Reason {
     Ends(usize),
     Missing,

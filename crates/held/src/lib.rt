@@ -1,5 +1,7 @@
 // The answers that a rule's formulas hold: each formula's last entry is asked for them, and they stand in its block until a verdict is given.
 // A rule with no formula is not asked, and every position is a yes.
+#![tactic(auto)]
+
 ghost use Rattle.std.specs.Prelude.{◌≡◌, ℕ, ◌+◌, ◌-◌, ◌≤◌, ◌<◌, ◌^◌, min, length};
 ghost use Rattle.blocks.specs.Block.{word};
 ghost use Rattle.window.specs.View.{Views};

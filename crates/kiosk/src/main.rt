@@ -1,4 +1,6 @@
 // Reads rule.krl and day.klg from its directory, and prints the text that crate `report` writes for them.
+#![tactic(auto)]
+
 ghost use Rattle.io.specs.Counts.{IsPrefixLen};
 
 use libc::STDOUT_FILENO;

@@ -1,5 +1,7 @@
 // Checkpoints over a growing log: open one for a rule, resume from it with the records at hand, close it when no record will follow,
 // trim the log to the records that it still wants, and ask how far it has come.
+#![tactic(auto)]
+
 ghost use Rattle.std.specs.Prelude.{true, false, ◌≡◌, ◌++◌, ◌+◌, ◌≤◌, length, drop};
 ghost use Rattle.checkpoint.specs.Checkpoint.{stored_noes};
 ghost use Rattle.verdicts.specs.Counts.{latest_of};
@@ -23,7 +25,7 @@ use rule::Measured;
 const NO_POSITION: u64 = 18446744073709551615;
 
 // What `open` answers.
-#[derive(Drop)]
+#[derive(Clone, Copy)]
 pub enum Opened {
     Done,
     Refused(u32),
@@ -41,7 +43,7 @@ impl Opened {
 }
 
 // What `resume` and `close` answer: how many verdicts it gave, and whether more are settled.
-#[derive(Drop)]
+#[derive(Clone, Copy)]
 pub enum Resumed {
     Given { count: usize, more: bool },
     Refused(u32),
@@ -59,7 +61,7 @@ impl Resumed {
 }
 
 // What `trim` answers: the length of the log that it wrote.
-#[derive(Drop)]
+#[derive(Clone, Copy)]
 pub enum Trimmed {
     Written { length: usize },
     Refused(u32),
@@ -77,7 +79,7 @@ impl Trimmed {
 }
 
 // The position of the latest no among the verdicts given.
-#[derive(Drop)]
+#[derive(Clone, Copy)]
 pub enum Latest {
     At(u64),
     Never,
@@ -96,7 +98,7 @@ impl Latest {
 }
 
 // What `summary` answers: how many formulas there are counts of.
-#[derive(Drop)]
+#[derive(Clone, Copy)]
 pub enum Summarized {
     Counted { formulas: u64 },
     Refused(u32),
@@ -114,7 +116,7 @@ impl Summarized {
 }
 
 // What `formulas` answers.
-#[derive(Drop)]
+#[derive(Clone, Copy)]
 pub enum FormulaCount {
     Formulas(u64),
     Refused(u32),
@@ -132,7 +134,7 @@ impl FormulaCount {
 }
 
 // What `status` answers.
-#[derive(Drop)]
+#[derive(Clone, Copy)]
 pub enum Standing {
     Known {
         given: u64,

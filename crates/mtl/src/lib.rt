@@ -1,1 +1,2 @@
 // The logic alone: its definitions stand in specs/, its theorems in proofs/. No code.
+#![tactic(auto)]

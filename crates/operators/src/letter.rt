@@ -10,7 +10,7 @@ use blocks::word;
 use window::view;
 
 // A word of answers for count positions from the next one on; none where the log has no more.
-#[derive(Drop)]
+#[derive(Clone, Copy)]
 pub struct Stretch {
     pub bits: u64,
     pub count: u64,

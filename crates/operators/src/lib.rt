@@ -1,5 +1,7 @@
 // One step of an entry on its own block, by kind: the six operators that have operands, whose answers come out of the block; and a
 // letter's reading.
+#![tactic(auto)]
+
 ghost use Rattle.std.specs.Prelude.{ℕ, ◌≤◌, ◌<◌, ◌^◌, length};
 ghost use Rattle.mtl.specs.Formula.{Formula};
 ghost use Rattle.rule.specs.Words.{own_words};

@@ -1,4 +1,6 @@
 // The text that the program prints for a rule and a log (document 01, "A full run"), written into a lent buffer.
+#![tactic(auto)]
+
 ghost use Rattle.std.specs.Prelude.{◌≡◌, ◌+◌, ◌*◌, ◌≤◌, ◌<◌, length};
 ghost use Rattle.rule.specs.Refusal.{refusal};
 ghost use Rattle.meaning.specs.Verdicts.{formulas_of, columns};

@@ -1,5 +1,7 @@
 // A since's ring of times, oldest first, in the cells behind its block's 16 words. Words 9 and 10 say where the oldest
 // stands and how many there are; whatever they hold, only the ring's own cells are read and written.
+#![tactic(auto)]
+
 ghost use Rattle.std.specs.Prelude.{◌≡◌, List, ℕ, ◌+◌, ◌-◌, ◌≤◌, ◌<◌, ◌^◌, not as negate, eqb, ltb, length, set};
 ghost use Rattle.bits.specs.Packed.{number};
 ghost use Rattle.rule.specs.Words.{ring_words};

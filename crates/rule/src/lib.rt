@@ -1,4 +1,6 @@
 // Rules: `bytes` reads numbers, `entries` decodes, `refusals` checks the header and single entries, and `measuring` takes the entries together.
+#![tactic(auto)]
+
 ghost use Rattle.std.specs.Prelude.{◌≡◌};
 ghost use Rattle.rule.specs.Measure.{answer, measured};
 
@@ -13,7 +15,7 @@ pub use measuring::{Ends, depth, ends_of, header_words, measure_decoded, most_of
 pub use refusals::{Header, check_header, is_misplaced, refuse};
 
 // "kind (8 bits), letter (8 bits), low (32 bits), high (32 bits)"
-#[derive(Drop)]
+#[derive(Clone, Copy)]
 pub struct Entry {
     pub kind: u8,
     pub letter: u8,
@@ -22,7 +24,7 @@ pub struct Entry {
 }
 
 // What weighing a rule answers.
-#[derive(Drop)]
+#[derive(Clone, Copy)]
 pub enum Measured {
     Words { words: usize, reach: u64 },
     Refused(u32),

@@ -14,14 +14,14 @@ use super::refusals::Header;
 use super::{Entry, Measured, entries, refusals};
 
 // What is read of a formula: its reach, or its depth, the most previous entries on a path from its last entry to a letter.
-#[derive(Drop)]
+#[derive(Clone, Copy)]
 enum Quantity {
     Reach,
     Depth,
 }
 
 // What reading the entries in postfix order answers: the largest quantity of the formulas, 0 where there is no entry.
-#[derive(Drop)]
+#[derive(Clone, Copy)]
 enum Reading {
     Found(u64),
     Faulty,
@@ -29,14 +29,14 @@ enum Reading {
 
 // Where each formula ends: how many there are, and for each the number of entries up to and with its last. There are at most 8 of them,
 // and position 8 stands for all places of the stack behind those.
-#[derive(Drop)]
+#[derive(Clone, Copy)]
 pub struct Ends {
     pub number: usize,
     pub at: [usize; 9],
 }
 
 // What one pass over the entries adds up.
-#[derive(Drop)]
+#[derive(Clone, Copy)]
 struct Totals {
     misshapen: bool,
     misplaced: bool,

@@ -6,7 +6,7 @@ ghost use Rattle.rule.specs.Contract.{header_number, header_count, header_versio
 use super::{Entry, bytes, entries};
 
 // What the check of the header answers.
-#[derive(Drop)]
+#[derive(Clone, Copy)]
 pub enum Header {
     Count { version: usize, count: usize },
     Stopped(u32),

@@ -1,5 +1,7 @@
 // Weighs rules that are written in hexadecimal on standard input, one to a line behind a name and a colon, and prints what
 // each call answers. The file stdin has every way of meeting each refusal, and stdout what document 01 says of it.
+#![tactic(auto)]
+
 ghost use Rattle.std.specs.Prelude.{◌<◌};
 
 use libc::{STDIN_FILENO, STDOUT_FILENO};
@@ -7,7 +9,7 @@ use rule::Measured;
 
 // What has been read of a line: whether its name is still going on, the bytes of its rule so far, a first digit that waits
 // for its second (16: none), and the byte that the last character completed.
-#[derive(Drop)]
+#[derive(Clone, Copy)]
 struct Scan {
     name: bool,
     len: usize,

@@ -1,4 +1,6 @@
 // Searches over a whole log: over the answers of one entry, asked from its first position on, and over the times of positions.
+#![tactic(auto)]
+
 ghost use Rattle.std.specs.Prelude.{◌≡◌, Bool, ◌&&◌, not as negate, ℕ, ◌+◌, ◌≤◌, ◌<◌, ◌^◌, length, get_or, leb};
 ghost use Rattle.bits.specs.Packed.{bit, Packed};
 ghost use Rattle.window.specs.View.{Views};
@@ -13,7 +15,7 @@ use engine::{Reply, table};
 
 // What the answers of an entry at the positions up to an end came to: how many of them there are, where the first that was looked for
 // stands, or their number where none does, and one more than the position of the last no, 0 where there is none.
-#[derive(Drop)]
+#[derive(Clone, Copy)]
 pub struct Scan {
     pub done: u64,
     pub first: u64,

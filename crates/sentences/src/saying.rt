@@ -14,7 +14,7 @@ use search::times;
 
 // A sentence, the number of operands whose sentences follow it, their position, and whether the entry holds there; of one operand: whether
 // the operand's answer is turned.
-#[derive(Drop)]
+#[derive(Clone, Copy)]
 pub struct Saying {
     pub says: Sentence,
     pub operands: u64,

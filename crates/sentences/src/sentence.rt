@@ -4,7 +4,7 @@ ghost use Rattle.decimal.specs.Text.{Writes};
 ghost use Rattle.sentences.specs.Line.{one_of, kind_text, value_text, tail_text, line_text};
 
 // What stands in a line behind the entry's number and the position: the word of the entry's kind, a number, and a word at the end.
-#[derive(Drop)]
+#[derive(Clone, Copy)]
 pub struct Sentence {
     pub kind: u64,
     pub number: u64,

@@ -5,7 +5,7 @@ ghost use Rattle.simulation.specs.Kiosk.{is_off, is_warming, is_free, is_printin
 use super::Settings;
 
 // What the head does, with the second in which it began.
-#[derive(Drop)]
+#[derive(Clone, Copy)]
 pub enum Head {
     Off,
     Warming(u32),
@@ -13,7 +13,7 @@ pub enum Head {
     Printing(u32),
 }
 
-#[derive(Drop)]
+#[derive(Clone, Copy)]
 pub struct Kiosk {
     pub head: Head,
     pub finished: u64,

@@ -1,4 +1,6 @@
 // A kiosk to try settings on: the simulation of document 02's paper 12, which writes the kiosk's log.
+#![tactic(auto)]
+
 ghost use Rattle.std.specs.Prelude.{◌≡◌, ◌≤◌, ◌<◌, length};
 ghost use Rattle.trace.specs.Making.{records_bytes, put, log_length};
 ghost use Rattle.simulation.specs.Kiosk.{kiosk_after};
@@ -10,7 +12,7 @@ mod generator;
 mod kiosk;
 
 // All in seconds.
-#[derive(Drop)]
+#[derive(Clone, Copy)]
 pub struct Settings {
     pub warmup: u32,
     pub print: u32,
@@ -19,7 +21,7 @@ pub struct Settings {
 }
 
 // What `simulate` answers: how many bytes the log has, and how many customers are where.
-#[derive(Drop)]
+#[derive(Clone, Copy)]
 pub enum Simulated {
     Refused(u32),
     Done {

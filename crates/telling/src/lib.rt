@@ -1,4 +1,6 @@
 // An entry's line, and its operands' lines behind it.
+#![tactic(auto)]
+
 ghost use Rattle.std.specs.Prelude.{◌≡◌, cond, not as negate, ◌≤◌, length};
 ghost use Rattle.window.specs.Window.{Keeps};
 ghost use Rattle.telling.specs.Lines.{Shifts, Telling, Tells, TellingEither, TellsEither};
@@ -6,7 +8,7 @@ ghost use Rattle.telling.specs.Lines.{Shifts, Telling, Tells, TellingEither, Tel
 use sentences::{saying, sentence};
 
 // Where the lines end, and whether the entry holds.
-#[derive(Drop)]
+#[derive(Clone, Copy)]
 pub struct Told {
     pub end: usize,
     pub holds: bool,

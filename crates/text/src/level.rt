@@ -11,14 +11,14 @@ use super::{entries, token};
 const UNBOUNDED: u32 = 4294967295;
 
 // What reading a phrase answers: the place behind it and the entries so far, or that there is none.
-#[derive(Drop)]
+#[derive(Clone, Copy)]
 pub enum Read {
     Formula { at: usize, count: usize },
     Fault,
 }
 
 // What reading an interval answers: its ends and the place behind it, or that there is none.
-#[derive(Drop)]
+#[derive(Clone, Copy)]
 pub enum Ends {
     Interval { low: u32, high: u32, next: usize },
     Missing,

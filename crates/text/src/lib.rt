@@ -1,4 +1,6 @@
 // Rules typed as text (paper 1): a text becomes a version 1 rule, or one refusal.
+#![tactic(auto)]
+
 ghost use Rattle.std.specs.Prelude.{◌≡◌};
 ghost use Rattle.text.specs.Parse.{answer, Parses};
 
@@ -10,7 +12,7 @@ use level::Read;
 use rule::Measured;
 
 // What reading a text answers: the number of bytes of the rule that it wrote, or a refusal.
-#[derive(Drop)]
+#[derive(Clone, Copy)]
 pub enum Parsed {
     Written(usize),
     Refused(u32),

@@ -41,7 +41,7 @@ pub const END: u8 = 15;
 const NO_NUMBER: u32 = 10000;
 
 // A word, with the letter's number or the number's value.
-#[derive(Drop)]
+#[derive(Clone, Copy)]
 pub struct Mark {
     pub kind: u8,
     pub letter: u8,
@@ -49,14 +49,14 @@ pub struct Mark {
 }
 
 // A longest run of small letters and digits: its bytes as one number, and the place behind it.
-#[derive(Drop)]
+#[derive(Clone, Copy)]
 pub struct Run {
     pub code: u64,
     pub next: usize,
 }
 
 // A token, and the place behind it.
-#[derive(Drop)]
+#[derive(Clone, Copy)]
 pub struct Lexeme {
     pub kind: u8,
     pub letter: u8,

@@ -1,4 +1,6 @@
 // The log format of document 01: its header, its records, and checks 12 and 14, as functions on the log's bytes.
+#![tactic(auto)]
+
 ghost use Rattle.std.specs.Prelude.{◌≡◌, ◌+◌, ◌-◌, ◌*◌, ◌%◌, ◌<◌, ◌≤◌, ◌^◌, length, ltb};
 ghost use Rattle.bits.specs.Packed.{number, Packed};
 ghost use Rattle.trace.specs.Format.{word_at, record_count, time_at, has_letter, version_of, skips_of, is_trimmed, dropped as dropped_of, records_of, total_records, wrong_mark, wrong_version, wrong_spare, too_short, malformed, from_record, records_from};

@@ -1,4 +1,6 @@
 // until: two reading heads and no history.
+#![tactic(auto)]
+
 ghost use Rattle.std.specs.Prelude.{◌≡◌, true, false, ◌⊎◌, ℕ, ◌+◌, ◌-◌, ◌≤◌, ◌<◌, ◌^◌, min, length};
 ghost use Rattle.mtl.specs.Formula.{Formula};
 ghost use Rattle.mtl.specs.Formula.Formula.{until};
@@ -18,7 +20,7 @@ use window::{Window, view};
 
 // How far a step may go: how many positions it may take, how many it looks at ahead, which is one more where the log has it, and how many
 // of those that wait it may answer.
-#[derive(Drop)]
+#[derive(Clone, Copy)]
 pub struct Room {
     take: u64,
     look: u64,
@@ -26,7 +28,7 @@ pub struct Room {
 }
 
 // A walk, and where the head of those that wait stands behind it.
-#[derive(Drop)]
+#[derive(Clone, Copy)]
 pub struct Stride {
     walked: Walked,
     head: u64,

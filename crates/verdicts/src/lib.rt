@@ -1,5 +1,7 @@
 // Verdict buffers (sheets): verdicts written into one, and the counts of no and of yes in one. Bit k of a verdict byte is the answer of
 // formula k.
+#![tactic(auto)]
+
 ghost use Rattle.std.specs.Prelude.{◌≡◌, ◌++◌, ◌+◌, ◌≤◌, length, take, drop};
 ghost use Rattle.verdicts.specs.Bytes.{bytes_of};
 ghost use Rattle.verdicts.specs.Tally.{answer, Tallies};
@@ -8,7 +10,7 @@ mod counting;
 mod eight;
 
 // What `tally` answers.
-#[derive(Drop)]
+#[derive(Clone, Copy)]
 pub enum Tallied {
     Counted,
     Refused(u32),

@@ -1,4 +1,6 @@
 // The walks of an until: from words of its operands' answers to a word of its own, by whole words where that can be.
+#![tactic(auto)]
+
 ghost use Rattle.std.specs.Prelude.{◌≡◌, ◌⊎◌, true, false, cond, ℕ, ◌+◌, ◌-◌, ◌%◌, ◌≤◌, ◌<◌, ◌^◌, min};
 ghost use Rattle.trace.specs.Format.{record_count, time_at};
 ghost use Rattle.bits.specs.Packed.{bit, Packed};
@@ -11,14 +13,14 @@ use blocks::time;
 const FEW_STRETCHES: u64 = 4;
 
 // What is known of the next position to answer.
-#[derive(Drop)]
+#[derive(Clone, Copy)]
 pub enum Settled {
     Known(bool),
     Unknown,
 }
 
 // The last position taken: the operands' answers there, and its time.
-#[derive(Drop)]
+#[derive(Clone, Copy)]
 pub struct Last {
     pub left: bool,
     pub right: bool,
@@ -26,7 +28,7 @@ pub struct Last {
 }
 
 // A stretch of answers: their word and number, how many positions were taken for them, and the last one taken, now or before.
-#[derive(Drop)]
+#[derive(Clone, Copy)]
 pub struct Walked {
     pub bits: u64,
     pub count: u64,
@@ -36,7 +38,7 @@ pub struct Walked {
 
 // What the words of those to take tell where low is above 0: bit i where right holds at some j at least low after i, and left from i up to
 // j - 1; and the time of the latest right that left leads to from the first on, 0 where there is none.
-#[derive(Drop)]
+#[derive(Clone, Copy)]
 pub struct Late {
     bits: u64,
     right: u64,
@@ -44,7 +46,7 @@ pub struct Late {
 
 // What right's word of those to take tells where high is shorter than they reach: bit i where the first right from i on lies at most high
 // after i; and the time of the first right of all, later than any where there is none.
-#[derive(Drop)]
+#[derive(Clone, Copy)]
 pub struct Soon {
     bits: u64,
     right: u64,

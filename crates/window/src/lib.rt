@@ -1,6 +1,8 @@
 // Positions and windows. A service record, one with letter 31, is no position. A window has the records of the next positions from a
 // reading head on and no others: it is the log's own part where no service record lies among them, else a copy of them. A copy is kept, and
 // read by all heads that stand at the record from which on it was made.
+#![tactic(auto)]
+
 ghost use Rattle.std.specs.Prelude.{◌≡◌, true, false, ◌&&◌, not as negate, ◌⊎◌, ◌+◌, ◌*◌, ◌≤◌, ◌<◌, ◌^◌, max, leb, length};
 ghost use Rattle.bits.specs.Packed.{number};
 ghost use Rattle.trace.specs.Format.{record_count};
@@ -13,7 +15,7 @@ pub mod view;
 
 // Where a window begins in the slice of records, a record behind its last, how many positions it has, whether their records stand there one
 // after the other, and whether they are in a copy that was made for another window.
-#[derive(Drop)]
+#[derive(Clone, Copy)]
 pub struct Window {
     pub at: usize,
     pub end: usize,
@@ -23,7 +25,7 @@ pub struct Window {
 }
 
 // What a copy keeps: how many positions, and the record behind them.
-#[derive(Drop)]
+#[derive(Clone, Copy)]
 pub struct Kept {
     pub end: usize,
     pub count: usize,
@@ -37,14 +39,14 @@ const KEPT_END: usize = 66;
 const KEPT_COUNT: usize = 536;
 
 // A letter at some positions, as a word of answers, and the record behind the last of them.
-#[derive(Drop)]
+#[derive(Clone, Copy)]
 pub struct Letters {
     pub bits: u64,
     pub end: usize,
 }
 
 // A letter at those of a few records that are positions, as a word of answers, and how many they are.
-#[derive(Drop)]
+#[derive(Clone, Copy)]
 struct Picked {
     bits: u64,
     count: usize,

@@ -1,5 +1,7 @@
 // The log that keeps most seconds waiting (document 02, paper 4): for letter 0 until low to high of letter 1, a log of n records
 // with the most distinct times among its open positions.
+#![tactic(auto)]
+
 ghost use Rattle.std.specs.Prelude.{◌≡◌, ◌+◌, ◌*◌, ◌≤◌, min, length};
 ghost use Rattle.trace.specs.Making.{records_bytes, put};
 ghost use Rattle.worst.specs.Written.{worst_time, worst_events};
@@ -10,7 +12,7 @@ ghost use Rattle.worst.specs.Code.{checked, checked_number};
 use rule::Entry;
 
 // What `worst_log` answers: how many bytes the log has.
-#[derive(Drop)]
+#[derive(Clone, Copy)]
 pub enum Made {
     Length(usize),
     Refused(u32),
@@ -28,7 +30,7 @@ impl Made {
 }
 
 // What the checks answer: the number of records.
-#[derive(Drop)]
+#[derive(Clone, Copy)]
 enum Checked {
     Passed(usize),
     Stopped(u32),
