@@ -1,0 +1,10 @@
+-- `check::check_trimming` meets its contract, by those of the functions that it calls.
+use borrow.Author.Rules.{rules}
+use Rattle.rule.proofs.Spans.{header_least}
+use Rattle.checks.proofs.check_trimming.Goals as goal
+
+pub trimming_reason-requires : goal.trimming_reason-requires
+trimming_reason-requires c = let least = header_least c.args.version in search rules
+
+pub returns : goal.returns
+returns c = simp (c.checked_by.ensures, c.words_reason.ensures, c.trimming_reason.ensures)

@@ -1,0 +1,90 @@
+-- `emit` meets its contract: what `give` promises for the rule's formulas, and the log noted.
+use mathlib.Core.List.{List}
+use mathlib.Core.Path.{refl}
+use native.Mathlib.Omega.{arith}
+use lib.ListN.{length}
+use Rattle.mtl.specs.Formula.{Formula}
+use Rattle.engine.specs.Tops.{Ended, LaidAs}
+use Rattle.window.proofs.Marks.{made_views}
+use Rattle.window.proofs.Copies.{keeps_none}
+use Rattle.engine.proofs.Rows.{zeros}
+use Rattle.held.specs.Code.{plan, Fits}
+use Rattle.emit.proofs.Emitting.{fits_of, emitted}
+use Rattle.emit.proofs.emit.Goals as goal
+use Rattle.emit.proofs.emit.Goals.{After-lay_out, After-lay_tops-tops}
+
+-- the rule's entries, once they are laid out
+entries_laid : (d : After-lay_out) →
+    let s = d in
+    (fs : List Formula) → Ended s.args.entries s.args.count s.args.ends s.args.number fs →
+    LaidAs s.args.entries s.args.count d.lay_out.new.table s.args.ends s.args.number fs
+entries_laid d fs ended =
+    let p = d.requires in
+    record { few = p.few; well_formed = p.well_formed; rows = d.lay_out.ensures; ended = ended }
+
+-- its formulas, once they are
+laid : (d : After-lay_tops-tops) →
+    let s = d in
+    Fits (plan d.lay_out.new.table d.lay_tops-tops.result s.args.number) s.args.base s.requires.the_formulas (length s.args.words.now)
+laid d =
+    let s = d in
+    let a = s.args in
+    fits_of a.entries a.count a.t3 a.number a.most a.base a.depth a.records.now a.words.now d.lay_out.new.table
+    d.lay_tops-tops.result s.requires s.requires.the_formulas s.requires.ended (d.lay_tops-tops.ensures a.entries a.count s.requires.the_formulas (entries_laid d.before.before.before s.requires.the_formulas s.requires.ended))
+
+pub lay_out-requires : goal.lay_out-requires
+lay_out-requires c = let p = c.requires in (p.few, p.well_formed, refl, zeros 1024)
+
+pub lay_tops-tops-requires : goal.lay_tops-tops-requires
+lay_tops-tops-requires c =
+    let s = c in
+    let p = s.requires in
+    (p.header.1, (s.args.entries, s.args.count, p.the_formulas, entries_laid (goal.at.lay_tops-tops-requires c).After-lay_out p.the_formulas p.ended))
+
+pub write_view-requires : goal.write_view-requires
+write_view-requires c = let p = c.requires in (omega (arith, p.size, p.header.0), p.given, refl)
+
+pub shift_of-shift-requires : goal.shift_of-shift-requires
+shift_of-shift-requires c = let p = c.requires in omega (arith, p.size, p.header.0)
+
+pub give-emitted-requires : goal.give-emitted-requires
+give-emitted-requires c =
+    let s = c in
+    let p = s.requires in (
+      record {
+        fits = (s.args.base, p.the_formulas, laid (goal.at.give-emitted-requires c).After-lay_tops-tops, p.header.2);
+        formulas = p.formulas;
+        small = p.small;
+        given = p.given;
+        noes = p.noes;
+      },
+      keeps_none s.args.records.now,
+      keeps_none s.args.records.now,
+      made_views c.write_view.ensures (omega (arith, p.wanted, p.records)),
+    )
+
+pub note-requires : goal.note-requires
+note-requires c =
+    let s = c in
+    let p = s.requires in
+    let g = c.give-emitted.ensures s.args.base p.the_formulas (laid (goal.at.note-requires c).After-lay_tops-tops) p.header.2 in
+    (omega (arith, g.words_length, p.size, p.header.0), omega (arith, g.frame.header 7 (omega arith) (λ e. omega arith), p.wanted))
+
+pub returns : goal.returns
+returns c fs ended deep =
+    let after_note = c in
+    let after_give = after_note in
+    let after_write_view = after_give.before.before.before.before.before.before.before.before.before.before.before in
+    let after_lay_tops = after_write_view.before.before.before in
+    let after_lay_out = after_lay_tops.before.before.before in
+    let after_shared_slice_known = after_lay_out.before.before.before.before in
+    let s = after_shared_slice_known.before in
+    let a = s.args in
+    let g = after_give.give in
+    let view = after_write_view.write_view in
+    let y = after_note.note in
+    let fits = fits_of a.entries a.count a.t3 a.number a.most a.base a.depth a.records.now a.words.now after_lay_out.lay-out.new.1.1.0
+    after_lay_tops.lay-tops.result s.requires fs ended (after_lay_tops.lay-tops.ensures a.entries a.count fs (entries_laid after_lay_out fs ended)) in
+    emitted a.skips a.closed a.records.now a.words.now a.sheet.now view.new.1.1.1.1.1.0 g.result g.new.1.1.1.1.1.1.1.1.1.0
+    g.new.1.1.1.1.1.1.1.1.1.1.0 y.new.1.1.1.1.0 fits (λ i. (after_shared_slice_known.shared-slice-known.given i).fits)
+    (rw deep at view.ensures) (g.ensures a.base fs fits s.requires.header.2) (rw deep at y.ensures)

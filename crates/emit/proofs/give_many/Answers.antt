@@ -1,0 +1,70 @@
+-- `give_many` meets its contract.
+use Prim.Native.Nat.{◌-◌}
+use mathlib.Core.Path.{refl, ◌∙◌}
+use native.Mathlib.Omega.{arith}
+use Rattle.emit.proofs.Turns.{underway_none, fitting, ended, copyable, writable, fewer, countable, takes_out, turned}
+use Rattle.emit.proofs.give_many.Goals as goal
+
+pub loop-answers-init : goal.loop-answers-init
+loop-answers-init c =
+    let s = c in
+    let a = s.args in
+    (refl, underway_none a.table.now a.tops.now a.number a.most a.view.now a.records.now a.words.now a.sheet.now, s.requires.1, s.requires.2)
+
+pub hold-least-requires : goal.hold-least-requires
+hold-least-requires c =
+    let p = c.requires in
+    let l = c.loop-answers in
+    (fitting p.0 l.invariant.1, l.invariant.2, l.invariant.3, p.3)
+
+pub shape_of-words-then-count-eq0 : goal.shape_of-words-then-count-eq0
+shape_of-words-then-count-eq0 c = c.hold-least.auto.words ∙ c.loop-answers.invariant.1.words_length
+
+pub shape_of-sheet-then-count-eq0 : goal.shape_of-sheet-then-count-eq0
+shape_of-sheet-then-count-eq0 c = c.loop-answers.invariant.1.sheet_length
+
+pub returns-then-count-eq0 : goal.returns-then-count-eq0
+returns-then-count-eq0 c =
+    let l = c.loop-answers in
+    ended c.requires.0 l.invariant.1 c.hold-least.ensures.holds_all (λ some. omega (arith, c.available-count.ensures.0, l.invariant.1.sheet_length))
+
+pub copy_answers-requires : goal.copy_answers-requires
+copy_answers-requires c =
+    let l = c.loop-answers in
+    let (few, inside) = copyable c.requires.0 l.invariant.1 c.hold-least.ensures.holds_all in
+    (few, l.invariant.0, inside)
+
+pub write_answers-requires : goal.write_answers-requires
+write_answers-requires c =
+    let s = c in
+    let p = s.requires.0 in
+    let l = c.loop-answers in
+    let (room, word) = writable p l.invariant.1 c.hold-least.ensures.holds_all c.available-count.result c.available-count.ensures.0 (omega (arith, s.well_formed.1.1.1.1.1.1.1.1.1.1.0.1)) in
+    (room, word, omega (arith, c.columns_of-columns.ensures, p.formulas, p.small.1))
+
+pub take_verdicts-requires : goal.take_verdicts-requires
+take_verdicts-requires c =
+    let s = c in
+    takes_out s.requires.0 c.loop-answers.invariant.1 c.hold-least.ensures.holds_all c.available-count.result c.available-count.ensures.0 (omega (arith, s.well_formed.1.1.1.1.1.1.1.1.1.1.0.1))
+
+pub overflow_add-done : goal.overflow_add-done
+overflow_add-done c =
+    let s = c in
+    record { fits = countable s.requires.0 c.loop-answers.invariant.1 c.hold-least.ensures.holds_all c.available-count.result c.available-count.ensures.0 (omega (arith, s.well_formed.1.1.1.1.1.1.1.1.1.1.0.1)) }
+
+pub loop-answers-smaller : goal.loop-answers-smaller
+loop-answers-smaller c =
+    let s = c in
+    fewer s.requires.0 c.loop-answers.invariant.1 c.hold-least.ensures.holds_all c.available-count.result c.available-count.ensures.0 (omega (arith, s.well_formed.1.1.1.1.1.1.1.1.1.1.0.1)) (omega arith)
+
+pub loop-answers-preserved : goal.loop-answers-preserved
+loop-answers-preserved c =
+    let s = c in
+    let h = c.hold-least in
+    let a = c.copy_answers in (
+      a.ensures.long,
+      turned s.requires.0 c.loop-answers.invariant.1 h.ensures.holds_all c.available-count.result c.available-count.ensures.0 (omega (arith, s.well_formed.1.1.1.1.1.1.1.1.1.1.0.1))
+          a.new.answers c.columns_of-columns.result c.columns_of-columns.ensures a.ensures _ _ c.take_verdicts.ensures c.write_answers.ensures,
+      h.ensures.keeps.0,
+      h.ensures.keeps.1,
+    )

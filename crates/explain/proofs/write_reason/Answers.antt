@@ -1,0 +1,118 @@
+-- `explain::write_reason` meets its contract.
+use Prim.Native.Nat.{ℕ, ◌-◌, ◌≤◌, ◌<◌}
+use mathlib.Core.Bool.{Bool, true, false, ◌||◌}
+use mathlib.Core.Bool.{not as negate}
+use mathlib.Core.Logic.{◌⊎◌, inl, inr, ⊎_elim}
+use mathlib.Core.Path.{◌≡◌, refl, sym}
+use native.Mathlib.Omega.{arith}
+use lib.Dec.{leb}
+use lib.ListN.{get_or}
+use borrow.Author.Tests.{leb-true, le-leb}
+use Rattle.mtl.proofs.Bounded.{true_and_false, or_iff}
+use Rattle.window.specs.View.{total}
+use Rattle.decimal.specs.Text.{ascii}
+use Rattle.window.proofs.Copies.{keeps_none}
+use Rattle.explain.proofs.Formulas.{none_there, none_answered, empty_reasoned, formula_reasoned}
+use Rattle.explain.proofs.write_reason.Goals as goal
+
+either_far : (c k n i : ℕ) → leb c k || leb n i ≡ true → (c ≤ k) ⊎ (n ≤ i)
+either_far c k n i e = ⊎_elim (λ h. inl (leb-true c k h)) (λ h. inr (leb-true n i h)) ((or_iff (leb c k) (leb n i)).0 e)
+
+neither_far : (c k n i : ℕ) → leb c k || leb n i ≡ false → (k < c) × (i < n)
+neither_far c k n i e =
+    let first : c ≤ k → ⊥ = λ h. true_and_false ((or_iff (leb c k) (leb n i)).1 (inl (le-leb c k h))) e in
+    let second : n ≤ i → ⊥ = λ h. true_and_false ((or_iff (leb c k) (leb n i)).1 (inr (le-leb n i h))) e in
+    (omega arith, omega arith)
+
+unturned : (b : Bool) → negate b ≡ true → b ≡ false
+unturned true e = sym e
+unturned false e = refl
+
+turned_back : (b : Bool) → negate b ≡ false → b ≡ true
+turned_back true e = refl
+turned_back false e = sym e
+
+pub returns-then-columns_of-formula : goal.returns-then-columns_of-formula
+returns-then-columns_of-formula c =
+    let a = c.args in
+    (Prim.tt {0}, none_there a.table.now a.view.now a.records.now a.ends.now a.number a.formula a.position a.text.now c.columns_of.result c.columns_of.ensures (either_far c.columns_of.result a.formula (total a.view.now) a.position c.if-columns_of-formula.true))
+
+pub all_answered-answered-requires : goal.all_answered-answered-requires
+all_answered-answered-requires c =
+    let a = c.args in
+    let few = c.requires.2 in
+    let (one_of_lem, inside) = neither_far c.columns_of.result a.formula (total a.view.now) a.position c.if-columns_of-formula.false in
+    (c.requires.0, keeps_none a.records.now, keeps_none a.records.now, omega arith)
+
+pub returns-then-not-answered : goal.returns-then-not-answered
+returns-then-not-answered c =
+    let a = c.args in
+    let few = c.requires.2 in
+    let (one_of_lem, inside) = neither_far c.columns_of.result a.formula (total a.view.now) a.position c.if-columns_of-formula.false in
+    (Prim.tt {0}, none_answered a.table.now a.view.now a.records.now a.ends.now a.number a.formula a.position a.text.now inside (rw (unturned c.all_answered-answered.result c.if-not-answered.true) at c.all_answered-answered.ensures.all_answered))
+
+pub returns-then-number-eq0 : goal.returns-then-number-eq0
+unfolding ascii
+returns-then-number-eq0 c =
+    let a = c.args in
+    let few = c.requires.2 in
+    let (one_of_lem, inside) = neither_far c.columns_of.result a.formula (total a.view.now) a.position c.if-columns_of-formula.false in
+    let room = c.requires.1 in (
+      omega (arith, c.put.ensures.ends),
+      empty_reasoned a.table.now a.view.now a.records.now a.ends.now a.number a.formula a.position a.text.now c.columns_of.result c.columns_of.ensures one_of_lem inside (rw (turned_back c.all_answered-answered.result c.if-not-answered.false) at c.all_answered-answered.ensures.all_answered) c.if-number-eq0.true
+          c.put.result c.put.new.text c.put.ensures,
+    )
+
+pub offset_bounds-ends-formula : goal.offset_bounds-ends-formula
+offset_bounds-ends-formula c =
+    let a = c.args in
+    let few = c.requires.2 in
+    let (one_of_lem, inside) = neither_far c.columns_of.result a.formula (total a.view.now) a.position c.if-columns_of-formula.false in
+    let most = c.requires.0.few in
+    omega (arith, c.columns_of.ensures)
+
+pub bounds-ends-formula : goal.bounds-ends-formula
+bounds-ends-formula c =
+    let a = c.args in
+    let few = c.requires.2 in
+    let (one_of_lem, inside) = neither_far c.columns_of.result a.formula (total a.view.now) a.position c.if-columns_of-formula.false in
+    let most = c.requires.0.few in
+    omega (arith, c.columns_of.ensures)
+
+pub overflow_sub-ends : goal.overflow_sub-ends
+overflow_sub-ends c =
+    let a = c.args in
+    let few = c.requires.2 in
+    let (one_of_lem, inside) = neither_far c.columns_of.result a.formula (total a.view.now) a.position c.if-columns_of-formula.false in
+    (c.requires.0.some a.formula (omega (arith, c.columns_of.ensures, c.if-number-eq0.false))).0
+
+pub tell-told-requires : goal.tell-told-requires
+tell-told-requires c =
+    let a = c.args in
+    let few = c.requires.2 in
+    let (one_of_lem, inside) = neither_far c.columns_of.result a.formula (total a.view.now) a.position c.if-columns_of-formula.false in
+    let p = c.requires.0 in
+    let here : a.formula < a.number = omega (arith, c.columns_of.ensures, c.if-number-eq0.false) in
+    let some = p.some a.formula here in
+    let rows = p.rows a.formula here in
+    let bound = (rows.0 (get_or a.ends.now a.formula 0 - 1) (omega arith)).bound in
+    let kept = c.all_answered-answered.auto.words in
+    let room = p.words_room in
+    let text_room = c.requires.1 in
+    record { lent = record { entry = omega arith; rows = rows.0; lows = rows.1; words_room = omega arith; copy_keeps = c.all_answered-answered.ensures.keeps.0; waiting_keeps = c.all_answered-answered.ensures.keeps.1; views = p.views; few = p.few_records }; far = omega arith; space = omega arith }
+
+pub returns : goal.returns
+returns c =
+    let a = c.args in
+    let few = c.requires.2 in
+    let (one_of_lem, inside) = neither_far c.columns_of.result a.formula (total a.view.now) a.position c.if-columns_of-formula.false in
+    let p = c.requires.0 in
+    let here : a.formula < a.number = omega (arith, c.columns_of.ensures, c.if-number-eq0.false) in
+    let rows = p.rows a.formula here in
+    let bound = (rows.0 (get_or a.ends.now a.formula 0 - 1) (omega arith)).bound in
+    let text_room = c.requires.1 in
+    let ends = c.tell-told.ensures.tells.room in (
+      omega arith,
+      formula_reasoned a.table.now a.view.now a.records.now a.ends.now a.number a.formula a.position a.text.now c.columns_of.result c.columns_of.ensures one_of_lem inside (rw (turned_back c.all_answered-answered.result c.if-not-answered.false) at c.all_answered-answered.ensures.all_answered) c.if-number-eq0.false
+          c.tell-told.result c.tell-told.new.text c.tell-told.ensures.tells,
+    )

@@ -1,0 +1,17 @@
+-- `havdrims::havdrims_status` meets its contract: each outcome of `status` by one law.
+use Rattle.havdrims.proofs.Outcomes.{not_known, is_known}
+use Rattle.havdrims.proofs.havdrims_status.Goals as goal
+
+pub returns-in_default : goal.returns-in_default
+returns-in_default c =
+    let a = c.args in
+    let o = c.status-standing in
+    let n = c.enum_told-1.given in
+    not_known a.rule.now a.point.now a.given.now a.seen.now a.wanted.now a.closed.now o.result o.ensures n.0.0 n.1 c.number.result c.number.ensures
+
+pub returns : goal.returns
+returns c =
+    let a = c.args in
+    let o = c.status-standing in
+    let n = c.standing-1.given in
+    is_known a.rule.now a.point.now a.given.now a.seen.now a.wanted.now a.closed.now o.result o.ensures n.0.0 n.0.1.0 n.0.1.1.0 n.0.1.1.1.0 n.1

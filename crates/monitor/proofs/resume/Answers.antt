@@ -1,0 +1,5 @@
+-- `monitor::resume` meets its contract, which is that of `resume_or_close`.
+use Rattle.monitor.proofs.resume.Goals as goal
+
+pub returns : goal.returns
+returns c = c.resume_or_close.ensures

@@ -1,0 +1,15 @@
+-- `report::words_in_line` meets its contract: `monitor::formulas` refuses no accepted rule.
+use Rattle.report.proofs.Runs.{formulas_counted, formulas_known}
+use Rattle.report.proofs.words_in_line.Goals as goal
+
+pub returns-in_default : goal.returns-in_default
+returns-in_default c fine =
+    let f = c.formulas in
+    let told = c.enum_told-1.given in
+    absurd (formulas_known c.args.rule.now fine f.result f.ensures told.0.0 told.1)
+
+pub returns : goal.returns
+returns c fine =
+    let f = c.formulas in
+    let told = c.columns-1.given in
+    formulas_counted c.args.rule.now fine f.result f.ensures told.0.0 told.1

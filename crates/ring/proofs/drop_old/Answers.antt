@@ -1,0 +1,48 @@
+-- `ring::drop_old` meets its contract. The loop's invariant: dropping from what remains gives the same as from all.
+use native.Mathlib.Omega.{arith}
+use mathlib.Core.Logic.{inl, inr, ⊎_elim}
+use lib.ListN.{length-set}
+use Rattle.ring.proofs.Cells.{remains_all, remains_less, remains_done}
+use Rattle.ring.proofs.drop_old.Goals as goal
+
+pub loop-count-init : goal.loop-count-init
+loop-count-init c =
+    let a = c.args in (
+      omega arith,
+      omega arith,
+      remains_all a.cells a.high a.at a.block.now c.at_most-start.result c.at_most-count.result
+          (λ h. c.at_most-start.ensures.1 (omega arith))
+          c.at_most-count.ensures.1,
+    )
+
+pub loop-count-preserved : goal.loop-count-preserved
+loop-count-preserved c =
+    let a = c.args in
+    let l = c.loop-count in
+    let g = c.gap.ensures in (
+      omega arith,
+      omega arith,
+      remains_less a.cells a.high a.at a.block.now l.start l.count
+          c.cell.result
+          c.cell-in-loop-count.result
+          l.invariant.0
+          (omega arith)
+          (c.cell.ensures.2 (omega arith))
+          (c.cell-in-loop-count.ensures.2 (omega arith))
+          (omega arith)
+          l.invariant.2,
+    )
+
+pub bounds-block-10-2 : goal.bounds-block-10-2
+bounds-block-10-2 c = simp length-set (omega arith)
+
+pub returns : goal.returns
+returns c =
+    let a = c.args in
+    let l = c.loop-count in
+    remains_done a.cells a.high a.at a.block.now (omega arith) l.start l.count l.invariant.0
+    (⊎_elim
+    (λ w. inl (let e = w.left in omega arith))
+    (λ w. inr (w.1.result, w.1.ensures.2 (omega arith), let g = w.3.ensures in let t = w.4.taken in omega arith))
+    c.loop-count-test.branch)
+    l.invariant.2

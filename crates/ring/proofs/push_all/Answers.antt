@@ -1,0 +1,101 @@
+-- `ring::push_all` meets its contract: the loop has the number of the times and the newest beside the block.
+use Prim.Native.Nat.{ℕ, ◌+◌, ◌-◌, ◌≤◌, ◌<◌, ◌^◌}
+use native.Mathlib.Omega.{arith}
+use mathlib.Core.Bool.{Bool, true, false}
+use mathlib.Core.Bool.{not as negate}
+use mathlib.Core.Logic.{⊎_elim}
+use mathlib.Core.Path.{◌≡◌, refl, sym, ◌∙◌}
+use lib.Dec.{ltb}
+use lib.ListN.{length-set}
+use borrow.Author.Tests.{ltb-true}
+use Rattle.mtl.proofs.Bounded.{and_iff}
+use Rattle.bits.specs.Packed.{bit}
+use Rattle.bits.proofs.Laws.{bit_not}
+use Rattle.bits.proofs.Zeros.{one_behind_last}
+use Rattle.trace.specs.Format.{time_at}
+use Rattle.ring.proofs.Cells.{pushing_none, pushing_skip, pushing_next, pushing_rest, pushing_done}
+use Rattle.ring.proofs.push_all.Goals as goal
+
+turned : (x : Bool) → negate x ≡ true → x ≡ false
+turned true e = sym e
+turned false e = refl
+
+pub loop-i-init : goal.loop-i-init
+loop-i-init c =
+    let count = c in
+    let start = count in
+    let a = start.before.before.before.before.before.args in (
+      omega arith,
+      omega arith,
+      count.at_most-count.ensures.0,
+      refl,
+      pushing_none a.cells (time_at a.window.now) a.right a.from a.block.now start.at_most.result count.at_most-count.result c.newest-newest.result
+          (λ h. start.at_most.ensures.1 (omega arith))
+          count.at_most-count.ensures.1
+          c.newest-newest.ensures,
+    )
+
+pub add-count-requires : goal.add-count-requires
+add-count-requires c =
+    let t = c in
+    let l = t.loop-i in
+    let start = t in
+    let a = start.before.before.before.before.before.args in
+    let first = start.at_most.ensures.0 in
+    let free = ltb-true l.count a.cells ((and_iff t.test.result (ltb l.count a.cells)).0 c.if-test-count.true).1 in
+    omega arith
+
+pub loop-i-preserved : goal.loop-i-preserved
+loop-i-preserved c =
+    let t = c in
+    let l = t.loop-i in
+    let start = t in
+    let a = start.before.before.before.before.before.args in
+    let at = time_at a.window.now in
+    ⊎_elim
+    (λ w.
+    let (yes', free) = (and_iff t.test.result (ltb l.count a.cells)).0 w.0.taken in
+    let added = w.3 in (
+      omega arith,
+      omega arith,
+      rw w.7 added.ensures.1,
+      rw w.6 (added.kept.1.1.1.1.1.0 ∙ l.invariant.3),
+      rw (w.6, w.7, w.8, added.ensures.0, added.ensures.2, w.1.ensures.0)
+          (pushing_next a.cells at a.right a.from a.block.now start.at_most.result l.i l.block l.count l.newest
+          l.invariant.0
+          l.invariant.4
+          (omega arith)
+          (ltb-true l.count a.cells free)
+          (omega arith)
+          (rw w.1.ensures.0 at w.1.ensures.1)
+          (sym t.test.ensures ∙ yes')),
+    ))
+    (λ w. (
+      omega arith,
+      omega arith,
+      rw w.2 l.invariant.2,
+      rw w.1 l.invariant.3,
+      rw (w.1, w.2, w.3)
+          (pushing_skip a.cells at a.right a.from a.block.now start.at_most.result l.i l.block l.count l.newest
+          l.invariant.0
+          l.invariant.4
+          (rw t.test.ensures at w.0.left)),
+    ))
+    c.if-test-count.branch
+
+pub shape_of-block : goal.shape_of-block
+shape_of-block c = length-set c.loop-i.block 10 c.loop-i.count ∙ c.loop-i.invariant.3
+
+pub returns : goal.returns
+returns c =
+    let l = c.loop-i in
+    let start = c in
+    let a = start.args in
+    let e : l.i + (a.n - l.i) ≡ a.n = omega arith in
+    let last = start in
+    let none : (j : ℕ) → l.i ≤ j → j < l.i + (a.n - l.i) → bit a.right j ≡ false =
+    λ j b h. turned (bit a.right j) (sym (bit_not 64 a.right j (omega arith) (omega arith)) ∙ one_behind_last a.n (2 ^ 64 - 1 - a.right) j (let f = last.find-last-zero.ensures.0 in omega arith) (omega arith)) in
+    pushing_done a.cells (time_at a.window.now) a.right a.from a.block.now start.at_most-start.result a.n l.block l.count l.newest
+    (λ h. start.at_most-start.ensures.1 (omega arith))
+    (omega arith)
+    (rw e at (pushing_rest a.cells (time_at a.window.now) a.right a.from a.block.now start.at_most-start.result l.i (a.n - l.i) l.block l.count l.newest l.invariant.0 none l.invariant.4))

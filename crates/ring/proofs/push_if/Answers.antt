@@ -1,0 +1,56 @@
+-- `ring::push_if` meets its contract, by whether the time was added, was the newest already, or was not to be added.
+use mathlib.Core.Logic.{inl, inr, ⊎_elim}
+use lib.Dec.{ltb}
+use native.Mathlib.Omega.{arith}
+use lib.ListN.{length-set, get_or}
+use borrow.Author.Tests.{ltb-true, eqb-true, eqb-false, not-true, not-false}
+use Rattle.mtl.proofs.Bounded.{and_iff}
+use Rattle.ring.proofs.Cells.{not_pushed, newest_already, is_pushed}
+use Rattle.ring.proofs.push_if.Goals as goal
+
+pub bounds-block-10-then-count-eq0 : goal.bounds-block-10-then-count-eq0
+bounds-block-10-then-count-eq0 c = simp length-set (omega arith)
+
+pub returns-then-count-eq0 : goal.returns-then-count-eq0
+returns-then-count-eq0 c =
+    let a = c.args in
+    let f = ltb-true c.at_most-count.result a.cells ((and_iff a.right (ltb c.at_most-count.result a.cells)).0 c.if-right-count.true).1 in
+    is_pushed a.cells a.block.now c.at_most-start.result c.at_most-count.result
+    (λ h. c.at_most-start.ensures.1 (omega arith))
+    c.at_most-count.ensures.1
+    a.at
+    a.right
+    (omega arith)
+    c.cell-end.result
+    c.cell-end.ensures.0
+    (λ h. c.cell-end.ensures.2 (omega arith))
+    f
+    c.if-right-count.true
+    (⊎_elim
+    (λ w. inl w.taken)
+    (λ w. inr (w.1.result, omega arith, w.1.ensures.2 (omega arith), eqb-false (get_or a.block.now w.1.result 0) a.at (not-true _ w.3.taken)))
+    c.if-count-eq0.branch)
+
+pub returns-else-block-cell : goal.returns-else-block-cell
+returns-else-block-cell c =
+    let a = c.args in
+    let some = c.if-count-eq0.false in
+    newest_already a.cells a.block.now c.at_most-start.result c.at_most-count.result
+    (λ h. c.at_most-start.ensures.1 (omega arith))
+    c.at_most-count.ensures.1
+    a.at
+    a.right
+    c.cell.result
+    (omega arith)
+    (c.cell.ensures.2 (omega arith))
+    (eqb-true (get_or a.block.now c.cell.result 0) a.at (not-false _ c.if-block-cell.false))
+
+pub returns-else-right-count : goal.returns-else-right-count
+returns-else-right-count c =
+    let a = c.args in
+    not_pushed a.cells a.block.now c.at_most-start.result c.at_most-count.result
+    (λ h. c.at_most-start.ensures.1 (omega arith))
+    c.at_most-count.ensures.1
+    a.at
+    a.right
+    c.if-right-count.false

@@ -1,0 +1,28 @@
+-- `text::token::any_unknown` meets its contract: a known token passed leaves the answer.
+use native.Mathlib.Omega.{arith}
+use Prim.Native.Nat.{◌-◌}
+use mathlib.Core.Path.{refl, ◌∙◌}
+use Rattle.text.proofs.Lexing.{unknown_here, none_unknown, unknown_later}
+use Rattle.text.proofs.token.any_unknown.Goals as goal
+
+pub loop-token-init : goal.loop-token-init
+loop-token-init c = refl
+
+pub returns-then-token-eq-UNKNOWN : goal.returns-then-token-eq-UNKNOWN
+returns-then-token-eq-UNKNOWN c = let x = c in
+    let text = x.args.text.now in
+    unknown_here text x.loop-token.at x.token_at-token.result x.token_at-token.ensures c.if-token-eq-UNKNOWN.true ∙ x.loop-token.invariant
+
+pub returns-then-token-eq-END : goal.returns-then-token-eq-END
+returns-then-token-eq-END c = let x = c in
+    let text = x.args.text.now in
+    none_unknown text x.loop-token.at x.token_at-token.result x.token_at-token.ensures c.if-token-eq-END.true ∙ x.loop-token.invariant
+
+pub loop-token-smaller : goal.loop-token-smaller
+loop-token-smaller c = let x = c in
+    omega (arith, x.token_at-token.ensures.moves c.if-token-eq-END.false)
+
+pub loop-token-preserved : goal.loop-token-preserved
+loop-token-preserved c = let x = c in
+    let text = x.args.text.now in
+    unknown_later text x.loop-token.at x.token_at-token.result x.token_at-token.ensures c.if-token-eq-UNKNOWN.false ∙ x.loop-token.invariant

@@ -1,0 +1,55 @@
+-- `until::must_wait` meets its contract, by the laws of proofs/Steps. Assumes nothing.
+use native.Mathlib.Omega.{arith}
+use mathlib.Core.Bool.{true≢false}
+use mathlib.Core.Path.{sym}
+use Rattle.blocks.proofs.Reading.{readable}
+use Rattle.until.proofs.Steps.{stuck_fresh, stuck_first}
+use Rattle.until.proofs.must_wait.Goals as goal
+
+pub returns-then-room-ne0 : goal.returns-then-room-ne0
+returns-then-room-ne0 c = record { take_value = λ e. absurd (true≢false (sym e)); keeps = c.requires.1 }
+
+pub returns-then-block : goal.returns-then-block
+returns-then-block c =
+    let e = c in
+    let k = e in
+    let a = k.before.args in
+    record { take_value = λ t. (e.if-room-ne0.false, stuck_fresh a.low a.high a.view.now a.records.now a.block.now (λ i. (k.shared-slice-known.given i).fits) c.if-block.true); keeps = k.before.requires.1 }
+
+pub first_waits-requires : goal.first_waits-requires
+first_waits-requires c =
+    let o = c in
+    let s = o in
+    let room = s.requires.0 in
+    let next = o.«open».ensures in
+    (omega arith, record { inside = readable s.args.view.now _ next; long = next.long })
+
+pub returns : goal.returns
+returns c =
+    let t = c in
+    let o = t in
+    let e2 = o.before.before.before in
+    let e1 = e2.before.before.before in
+    let k = e1.before.before.before in
+    let s = k.before in
+    let behind = s.requires.2 in
+    let fits = s.requires.3 in
+    let none = e1.if1.false in
+    let inside = fits.inside in
+    let ends = fits.ahead in
+    let different = e2.if2.false in record {
+      take_value = λ e. (
+        none,
+        stuck_first
+            (record {
+              byte = λ i. (k.shared-slice-known.given i).fits;
+              some = omega arith;
+              inside = omega arith;
+              ends = omega arith;
+              next = o.«open».ensures;
+              start = t.first_time-start.ensures;
+              unknown = c.first_waits.ensures e;
+            }),
+      );
+      keeps = o.«open».ensures.keeps;
+    }

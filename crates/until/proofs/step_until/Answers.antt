@@ -1,0 +1,157 @@
+-- `until::step_until` meets its contract, by the laws of proofs/Steps: an operand wanted at once, or after a walk; positions taken; positions
+-- answered.
+-- Assumes nothing.
+use Prim.Native.Nat.{◌≤◌, ◌<◌}
+use native.Mathlib.Omega.{arith}
+use mathlib.Core.Logic.{⊎_elim}
+use mathlib.Core.Path.{refl}
+use lib.ListN.{length}
+use borrow.Author.Rules.{rules}
+use Rattle.window.specs.View.{total}
+use Rattle.window.specs.Window.{Keeps}
+use Rattle.blocks.specs.Block.{taken, answered}
+use Rattle.until.specs.Code.{OpensAhead}
+use Rattle.until.proofs.Steps.{Went, stands_outside, stands_inside, walk_fits, put_back_fits, ahead_windowed, walked_onward, wanted_ends, wants_more, took_ends, wants, takes_some, answers_some}
+use Rattle.until.proofs.step_until.Goals as goal
+use Rattle.until.proofs.step_until.Goals.{After-open-ahead, After-walk_on-stride}
+
+-- what is known after the window ahead was opened
+opened : (c : After-open-ahead) →
+    let k = c in
+    let a = k.args in
+    OpensAhead a.view.now a.records.now a.block.now k.room_of-room.result c.«open».result c.«open».new.1.1.1.1.0
+opened c =
+    let k = c in
+    let s = k in
+    record { room = s.requires.0; behind = (stands_inside _ _ _ k.if-total-at.false).0; fits = k.room_of-room.ensures; next = c.«open».ensures }
+
+-- what is known after the walk
+went : (c : After-walk_on-stride) →
+    let o = c in
+    let k = o in
+    let a = k.before.before.before.before.before.before.before.before.args in
+    Went a.low a.high o.smaller-most.result a.view.now a.records.now a.block.now k.room_of.result o.«open».result o.«open».new.1.1.1.1.0
+    c.walk_on-stride.result
+went c =
+    let o = c in
+    let k = o in
+    record {
+      opens = opened c.before.before;
+      byte = λ i. (k.before.before.before.before.before.before.before.shared-slice-known.given i).fits;
+      clamp = o.smaller-most.ensures;
+      strides = c.walk_on-stride.ensures.strides;
+    }
+
+-- the copies keep what they say
+copies : (c : After-walk_on-stride) →
+    let o = c in
+    let s = o.args.records.now in
+    Keeps s o.«open».new.1.1.1.1.0 × Keeps s c.walk_on-stride.new.waiting
+copies c = (c.«open».ensures.keeps, c.walk_on-stride.ensures.keeps)
+
+pub returns-then-total-at : goal.returns-then-total-at
+returns-then-total-at c =
+    let begin = c in
+    let a = begin.args in
+    let outside = stands_outside (total a.view.now) (taken a.block.now) (answered a.block.now) c.if-total-at.true in record {
+      ends = refl;
+      steps = λ φ ψ L g falls agrees ready.
+          let size = agrees.size in
+          let at = ready.core.range.at in
+          let i = ready.core.own.0 in
+          let ahead = ready.core.own.1.ahead in
+          absurd (⊎_elim (λ h. omega arith) (λ h. omega arith) outside);
+      keeps = (begin.requires.1, begin.requires.2);
+    }
+
+pub room_of-room-requires : goal.room_of-room-requires
+room_of-room-requires c =
+    let room = c.requires.0 in
+    let longer : 16 ≤ length c.args.block.now = omega arith in
+    let inside = stands_inside _ _ _ c.if-total-at.false in
+    (longer, inside.0, inside.1)
+
+pub must_wait-requires : goal.must_wait-requires
+must_wait-requires c =
+    let k = c in
+    let pre = k.requires in
+    (pre.0, pre.1, (stands_inside _ _ _ k.if-total-at.false).0, k.room_of-room.ensures, pre.3)
+
+pub wanted-requires : goal.wanted-requires
+wanted-requires c = let room = c.requires.0 in omega arith
+
+pub returns-then-must_wait : goal.returns-then-must_wait
+returns-then-must_wait c =
+    let m = c in
+    let w = m in
+    let k = w.before.before.before.before in
+    let s = k.before.before.before.before.before.before.before.before in
+    let a = s.args in
+    let t = c.wanted in
+    let stuck = w.must-wait.ensures.0 m.if-must_wait.true in record {
+      ends = wanted_ends a.view.now a.block.now t.result t.ensures;
+      steps = λ φ ψ L g falls agrees ready.
+          wants_more ready agrees k.room_of.ensures stuck.0 (stuck.1 a.high φ ψ L g w.before.before.before.smaller.ensures falls agrees ready) t.result t.ensures;
+      keeps = (w.must-wait.ensures.1, s.requires.2);
+    }
+
+pub open-ahead-requires : goal.open-ahead-requires
+open-ahead-requires c =
+    let w = c in
+    (search rules, w.must_wait.ensures.keeps, w.requires.3)
+
+pub walk_on-stride-requires : goal.walk_on-stride-requires
+walk_on-stride-requires c =
+    let o = c in
+    let pre = o.requires in
+    (opened (goal.at.walk_on-stride-requires c).After-open-ahead, o.«open».ensures.keeps, pre.2, pre.3)
+
+pub wanted-requires-then-w-eq0-2 : goal.wanted-requires-then-w-eq0-2
+wanted-requires-then-w-eq0-2 c = (walk_fits (went (goal.at.wanted-requires-then-w-eq0-2 c).After-walk_on-stride).opens).0
+
+pub returns-then-w-eq0-2 : goal.returns-then-w-eq0-2
+returns-then-w-eq0-2 c =
+    let k = c in
+    let a = k.args in
+    let t = c.wanted-then-w-eq0-2 in record {
+      ends = wanted_ends a.view.now a.block.now t.result t.ensures;
+      steps = λ φ ψ L g falls agrees ready.
+          wants (went (goal.at.returns-then-w-eq0-2 c).After-walk_on-stride) φ ψ L g falls agrees ready c.if-w-eq0.true c.if-w-eq0-2.true t.result t.ensures;
+      keeps = copies (goal.at.returns-then-w-eq0-2 c).After-walk_on-stride;
+    }
+
+pub pass-requires : goal.pass-requires
+pass-requires c = let k = c in (k.requires.3, ahead_windowed (went (goal.at.pass-requires c).After-walk_on-stride))
+
+pub put_back-requires : goal.put_back-requires
+put_back-requires c = put_back_fits (went (goal.at.put_back-requires c).After-walk_on-stride)
+
+pub returns-then-w-eq0-3 : goal.returns-then-w-eq0-3
+returns-then-w-eq0-3 c =
+    let whole = let p = c in
+    let k = p in
+    let none = c.if-w-eq0-3.true in
+    let some : 0 < k.walk_on.result.walked.took =
+    ⊎_elim (λ t. let l = t.2.left in omega arith) (λ t. let l = t.left in absurd (omega arith)) p.if-w-eq0.branch in
+    rw p.put_back.ensures (
+      took_ends (went k) p.pass.ensures some,
+      (
+        λ φ ψ L g falls agrees ready. takes_some (went k) φ ψ L g falls agrees ready p.pass.ensures none,
+        copies k,
+      ),
+    ) in
+    record { ends = whole.0; steps = whole.1.0; keeps = whole.1.1 }
+
+pub returns : goal.returns
+returns c =
+    let whole = let p = c in
+    let k = p in
+    rw p.put_back.ensures (
+      walked_onward (went k) p.pass.ensures,
+      (
+        λ φ ψ L g falls agrees ready.
+            answers_some (went k) φ ψ L g falls agrees ready p.pass.ensures (omega arith),
+        copies k,
+      ),
+    ) in
+    record { ends = whole.0; steps = whole.1.0; keeps = whole.1.1 }

@@ -1,0 +1,41 @@
+-- `walks::count_far` meets its contract. The loop's invariant: those from i on lie no more than high before the last. Assumes nothing.
+use Prim.Native.Nat.{◌-◌}
+use native.Mathlib.Nat.{eq-or-lt_of_le}
+use native.Mathlib.Omega.{arith}
+use mathlib.Core.Logic.{⊎_elim}
+use mathlib.Core.Path.{◌≡◌, ap}
+use Rattle.trace.specs.Format.{time_at}
+use Rattle.walks.proofs.count_far.Goals as goal
+
+pub loop-i-init : goal.loop-i-init
+loop-i-init c =
+    let a = c.args in
+    (omega arith, λ j h l. let e : j ≡ a.n - 1 = omega arith in let s = ap (time_at a.ahead.now) e in omega arith)
+
+pub loop-i-preserved : goal.loop-i-preserved
+loop-i-preserved c =
+    let t = c in
+    let l = t.loop-i in
+    let f = t in
+    let a = f.before.before.args in
+    let is = t.time.ensures.0 in
+    let last = f.time.ensures.0 in (
+      omega arith,
+      λ j h m.
+          ⊎_elim
+          (λ e. let s = ap (time_at a.ahead.now) e in omega arith)
+          (λ k. l.invariant.1 j (omega arith) m)
+          (eq-or-lt_of_le {n = l.i - 1} {m = j} h),
+    )
+
+pub returns-after-loop-i : goal.returns-after-loop-i
+returns-after-loop-i c = let l = c.loop-i in record { below = l.invariant.0; over = λ h. absurd (omega arith); near = l.invariant.1 }
+
+pub returns-then-time-high : goal.returns-then-time-high
+returns-then-time-high c =
+    let t = c in
+    let l = t.loop-i in
+    let f = t in
+    let is = t.time.ensures.0 in
+    let last = f.time.ensures.0 in
+    record { below = l.invariant.0; over = λ h. omega arith; near = l.invariant.1 }

@@ -1,0 +1,16 @@
+-- The invariants of `walks::find_late`.
+use Prim.Native.Nat.{ℕ, ◌-◌, ◌<◌, ◌^◌}
+use Rattle.trace.specs.Format.{time_at}
+use Rattle.walks.specs.Settle.{Rising}
+use Rattle.walks.proofs.find_late.Given as goal
+
+pub record Looked (low : ℕ) (time : ℕ → ℕ) (left right n own i latest bits : ℕ) : Type 0 where
+  pub inside : i < n
+  pub small : bits < 2 ^ (n - i)
+  pub seen : Rising time n → Seen low time left right n own i latest bits
+
+abbrev pub invariant-loop-i : goal.invariant-loop-i
+invariant-loop-i l = Looked l.low (time_at l.ahead) l.left l.right l.n l.own l.i l.latest l.bits
+
+abbrev pub decreases-loop-i : goal.decreases-loop-i
+decreases-loop-i l = l.i

@@ -1,0 +1,56 @@
+-- `walks::walk_over` meets its contract, by the laws of proofs/Over. Assumes nothing.
+use native.Mathlib.Omega.{arith}
+use mathlib.Core.Path.{refl}
+use lib.Dec.{leb, ltb}
+use borrow.Author.Tests.{leb-true, ltb-true}
+use Rattle.mtl.proofs.Bounded.{and_iff}
+use Rattle.trace.specs.Format.{time_at}
+use Rattle.walks.proofs.Over.{Ahead, over_walk, still_before, passed, stopped}
+use Rattle.walks.proofs.walk_over.Goals as goal
+use Rattle.walks.proofs.walk_over.Goals.{After-count_met-took}
+
+ahead : (m : After-count_met-took) →
+    let z = m in
+    let a = m.args in
+    Ahead a.high (time_at a.starts.now) (time_at a.ahead.now) a.lead a.n a.left a.right z.smaller-most.result
+    z.find_first_zero-event.result
+    m.count_met-took.result
+ahead m =
+    let l = m in
+    let t = l in
+    let z = t.before in
+    let b = m in
+    let a = b.args in
+    record {
+      waiting = b.pre.1;
+      may = z.smaller-most.ensures;
+      before = still_before a.left a.right a.n b.pre.3 (omega arith) z.find_first_zero-event.ensures;
+      taken = rw (t.time.ensures.0, l.smaller.ensures) at m.count_met-took.ensures;
+    }
+
+pub returns-then-took-eq0 : goal.returns-then-took-eq0
+returns-then-took-eq0 c after =
+    let m = c in
+    let b = m in
+    over_walk after b.pre.1 (b.pre.6, b.pre.7) (passed (ahead (goal.at.returns-then-took-eq0 c).After-count_met-took) (omega arith) (omega arith)) (omega arith) b.args.from (λ z. refl) (λ t. absurd (omega arith))
+
+pub returns-then-took-event : goal.returns-then-took-event
+returns-then-took-event c after =
+    let k = c in
+    let m = k in
+    let b = m in
+    let took = m.count-met.result in
+    let event = m.before.before.before.find-first-zero.result in
+    let (h, l) = (and_iff (leb took event) (ltb took b.args.n)).0 c.if-took-event.true in
+    over_walk after b.pre.1 (b.pre.6, b.pre.7) (passed (ahead m) (leb-true took event h) (ltb-true took b.args.n l)) (omega arith) k.take-last.result
+    (λ z. absurd (omega arith))
+    (λ t. k.take-last.ensures)
+
+pub returns : goal.returns
+returns c after =
+    let k = c in
+    let m = k in
+    let b = m in
+    over_walk after b.pre.1 (b.pre.6, b.pre.7) (stopped (ahead m) (omega arith) (rw k.take-last.ensures.0 at c.count_met.ensures)) (omega arith) k.take-last.result
+    (λ z. absurd (omega arith))
+    (λ t. k.take-last.ensures)
