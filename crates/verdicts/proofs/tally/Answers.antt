@@ -31,4 +31,4 @@ returns c =
     tallies a.formulas a.sheet.now a.no.now a.yes.now c.write_counts.new.no c.write_counts.new.yes
     c.if-formulas.false
     (sym c.has_bit_beyond.ensures ∙ c.if-has_bit_beyond.false)
-    c.write_counts.ensures
+    (c.write_counts.ensures.no_after, c.write_counts.ensures.yes_after)
