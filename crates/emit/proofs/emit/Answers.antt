@@ -22,6 +22,15 @@ entries_laid d fs ended =
     let p = d.requires in
     record { few = p.few; well_formed = p.well_formed; rows = d.lay_out.ensures; ended = ended }
 
+-- the rule's entries, once they are laid out
+entries_laid_2 : (d : After-lay_tops-tops) →
+    let s = d in
+    (fs : List Formula) → Ended s.args.entries s.args.count s.args.ends s.args.number fs →
+    LaidAs s.args.entries s.args.count d.lay_out.new.table s.args.ends s.args.number fs
+entries_laid_2 d fs ended =
+    let p = d.requires in
+    record { few = p.few; well_formed = p.well_formed; rows = d.lay_out.ensures; ended = ended }
+
 -- its formulas, once they are
 laid : (d : After-lay_tops-tops) →
     let s = d in
@@ -30,7 +39,7 @@ laid d =
     let s = d in
     let a = s.args in
     fits_of a.entries a.count a.t3 a.number a.most a.base a.depth a.records.now a.words.now d.lay_out.new.table
-    d.lay_tops-tops.result s.requires s.requires.the_formulas s.requires.ended (d.lay_tops-tops.ensures a.entries a.count s.requires.the_formulas (entries_laid d.before.before.before s.requires.the_formulas s.requires.ended))
+    d.lay_tops-tops.result s.requires s.requires.the_formulas s.requires.ended (d.lay_tops-tops.ensures a.entries a.count s.requires.the_formulas (entries_laid_2 d s.requires.the_formulas s.requires.ended))
 
 pub lay_out-requires : goal.lay_out-requires
 lay_out-requires c = let p = c.requires in (p.few, p.well_formed, refl, zeros 1024)
@@ -74,17 +83,17 @@ pub returns : goal.returns
 returns c fs ended deep =
     let after_note = c in
     let after_give = after_note in
-    let after_write_view = after_give.before.before.before.before.before.before.before.before.before.before.before in
-    let after_lay_tops = after_write_view.before.before.before in
-    let after_lay_out = after_lay_tops.before.before.before in
-    let after_shared_slice_known = after_lay_out.before.before.before.before in
-    let s = after_shared_slice_known.before in
+    let after_write_view = after_give in
+    let after_lay_tops = after_write_view in
+    let after_lay_out = after_lay_tops in
+    let after_shared_slice_known = after_lay_out in
+    let s = after_shared_slice_known in
     let a = s.args in
-    let g = after_give.give in
+    let g = after_give.give-emitted in
     let view = after_write_view.write_view in
     let y = after_note.note in
-    let fits = fits_of a.entries a.count a.t3 a.number a.most a.base a.depth a.records.now a.words.now after_lay_out.lay-out.new.1.1.0
-    after_lay_tops.lay-tops.result s.requires fs ended (after_lay_tops.lay-tops.ensures a.entries a.count fs (entries_laid after_lay_out fs ended)) in
-    emitted a.skips a.closed a.records.now a.words.now a.sheet.now view.new.1.1.1.1.1.0 g.result g.new.1.1.1.1.1.1.1.1.1.0
-    g.new.1.1.1.1.1.1.1.1.1.1.0 y.new.1.1.1.1.0 fits (λ i. (after_shared_slice_known.shared-slice-known.given i).fits)
+    let fits = fits_of a.entries a.count a.t3 a.number a.most a.base a.depth a.records.now a.words.now after_lay_out.lay_out.new.table
+    after_lay_tops.lay_tops-tops.result s.requires fs ended (after_lay_tops.lay_tops-tops.ensures a.entries a.count fs (entries_laid (goal.at.returns c).After-lay_out fs ended)) in
+    emitted a.skips a.closed a.records.now a.words.now a.sheet.now view.new.view g.result g.new.words
+    g.new.sheet y.new.words fits (λ i. (after_shared_slice_known.type_inv.records i).fits)
     (rw deep at view.ensures) (g.ensures a.base fs fits s.requires.header.2) (rw deep at y.ensures)

@@ -19,8 +19,7 @@ returns-then-text-length c fs ended steady =
     let a = c.args in
     let r = c.reason_of-reason in
     let lines = r.new.text in
-    let told = c.reason-1.given in
-    let (one, two, wrote) = reasoned_ends fs (log_of a.skips a.records.now) a.formula a.position _ r.result lines told.0.0 told.1 (r.ensures.1 fs ended steady) in
+    let (one, two, wrote) = reasoned_ends fs (log_of a.skips a.records.now) a.formula a.position _ r.result lines c.in-Ends.length c.in-Ends.is (r.ensures.1 fs ended steady) in
     let ends = wrote.ends in
     copies_short fs (log_of a.skips a.records.now) a.formula a.position a.text.now (omega (arith, c.if-text-length.true))
 
@@ -29,8 +28,7 @@ slice_bounds-lines-end c =
     let a = c.args in
     let r = c.reason_of-reason in
     let lines = r.new.text in
-    let told = c.reason-1.given in
-    let inside = ends_inside _ r.result told.0.0 told.1 r.ensures.0 in
+    let inside = ends_inside _ r.result c.in-Ends.length c.in-Ends.is r.ensures.0 in
     let kept = r.auto.text in
     omega arith
 
@@ -39,8 +37,7 @@ slice_bounds-put-end c =
     let a = c.args in
     let r = c.reason_of-reason in
     let lines = r.new.text in
-    let told = c.reason-1.given in
-    let inside = ends_inside _ r.result told.0.0 told.1 r.ensures.0 in
+    let inside = ends_inside _ r.result c.in-Ends.length c.in-Ends.is r.ensures.0 in
     let kept = r.auto.text in
     sym (length-take-le _ lines (omega arith))
 
@@ -49,10 +46,9 @@ put-requires c =
     let a = c.args in
     let r = c.reason_of-reason in
     let lines = r.new.text in
-    let told = c.reason-1.given in
-    let inside = ends_inside _ r.result told.0.0 told.1 r.ensures.0 in
+    let inside = ends_inside _ r.result c.in-Ends.length c.in-Ends.is r.ensures.0 in
     let kept = r.auto.text in
-    let size = length-take-le told.0.0 lines (omega arith) in
+    let size = length-take-le c.in-Ends.length lines (omega arith) in
     omega (arith, c.if-text-length.false)
 
 pub returns : goal.returns
@@ -60,6 +56,5 @@ returns c fs ended steady =
     let a = c.args in
     let r = c.reason_of-reason in
     let lines = r.new.text in
-    let told = c.reason-1.given in
-    let (one, two, wrote) = reasoned_ends fs (log_of a.skips a.records.now) a.formula a.position _ r.result lines told.0.0 told.1 (r.ensures.1 fs ended steady) in
-    copies_all fs (log_of a.skips a.records.now) a.formula a.position a.text.now one two _ lines told.0.0 wrote (omega (arith, c.if-text-length.false)) c.put.result c.put.new.text c.put.ensures
+    let (one, two, wrote) = reasoned_ends fs (log_of a.skips a.records.now) a.formula a.position _ r.result lines c.in-Ends.length c.in-Ends.is (r.ensures.1 fs ended steady) in
+    copies_all fs (log_of a.skips a.records.now) a.formula a.position a.text.now one two _ lines c.in-Ends.length wrote (omega (arith, c.if-text-length.false)) c.put.result c.put.new.text c.put.ensures

@@ -21,19 +21,17 @@ pub returns-in_default : goal.returns-in_default
 returns-in_default c =
     let a = c.args in
     let rule = a.rule.now in
-    let told = c.enum_told-in_default-1.given in
     let weighed = c.measure_decoded-measured.ensures ∙ measured_once _ _ c.check_header-header.ensures _ _ c.count-count.ensures c.decode-entries.ensures in
-    let stops = stops_with rule _ (ap weighing (sym told.1) ∙ weighed) in
-    let is = c.number.ensures ∙ ap (λ m. (weighing m).number) told.1 in
+    let stops = stops_with rule _ (ap weighing (sym c.in_default.is) ∙ weighed) in
+    let is = c.number.ensures ∙ ap (λ m. (weighing m).number) c.in_default.is in
     rule_refused rule a.log.now a.formula a.position a.text.now c.number.result (is ∙ stops.number_is) (λ z. stops.not_zero (sym is ∙ z))
 
 pub returns-then-checked-ne0 : goal.returns-then-checked-ne0
 returns-then-checked-ne0 c =
     let a = c.args in
     let rule = c.args.rule.now in
-    let told = c.enum_told-1.given in
     let weighed = c.measure_decoded-measured.ensures ∙ measured_once _ _ c.check_header-header.ensures _ _ c.count-count.ensures c.decode-entries.ensures in
-    let fine = (passes_with rule _ _ (ap weighing (sym told.1) ∙ weighed)).accepted in
+    let fine = (passes_with rule _ _ (ap weighing (sym c.in-Words.is) ∙ weighed)).accepted in
     log_refused rule a.log.now a.formula a.position a.text.now fine c.check_log-checked.result c.check_log-checked.ensures c.if-checked-ne0.true
 
 pub ends_of-ends-requires : goal.ends_of-ends-requires
@@ -43,9 +41,8 @@ pub copy_reason-requires : goal.copy_reason-requires
 copy_reason-requires c =
     let a = c.args in
     let rule = c.args.rule.now in
-    let told = c.enum_told-1.given in
     let weighed = c.measure_decoded-measured.ensures ∙ measured_once _ _ c.check_header-header.ensures _ _ c.count-count.ensures c.decode-entries.ensures in
-    let fine = (passes_with rule _ _ (ap weighing (sym told.1) ∙ weighed)).accepted in
+    let fine = (passes_with rule _ _ (ap weighing (sym c.in-Words.is) ∙ weighed)).accepted in
     let d = is_decoded rule _ _ _ c.check_header-header.ensures c.count-count.ensures c.decode-entries.ensures fine in
     let own_ends = rw (d.entries_are, d.count_is) at c.ends_of-ends.ensures in
     let well = log_passes rule a.log.now a.formula a.position a.text.now (sym c.check_log-checked.ensures ∙ c.if-checked-ne0.false) in (
@@ -59,9 +56,8 @@ pub returns : goal.returns
 returns c =
     let a = c.args in
     let rule = c.args.rule.now in
-    let told = c.enum_told-1.given in
     let weighed = c.measure_decoded-measured.ensures ∙ measured_once _ _ c.check_header-header.ensures _ _ c.count-count.ensures c.decode-entries.ensures in
-    let fine = (passes_with rule _ _ (ap weighing (sym told.1) ∙ weighed)).accepted in
+    let fine = (passes_with rule _ _ (ap weighing (sym c.in-Words.is) ∙ weighed)).accepted in
     let d = is_decoded rule _ _ _ c.check_header-header.ensures c.count-count.ensures c.decode-entries.ensures fine in
     let own_ends = rw (d.entries_are, d.count_is) at c.ends_of-ends.ensures in
     let passes = sym c.check_log-checked.ensures ∙ c.if-checked-ne0.false in

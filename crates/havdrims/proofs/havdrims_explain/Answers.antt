@@ -6,13 +6,11 @@ pub returns-in_default : goal.returns-in_default
 returns-in_default c =
     let a = c.args in
     let t = c.explain-explained in
-    let n = c.enum_told-1.given in
-    not_explained a.rule.now a.log.now a.formula a.position a.text.now a.written.now t.result t.new.text t.ensures n.0.0 n.1
+    not_explained a.rule.now a.log.now a.formula a.position a.text.now a.written.now t.result t.new.text t.ensures c.in_default.field-0 c.in_default.is
     c.number.result c.number.ensures
 
 pub returns : goal.returns
 returns c =
     let a = c.args in
     let t = c.explain-explained in
-    let w = c.explained-1.given in
-    is_explained a.rule.now a.log.now a.formula a.position a.text.now a.written.now t.result t.new.text t.ensures w.0.0 w.1
+    is_explained a.rule.now a.log.now a.formula a.position a.text.now a.written.now t.result t.new.text t.ensures c.in-Written.length c.in-Written.is

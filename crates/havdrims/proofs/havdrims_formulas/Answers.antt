@@ -6,12 +6,10 @@ pub returns-in_default : goal.returns-in_default
 returns-in_default c =
     let a = c.args in
     let o = c.formulas-counted in
-    let n = c.enum_told-1.given in
-    not_counted a.rule.now a.formulas.now o.result o.ensures n.0.0 n.1 c.number.result c.number.ensures
+    not_counted a.rule.now a.formulas.now o.result o.ensures c.in_default.field-0 c.in_default.is c.number.result c.number.ensures
 
 pub returns : goal.returns
 returns c =
     let a = c.args in
     let o = c.formulas-counted in
-    let n = c.counted-1.given in
-    is_counted a.rule.now a.formulas.now o.result o.ensures n.0.0 n.1
+    is_counted a.rule.now a.formulas.now o.result o.ensures c.in-Formulas.number c.in-Formulas.is

@@ -6,12 +6,10 @@ pub returns-in_default : goal.returns-in_default
 returns-in_default c =
     let a = c.args in
     let m = c.measure-measured in
-    let n = c.enum_told-1.given in
-    not_measured a.rule.now a.words.now a.reach.now m.result m.ensures n.0.0 n.1 c.number.result c.number.ensures
+    not_measured a.rule.now a.words.now a.reach.now m.result m.ensures c.in_default.field-0 c.in_default.is c.number.result c.number.ensures
 
 pub returns : goal.returns
 returns c =
     let a = c.args in
     let m = c.measure-measured in
-    let w = c.decreases.given in
     is_measured a.rule.now a.words.now a.reach.now m.result m.ensures w.0.0 w.0.1.0 w.1

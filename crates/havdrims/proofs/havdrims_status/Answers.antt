@@ -6,12 +6,10 @@ pub returns-in_default : goal.returns-in_default
 returns-in_default c =
     let a = c.args in
     let o = c.status-standing in
-    let n = c.enum_told-1.given in
-    not_known a.rule.now a.point.now a.given.now a.seen.now a.wanted.now a.closed.now o.result o.ensures n.0.0 n.1 c.number.result c.number.ensures
+    not_known a.rule.now a.point.now a.given.now a.seen.now a.wanted.now a.closed.now o.result o.ensures c.in_default.field-0 c.in_default.is c.number.result c.number.ensures
 
 pub returns : goal.returns
 returns c =
     let a = c.args in
     let o = c.status-standing in
-    let n = c.standing-1.given in
-    is_known a.rule.now a.point.now a.given.now a.seen.now a.wanted.now a.closed.now o.result o.ensures n.0.0 n.0.1.0 n.0.1.1.0 n.0.1.1.1.0 n.1
+    is_known a.rule.now a.point.now a.given.now a.seen.now a.wanted.now a.closed.now o.result o.ensures c.in-Known.verdicts c.in-Known.records c.in-Known.first c.in-Known.ended c.in-Known.is

@@ -6,13 +6,11 @@ pub returns-in_default : goal.returns-in_default
 returns-in_default c =
     let a = c.args in
     let t = c.trim-trimmed in
-    let n = c.enum_told-1.given in
-    not_trimmed a.rule.now a.log.now a.point.now a.out.now a.written.now t.result t.new.out t.ensures n.0.0 n.1
+    not_trimmed a.rule.now a.log.now a.point.now a.out.now a.written.now t.result t.new.out t.ensures c.in_default.field-0 c.in_default.is
     c.number.result c.number.ensures
 
 pub returns : goal.returns
 returns c =
     let a = c.args in
     let t = c.trim-trimmed in
-    let w = c.trimmed-1.given in
-    is_trimmed a.rule.now a.log.now a.point.now a.out.now a.written.now t.result t.new.out t.ensures w.0.0 w.1
+    is_trimmed a.rule.now a.log.now a.point.now a.out.now a.written.now t.result t.new.out t.ensures c.in-Written.length c.in-Written.is

@@ -26,9 +26,8 @@ measure_decoded-measured-requires c = few_to_decode _ _ c.check_header-header.en
 pub returns-in_default : goal.returns-in_default
 returns-in_default c =
     let rule = c.args.rule.now in
-    let told = c.enum_told-in_default-1.given in
-    let stops = stops_with rule _ (ap weighing (sym told.1) ∙ weighed_for (goal.at.returns-in_default c).After-measure_decoded-measured) in
-    let is = c.number.ensures ∙ ap (λ m. (weighing m).number) told.1 in
+    let stops = stops_with rule _ (ap weighing (sym c.in_default.is) ∙ weighed_for (goal.at.returns-in_default c).After-measure_decoded-measured) in
+    let is = c.number.ensures ∙ ap (λ m. (weighing m).number) c.in_default.is in
     formulas_refused rule c.number.result (is ∙ stops.number_is) (λ z. stops.not_zero (sym is ∙ z))
 
 pub ends_of-ends-requires : goal.ends_of-ends-requires
@@ -42,8 +41,7 @@ ends_of-ends-requires c =
 pub returns : goal.returns
 returns c =
     let rule = c.args.rule.now in
-    let told = c.enum_told-1.given in
-    let fine = (passes_with rule _ _ (ap weighing (sym told.1) ∙ weighed_for (goal.at.returns c).After-measure_decoded-measured)).accepted in
+    let fine = (passes_with rule _ _ (ap weighing (sym c.in-Words.is) ∙ weighed_for (goal.at.returns c).After-measure_decoded-measured)).accepted in
     let e =
     is_decoded rule _ _ _ c.check_header-header.ensures c.count-count.ensures
     c.decode-entries.ensures fine in

@@ -13,7 +13,7 @@ use Rattle.checks.proofs.Checks.{stopped, failed, passed}
 use Rattle.monitor.specs.Resume.{wanted_records}
 use Rattle.monitor.proofs.Resuming.{resume_refused, resume_given, ready_of}
 use Rattle.monitor.proofs.resume_or_close.Goals as goal
-use Rattle.monitor.proofs.resume_or_close.Goals.{After-check_point-checked, After-records_from, After-size_of-sized, In-Passed, In-Words-2}
+use Rattle.monitor.proofs.resume_or_close.Goals.{After-check_point-checked, After-records_from, After-size_of-sized, In-Passed, In-Words}
 
 -- the answer of `size_of` is by the rule's own answer
 sized_for : (d : After-size_of-sized) →
@@ -27,13 +27,25 @@ sized_for d =
     d.decode-entries.ensures in
     d.type_size.ensures ∙ sized_is a.rule.now m.result (length a.point.now) (m.ensures ∙ measured)
 
+-- the answer of `size_of` is by the rule's own answer
+sized_for_2 : (d : In-Words) →
+    let a = d.args in
+    d.type_size.result ≡ sized_of a.rule.now (length a.point.now)
+sized_for_2 d =
+    let a = d.args in
+    let m = d.measure_decoded in
+    let measured =
+    measured_once _ _ d.check_header-header.ensures _ _ d.count-count.ensures
+    d.decode-entries.ensures in
+    d.type_size.ensures ∙ sized_is a.rule.now m.result (length a.point.now) (m.ensures ∙ measured)
+
 -- the words that it gives
-words_of : (d : In-Words-2) →
+words_of : (d : In-Words) →
     let a = d.args in
     Words d.in-Words.words ≡ sized_of a.rule.now (length a.point.now)
-words_of d = sym d.in-Words.is ∙ sized_for d.before.before
+words_of d = sym d.in-Words.is ∙ sized_for_2 d
 
-fit : (d : In-Words-2) →
+fit : (d : In-Words) →
     let a = d.args in
     Enough a.rule.now (length a.point.now) d.in-Words.words
 fit d =
@@ -41,15 +53,51 @@ fit d =
     enough a.rule.now (length a.point.now) d.in-Words.words (words_of d)
 
 -- what was decoded by the header is the rule's
-decoded_for : (d : In-Words-2) →
+decoded_for : (d : In-Words) →
     Decoded d.args.rule.now d.decode-entries.result d.count-count.result
 decoded_for d =
     is_decoded _ _ _ _ d.check_header-header.ensures d.count-count.ensures
     d.decode-entries.ensures (fit d).accepted
 
-version_for : (d : In-Words-2) → d.version-version.result ≡ version d.args.rule.now
+version_for : (d : In-Words) → d.version-version.result ≡ version d.args.rule.now
 version_for d =
     is_version _ _ _ d.check_header-header.ensures d.version-version.ensures (fit d).accepted
+
+-- the answer of `size_of` is by the rule's own answer
+sized_for_3 : (d : After-check_point-checked) →
+    let a = d.args in
+    d.type_size.result ≡ sized_of a.rule.now (length a.point.now)
+sized_for_3 d =
+    let a = d.args in
+    let m = d.measure_decoded in
+    let measured =
+    measured_once _ _ d.check_header-header.ensures _ _ d.count-count.ensures
+    d.decode-entries.ensures in
+    d.type_size.ensures ∙ sized_is a.rule.now m.result (length a.point.now) (m.ensures ∙ measured)
+
+-- the words that it gives
+words_of_2 : (d : After-check_point-checked) →
+    let a = d.args in
+    Words d.in-Words.words ≡ sized_of a.rule.now (length a.point.now)
+words_of_2 d = sym d.in-Words.is ∙ sized_for_3 d
+
+fit_2 : (d : After-check_point-checked) →
+    let a = d.args in
+    Enough a.rule.now (length a.point.now) d.in-Words.words
+fit_2 d =
+    let a = d.args in
+    enough a.rule.now (length a.point.now) d.in-Words.words (words_of_2 d)
+
+-- what was decoded by the header is the rule's
+decoded_for_2 : (d : After-check_point-checked) →
+    Decoded d.args.rule.now d.decode-entries.result d.count-count.result
+decoded_for_2 d =
+    is_decoded _ _ _ _ d.check_header-header.ensures d.count-count.ensures
+    d.decode-entries.ensures (fit_2 d).accepted
+
+version_for_2 : (d : After-check_point-checked) → d.version-version.result ≡ version d.args.rule.now
+version_for_2 d =
+    is_version _ _ _ d.check_header-header.ensures d.version-version.ensures (fit_2 d).accepted
 
 -- the check is that of the rule's entries
 checked_for : (d : After-check_point-checked) →
@@ -58,14 +106,60 @@ checked_for : (d : After-check_point-checked) →
     checked_by (point_refusal a.closing (version a.rule.now) (decoded a.rule.now) (count a.rule.now) a.log.now a.point.now)
 checked_for d =
     let s = d in
-    let e = decoded_for d.before.before in
-    rw (version_for d.before.before, e.entries_are, e.count_is) at d.check_point-checked.ensures
+    let e = decoded_for_2 d in
+    rw (version_for_2 d, e.entries_are, e.count_is) at d.check_point-checked.ensures
+
+-- the answer of `size_of` is by the rule's own answer
+sized_for_4 : (d : In-Passed) →
+    let a = d.args in
+    d.type_size.result ≡ sized_of a.rule.now (length a.point.now)
+sized_for_4 d =
+    let a = d.args in
+    let m = d.measure_decoded in
+    let measured =
+    measured_once _ _ d.check_header-header.ensures _ _ d.count-count.ensures
+    d.decode-entries.ensures in
+    d.type_size.ensures ∙ sized_is a.rule.now m.result (length a.point.now) (m.ensures ∙ measured)
+
+-- the words that it gives
+words_of_3 : (d : In-Passed) →
+    let a = d.args in
+    Words d.in-Words.words ≡ sized_of a.rule.now (length a.point.now)
+words_of_3 d = sym d.in-Words.is ∙ sized_for_4 d
+
+fit_3 : (d : In-Passed) →
+    let a = d.args in
+    Enough a.rule.now (length a.point.now) d.in-Words.words
+fit_3 d =
+    let a = d.args in
+    enough a.rule.now (length a.point.now) d.in-Words.words (words_of_3 d)
+
+-- what was decoded by the header is the rule's
+decoded_for_3 : (d : In-Passed) →
+    Decoded d.args.rule.now d.decode-entries.result d.count-count.result
+decoded_for_3 d =
+    is_decoded _ _ _ _ d.check_header-header.ensures d.count-count.ensures
+    d.decode-entries.ensures (fit_3 d).accepted
+
+version_for_3 : (d : In-Passed) → d.version-version.result ≡ version d.args.rule.now
+version_for_3 d =
+    is_version _ _ _ d.check_header-header.ensures d.version-version.ensures (fit_3 d).accepted
+
+-- the check is that of the rule's entries
+checked_for_2 : (d : In-Passed) →
+    let a = d.args in
+    d.check_point-checked.result ≡
+    checked_by (point_refusal a.closing (version a.rule.now) (decoded a.rule.now) (count a.rule.now) a.log.now a.point.now)
+checked_for_2 d =
+    let s = d in
+    let e = decoded_for_3 d in
+    rw (version_for_3 d, e.entries_are, e.count_is) at d.check_point-checked.ensures
 
 -- no refusal applies where the check passed
 none_of : (d : In-Passed) →
     let a = d.args in
     point_refusal a.closing (version a.rule.now) (decoded a.rule.now) (count a.rule.now) a.log.now a.point.now ≡ 0
-none_of d = passed _ (sym d.in-Passed.is ∙ checked_for d.before.before)
+none_of d = passed _ (sym d.in-Passed.is ∙ checked_for_2 d)
 
 -- the records are handed over from there on
 handed : (d : After-records_from) →
@@ -83,24 +177,22 @@ pub returns-in_default : goal.returns-in_default
 returns-in_default c =
     let a = c.args in
     let d = c in
-    let told = c.enum_told-1.given in
     resume_refused a.closing a.rule.now a.log.now a.point.now a.sheet.now c.number.result
-    (stopped a.rule.now a.point.now _ d.type_size.result told.0.0 c.number.result (sized_for (goal.at.returns-in_default c).After-size_of-sized) told.1 c.number.ensures)
+    (stopped a.rule.now a.point.now _ d.type_size.result c.in_default.field-0 c.number.result (sized_for (goal.at.returns-in_default c).After-size_of-sized) c.in_default.is c.number.ensures)
 
 pub check_point-checked-requires : goal.check_point-checked-requires
 check_point-checked-requires c =
     let s = c in
-    let e = fit (goal.at.check_point-checked-requires c).In-Words-2 in
-    fits_in _ _ _ _ _ e.accepted (version_for (goal.at.check_point-checked-requires c).In-Words-2) (decoded_for (goal.at.check_point-checked-requires c).In-Words-2) e.room
+    let e = fit (goal.at.check_point-checked-requires c).In-Words in
+    fits_in _ _ _ _ _ e.accepted (version_for (goal.at.check_point-checked-requires c).In-Words) (decoded_for (goal.at.check_point-checked-requires c).In-Words) e.room
 
 pub returns-in_default-checked : goal.returns-in_default-checked
 returns-in_default-checked c =
     let a = c.args in
     let s = c in
     let d = c in
-    let told = c.enum_told-in_default-checked-1.given in
     resume_refused a.closing a.rule.now a.log.now a.point.now a.sheet.now c.number-in_default-checked.result
-    (failed a.rule.now a.point.now _ s.in-Words.words d.check_point-checked.result told.0.0 c.number-in_default-checked.result (words_of (goal.at.returns-in_default-checked c).In-Words-2) (checked_for (goal.at.returns-in_default-checked c).After-check_point-checked) told.1
+    (failed a.rule.now a.point.now _ s.in-Words.words d.check_point-checked.result c.in_default-checked.field-0 c.number-in_default-checked.result (words_of (goal.at.returns-in_default-checked c).In-Words) (checked_for (goal.at.returns-in_default-checked c).After-check_point-checked) c.in_default-checked.is
     c.number-in_default-checked.ensures)
 
 pub ends_of-ends-requires : goal.ends_of-ends-requires
@@ -123,11 +215,11 @@ depth-requires c =
 pub bounds-point-7 : goal.bounds-point-7
 bounds-point-7 c =
     let s = c in
-    let e = fit (goal.at.bounds-point-7 c).In-Words-2 in
+    let e = fit (goal.at.bounds-point-7 c).In-Words in
     omega (arith, header_least (version c.args.rule.now))
 
 pub slice_bounds-emit-end : goal.slice_bounds-emit-end
-slice_bounds-emit-end c = let e = fit (goal.at.slice_bounds-emit-end c).In-Words-2 in omega arith
+slice_bounds-emit-end c = let e = fit (goal.at.slice_bounds-emit-end c).In-Words in omega arith
 
 pub emit-emitted-requires : goal.emit-emitted-requires
 emit-emitted-requires c =
@@ -137,7 +229,7 @@ emit-emitted-requires c =
     let depth = c.depth in
     let records = c in
     rw (c.most_of.ensures, c.header_words.ensures)
-    (ready_of a.closing a.rule.now a.log.now a.point.now _ _ _ ends.result s.in-Words.words (words_of (goal.at.emit-emitted-requires c).In-Words-2) (version_for (goal.at.emit-emitted-requires c).In-Words-2) (decoded_for (goal.at.emit-emitted-requires c).In-Words-2)
+    (ready_of a.closing a.rule.now a.log.now a.point.now _ _ _ ends.result s.in-Words.words (words_of (goal.at.emit-emitted-requires c).In-Words) (version_for (goal.at.emit-emitted-requires c).In-Words) (decoded_for (goal.at.emit-emitted-requires c).In-Words)
     ends.ensures (none_of (goal.at.emit-emitted-requires c).In-Passed) depth.result depth.ensures records.records_from.result.now (handed (goal.at.emit-emitted-requires c).After-records_from))
 
 pub returns : goal.returns
@@ -159,9 +251,9 @@ returns c =
     _
     ends.result
     s.in-Words.words
-    (words_of (goal.at.returns c).In-Words-2)
-    (version_for (goal.at.returns c).In-Words-2)
-    (decoded_for (goal.at.returns c).In-Words-2)
+    (words_of (goal.at.returns c).In-Words)
+    (version_for (goal.at.returns c).In-Words)
+    (decoded_for (goal.at.returns c).In-Words)
     ends.ensures
     (none_of (goal.at.returns c).In-Passed)
     depth.result

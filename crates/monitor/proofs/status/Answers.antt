@@ -25,11 +25,22 @@ checked_for d =
     d.count-count.ensures d.decode-entries.ensures
     d.measure_decoded-measured.result d.measure_decoded-measured.ensures a.point.now
 
+-- the checks are those of the rule
+checked_for_2 : (d : In-Passed) →
+    let a = d.args in
+    d.check_own-checked.result ≡ checked_by (summary_refusal a.rule.now a.point.now)
+checked_for_2 d =
+    let a = d.args in
+    d.check_own-checked.ensures ∙
+    own_is a.rule.now _ _ _ _ d.check_header-header.ensures d.version-version.ensures
+    d.count-count.ensures d.decode-entries.ensures
+    d.measure_decoded-measured.result d.measure_decoded-measured.ensures a.point.now
+
 -- no refusal was met
 fine : (d : In-Passed) →
     let a = d.args in
     summary_refusal a.rule.now a.point.now ≡ 0
-fine d = passed _ (sym d.in-Passed.is ∙ checked_for d.before.before)
+fine d = passed _ (sym d.in-Passed.is ∙ checked_for_2 d)
 
 -- the words that the rule needs are lent
 room : (d : In-Passed) → 16 ≤ length d.args.point.now
@@ -53,9 +64,8 @@ pub returns-in_default : goal.returns-in_default
 returns-in_default c =
     let a = c.args in
     let d = c in
-    let n = c.enum_told-in_default-1.given in
     status_refused a.rule.now a.point.now c.number.result
-    (fails_with _ d.check_own-checked.result n.0.0 c.number.result (checked_for (goal.at.returns-in_default c).After-check_own-checked) n.1 c.number.ensures)
+    (fails_with _ d.check_own-checked.result c.in_default.field-0 c.number.result (checked_for (goal.at.returns-in_default c).After-check_own-checked) c.in_default.is c.number.ensures)
 
 pub bounds-point-1 : goal.bounds-point-1
 bounds-point-1 c = omega (arith, room (goal.at.bounds-point-1 c).In-Passed)

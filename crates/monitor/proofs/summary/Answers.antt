@@ -24,11 +24,22 @@ checked_for d =
     d.count-count.ensures d.decode-entries.ensures
     d.measure_decoded-measured.result d.measure_decoded-measured.ensures a.point.now
 
+-- the checks are those of the rule
+checked_for_2 : (d : In-Passed) →
+    let a = d.args in
+    d.check_own-checked.result ≡ checked_by (summary_refusal a.rule.now a.point.now)
+checked_for_2 d =
+    let a = d.args in
+    d.check_own-checked.ensures ∙
+    own_is a.rule.now _ _ _ _ d.check_header-header.ensures d.version-version.ensures
+    d.count-count.ensures d.decode-entries.ensures
+    d.measure_decoded-measured.result d.measure_decoded-measured.ensures a.point.now
+
 -- no refusal was met
 fine : (d : In-Passed) →
     let a = d.args in
     summary_refusal a.rule.now a.point.now ≡ 0
-fine d = passed _ (sym d.in-Passed.is ∙ checked_for d.before.before)
+fine d = passed _ (sym d.in-Passed.is ∙ checked_for_2 d)
 
 -- the version is the rule's, and so is the number of formulas
 version_for : (d : In-Passed) → d.version-version.result ≡ version d.args.rule.now
@@ -37,10 +48,27 @@ version_for d =
     is_version _ _ _ d.check_header-header.ensures d.version-version.ensures
     (is_accepted a.rule.now a.point.now (fine d))
 
+-- the checks are those of the rule
+checked_for_3 : (d : After-columns_of-formulas) →
+    let a = d.args in
+    d.check_own-checked.result ≡ checked_by (summary_refusal a.rule.now a.point.now)
+checked_for_3 d =
+    let a = d.args in
+    d.check_own-checked.ensures ∙
+    own_is a.rule.now _ _ _ _ d.check_header-header.ensures d.version-version.ensures
+    d.count-count.ensures d.decode-entries.ensures
+    d.measure_decoded-measured.result d.measure_decoded-measured.ensures a.point.now
+
+-- no refusal was met
+fine_2 : (d : After-columns_of-formulas) →
+    let a = d.args in
+    summary_refusal a.rule.now a.point.now ≡ 0
+fine_2 d = passed _ (sym d.in-Passed.is ∙ checked_for_3 d)
+
 columns_for : (d : After-columns_of-formulas) → d.columns_of-formulas.result ≡ columns (formulas_of d.args.rule.now)
 columns_for d =
     let a = d.args in
-    let accepted = is_accepted a.rule.now a.point.now (fine d.before.before) in
+    let accepted = is_accepted a.rule.now a.point.now (fine_2 d) in
     let e =
     is_decoded a.rule.now _ _ _ d.check_header-header.ensures d.count-count.ensures
     d.decode-entries.ensures accepted in
@@ -62,9 +90,8 @@ pub returns-in_default : goal.returns-in_default
 returns-in_default c =
     let a = c.args in
     let d = c in
-    let n = c.enum_told-in_default-1.given in
     summary_refused a.rule.now a.point.now a.no.now a.latest.now c.number.result
-    (fails_with _ d.check_own-checked.result n.0.0 c.number.result (checked_for (goal.at.returns-in_default c).After-check_own-checked) n.1 c.number.ensures)
+    (fails_with _ d.check_own-checked.result c.in_default.field-0 c.number.result (checked_for (goal.at.returns-in_default c).After-check_own-checked) c.in_default.is c.number.ensures)
 
 pub ends_of-ends-requires : goal.ends_of-ends-requires
 ends_of-ends-requires c =
@@ -91,4 +118,4 @@ returns c =
     let w = c.write_noes in
     summary_told a.rule.now a.point.now (fine (goal.at.returns c).In-Passed) a.no.now a.latest.now w.new.no w.new.latest _ (version_for (goal.at.returns c).In-Passed)
     d.columns_of-formulas.result (columns_for (goal.at.returns c).After-columns_of-formulas)
-    (rw c.most_of.ensures at w.ensures)
+    (rw c.most_of.ensures at (c.write_noes.ensures.no_after, c.write_noes.ensures.latest_after))

@@ -26,11 +26,39 @@ sized_for d =
     sized_once a.rule.now _ _ _ _ d.check_header-header.ensures d.version-version.ensures d.count-count.ensures d.decode-entries.ensures
     m.result m.ensures (length a.point.now)
 
+-- the answer of `size_of` is by the rule's own answer
+sized_for_2 : (d : In-Words) →
+    let a = d.args in
+    d.type_size.result ≡ sized_of a.rule.now (length a.point.now)
+sized_for_2 d =
+    let a = d.args in
+    let m = d.measure_decoded in
+    d.type_size.ensures ∙
+    sized_once a.rule.now _ _ _ _ d.check_header-header.ensures d.version-version.ensures d.count-count.ensures d.decode-entries.ensures
+    m.result m.ensures (length a.point.now)
+
 -- where it gives words
 words_of : (d : In-Words) →
     let a = d.args in
     Words d.in-Words.field-0 ≡ sized_of a.rule.now (length a.point.now)
-words_of d = sym d.in-Words.is ∙ sized_for d.before.before
+words_of d = sym d.in-Words.is ∙ sized_for_2 d
+
+-- the answer of `size_of` is by the rule's own answer
+sized_for_3 : (d : After-check_trimming-checked) →
+    let a = d.args in
+    d.type_size.result ≡ sized_of a.rule.now (length a.point.now)
+sized_for_3 d =
+    let a = d.args in
+    let m = d.measure_decoded in
+    d.type_size.ensures ∙
+    sized_once a.rule.now _ _ _ _ d.check_header-header.ensures d.version-version.ensures d.count-count.ensures d.decode-entries.ensures
+    m.result m.ensures (length a.point.now)
+
+-- where it gives words
+words_of_2 : (d : After-check_trimming-checked) →
+    let a = d.args in
+    Words d.in-Words.field-0 ≡ sized_of a.rule.now (length a.point.now)
+words_of_2 d = sym d.in-Words.is ∙ sized_for_3 d
 
 -- the check is that of the rule's entries
 checked_for : (d : After-check_trimming-checked) →
@@ -45,13 +73,45 @@ checked_for d =
     d.check_trimming-checked.ensures ∙
     ap checked_by
     (words_once a.rule.now _ _ _ _ w.check_header-header.ensures w.version-version.ensures w.count-count.ensures w.decode-entries.ensures m.result m.ensures
-    (enough a.rule.now (length a.point.now) _ (words_of d.before)).accepted a.point.now _)
+    (enough a.rule.now (length a.point.now) _ (words_of_2 d)).accepted a.point.now _)
+
+-- the answer of `size_of` is by the rule's own answer
+sized_for_4 : (d : In-Passed) →
+    let a = d.args in
+    d.type_size.result ≡ sized_of a.rule.now (length a.point.now)
+sized_for_4 d =
+    let a = d.args in
+    let m = d.measure_decoded in
+    d.type_size.ensures ∙
+    sized_once a.rule.now _ _ _ _ d.check_header-header.ensures d.version-version.ensures d.count-count.ensures d.decode-entries.ensures
+    m.result m.ensures (length a.point.now)
+
+-- where it gives words
+words_of_3 : (d : In-Passed) →
+    let a = d.args in
+    Words d.in-Words.field-0 ≡ sized_of a.rule.now (length a.point.now)
+words_of_3 d = sym d.in-Words.is ∙ sized_for_4 d
+
+-- the check is that of the rule's entries
+checked_for_2 : (d : In-Passed) →
+    let a = d.args in
+    d.check_trimming-checked.result ≡
+    checked_by
+    (words_refusal (version a.rule.now) (decoded a.rule.now) (count a.rule.now) a.point.now (trimming_refusal (length a.out.now) a.log.now a.point.now))
+checked_for_2 d =
+    let a = d.args in
+    let w = d in
+    let m = w.measure_decoded in
+    d.check_trimming-checked.ensures ∙
+    ap checked_by
+    (words_once a.rule.now _ _ _ _ w.check_header-header.ensures w.version-version.ensures w.count-count.ensures w.decode-entries.ensures m.result m.ensures
+    (enough a.rule.now (length a.point.now) _ (words_of_3 d)).accepted a.point.now _)
 
 -- no refusal applies where the check passed
 none_of : (d : In-Passed) →
     let a = d.args in
     words_refusal (version a.rule.now) (decoded a.rule.now) (count a.rule.now) a.point.now (trimming_refusal (length a.out.now) a.log.now a.point.now) ≡ 0
-none_of d = passed _ (sym d.in-Passed.is ∙ checked_for d.before.before)
+none_of d = passed _ (sym d.in-Passed.is ∙ checked_for_2 d)
 
 pub decode-entries-requires : goal.decode-entries-requires
 decode-entries-requires c = omega (arith, c.count-count.ensures, few_to_decode _ _ c.check_header-header.ensures)
@@ -63,9 +123,8 @@ pub returns-in_default : goal.returns-in_default
 returns-in_default c =
     let a = c.args in
     let d = c in
-    let told = c.enum_told-in_default-1.given in
     trim_refused a.rule.now a.log.now a.point.now a.out.now c.number.result
-    (stopped a.rule.now a.point.now _ d.type_size.result told.0.0 c.number.result (sized_for (goal.at.returns-in_default c).After-size_of-sized) told.1 c.number.ensures)
+    (stopped a.rule.now a.point.now _ d.type_size.result c.in_default.field-0 c.number.result (sized_for (goal.at.returns-in_default c).After-size_of-sized) c.in_default.is c.number.ensures)
 
 pub check_trimming-checked-requires : goal.check_trimming-checked-requires
 check_trimming-checked-requires c =
@@ -79,10 +138,9 @@ pub returns-in_default-checked : goal.returns-in_default-checked
 returns-in_default-checked c =
     let a = c.args in
     let d = c in
-    let told = c.enum_told-in_default-checked-1.given in
     trim_refused a.rule.now a.log.now a.point.now a.out.now c.number-in_default-checked.result
-    (failed a.rule.now a.point.now _ c.in-Words.field-0 d.check_trimming-checked.result told.0.0 c.number-in_default-checked.result (words_of (goal.at.returns-in_default-checked c).In-Words) (checked_for (goal.at.returns-in_default-checked c).After-check_trimming-checked)
-    told.1 c.number-in_default-checked.ensures)
+    (failed a.rule.now a.point.now _ c.in-Words.field-0 d.check_trimming-checked.result c.in_default-checked.field-0 c.number-in_default-checked.result (words_of (goal.at.returns-in_default-checked c).In-Words) (checked_for (goal.at.returns-in_default-checked c).After-check_trimming-checked)
+    c.in_default-checked.is c.number-in_default-checked.ensures)
 
 -- the first wanted record is among the words
 pub bounds-point-7 : goal.bounds-point-7

@@ -13,11 +13,11 @@ pub returns : goal.returns
 returns c =
     let l = c in
     let start = l in
-    let k = start.before.before.before in
-    let a = k.before.before.before.args in
-    some_newest a.cells a.block.now start.at-most2.result k.at_most.result l.cell.result
-    (λ h. start.at-most2.ensures.1 (omega arith))
-    k.at_most.ensures.1
+    let k = start in
+    let a = k.args in
+    some_newest a.cells a.block.now start.at_most-start.result k.at_most-held.result l.cell.result
+    (λ h. start.at_most-start.ensures.1 (omega arith))
+    k.at_most-held.ensures.1
     (omega arith)
     (λ h m. l.cell.ensures.2 (omega arith))
     a.none

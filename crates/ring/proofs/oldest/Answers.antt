@@ -12,9 +12,9 @@ pub returns : goal.returns
 returns c =
     let l = c in
     let start = l in
-    let e = start.before.before in
-    let a = e.before.before.before.args in
-    some_oldest a.cells a.block.now start.at_most.result l.cell.result e.if1.false
-    (λ h. start.at_most.ensures.1 (omega arith))
+    let e = start in
+    let a = e.args in
+    some_oldest a.cells a.block.now start.at_most-start.result l.cell.result e.if-block-eq0.false
+    (λ h. start.at_most-start.ensures.1 (omega arith))
     (l.cell.ensures.2 (omega arith))
     a.none

@@ -24,13 +24,13 @@ pub loop-i-init : goal.loop-i-init
 loop-i-init c =
     let count = c in
     let start = count in
-    let a = start.before.before.before.before.before.args in (
+    let a = start.args in (
       omega arith,
       omega arith,
       count.at_most-count.ensures.0,
       refl,
-      pushing_none a.cells (time_at a.window.now) a.right a.from a.block.now start.at_most.result count.at_most-count.result c.newest-newest.result
-          (λ h. start.at_most.ensures.1 (omega arith))
+      pushing_none a.cells (time_at a.window.now) a.right a.from a.block.now start.at_most-start.result count.at_most-count.result c.newest-newest.result
+          (λ h. start.at_most-start.ensures.1 (omega arith))
           count.at_most-count.ensures.1
           c.newest-newest.ensures,
     )
@@ -40,8 +40,8 @@ add-count-requires c =
     let t = c in
     let l = t.loop-i in
     let start = t in
-    let a = start.before.before.before.before.before.args in
-    let first = start.at_most.ensures.0 in
+    let a = start.args in
+    let first = start.at_most-start.ensures.0 in
     let free = ltb-true l.count a.cells ((and_iff t.test.result (ltb l.count a.cells)).0 c.if-test-count.true).1 in
     omega arith
 
@@ -50,7 +50,7 @@ loop-i-preserved c =
     let t = c in
     let l = t.loop-i in
     let start = t in
-    let a = start.before.before.before.before.before.args in
+    let a = start.args in
     let at = time_at a.window.now in
     ⊎_elim
     (λ w.
@@ -61,7 +61,7 @@ loop-i-preserved c =
       rw w.7 added.ensures.1,
       rw w.6 (added.kept.1.1.1.1.1.0 ∙ l.invariant.3),
       rw (w.6, w.7, w.8, added.ensures.0, added.ensures.2, w.1.ensures.0)
-          (pushing_next a.cells at a.right a.from a.block.now start.at_most.result l.i l.block l.count l.newest
+          (pushing_next a.cells at a.right a.from a.block.now start.at_most-start.result l.i l.block l.count l.newest
           l.invariant.0
           l.invariant.4
           (omega arith)
@@ -76,7 +76,7 @@ loop-i-preserved c =
       rw w.2 l.invariant.2,
       rw w.1 l.invariant.3,
       rw (w.1, w.2, w.3)
-          (pushing_skip a.cells at a.right a.from a.block.now start.at_most.result l.i l.block l.count l.newest
+          (pushing_skip a.cells at a.right a.from a.block.now start.at_most-start.result l.i l.block l.count l.newest
           l.invariant.0
           l.invariant.4
           (rw t.test.ensures at w.0.left)),
@@ -94,7 +94,7 @@ returns c =
     let e : l.i + (a.n - l.i) ≡ a.n = omega arith in
     let last = start in
     let none : (j : ℕ) → l.i ≤ j → j < l.i + (a.n - l.i) → bit a.right j ≡ false =
-    λ j b h. turned (bit a.right j) (sym (bit_not 64 a.right j (omega arith) (omega arith)) ∙ one_behind_last a.n (2 ^ 64 - 1 - a.right) j (let f = last.find-last-zero.ensures.0 in omega arith) (omega arith)) in
+    λ j b h. turned (bit a.right j) (sym (bit_not 64 a.right j (omega arith) (omega arith)) ∙ one_behind_last a.n (2 ^ 64 - 1 - a.right) j (let f = last.find_last_zero-end.ensures.0 in omega arith) (omega arith)) in
     pushing_done a.cells (time_at a.window.now) a.right a.from a.block.now start.at_most-start.result a.n l.block l.count l.newest
     (λ h. start.at_most-start.ensures.1 (omega arith))
     (omega arith)

@@ -38,23 +38,23 @@ pub loop-end-preserved : goal.loop-end-preserved
 loop-end-preserved c =
     let ones = c in
     let old = ones in
-    let newest = old.before in
-    let from = newest.before in
-    let l = from.before.before.loop in
-    let start = from.before.before.before.before.before in
+    let newest = old in
+    let from = newest in
+    let l = from.loop-end in
+    let start = from in
     let a = start.args in
     let e = c.find_last_zero-end-in-loop-end.ensures.0 in
     let m = c.find_last_zero-end-in-loop-end.ensures.1 in
-    let k = from.find-last-zero2.ensures.1 in (
+    let k = from.find_last_zero-from.ensures.1 in (
       omega arith,
-      rw e (last_is_zero from.find-last-zero2.result a.marks),
+      rw e (last_is_zero from.find_last_zero-from.result a.marks),
       λ rises.
           rw e
           (settled_more a.low (time_at a.window.now) a.marks a.first a.n start.requires.0 rises start.requires.2 (omega arith) l.invariant.0 (l.invariant.2 rises)
           ones.ones_between-answers.result
-          from.find-last-zero2.ensures.0
-          newest.newest-marked.ensures.0
-          old.find-old.ensures
+          from.find_last_zero-from.ensures.0
+          newest.newest_marked-last.ensures.0
+          old.find_old-old.ensures
           ones.ones_between-answers.ensures),
     )
 

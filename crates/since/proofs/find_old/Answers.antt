@@ -14,8 +14,8 @@ pub loop-i-preserved : goal.loop-i-preserved
 loop-i-preserved c =
     let g = c in
     let t = g in
-    let l = t.before.before.loop in
-    let a = t.before.before.before.before.args in
+    let l = t.loop-i in
+    let a = t.args in
     let here : time_at a.window.now l.i - a.last < a.low = rw (g.gap.ensures, t.time.ensures.0) at c.if-low-gap.false in (
       omega arith,
       omega arith,
@@ -35,7 +35,7 @@ pub returns-then-low-gap : goal.returns-then-low-gap
 returns-then-low-gap c =
     let g = c in
     let t = g in
-    let l = t.before.before.loop in
+    let l = t.loop-i in
     record {
       behind = l.invariant.0;
       within = l.invariant.1;

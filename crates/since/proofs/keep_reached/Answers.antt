@@ -10,7 +10,7 @@ pub returns-then-gap-high : goal.returns-then-gap-high
 returns-then-gap-high c rises =
     let g = c in
     let t = g in
-    let a = t.before.before.args in
+    let a = t.args in
     let near : time_at a.window.now (a.n - 1) - a.first ≤ a.high = rw (g.gap.ensures, t.time.ensures.0) at c.if-gap-high.true in
     all_in_reach a.right rises a.alive (omega arith) near
 

@@ -24,54 +24,54 @@ taking d = available _ _ _ _ (rw d.smaller-both.ensures at d.available-count.ens
 pub returns-then-block-eq0 : goal.returns-then-block-eq0
 returns-then-block-eq0 c =
     let a = c.args in
-    record { ends = (refl, refl, c.if-block-eq0.taken); steps = since_left a.low a.high a.view.now a.records.now a.block.now; keeps = c.pre.2 }
+    record { ends = (refl, refl, c.if-block-eq0.taken); steps = since_left a.low a.high a.view.now a.records.now a.block.now; keeps = c.requires.2 }
 
 pub returns-then-block-eq0-2 : goal.returns-then-block-eq0-2
 returns-then-block-eq0-2 c =
     let after_if1 = c in
     let start = after_if1 in
     let a = start.args in
-    record { ends = (refl, refl, c.if-block-eq0-2.taken, λ e. pos_of_ne-zero after_if1.if-block-eq0.left); steps = since_right a.low a.high a.view.now a.records.now a.block.now; keeps = start.pre.2 }
+    record { ends = (refl, refl, c.if-block-eq0-2.taken, λ e. pos_of_ne-zero after_if1.if-block-eq0.left); steps = since_right a.low a.high a.view.now a.records.now a.block.now; keeps = start.requires.2 }
 
 pub returns-then-count-eq0 : goal.returns-then-count-eq0
 returns-then-count-eq0 c =
     let after_available = c in
     let earlier6 = after_available in
-    let start = earlier6.before.before.before.before.before.before.before in
+    let start = earlier6 in
     let a = start.args in
     let (left, right, room) = both (earlier6) in
-    record { ends = refl; steps = since_open a.low a.high a.view.now a.records.now a.block.now after_available.available-count.result left right room (taking (goal.at.returns-then-count-eq0 c).After-available-count) c.if-count-eq0.taken; keeps = start.pre.2 }
+    record { ends = refl; steps = since_open a.low a.high a.view.now a.records.now a.block.now after_available.available-count.result left right room (taking (goal.at.returns-then-count-eq0 c).After-available-count) c.if-count-eq0.taken; keeps = start.requires.2 }
 
 pub open-window-requires : goal.open-window-requires
 open-window-requires c =
     let few = (taking (goal.at.open-window-requires c).After-available-count).few in
-    let pre = c.pre in
+    let pre = c.requires in
     (omega arith, pre.2, pre.3)
 
 pub take_window-bits-requires : goal.take_window-bits-requires
 take_window-bits-requires c =
     let earlier3 = c in
     let after_if3 = earlier3 in
-    let earlier7 = after_if3.before in
-    let start = earlier7.before.before.before.before.before.before.before.before.before.before.before.before in
+    let earlier7 = after_if3 in
+    let start = earlier7 in
     let a = start.args in
-    let pre = start.pre in
+    let pre = start.requires in
     let opened = earlier3.«open».ensures in
-    (pre.0, pre.1, readable a.view.now (head a.block.now) opened, opened.long, pos_of_ne-zero after_if3.if3.left, (taking (earlier7)).few)
+    (pre.0, pre.1, readable a.view.now (head a.block.now) opened, opened.long, pos_of_ne-zero after_if3.if-count-eq0.left, (taking (earlier7)).few)
 
 pub take_both-requires : goal.take_both-requires
 take_both-requires c =
     let after_take_window = c in
     let earlier7 = after_take_window in
-    let after_if3 = earlier7.before.before.before in
-    let after_available = after_if3.before in
-    let earlier16 = after_available.before.before.before.before.before in
-    let start = earlier16.before.before.before.before.before.before.before in
+    let after_if3 = earlier7 in
+    let after_available = after_if3 in
+    let earlier16 = after_available in
+    let start = earlier16 in
     let a = start.args in
     let (left, right, room) = both (earlier16) in
     let turn = after_take_window.take_window-bits in
-    takable a.low a.high a.view.now a.records.now a.block.now after_available.available.result left right room (taking after_available)
-    (pos_of_ne-zero after_if3.if3.left)
+    takable a.low a.high a.view.now a.records.now a.block.now after_available.available-count.result left right room (taking (goal.at.take_both-requires c).After-available-count)
+    (pos_of_ne-zero after_if3.if-count-eq0.left)
     earlier7.«open».result
     _
     earlier7.«open».ensures
@@ -79,18 +79,18 @@ take_both-requires c =
     turn.kept.1.1.1.1.1.1.0
     turn.result
     turn.ensures
-    after_available.available.ensures.1
+    after_available.available-count.ensures.1
 
 pub pass-requires : goal.pass-requires
 pass-requires c =
     let after_open = c in
     let after_available = after_open in
     let opened = after_open.«open» in
-    (after_available.before.before.before.before.before.before.before.before.before.before.before.before.pre.3, (after_available.available.result, opened.last.1.1.1.1.0, omega arith, opened.ensures))
+    (after_available.requires.3, (after_available.available-count.result, opened.last.1.1.1.1.0, omega arith, opened.ensures))
 
 pub bounds-block-11-2 : goal.bounds-block-11-2
 bounds-block-11-2 c =
-    omega (arith, c.take_both.kept.0, c.take_window-bits.kept.1.1.1.1.1.1.0, c.pre.1)
+    omega (arith, c.take_both.kept.0, c.take_window-bits.kept.1.1.1.1.1.1.0, c.requires.1)
 
 pub shape_of-block : goal.shape_of-block
 shape_of-block c = length-set c.take_both.last.0 11 c.pass.result ∙ c.take_both.kept.0 ∙ c.take_window-bits.kept.1.1.1.1.1.1.0
@@ -99,20 +99,20 @@ pub returns : goal.returns
 returns c =
     let after_take_both = c in
     let after_take_window = after_take_both in
-    let earlier11 = after_take_window.before.before.before.before in
-    let after_if3 = earlier11.before.before.before in
-    let after_available = after_if3.before in
-    let earlier20 = after_available.before.before.before.before.before in
-    let after_shared_slice_known = earlier20.before.before.before.before.before.before in
-    let start = after_shared_slice_known.before in
+    let earlier11 = after_take_window in
+    let after_if3 = earlier11 in
+    let after_available = after_if3 in
+    let earlier20 = after_available in
+    let after_shared_slice_known = earlier20 in
+    let start = after_shared_slice_known in
     let a = start.args in
     let (left, right, room) = both (earlier20) in
-    let turn = after_take_window.take-window in
-    let av = taking after_available in
-    let some = pos_of_ne-zero after_if3.if3.left in
+    let turn = after_take_window.take_window-bits in
+    let av = taking (goal.at.returns c).After-available-count in
+    let some = pos_of_ne-zero after_if3.if-count-eq0.left in
     let opened = earlier11.«open».ensures in record {
       ends = rw after_take_both.take_both.ensures
-          (since_onward a.low a.high a.view.now a.records.now a.block.now after_available.available.result left right room av some earlier11.«open».result _ opened
+          (since_onward a.low a.high a.view.now a.records.now a.block.now after_available.available-count.result left right room av some earlier11.«open».result _ opened
           turn.last.1.1.1.1.1.1.0
           turn.kept.1.1.1.1.1.1.0
           turn.result
@@ -120,13 +120,13 @@ returns c =
           c.pass.result
           c.pass.ensures);
       steps = rw after_take_both.take_both.ensures
-          (since_batch a.low a.high a.view.now a.records.now a.block.now after_available.available.result left right room av some earlier11.«open».result _ opened
+          (since_batch a.low a.high a.view.now a.records.now a.block.now after_available.available-count.result left right room av some earlier11.«open».result _ opened
           turn.last.1.1.1.1.1.1.0
           turn.kept.1.1.1.1.1.1.0
           turn.result
           turn.ensures
           c.pass.result
           c.pass.ensures
-          (λ i. (after_shared_slice_known.shared-slice-known.given i).fits));
+          (λ i. (after_shared_slice_known.type_inv.records i).fits));
       keeps = opened.keeps;
     }

@@ -7,22 +7,22 @@ pub returns : goal.returns
 returns c =
     let p = c in
     let newest = p in
-    let test = newest.before in
-    let keep = test.before in
-    let fill = keep.before in
-    let flag = fill.before in
-    let some = flag.before in
-    let first = some.before.before in
-    let time = first.before.before in
-    let cells = time.before in
-    let start = cells.before.before.before in
+    let test = newest in
+    let keep = test in
+    let fill = keep in
+    let flag = fill in
+    let some = flag in
+    let first = some in
+    let time = first in
+    let cells = time in
+    let start = cells in
     let a = start.args in
-    takes_low first.newest.result fill.find-alive.result keep.keep-reached.result newest.newest-marked.result some.has_some.result test.test.result
+    takes_low first.newest-first.result fill.find_alive-alive.result keep.keep_reached-answers.result newest.newest_marked.result some.has_some.result test.test-last.result
     (λ qs r. some.has_some.ensures (ring_words a.high) qs r)
-    (rw (cells.cells-for.ensures.0, time.time.ensures.0) at first.newest.ensures)
-    (rw flag.flag.ensures at fill.find-alive.ensures)
-    keep.keep-reached.ensures
+    (rw (cells.cells_for.ensures.0, time.time.ensures.0) at first.newest-first.ensures)
+    (rw flag.flag-begun.ensures at fill.find_alive-alive.ensures)
+    keep.keep_reached-answers.ensures
     start.requires.2
-    test.test.ensures
-    newest.newest-marked.ensures.0
+    test.test-last.ensures
+    newest.newest_marked.ensures.0
     (p.put_one.ensures (ring_words a.high))

@@ -6,8 +6,8 @@ pub returns : goal.returns
 returns c =
     let p = c in
     let cells = p in
-    let gap = cells.before in
-    let kept = gap.before.before.before in
-    let zero = kept.before.before in
-    rw (gap.gap.ensures, zero.find-last-zero.ensures.0, cells.cells-for.ensures.0)
-    at (followed (kept.keep-if.ensures cells.cells-for.result) p.push_all.ensures)
+    let gap = cells in
+    let kept = gap in
+    let zero = kept in
+    rw (gap.gap-from.ensures, zero.find_last_zero-after.ensures.0, cells.cells_for.ensures.0)
+    at (followed (kept.keep_if.ensures cells.cells_for.result) p.push_all.ensures)

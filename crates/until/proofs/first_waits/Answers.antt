@@ -15,6 +15,6 @@ pub returns-in-Unknown : goal.returns-in-Unknown
 returns-in-Unknown c e =
     let q = c in
     let l = q in
-    let n = l.before in
-    rw (l.last_of.ensures, n.next-time.ensures, n.before.time_of_none.ensures, n.before.before.read.ensures)
+    let n = l in
+    rw (l.last_of.ensures, n.next_time-next_at.ensures, n.time_of_none.ensures, n.read-next.ensures)
     at (sym q.settle.ensures ∙ c.in-Unknown.is)

@@ -13,8 +13,8 @@ pub returns-then-block : goal.returns-then-block
 returns-then-block c =
     let e = c in
     let k = e in
-    let a = k.before.args in
-    record { take_value = λ t. (e.if-room-ne0.false, stuck_fresh a.low a.high a.view.now a.records.now a.block.now (λ i. (k.shared-slice-known.given i).fits) c.if-block.true); keeps = k.before.requires.1 }
+    let a = k.args in
+    record { take_value = λ t. (e.if-room-ne0.false, stuck_fresh a.low a.high a.view.now a.records.now a.block.now (λ i. (k.type_inv.records i).fits) c.if-block.true); keeps = k.requires.1 }
 
 pub first_waits-requires : goal.first_waits-requires
 first_waits-requires c =
@@ -28,21 +28,21 @@ pub returns : goal.returns
 returns c =
     let t = c in
     let o = t in
-    let e2 = o.before.before.before in
-    let e1 = e2.before.before.before in
-    let k = e1.before.before.before in
-    let s = k.before in
+    let e2 = o in
+    let e1 = e2 in
+    let k = e1 in
+    let s = k in
     let behind = s.requires.2 in
     let fits = s.requires.3 in
-    let none = e1.if1.false in
+    let none = e1.if-room-ne0.false in
     let inside = fits.inside in
     let ends = fits.ahead in
-    let different = e2.if2.false in record {
+    let different = e2.if-block.false in record {
       take_value = λ e. (
         none,
         stuck_first
             (record {
-              byte = λ i. (k.shared-slice-known.given i).fits;
+              byte = λ i. (k.type_inv.records i).fits;
               some = omega arith;
               inside = omega arith;
               ends = omega arith;

@@ -25,19 +25,29 @@ opened c =
     let s = k in
     record { room = s.requires.0; behind = (stands_inside _ _ _ k.if-total-at.false).0; fits = k.room_of-room.ensures; next = c.«open».ensures }
 
+-- what is known after the window ahead was opened
+opened_2 : (c : After-walk_on-stride) →
+    let k = c in
+    let a = k.args in
+    OpensAhead a.view.now a.records.now a.block.now k.room_of-room.result c.«open».result c.«open».new.1.1.1.1.0
+opened_2 c =
+    let k = c in
+    let s = k in
+    record { room = s.requires.0; behind = (stands_inside _ _ _ k.if-total-at.false).0; fits = k.room_of-room.ensures; next = c.«open».ensures }
+
 -- what is known after the walk
 went : (c : After-walk_on-stride) →
     let o = c in
     let k = o in
-    let a = k.before.before.before.before.before.before.before.before.args in
-    Went a.low a.high o.smaller-most.result a.view.now a.records.now a.block.now k.room_of.result o.«open».result o.«open».new.1.1.1.1.0
+    let a = k.args in
+    Went a.low a.high o.smaller-most.result a.view.now a.records.now a.block.now k.room_of-room.result o.«open».result o.«open».new.1.1.1.1.0
     c.walk_on-stride.result
 went c =
     let o = c in
     let k = o in
     record {
-      opens = opened c.before.before;
-      byte = λ i. (k.before.before.before.before.before.before.before.shared-slice-known.given i).fits;
+      opens = opened_2 c;
+      byte = λ i. (k.type_inv.records i).fits;
       clamp = o.smaller-most.ensures;
       strides = c.walk_on-stride.ensures.strides;
     }
@@ -84,15 +94,15 @@ pub returns-then-must_wait : goal.returns-then-must_wait
 returns-then-must_wait c =
     let m = c in
     let w = m in
-    let k = w.before.before.before.before in
-    let s = k.before.before.before.before.before.before.before.before in
+    let k = w in
+    let s = k in
     let a = s.args in
     let t = c.wanted in
-    let stuck = w.must-wait.ensures.0 m.if-must_wait.true in record {
+    let stuck = w.must_wait.ensures.take_value m.if-must_wait.true in record {
       ends = wanted_ends a.view.now a.block.now t.result t.ensures;
       steps = λ φ ψ L g falls agrees ready.
-          wants_more ready agrees k.room_of.ensures stuck.0 (stuck.1 a.high φ ψ L g w.before.before.before.smaller.ensures falls agrees ready) t.result t.ensures;
-      keeps = (w.must-wait.ensures.1, s.requires.2);
+          wants_more ready agrees k.room_of-room.ensures stuck.0 (stuck.1 a.high φ ψ L g w.smaller-most.ensures falls agrees ready) t.result t.ensures;
+      keeps = (w.must_wait.ensures.keeps, s.requires.2);
     }
 
 pub open-ahead-requires : goal.open-ahead-requires
@@ -131,13 +141,13 @@ returns-then-w-eq0-3 c =
     let whole = let p = c in
     let k = p in
     let none = c.if-w-eq0-3.true in
-    let some : 0 < k.walk_on.result.walked.took =
+    let some : 0 < k.walk_on-stride.result.walked.took =
     ⊎_elim (λ t. let l = t.2.left in omega arith) (λ t. let l = t.left in absurd (omega arith)) p.if-w-eq0.branch in
     rw p.put_back.ensures (
-      took_ends (went k) p.pass.ensures some,
+      took_ends (went (goal.at.returns-then-w-eq0-3 c).After-walk_on-stride) p.pass.ensures some,
       (
-        λ φ ψ L g falls agrees ready. takes_some (went k) φ ψ L g falls agrees ready p.pass.ensures none,
-        copies k,
+        λ φ ψ L g falls agrees ready. takes_some (went (goal.at.returns-then-w-eq0-3 c).After-walk_on-stride) φ ψ L g falls agrees ready p.pass.ensures none,
+        copies (goal.at.returns-then-w-eq0-3 c).After-walk_on-stride,
       ),
     ) in
     record { ends = whole.0; steps = whole.1.0; keeps = whole.1.1 }
@@ -147,11 +157,11 @@ returns c =
     let whole = let p = c in
     let k = p in
     rw p.put_back.ensures (
-      walked_onward (went k) p.pass.ensures,
+      walked_onward (went (goal.at.returns c).After-walk_on-stride) p.pass.ensures,
       (
         λ φ ψ L g falls agrees ready.
-            answers_some (went k) φ ψ L g falls agrees ready p.pass.ensures (omega arith),
-        copies k,
+            answers_some (went (goal.at.returns c).After-walk_on-stride) φ ψ L g falls agrees ready p.pass.ensures (omega arith),
+        copies (goal.at.returns c).After-walk_on-stride,
       ),
     ) in
     record { ends = whole.0; steps = whole.1.0; keeps = whole.1.1 }

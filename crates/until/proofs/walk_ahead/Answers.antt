@@ -8,7 +8,7 @@ pub walk_inside-requires : goal.walk_inside-requires
 walk_inside-requires c =
     let g = c in
     let r = g in
-    let pre = r.before.before.before.before.requires in
+    let pre = r.requires in
     (pre.1, pre.2, rw r.read.ensures pre.4.long, rw g.gap.ensures pre.3)
 
 pub returns : goal.returns

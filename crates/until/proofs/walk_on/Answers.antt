@@ -30,23 +30,35 @@ told c =
     let s = f in
     c.tells.ensures c.if-tells.true (from_first s.requires.0 f.first_time-start.result) refl
 
+-- the first tells enough
+told_2 : (c : After-walk_ahead-walked) →
+    let f = c in
+    let s = f in
+    let a = s.args in
+    ByWords 0 a.high (from_first s.requires.0 f.first_time-start.result) (time_at (window_of a.ahead a.records.now a.copy.now))
+    (taken a.block.now - answered a.block.now) a.room.take (last_taken a.block.now)
+told_2 c =
+    let f = c in
+    let s = f in
+    c.tells.ensures c.if-tells.true (from_first s.requires.0 f.first_time-start.result) refl
+
 -- the walk by it
 walked : (c : After-walk_ahead-walked) →
     let t = c in
     let f = t in
-    let s = f.before.before.before.before.before in
+    let s = f in
     let a = s.args in
     let b = a.block.now in
-    Walk a.low a.high (from_first s.requires.0 f.first_time.result) (ahead_of a.ahead a.records.now a.copy.now a.room.take a.room.look (closed a.view.now))
+    Walk a.low a.high (from_first s.requires.0 f.first_time-start.result) (ahead_of a.ahead a.records.now a.copy.now a.room.take a.room.look (closed a.view.now))
     (taken b - answered b) a.room.take (left_bits b) (right_bits b) (last_taken b) c.walk_ahead-walked.result
 walked c =
     let t = c in
     let f = t in
-    let s = f.before.before.before.before.before in
+    let s = f in
     let a = s.args in
     let times = time_at (window_of a.ahead a.records.now a.copy.now) in
-    rw f.before.if1.true
-    (c.walk_ahead-walked.ensures.by_index a.high (next_of times a.room.look (time_of_none (closed a.view.now)) a.room.take) _ (last_taken a.block.now) (told c.before.before))
+    rw f.if-low-eq0.true
+    (c.walk_ahead-walked.ensures.by_index a.high (next_of times a.room.look (time_of_none (closed a.view.now)) a.room.take) _ (last_taken a.block.now) (told_2 c))
 
 -- all that wait are answered
 all : (c : Else-walked-eq0) →
@@ -72,8 +84,8 @@ pub returns-then-walked-eq0 : goal.returns-then-walked-eq0
 returns-then-walked-eq0 c =
     let w = c in
     let f = w in
-    let s = f.before.before.before.before.before in
-    record { strides = by_first_none s.requires.0 f.first_time.result f.first_time.ensures (walked (goal.at.returns-then-walked-eq0 c).After-walk_ahead-walked) c.if-walked-eq0.true; keeps = s.requires.2 }
+    let s = f in
+    record { strides = by_first_none s.requires.0 f.first_time-start.result f.first_time-start.ensures (walked (goal.at.returns-then-walked-eq0 c).After-walk_ahead-walked) c.if-walked-eq0.true; keeps = s.requires.2 }
 
 pub overflow_sub-some : goal.overflow_sub-some
 overflow_sub-some c = omega (arith, all (goal.at.overflow_sub-some c).Else-walked-eq0, c.gap.ensures)
@@ -85,17 +97,17 @@ pub pass-head-requires : goal.pass-head-requires
 pass-head-requires c =
     let g = c in
     let w = g in
-    let s = w.before.before.before.before.before.before.before.before.before.before in
-    (s.requires.3, rw g.gap.ensures (beyond_windowed s.requires.0 (walked w)))
+    let s = w in
+    (s.requires.3, rw g.gap.ensures (beyond_windowed s.requires.0 (walked (goal.at.pass-head-requires c).After-walk_ahead-walked)))
 
 pub returns-then-tells : goal.returns-then-tells
 returns-then-tells c =
     let g = c in
     let e = g in
-    let w = e.before.before in
-    let f = w.before.before.before.before.before in
-    let s = f.before.before.before.before.before in
-    record { strides = by_first_all s.requires.0 f.first_time.result f.first_time.ensures (walked w) (all e) (rw g.gap.ensures at c.pass-head.ensures); keeps = s.requires.2 }
+    let w = e in
+    let f = w in
+    let s = f in
+    record { strides = by_first_all s.requires.0 f.first_time-start.result f.first_time-start.ensures (walked (goal.at.returns-then-tells c).After-walk_ahead-walked) (all (goal.at.returns-then-tells c).Else-walked-eq0) (rw g.gap.ensures at c.pass-head.ensures); keeps = s.requires.2 }
 
 pub answer_told-walked-requires : goal.answer_told-walked-requires
 answer_told-walked-requires c =
@@ -108,15 +120,15 @@ pub returns-then-lead-is_told : goal.returns-then-lead-is_told
 returns-then-lead-is_told c =
     let t = c in
     let l = t in
-    let f = l.before.before.before.before.before.before.before in
-    let s = f.before.before.before.before.before in
+    let f = l in
+    let s = f in
     let a = s.args in
     let b = a.block.now in
-    let lead = l.before.gap2.ensures in record {
-      strides = by_last s.requires.0 f.first_time.result f.first_time.ensures
-          (rw f.before.if1.true
-          (rw (lead, l.last_of.ensures)
-          at (t.answer_told-walked.ensures.walk a.high a.room.take (left_bits b) (right_bits b) (from_first s.requires.0 f.first_time.result) (ahead_of a.ahead a.records.now a.copy.now a.room.take a.room.look (closed a.view.now)))))
+    let lead = l.gap-lead.ensures in record {
+      strides = by_last s.requires.0 f.first_time-start.result f.first_time-start.ensures
+          (rw f.if-low-eq0.true
+          (rw (lead, l.last_of-last.ensures)
+          at (t.answer_told-walked.ensures.walk a.high a.room.take (left_bits b) (right_bits b) (from_first s.requires.0 f.first_time-start.result) (ahead_of a.ahead a.records.now a.copy.now a.room.take a.room.look (closed a.view.now)))))
           (t.answer_told-walked.ensures.count_value ∙ lead);
       keeps = s.requires.2;
     }
@@ -142,5 +154,5 @@ pub returns : goal.returns
 returns c =
     let w = c in
     let h = w in
-    let pre = h.before.before.before.before.before.before.requires in
-    record { strides = by_window pre.0 h.share.ensures.0 w.walk_windows-walked.ensures c.pass-head-2.ensures; keeps = h.share.ensures.1 }
+    let pre = h.requires in
+    record { strides = by_window pre.0 h.share-starts.ensures.opened w.walk_windows-walked.ensures c.pass-head-2.ensures; keeps = h.share-starts.ensures.keeps }

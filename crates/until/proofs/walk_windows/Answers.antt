@@ -27,6 +27,6 @@ pub returns : goal.returns
 returns c =
     let k = c in
     let q = k in
-    let e = q.before in
-    rw (c.last_of.ensures, k.gap.ensures, q.read2.ensures, e.either.ensures, e.before.next-time.ensures, e.before.before.time_of_none.ensures, e.before.before.before.read.ensures)
+    let e = q in
+    rw (c.last_of.ensures, k.gap.ensures, q.read.ensures, e.either.ensures, e.next_time-after.ensures, e.time_of_none.ensures, e.read-next.ensures)
     at c.walk_words.ensures

@@ -24,9 +24,9 @@ pub returns : goal.returns
 returns c t starts first =
     let last = c in
     let met = last in
-    let e = met.before in
-    let a = e.before.before.args in
-    goes a.low a.high a.lead a.n met.gap.result c.gap-2.result a.from starts (time_at a.ahead.now) (may e)
+    let e = met in
+    let a = e.args in
+    goes a.low a.high a.lead a.n met.gap.result c.gap-2.result a.from starts (time_at a.ahead.now) (may (goal.at.returns c).Else-n-lead)
     (met.gap.ensures ∙ rw first refl)
     (c.gap-2.ensures ∙ rw (last.time-last.ensures.0, first) refl)
     t

@@ -17,9 +17,9 @@ loop-i-preserved c =
     let t = c in
     let l = t.loop-i in
     let f = t in
-    let a = f.before.before.args in
+    let a = f.args in
     let is = t.time.ensures.0 in
-    let last = f.time.ensures.0 in (
+    let last = f.time-last.ensures.0 in (
       omega arith,
       λ j h m.
           ⊎_elim
@@ -37,5 +37,5 @@ returns-then-time-high c =
     let l = t.loop-i in
     let f = t in
     let is = t.time.ensures.0 in
-    let last = f.time.ensures.0 in
+    let last = f.time-last.ensures.0 in
     record { below = l.invariant.0; over = λ h. omega arith; near = l.invariant.1 }

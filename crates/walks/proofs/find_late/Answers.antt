@@ -10,20 +10,15 @@ use lib.Dec.{leb}
 use lib.Pow.{pow-add, pow_mono, pow_pos}
 use borrow.Author.Tests.{lt-leb}
 use Rattle.mtl.proofs.Bounded.{le_or_lt, true_or_false}
-use Rattle.bits.specs.Packed.{bit, number, Packed}
+use Rattle.bits.specs.Packed.{bit, number}
 use Rattle.bits.proofs.Laws.{number_lt, packed_front}
 use Rattle.bits.proofs.Filling.{zero_bit}
 use Rattle.trace.specs.Format.{time_at}
 use Rattle.walks.specs.Settle.{Rising, latest_right, is_late, Words}
 use Rattle.walks.proofs.Leads.{leads, words_are, UpTo, leads_up_to, leads_inside, right_from_none, own_right, not_late, same_right}
-use Rattle.walks.proofs.find_late.Invariants.{Looked}
+use Rattle.walks.proofs.find_late.Invariants.{Seen, Looked}
 use Rattle.walks.proofs.find_late.Goals as goal
 use Rattle.walks.proofs.find_late.Goals.{After-fill_down-own, After-find_last_zero-i, After-pick-latest}
-
--- of n positions, those behind the first i
-record Seen (low : ℕ) (time : ℕ → ℕ) (left right n own i latest bits : ℕ) : Type 0 where
-  is_latest : bit own i ≡ true → latest ≡ latest_right time left right (n - i) i
-  packed : Packed (is_late low time left right n) i (n - i) bits
 
 module _ (low : ℕ) (time : ℕ → ℕ) (left right n own leads : ℕ) (positive : 0 < low) (some : 0 < n) (few : n ≤ 64)
     (w : Words left right n own leads) where
@@ -129,11 +124,19 @@ last_off f =
     (λ off. off)
     (true_or_false (bit (leads a.left f.fill_down-own.result) (a.n - 1)))
 
+-- the words of those that lead on
+words_of_2 : (f : After-find_last_zero-i) →
+    let a = f.args in
+    Words a.left a.right a.n f.fill_down-own.result (leads a.left f.fill_down-own.result)
+words_of_2 f =
+    let a = f.args in
+    words_are a.left a.right a.n f.fill_down-own.result (omega arith) (omega arith) (rw f.first_bits.ensures at f.fill_down-own.ensures)
+
 words : (z : After-find_last_zero-i) →
     let f = z in
     let a = f.args in
     Words a.left a.right a.n f.fill_down-own.result (leads a.left f.fill_down-own.result)
-words z = words_of z.before.before.before
+words z = words_of_2 z
 
 -- the last of them
 up_to : (z : After-find_last_zero-i) →
@@ -154,14 +157,28 @@ inside z =
     z.find_last_zero-i.ensures.1
     (up_to z).0
 
+-- the words of those that lead on
+words_of_3 : (f : After-pick-latest) →
+    let a = f.args in
+    Words a.left a.right a.n f.fill_down-own.result (leads a.left f.fill_down-own.result)
+words_of_3 f =
+    let a = f.args in
+    words_are a.left a.right a.n f.fill_down-own.result (omega arith) (omega arith) (rw f.first_bits.ensures at f.fill_down-own.ensures)
+
+words_2 : (z : After-pick-latest) →
+    let f = z in
+    let a = f.args in
+    Words a.left a.right a.n f.fill_down-own.result (leads a.left f.fill_down-own.result)
+words_2 z = words_of_3 z
+
 -- what is known in a turn
 fits : (c : After-pick-latest) → c.loop-i.bits * 2 + 1 < 2 ^ 64
 fits c =
     let l = c.loop-i in
     let z = c in
     let f = z in
-    let a = f.before.before.before.args in
-    bound a.low (time_at a.ahead.now) a.left a.right a.n f.fill-down.result (leads a.left f.fill-down.result) (omega arith) (omega arith) (omega arith) (words c.before.before.before.before.before.before)
+    let a = f.args in
+    bound a.low (time_at a.ahead.now) a.left a.right a.n f.fill_down-own.result (leads a.left f.fill_down-own.result) (omega arith) (omega arith) (omega arith) (words_2 c)
     l.i
     l.latest
     l.bits
@@ -181,15 +198,15 @@ returns-then-count_zeros-le-FEW_STRETCHES c rising =
     c.find_by_stretches.ensures a.left a.right (words_of (goal.at.returns-then-count_zeros-le-FEW_STRETCHES c).After-fill_down-own) rising
 
 pub time-latest-requires : goal.time-latest-requires
-time-latest-requires z = omega (arith, inside z)
+time-latest-requires z = omega (arith, inside (goal.at.time-latest-requires z).After-find_last_zero-i)
 
 pub loop-i-init : goal.loop-i-init
 loop-i-init c =
     let z = c in
     let f = z in
-    let a = f.before.before.before.args in
+    let a = f.args in
     rw c.time-latest.ensures.0
-    (none_yet a.low (time_at a.ahead.now) a.left a.right a.n f.fill-down.result (leads a.left f.fill-down.result) (omega arith) (omega arith) (omega arith) (words (goal.at.loop-i-init c).After-find_last_zero-i)
+    (none_yet a.low (time_at a.ahead.now) a.left a.right a.n f.fill_down-own.result (leads a.left f.fill_down-own.result) (omega arith) (omega arith) (omega arith) (words (goal.at.loop-i-init c).After-find_last_zero-i)
     z.find_last_zero-i.result
     (inside (goal.at.loop-i-init c).After-find_last_zero-i)
     (up_to (goal.at.loop-i-init c).After-find_last_zero-i).1)
@@ -207,18 +224,18 @@ pub loop-i-preserved : goal.loop-i-preserved
 loop-i-preserved c =
     let p = c in
     let t = p in
-    let l = t.before.before.loop in
-    let z = t.before.before.before.before in
-    let f = z.before.before.before in
-    let a = f.before.before.before.args in
-    rw (c.flag.ensures, t.time2.ensures.0)
-    (more a.low (time_at a.ahead.now) a.left a.right a.n f.fill-down.result (leads a.left f.fill-down.result) (omega arith) (omega arith) (omega arith) (words z)
+    let l = t.loop-i in
+    let z = t in
+    let f = z in
+    let a = f.args in
+    rw (c.flag.ensures, t.time-now.ensures.0)
+    (more a.low (time_at a.ahead.now) a.left a.right a.n f.fill_down-own.result (leads a.left f.fill_down-own.result) (omega arith) (omega arith) (omega arith) (words (goal.at.loop-i-preserved c).After-find_last_zero-i)
     l.i
     l.latest
     l.bits
     p.pick-latest.result
     (omega arith)
-    (p.pick-latest.ensures ∙ rw (p.test.ensures, t.time2.ensures.0) refl)
+    (p.pick-latest.ensures ∙ rw (p.test.ensures, t.time-now.ensures.0) refl)
     l.invariant)
 
 pub returns : goal.returns
@@ -226,8 +243,8 @@ returns c rising =
     let t = c in
     let l = t.loop-i in
     let z = t in
-    let f = z.before.before.before in
-    let a = f.before.before.before.args in
+    let f = z in
+    let a = f.args in
     let e : l.i ≡ 0 = omega arith in
     let all : a.n - l.i ≡ a.n = omega arith in
     let whole : a.n - 0 ≡ a.n = omega arith in
@@ -235,9 +252,9 @@ returns c rising =
       rw (all, e) at seen.packed,
       c.keep_if.ensures
           ∙ rw t.test-2.ensures
-          (by (bit f.fill-down.result 0)
-          (λ o. seen.is_latest (ap (bit f.fill-down.result) e ∙ o) ∙ ap (λ (k : ℕ). latest_right (time_at a.ahead.now) a.left a.right (a.n - k) k) e)
-          (λ o. right_from_none (time_at a.ahead.now) a.left a.right a.n (omega arith) (words z) 0 (omega arith) o))
+          (by (bit f.fill_down-own.result 0)
+          (λ o. seen.is_latest (ap (bit f.fill_down-own.result) e ∙ o) ∙ ap (λ (k : ℕ). latest_right (time_at a.ahead.now) a.left a.right (a.n - k) k) e)
+          (λ o. right_from_none (time_at a.ahead.now) a.left a.right a.n (omega arith) (words (goal.at.returns c).After-find_last_zero-i) 0 (omega arith) o))
           ∙ ap (λ (d : ℕ). latest_right (time_at a.ahead.now) a.left a.right d 0) whole,
     )
   where

@@ -80,11 +80,11 @@ pub loop-i-preserved : goal.loop-i-preserved
 loop-i-preserved c =
     let p = c in
     let t = p in
-    let l = t.before.before.loop in
-    let a = t.before.before.before.before.args in
-    rw (c.flag.ensures, t.time.ensures.0)
+    let l = t.loop-i in
+    let a = t.args in
+    rw (c.flag.ensures, t.time-now.ensures.0)
     (more a.high (time_at a.ahead.now) a.right a.n l.i l.next l.bits p.pick-next.result (omega arith) (omega arith)
-    (p.pick-next.ensures ∙ rw (p.test.ensures, t.time.ensures.0) refl)
+    (p.pick-next.ensures ∙ rw (p.test.ensures, t.time-now.ensures.0) refl)
     l.invariant)
 
 pub returns : goal.returns

@@ -30,14 +30,14 @@ pub returns : goal.returns
 returns c =
     let z = c in
     let last = z in
-    let first = last.before in
-    let e = first.before in
-    let b = e.before.before.before in
+    let first = last in
+    let e = first in
+    let b = e in
     let a = b.args in
     calms a.high a.lead a.n a.left a.right z.find_first_zero.result c.gap.result a.from (time_at a.starts.now)
     (time_at a.ahead.now)
-    (many_some a.lead a.n e.if1.false)
+    (many_some a.lead a.n e.if-lead-n.false)
     b.requires.0
     (omega arith)
     z.find_first_zero.ensures
-    (c.gap.ensures ∙ rw (last.time2.ensures.0, first.time.ensures.0) refl)
+    (c.gap.ensures ∙ rw (last.time-last.ensures.0, first.time-start.ensures.0) refl)

@@ -32,8 +32,8 @@ pub returns : goal.returns
 returns c =
     let last = c in
     let first = last in
-    let e = first.before.before.before in
-    let a = e.before.before.args in
-    reaches a.high a.lead a.n c.gap.result a.from (time_at a.ahead.now) (some_few a.n a.lead e.if1.false)
-    (c.gap.ensures ∙ rw (last.time-last.ensures.0, first.time.ensures.0) refl)
+    let e = first in
+    let a = e.args in
+    reaches a.high a.lead a.n c.gap.result a.from (time_at a.ahead.now) (some_few a.n a.lead e.if-n-lead.false)
+    (c.gap.ensures ∙ rw (last.time-last.ensures.0, first.time-first.ensures.0) refl)
     (rw last.time-last.ensures.0 at last.time-last.ensures.1)

@@ -22,8 +22,8 @@ pub loop-count-preserved-in-Known : goal.loop-count-preserved-in-Known
 loop-count-preserved-in-Known c =
     let k = c in
     let q = k in
-    let l = q.before.before.loop in
-    let a = q.before.before.before.before.before.args in
+    let l = q.loop-count in
+    let a = q.args in
     let w = l.invariant.1 in
     let start = time_at a.starts.now in
     let next = next_of (time_at a.ahead.now) a.n a.after in
@@ -50,8 +50,8 @@ pub loop-count-preserved : goal.loop-count-preserved
 loop-count-preserved c =
     let k = c in
     let q = k in
-    let l = q.before.before.loop in
-    let a = q.before.before.before.before.before.args in
+    let l = q.loop-count in
+    let a = q.args in
     let w = l.invariant.1 in
     let start = time_at a.starts.now in
     let next = next_of (time_at a.ahead.now) a.n a.after in
@@ -75,7 +75,7 @@ pub returns-then-took-n : goal.returns-then-took-n
 returns-then-took-n c =
     let k = c in
     let q = k in
-    let l = q.before.before.loop in
+    let l = q.loop-count in
     record {
       limits = l.invariant.1;
       waiting = λ h t. record { all = c.if-took-n.true; unknown = sym q.look.ensures ∙ k.in-Unknown.is };

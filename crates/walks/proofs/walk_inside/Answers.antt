@@ -44,18 +44,18 @@ pub returns : goal.returns
 returns c =
     let p = c in
     let q = p in
-    let f = q.before.before in
-    let t = f.before in
-    let z = t.before.before in
-    let a = z.before.before.args in
-    let most = z.find-last-zero.ensures.1 in record {
+    let f = q in
+    let t = f in
+    let z = t in
+    let a = z.args in
+    let most = z.find_last_zero-known.ensures.1 in record {
       by_index = λ high after start from by.
           let next = next_of (time_at a.ahead.now) a.n after in
           settled_walk (by_next after by) (omega arith)
           (λ rises.
-          soon_some next (known z) start a.lead (omega arith) f.fill-down.ensures (λ i h. q.repeat.ensures.1 i h ∙ q.before.test.ensures) p.prolong.ensures)
-          c.smaller.result t.taken-for.result c.smaller.ensures t.taken-for.ensures c.take-2.result
-          (c.take-2.ensures.0 ∙ taken_at (time_at a.ahead.now) a.n after (t.taken-for.result - 1) a.left a.right (omega (arith, took t)))
+          soon_some next (known (goal.at.returns c).After-find_last_zero-known) start a.lead (omega arith) f.fill_down-own.ensures (λ i h. q.repeat-front.ensures.1 i h ∙ q.test.ensures) p.prolong.ensures)
+          c.smaller.result t.taken_for-took.result c.smaller.ensures t.taken_for-took.ensures c.take-2.result
+          (c.take-2.ensures.0 ∙ taken_at (time_at a.ahead.now) a.n after (t.taken_for-took.result - 1) a.left a.right (omega (arith, took (goal.at.returns c).After-taken_for-took)))
           c.take-2.ensures.1;
       fact = inr (omega (arith, c.smaller.ensures));
     }

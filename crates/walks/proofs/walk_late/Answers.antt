@@ -38,20 +38,20 @@ pub returns-then-known-eq0 : goal.returns-then-known-eq0
 returns-then-known-eq0 c high after from by =
     let z = c in
     let r = z in
-    let m = r.before in
-    let f = m.before in
-    let a = f.before.before.before.args in
+    let m = r in
+    let f = m in
+    let a = f.args in
     let time = time_at a.ahead.now in
-    let most = m.count-met.ensures.most in
+    let most = m.count_met-met.ensures.most in
     settled_walk (by_next after by) (omega arith)
     (λ rises.
     late_none a.low (next_of time a.n after) a.left a.right a.n (omega arith) (known (goal.at.returns-then-known-eq0 c).After-find_last_zero-known)
-    (late_next a.low time a.left a.right a.n after (f.find-late.ensures (rising_next time a.n after rises)).0)
-    (met_next a.low time a.left a.right a.n after (f.find-late.ensures (rising_next time a.n after rises)).1 m.count-met.ensures)
-    r.repeat.ensures.0
-    r.repeat.ensures.1
+    (late_next a.low time a.left a.right a.n after (f.find_late-late.ensures (rising_next time a.n after rises)).0)
+    (met_next a.low time a.left a.right a.n after (f.find_late-late.ensures (rising_next time a.n after rises)).1 m.count_met-met.ensures)
+    r.repeat-front.ensures.0
+    r.repeat-front.ensures.1
     c.if-known-eq0.true)
-    m.count-met.result a.n (omega arith) (λ h. refl, λ h. absurd (omega arith)) c.take.result
+    m.count_met-met.result a.n (omega arith) (λ h. refl, λ h. absurd (omega arith)) c.take.result
     (c.take.ensures.0 ∙ taken_at time a.n after (a.n - 1) a.left a.right (omega arith))
     c.take.ensures.1
 
@@ -68,23 +68,23 @@ pub returns : goal.returns
 returns c high after from by =
     let p = c in
     let t = p in
-    let z = t.before.before in
-    let r = z.before.before in
-    let m = r.before in
-    let f = m.before in
-    let a = f.before.before.before.args in
+    let z = t in
+    let r = z in
+    let m = r in
+    let f = m in
+    let a = f.args in
     let time = time_at a.ahead.now in
-    let most = z.find-last-zero.ensures.1 in
+    let most = z.find_last_zero-known.ensures.1 in
     settled_walk (by_next after by) (omega arith)
     (λ rises.
-    late_some a.low (next_of time a.n after) a.left a.right a.n (omega arith) (known z)
-    (late_next a.low time a.left a.right a.n after (f.find-late.ensures (rising_next time a.n after rises)).0)
-    (met_next a.low time a.left a.right a.n after (f.find-late.ensures (rising_next time a.n after rises)).1 m.count-met.ensures)
-    r.repeat.ensures.0
-    r.repeat.ensures.1
+    late_some a.low (next_of time a.n after) a.left a.right a.n (omega arith) (known (goal.at.returns c).After-find_last_zero-known)
+    (late_next a.low time a.left a.right a.n after (f.find_late-late.ensures (rising_next time a.n after rises)).0)
+    (met_next a.low time a.left a.right a.n after (f.find_late-late.ensures (rising_next time a.n after rises)).1 m.count_met-met.ensures)
+    r.repeat-front.ensures.0
+    r.repeat-front.ensures.1
     (omega arith)
     p.prolong.ensures
     rises)
-    c.smaller.result t.taken-for.result c.smaller.ensures t.taken-for.ensures c.take-2.result
-    (c.take-2.ensures.0 ∙ taken_at time a.n after (t.taken-for.result - 1) a.left a.right (omega (arith, took t)))
+    c.smaller.result t.taken_for-took.result c.smaller.ensures t.taken_for-took.ensures c.take-2.result
+    (c.take-2.ensures.0 ∙ taken_at time a.n after (t.taken_for-took.result - 1) a.left a.right (omega (arith, took (goal.at.returns c).After-taken_for-took)))
     c.take-2.ensures.1

@@ -18,13 +18,13 @@ ahead : (m : After-count_met-took) →
 ahead m =
     let l = m in
     let t = l in
-    let z = t.before in
+    let z = t in
     let b = m in
     let a = b.args in
     record {
-      waiting = b.pre.1;
+      waiting = b.requires.1;
       may = z.smaller-most.ensures;
-      before = still_before a.left a.right a.n b.pre.3 (omega arith) z.find_first_zero-event.ensures;
+      before = still_before a.left a.right a.n b.requires.3 (omega arith) z.find_first_zero-event.ensures;
       taken = rw (t.time.ensures.0, l.smaller.ensures) at m.count_met-took.ensures;
     }
 
@@ -32,17 +32,17 @@ pub returns-then-took-eq0 : goal.returns-then-took-eq0
 returns-then-took-eq0 c after =
     let m = c in
     let b = m in
-    over_walk after b.pre.1 (b.pre.6, b.pre.7) (passed (ahead (goal.at.returns-then-took-eq0 c).After-count_met-took) (omega arith) (omega arith)) (omega arith) b.args.from (λ z. refl) (λ t. absurd (omega arith))
+    over_walk after b.requires.1 (b.requires.6, b.requires.7) (passed (ahead (goal.at.returns-then-took-eq0 c).After-count_met-took) (omega arith) (omega arith)) (omega arith) b.args.from (λ z. refl) (λ t. absurd (omega arith))
 
 pub returns-then-took-event : goal.returns-then-took-event
 returns-then-took-event c after =
     let k = c in
     let m = k in
     let b = m in
-    let took = m.count-met.result in
-    let event = m.before.before.before.find-first-zero.result in
+    let took = m.count_met-took.result in
+    let event = m.find_first_zero-event.result in
     let (h, l) = (and_iff (leb took event) (ltb took b.args.n)).0 c.if-took-event.true in
-    over_walk after b.pre.1 (b.pre.6, b.pre.7) (passed (ahead m) (leb-true took event h) (ltb-true took b.args.n l)) (omega arith) k.take-last.result
+    over_walk after b.requires.1 (b.requires.6, b.requires.7) (passed (ahead (goal.at.returns-then-took-event c).After-count_met-took) (leb-true took event h) (ltb-true took b.args.n l)) (omega arith) k.take-last.result
     (λ z. absurd (omega arith))
     (λ t. k.take-last.ensures)
 
@@ -51,6 +51,6 @@ returns c after =
     let k = c in
     let m = k in
     let b = m in
-    over_walk after b.pre.1 (b.pre.6, b.pre.7) (stopped (ahead m) (omega arith) (rw k.take-last.ensures.0 at c.count_met.ensures)) (omega arith) k.take-last.result
+    over_walk after b.requires.1 (b.requires.6, b.requires.7) (stopped (ahead (goal.at.returns c).After-count_met-took) (omega arith) (rw k.take-last.ensures.0 at c.count_met.ensures)) (omega arith) k.take-last.result
     (λ z. absurd (omega arith))
     (λ t. k.take-last.ensures)

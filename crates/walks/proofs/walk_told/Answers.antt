@@ -31,4 +31,4 @@ yes_for-requires c =
 pub returns : goal.returns
 returns c high n left right next =
     let j = c in
-    rw c.yes_for.ensures (told_walk (settles j) j.smaller-count.ensures (found (goal.at.returns c).Joined-low-eq0))
+    rw c.yes_for.ensures (told_walk (settles (goal.at.returns c).Start) j.smaller-count.ensures (found (goal.at.returns c).Joined-low-eq0))

@@ -49,8 +49,8 @@ pub returns-then-outreaches : goal.returns-then-outreaches
 returns-then-outreaches c =
     let k = c in
     let e = k in
-    let a = e.before.before.before.args in
-    rw e.if1.false (c.walk_far.ensures a.after a.from (k.outreaches.ensures k.if-outreaches.true))
+    let a = e.args in
+    rw e.if-low-ne0.false (c.walk_far.ensures a.after a.from (k.outreaches.ensures k.if-outreaches.true))
 
 pub walk_told-requires-then-is_told-2 : goal.walk_told-requires-then-is_told-2
 walk_told-requires-then-is_told-2 c = (sym c.is_told-2.ensures ∙ c.if-is_told-2.true, omega arith)
@@ -62,9 +62,9 @@ pub walk_over-requires : goal.walk_over-requires
 walk_over-requires c =
     let e = c in
     let t = e in
-    let a = t.before.before.before.before.before.before.args in
+    let a = t.args in
     let (small, waiting, some) = may_take a.high a.lead a.n c.if-lead-n.true in
-    let (held, unmet) = quiet_last a.low a.lead a.from (sym t.is-told2.ensures ∙ e.if-is_told-2.false) waiting (none t) in
+    let (held, unmet) = quiet_last a.low a.lead a.from (sym t.is_told-2.ensures ∙ e.if-is_told-2.false) waiting (none (goal.at.walk_over-requires c).After-is_told-2) in
     (small, waiting, some, omega arith, omega arith, omega arith, held, unmet)
 
 pub returns-then-lead-n : goal.returns-then-lead-n

@@ -9,10 +9,10 @@ use Rattle.worst.specs.Written.{worst_time, worst_events}
 use Rattle.worst.specs.Code.{checked_number}
 use Rattle.worst.proofs.Outcome.{Accepted, passes, writes_nothing, writes_log}
 use Rattle.worst.proofs.worst_log.Goals as goal
-use Rattle.worst.proofs.worst_log.Goals.{In-Passed-2}
+use Rattle.worst.proofs.worst_log.Goals.{In-Passed}
 
 -- the number of records is the one asked for, and there is room for them
-known : (c : In-Passed-2) →
+known : (c : In-Passed) →
     let a = c.args in
     (c.in-Passed.records ≡ a.n) × Accepted a.low a.high a.n (length a.log.now)
 known c =
@@ -27,23 +27,22 @@ returns-in_default c =
     rw number (writes_nothing a.low a.high a.n a.log.now _ (sym told ∙ c.check-checked.ensures))
 
 pub write_header-requires : goal.write_header-requires
-write_header-requires c = let k = known (goal.at.write_header-requires c).In-Passed-2 in omega (arith, k.1.room)
+write_header-requires c = let k = known (goal.at.write_header-requires c).In-Passed in omega (arith, k.1.room)
 
 pub write_records-requires : goal.write_records-requires
 write_records-requires c =
-    let k = known (goal.at.write_records-requires c).In-Passed-2 in
+    let k = known (goal.at.write_records-requires c).In-Passed in
     (omega (arith, k.0, k.1.few), omega (arith, k.0, k.1.room, c.write_header.auto.log))
 
 pub overflow_mul-result : goal.overflow_mul-result
-overflow_mul-result c = let k = known (goal.at.overflow_mul-result c).In-Passed-2 in omega (arith, k.0, k.1.few)
+overflow_mul-result c = let k = known (goal.at.overflow_mul-result c).In-Passed in omega (arith, k.0, k.1.few)
 
 pub overflow_add-result : goal.overflow_add-result
-overflow_add-result c = let k = known (goal.at.overflow_add-result c).In-Passed-2 in omega (arith, k.0, k.1.few)
+overflow_add-result c = let k = known (goal.at.overflow_add-result c).In-Passed in omega (arith, k.0, k.1.few)
 
 pub returns : goal.returns
 returns c =
     let a = c.args in
-    let checked = c.checked-1.given in
-    let records = records_bytes (worst_time a.high) worst_events checked.0.0 in
-    writes_log a.low a.high a.n a.log.now checked.0.0 _ (sym checked.1 ∙ c.check-checked.ensures)
+    let records = records_bytes (worst_time a.high) worst_events c.in-Passed.records in
+    writes_log a.low a.high a.n a.log.now c.in-Passed.records _ (sym c.in-Passed.is ∙ c.check-checked.ensures)
     (c.write_records.ensures ∙ ap (λ (l : List ℕ). put l 8 records) c.write_header.ensures)

@@ -45,8 +45,8 @@ returns c =
     let b = start.args.block.now in
     let count = c.available-count.result in
     let n = taking (goal.at.returns c).Else-count-eq0 in record {
-      ends = rw c.take_both.ensures (both_onward count b start.pre);
+      ends = rw c.take_both.ensures (both_onward count b start.requires);
       by_index = λ s φ ψ L g falls agrees ready.
           rw c.take_both.ensures
-          (or_batch start.args.view.now b start.pre count n.some L g φ ψ n.left n.right ready);
+          (or_batch start.args.view.now b start.requires count n.some L g φ ψ n.left n.right ready);
     }

@@ -16,25 +16,25 @@ use Rattle.sentences.proofs.saying.say_since.Goals as goal
 
 pub search-left-requires : goal.search-left-requires
 search-left-requires c =
-    let lent = c.pre.0 in
+    let lent = c.requires.0 in
     let row = lent.rows c.args.k (omega arith) in
-    let (below, same) = row.left (ap takes_left c.pre.2) in
+    let (below, same) = row.left (ap takes_left c.requires.2) in
     let at = c.field-operand.ensures in
     let few = lent.entry in
     (omega arith, λ j h. lent.rows j (omega arith), lent.words_room, lent.copy_keeps, lent.waiting_keeps, lent.views)
 
 pub overflow_sub-k : goal.overflow_sub-k
 overflow_sub-k c =
-    let lent = c.pre.0 in
-    let (below, same) = (lent.rows c.args.k (omega arith)).right (ap takes_right c.pre.2) in
+    let lent = c.requires.0 in
+    let (below, same) = (lent.rows c.args.k (omega arith)).right (ap takes_right c.requires.2) in
     omega arith
 
 pub overflow_add-i-2 : goal.overflow_add-i-2
-overflow_add-i-2 c = let few = c.pre.1 in omega arith
+overflow_add-i-2 c = let few = c.requires.1 in omega arith
 
 pub search-right-requires : goal.search-right-requires
 search-right-requires c =
-    let lent = c.pre.0 in
+    let lent = c.requires.0 in
     let few = lent.entry in
     let room = lent.words_room in
     let kept = c.search-left.kept.1.1.1.1.1.1.1.1.1.0 in
@@ -43,8 +43,8 @@ search-right-requires c =
 pub returns : goal.returns
 returns c =
     let a = c.args in
-    let lent = c.pre.0 in
-    let few = c.pre.1 in
+    let lent = c.requires.0 in
+    let few = c.requires.1 in
     let records = lent.few in
     let e = c.say_search.ensures in
     let from_is : c.choose-from.result ≡ cond (ltb c.first_at-near.result c.search-left.result.after) (c.search-left.result.after - 1) c.first_at-near.result =

@@ -15,7 +15,7 @@ use Rattle.sentences.proofs.saying.say_until.Goals as goal
 
 pub overflow_add-now : goal.overflow_add-now
 overflow_add-now c =
-    let lent = c.pre.0 in
+    let lent = c.requires.0 in
     let high = (lent.rows c.args.k (omega arith)).high in
     let is = c.field.ensures in
     let small = c.time_of-now.ensures.0 in
@@ -23,7 +23,7 @@ overflow_add-now c =
 
 pub overflow_add-now-2 : goal.overflow_add-now-2
 overflow_add-now-2 c =
-    let lent = c.pre.0 in
+    let lent = c.requires.0 in
     let high = (lent.rows c.args.k (omega arith)).high in
     let is = c.field.ensures in
     let small = c.time_of-now.ensures.0 in
@@ -31,7 +31,7 @@ overflow_add-now-2 c =
 
 pub overflow_add-now-3 : goal.overflow_add-now-3
 overflow_add-now-3 c =
-    let lent = c.pre.0 in
+    let lent = c.requires.0 in
     let low = lent.lows c.args.k (omega arith) in
     let is = c.field-2.ensures in
     let small = c.time_of-now.ensures.0 in
@@ -39,22 +39,22 @@ overflow_add-now-3 c =
 
 pub search-left-requires : goal.search-left-requires
 search-left-requires c =
-    let lent = c.pre.0 in
+    let lent = c.requires.0 in
     let row = lent.rows c.args.k (omega arith) in
-    let (below, same) = row.left (ap takes_left c.pre.2) in
+    let (below, same) = row.left (ap takes_left c.requires.2) in
     let at = c.field-operand.ensures in
     let few = lent.entry in
     (omega arith, λ j h. lent.rows j (omega arith), lent.words_room, lent.copy_keeps, lent.waiting_keeps, lent.views)
 
 pub overflow_sub-k : goal.overflow_sub-k
 overflow_sub-k c =
-    let lent = c.pre.0 in
-    let (below, same) = (lent.rows c.args.k (omega arith)).right (ap takes_right c.pre.2) in
+    let lent = c.requires.0 in
+    let (below, same) = (lent.rows c.args.k (omega arith)).right (ap takes_right c.requires.2) in
     omega arith
 
 pub overflow_add-stop : goal.overflow_add-stop
 overflow_add-stop c =
-    let records = c.pre.0.few in
+    let records = c.requires.0.few in
     let most : c.choose-stop.result ≤ 2000000 =
     rw c.choose-stop.ensures (either_most (ltb c.search-left.result.first c.search-left.result.done) c.search-left.result.first c.first_at-over.result 2000000
     (omega (arith, c.search-left.ensures.bounded.0.1, c.search-left.ensures.bounded.0.0, c.first_at-over.ensures.0)) (omega (arith, c.first_at-over.ensures.0))) in
@@ -62,7 +62,7 @@ overflow_add-stop c =
 
 pub search-right-requires : goal.search-right-requires
 search-right-requires c =
-    let lent = c.pre.0 in
+    let lent = c.requires.0 in
     let few = lent.entry in
     let room = lent.words_room in
     let kept = c.search-left.kept.1.1.1.1.1.1.1.1.1.0 in
@@ -71,8 +71,8 @@ search-right-requires c =
 pub returns : goal.returns
 returns c =
     let a = c.args in
-    let lent = c.pre.0 in
-    let few = c.pre.1 in
+    let lent = c.requires.0 in
+    let few = c.requires.1 in
     let records = lent.few in
     let e = c.say_search.ensures in
     let stop_is = c.choose-stop.ensures in record {
