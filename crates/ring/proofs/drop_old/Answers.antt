@@ -1,9 +1,10 @@
 -- `ring::drop_old` meets its contract. The loop's invariant: dropping from what remains gives the same as from all.
 use native.Mathlib.Omega.{arith}
-use mathlib.Core.Logic.{inl, inr, ⊎_elim}
+use mathlib.Core.Logic.{inl, inr}
 use lib.ListN.{length-set}
 use Rattle.ring.proofs.Cells.{remains_all, remains_less, remains_done}
 use Rattle.ring.proofs.drop_old.Goals as goal
+use Rattle.ring.proofs.drop_old.Goals.{else-loop-count-test, then-loop-count-test+then-gap-high}
 
 pub loop-count-init : goal.loop-count-init
 loop-count-init c =
@@ -41,8 +42,8 @@ returns c =
     let a = c.args in
     let l = c.loop-count in
     remains_done a.cells a.high a.at a.block.now (omega arith) l.start l.count l.invariant.0
-    (⊎_elim
-    (λ w. inl (let e = w.left in omega arith))
-    (λ w. inr (w.1.result, w.1.ensures.2 (omega arith), let g = w.3.ensures in let t = w.4.taken in omega arith))
-    c.loop-count-test.branch)
+    (elim c.loop-count-test.branch [
+      else-loop-count-test w ↦ inl (let e = w.loop-count-test.false in omega arith)
+    | then-loop-count-test+then-gap-high w ↦ inr (w.cell.result, w.cell.ensures.2 (omega arith), let g = w.gap.ensures in let t = w.if-gap-high.true in omega arith)
+    ])
     l.invariant.2

@@ -3,7 +3,7 @@ use Prim.Native.Nat.{ℕ, ◌+◌, ◌-◌, ◌≤◌, ◌<◌, ◌^◌}
 use native.Mathlib.Omega.{arith}
 use mathlib.Core.Bool.{Bool, true, false}
 use mathlib.Core.Bool.{not as negate}
-use mathlib.Core.Logic.{⊎_elim}
+use mathlib.Core.Logic.{}
 use mathlib.Core.Path.{◌≡◌, refl, sym, ◌∙◌}
 use lib.Dec.{ltb}
 use lib.ListN.{length-set}
@@ -15,6 +15,7 @@ use Rattle.bits.proofs.Zeros.{one_behind_last}
 use Rattle.trace.specs.Format.{time_at}
 use Rattle.ring.proofs.Cells.{pushing_none, pushing_skip, pushing_next, pushing_rest, pushing_done}
 use Rattle.ring.proofs.push_all.Goals as goal
+use Rattle.ring.proofs.push_all.Goals.{then-test-count, else-test-count}
 
 turned : (x : Bool) → negate x ≡ true → x ≡ false
 turned true e = sym e
@@ -52,36 +53,36 @@ loop-i-preserved c =
     let start = t in
     let a = start.args in
     let at = time_at a.window.now in
-    ⊎_elim
-    (λ w.
-    let (yes', free) = (and_iff t.test.result (ltb l.count a.cells)).0 w.0.taken in
-    let added = w.3 in (
-      omega arith,
-      omega arith,
-      rw w.7 added.ensures.1,
-      rw w.6 (added.kept.1.1.1.1.1.0 ∙ l.invariant.3),
-      rw (w.6, w.7, w.8, added.ensures.0, added.ensures.2, w.1.ensures.0)
-          (pushing_next a.cells at a.right a.from a.block.now start.at_most-start.result l.i l.block l.count l.newest
-          l.invariant.0
-          l.invariant.4
-          (omega arith)
-          (ltb-true l.count a.cells free)
-          (omega arith)
-          (rw w.1.ensures.0 at w.1.ensures.1)
-          (sym t.test.ensures ∙ yes')),
-    ))
-    (λ w. (
-      omega arith,
-      omega arith,
-      rw w.2 l.invariant.2,
-      rw w.1 l.invariant.3,
-      rw (w.1, w.2, w.3)
-          (pushing_skip a.cells at a.right a.from a.block.now start.at_most-start.result l.i l.block l.count l.newest
-          l.invariant.0
-          l.invariant.4
-          (rw t.test.ensures at w.0.left)),
-    ))
-    c.if-test-count.branch
+    elim c.if-test-count.branch [
+      then-test-count w ↦
+        let (yes', free) = (and_iff t.test.result (ltb l.count a.cells)).0 w.if-test-count.true in
+        let added = w.add-count in (
+          omega arith,
+          omega arith,
+          rw w.count-is added.ensures.1,
+          rw w.block-is (added.auto.block ∙ l.invariant.3),
+          rw (w.block-is, w.count-is, w.newest-is, added.ensures.0, added.ensures.2, w.time-now.ensures.0)
+              (pushing_next a.cells at a.right a.from a.block.now start.at_most-start.result l.i l.block l.count l.newest
+              l.invariant.0
+              l.invariant.4
+              (omega arith)
+              (ltb-true l.count a.cells free)
+              (omega arith)
+              (rw w.time-now.ensures.0 at w.time-now.ensures.1)
+              (sym t.test.ensures ∙ yes')),
+        )
+    | else-test-count w ↦ (
+        omega arith,
+        omega arith,
+        rw w.count-is l.invariant.2,
+        rw w.block-is l.invariant.3,
+        rw (w.block-is, w.count-is, w.newest-is)
+            (pushing_skip a.cells at a.right a.from a.block.now start.at_most-start.result l.i l.block l.count l.newest
+            l.invariant.0
+            l.invariant.4
+            (rw t.test.ensures at w.if-test-count.false)),
+      )
+    ]
 
 pub shape_of-block : goal.shape_of-block
 shape_of-block c = length-set c.loop-i.block 10 c.loop-i.count ∙ c.loop-i.invariant.3

@@ -1,5 +1,5 @@
 -- `ring::push_if` meets its contract, by whether the time was added, was the newest already, or was not to be added.
-use mathlib.Core.Logic.{inl, inr, ⊎_elim}
+use mathlib.Core.Logic.{inl, inr}
 use lib.Dec.{ltb}
 use native.Mathlib.Omega.{arith}
 use lib.ListN.{length-set, get_or}
@@ -7,6 +7,7 @@ use borrow.Author.Tests.{ltb-true, eqb-true, eqb-false, not-true, not-false}
 use Rattle.mtl.proofs.Bounded.{and_iff}
 use Rattle.ring.proofs.Cells.{not_pushed, newest_already, is_pushed}
 use Rattle.ring.proofs.push_if.Goals as goal
+use Rattle.ring.proofs.push_if.Goals.{then-count-eq0-via-then-count-eq0, then-count-eq0-via-else-count-eq0+then-block-cell}
 
 pub bounds-block-10-then-count-eq0 : goal.bounds-block-10-then-count-eq0
 bounds-block-10-then-count-eq0 c = simp length-set (omega arith)
@@ -26,10 +27,10 @@ returns-then-count-eq0 c =
     (λ h. c.cell-end.ensures.2 (omega arith))
     f
     c.if-right-count.true
-    (⊎_elim
-    (λ w. inl w.taken)
-    (λ w. inr (w.1.result, omega arith, w.1.ensures.2 (omega arith), eqb-false (get_or a.block.now w.1.result 0) a.at (not-true _ w.3.taken)))
-    c.if-count-eq0.branch)
+    (elim c.then-count-eq0.branch [
+      then-count-eq0-via-then-count-eq0 w ↦ inl w.if-count-eq0.true
+    | then-count-eq0-via-else-count-eq0+then-block-cell w ↦ inr (w.cell.result, omega arith, w.cell.ensures.2 (omega arith), w.if-block-cell.true)
+    ])
 
 pub returns-else-block-cell : goal.returns-else-block-cell
 returns-else-block-cell c =
@@ -43,7 +44,7 @@ returns-else-block-cell c =
     c.cell.result
     (omega arith)
     (c.cell.ensures.2 (omega arith))
-    (eqb-true (get_or a.block.now c.cell.result 0) a.at (not-false _ c.if-block-cell.false))
+    c.if-block-cell.false
 
 pub returns-else-right-count : goal.returns-else-right-count
 returns-else-right-count c =

@@ -1,11 +1,11 @@
 -- `walks::walk_told` meets its contract, by the laws of proofs/Told. Assumes nothing.
 use native.Mathlib.Omega.{arith}
-use mathlib.Core.Logic.{inl, inr, ⊎_elim}
+use mathlib.Core.Logic.{inl, inr}
 use mathlib.Core.Path.{◌∙◌}
 use Rattle.trace.specs.Format.{time_at}
 use Rattle.walks.proofs.Told.{Tells, tells, Found, found_most, told_walk}
 use Rattle.walks.proofs.walk_told.Goals as goal
-use Rattle.walks.proofs.walk_told.Goals.{Joined-low-eq0, Start}
+use Rattle.walks.proofs.walk_told.Goals.{Joined-low-eq0, Start, then-low-eq0, else-low-eq0}
 
 settles : (b : Start) → Tells b.args.low b.args.lead b.args.from
 settles b = tells b.args.low b.args.lead b.args.from b.requires.0
@@ -14,10 +14,10 @@ found : (j : Joined-low-eq0) →
     let a = j.args in
     Found a.low (time_at a.starts.now) a.from j.smaller-count.result j.if-low-eq0.met
 found j =
-    ⊎_elim
-    (λ w. inl (w.0.taken, w.2 ∙ w.1.ensures))
-    (λ w. inr (omega arith, rw w.3 (rw w.1.ensures at w.2.ensures)))
-    j.if-low-eq0.branch
+    elim j.if-low-eq0.branch [
+      then-low-eq0 w ↦ inl (w.if-low-eq0.true, w.met-is ∙ w.keep_if-met.ensures)
+    | else-low-eq0 w ↦ inr (omega arith, rw w.met-is (rw w.keep_if.ensures at w.count_met-met.ensures))
+    ]
 
 pub count_met-met-requires : goal.count_met-met-requires
 count_met-met-requires c = let small = (settles (goal.at.count_met-met-requires c).Start).small in (omega arith, omega arith)
