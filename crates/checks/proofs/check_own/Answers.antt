@@ -12,14 +12,14 @@ use Rattle.checks.proofs.check_own.Goals.{In-Words}
 -- the words that `size_of` gives
 words_of : (d : In-Words) →
     let a = d.args in Words d.in-Words.field-0 ≡ sized_by a.decreases (length a.point.now)
-words_of d = sym d.in-Words.is ∙ d.type_size.ensures
+words_of d = sym d.in-Words.is ∙ d.size_of-sized.ensures
 
 pub returns-in_default : goal.returns-in_default
 returns-in_default c =
     let a = c.args in
     let stopped = c.in_default.is in
     ap Failed (c.number.ensures ∙ ap sized_number stopped)
-    ∙ ap (λ (r : Sized). own_checked r a.version a.entries a.count a.point.now) (sym stopped ∙ c.type_size.ensures)
+    ∙ ap (λ (r : Sized). own_checked r a.version a.entries a.count a.point.now) (sym stopped ∙ c.size_of-sized.ensures)
 
 pub check_words-requires : goal.check_words-requires
 check_words-requires c =

@@ -17,10 +17,10 @@ returns-in_default c =
 
 pub returns-then-lent-words : goal.returns-then-lent-words
 returns-then-lent-words c =
-    let l : c.args.lent < c.decreases.given.0.0 = omega arith in
-    rw (c.decreases.given.1, lt-ltb _ _ l)
+    let l : c.args.lent < c.in-Words.words = omega arith in
+    rw (c.in-Words.is, lt-ltb _ _ l)
 
 pub returns-else-lent-words : goal.returns-else-lent-words
 returns-else-lent-words c =
-    let l : c.decreases.given.0.0 ≤ c.args.lent = omega arith in
-    rw (c.decreases.given.1, le-ltb _ _ l)
+    let l : c.in-Words.words ≤ c.args.lent = omega arith in
+    rw (c.in-Words.is, le-ltb _ _ l)

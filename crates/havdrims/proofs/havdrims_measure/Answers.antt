@@ -12,4 +12,4 @@ pub returns : goal.returns
 returns c =
     let a = c.args in
     let m = c.measure-measured in
-    is_measured a.rule.now a.words.now a.reach.now m.result m.ensures w.0.0 w.0.1.0 w.1
+    is_measured a.rule.now a.words.now a.reach.now m.result m.ensures c.in-Words.need c.in-Words.most c.in-Words.is

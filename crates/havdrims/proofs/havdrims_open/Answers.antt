@@ -8,11 +8,11 @@ use Rattle.havdrims.proofs.havdrims_open.Goals as goal
 pub returns-in_default : goal.returns-in_default
 returns-in_default c =
     let a = c.args in
-    let o = c.«open» in
-    opening a.rule.now a.point.now (answer o.result) o.new.1.0 o.ensures c.number.result c.number.ensures
+    let o = c.open-opened in
+    opening a.rule.now a.point.now (answer o.result) o.new.point o.ensures c.number.result c.number.ensures
 
 pub returns : goal.returns
 returns c =
     let a = c.args in
-    let o = c.«open» in
-    opening a.rule.now a.point.now (answer o.result) o.new.1.0 o.ensures 0 (sym (ap (λ (x : Opened). (answer x).number) c.in-Done.is))
+    let o = c.open-opened in
+    opening a.rule.now a.point.now (answer o.result) o.new.point o.ensures 0 (sym (ap (λ (x : Opened). (answer x).number) c.in-Done.is))

@@ -17,26 +17,26 @@ use Rattle.monitor.proofs.open.Goals.{After-size_of-sized, In-Words}
 -- the answer of `size_of` is by the rule's own answer
 sized_for : (d : After-size_of-sized) →
     let a = d.args in
-    d.type_size.result ≡ sized_of a.rule.now (length a.point.now)
+    d.size_of-sized.result ≡ sized_of a.rule.now (length a.point.now)
 sized_for d =
     let a = d.args in
     let m = d.measure_decoded in
     let measured =
     measured_once _ _ d.check_header-header.ensures _ _ d.count-count.ensures
     d.decode-entries.ensures in
-    d.type_size.ensures ∙ sized_is a.rule.now m.result (length a.point.now) (m.ensures ∙ measured)
+    d.size_of-sized.ensures ∙ sized_is a.rule.now m.result (length a.point.now) (m.ensures ∙ measured)
 
 -- the answer of `size_of` is by the rule's own answer
 sized_for_2 : (d : In-Words) →
     let a = d.args in
-    d.type_size.result ≡ sized_of a.rule.now (length a.point.now)
+    d.size_of-sized.result ≡ sized_of a.rule.now (length a.point.now)
 sized_for_2 d =
     let a = d.args in
     let m = d.measure_decoded in
     let measured =
     measured_once _ _ d.check_header-header.ensures _ _ d.count-count.ensures
     d.decode-entries.ensures in
-    d.type_size.ensures ∙ sized_is a.rule.now m.result (length a.point.now) (m.ensures ∙ measured)
+    d.size_of-sized.ensures ∙ sized_is a.rule.now m.result (length a.point.now) (m.ensures ∙ measured)
 
 -- the words that it gives
 words_of : (d : In-Words) →

@@ -18,26 +18,26 @@ use Rattle.monitor.proofs.resume_or_close.Goals.{After-check_point-checked, Afte
 -- the answer of `size_of` is by the rule's own answer
 sized_for : (d : After-size_of-sized) →
     let a = d.args in
-    d.type_size.result ≡ sized_of a.rule.now (length a.point.now)
+    d.size_of-sized.result ≡ sized_of a.rule.now (length a.point.now)
 sized_for d =
     let a = d.args in
     let m = d.measure_decoded in
     let measured =
     measured_once _ _ d.check_header-header.ensures _ _ d.count-count.ensures
     d.decode-entries.ensures in
-    d.type_size.ensures ∙ sized_is a.rule.now m.result (length a.point.now) (m.ensures ∙ measured)
+    d.size_of-sized.ensures ∙ sized_is a.rule.now m.result (length a.point.now) (m.ensures ∙ measured)
 
 -- the answer of `size_of` is by the rule's own answer
 sized_for_2 : (d : In-Words) →
     let a = d.args in
-    d.type_size.result ≡ sized_of a.rule.now (length a.point.now)
+    d.size_of-sized.result ≡ sized_of a.rule.now (length a.point.now)
 sized_for_2 d =
     let a = d.args in
     let m = d.measure_decoded in
     let measured =
     measured_once _ _ d.check_header-header.ensures _ _ d.count-count.ensures
     d.decode-entries.ensures in
-    d.type_size.ensures ∙ sized_is a.rule.now m.result (length a.point.now) (m.ensures ∙ measured)
+    d.size_of-sized.ensures ∙ sized_is a.rule.now m.result (length a.point.now) (m.ensures ∙ measured)
 
 -- the words that it gives
 words_of : (d : In-Words) →
@@ -66,14 +66,14 @@ version_for d =
 -- the answer of `size_of` is by the rule's own answer
 sized_for_3 : (d : After-check_point-checked) →
     let a = d.args in
-    d.type_size.result ≡ sized_of a.rule.now (length a.point.now)
+    d.size_of-sized.result ≡ sized_of a.rule.now (length a.point.now)
 sized_for_3 d =
     let a = d.args in
     let m = d.measure_decoded in
     let measured =
     measured_once _ _ d.check_header-header.ensures _ _ d.count-count.ensures
     d.decode-entries.ensures in
-    d.type_size.ensures ∙ sized_is a.rule.now m.result (length a.point.now) (m.ensures ∙ measured)
+    d.size_of-sized.ensures ∙ sized_is a.rule.now m.result (length a.point.now) (m.ensures ∙ measured)
 
 -- the words that it gives
 words_of_2 : (d : After-check_point-checked) →
@@ -112,14 +112,14 @@ checked_for d =
 -- the answer of `size_of` is by the rule's own answer
 sized_for_4 : (d : In-Passed) →
     let a = d.args in
-    d.type_size.result ≡ sized_of a.rule.now (length a.point.now)
+    d.size_of-sized.result ≡ sized_of a.rule.now (length a.point.now)
 sized_for_4 d =
     let a = d.args in
     let m = d.measure_decoded in
     let measured =
     measured_once _ _ d.check_header-header.ensures _ _ d.count-count.ensures
     d.decode-entries.ensures in
-    d.type_size.ensures ∙ sized_is a.rule.now m.result (length a.point.now) (m.ensures ∙ measured)
+    d.size_of-sized.ensures ∙ sized_is a.rule.now m.result (length a.point.now) (m.ensures ∙ measured)
 
 -- the words that it gives
 words_of_3 : (d : In-Passed) →
@@ -178,7 +178,7 @@ returns-in_default c =
     let a = c.args in
     let d = c in
     resume_refused a.closing a.rule.now a.log.now a.point.now a.sheet.now c.number.result
-    (stopped a.rule.now a.point.now _ d.type_size.result c.in_default.field-0 c.number.result (sized_for (goal.at.returns-in_default c).After-size_of-sized) c.in_default.is c.number.ensures)
+    (stopped a.rule.now a.point.now _ d.size_of-sized.result c.in_default.field-0 c.number.result (sized_for (goal.at.returns-in_default c).After-size_of-sized) c.in_default.is c.number.ensures)
 
 pub check_point-checked-requires : goal.check_point-checked-requires
 check_point-checked-requires c =

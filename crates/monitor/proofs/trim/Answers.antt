@@ -18,22 +18,22 @@ use Rattle.monitor.proofs.trim.Goals.{After-check_trimming-checked, After-size_o
 -- the answer of `size_of` is by the rule's own answer
 sized_for : (d : After-size_of-sized) →
     let a = d.args in
-    d.type_size.result ≡ sized_of a.rule.now (length a.point.now)
+    d.size_of-sized.result ≡ sized_of a.rule.now (length a.point.now)
 sized_for d =
     let a = d.args in
     let m = d.measure_decoded in
-    d.type_size.ensures ∙
+    d.size_of-sized.ensures ∙
     sized_once a.rule.now _ _ _ _ d.check_header-header.ensures d.version-version.ensures d.count-count.ensures d.decode-entries.ensures
     m.result m.ensures (length a.point.now)
 
 -- the answer of `size_of` is by the rule's own answer
 sized_for_2 : (d : In-Words) →
     let a = d.args in
-    d.type_size.result ≡ sized_of a.rule.now (length a.point.now)
+    d.size_of-sized.result ≡ sized_of a.rule.now (length a.point.now)
 sized_for_2 d =
     let a = d.args in
     let m = d.measure_decoded in
-    d.type_size.ensures ∙
+    d.size_of-sized.ensures ∙
     sized_once a.rule.now _ _ _ _ d.check_header-header.ensures d.version-version.ensures d.count-count.ensures d.decode-entries.ensures
     m.result m.ensures (length a.point.now)
 
@@ -46,11 +46,11 @@ words_of d = sym d.in-Words.is ∙ sized_for_2 d
 -- the answer of `size_of` is by the rule's own answer
 sized_for_3 : (d : After-check_trimming-checked) →
     let a = d.args in
-    d.type_size.result ≡ sized_of a.rule.now (length a.point.now)
+    d.size_of-sized.result ≡ sized_of a.rule.now (length a.point.now)
 sized_for_3 d =
     let a = d.args in
     let m = d.measure_decoded in
-    d.type_size.ensures ∙
+    d.size_of-sized.ensures ∙
     sized_once a.rule.now _ _ _ _ d.check_header-header.ensures d.version-version.ensures d.count-count.ensures d.decode-entries.ensures
     m.result m.ensures (length a.point.now)
 
@@ -78,11 +78,11 @@ checked_for d =
 -- the answer of `size_of` is by the rule's own answer
 sized_for_4 : (d : In-Passed) →
     let a = d.args in
-    d.type_size.result ≡ sized_of a.rule.now (length a.point.now)
+    d.size_of-sized.result ≡ sized_of a.rule.now (length a.point.now)
 sized_for_4 d =
     let a = d.args in
     let m = d.measure_decoded in
-    d.type_size.ensures ∙
+    d.size_of-sized.ensures ∙
     sized_once a.rule.now _ _ _ _ d.check_header-header.ensures d.version-version.ensures d.count-count.ensures d.decode-entries.ensures
     m.result m.ensures (length a.point.now)
 
@@ -124,7 +124,7 @@ returns-in_default c =
     let a = c.args in
     let d = c in
     trim_refused a.rule.now a.log.now a.point.now a.out.now c.number.result
-    (stopped a.rule.now a.point.now _ d.type_size.result c.in_default.field-0 c.number.result (sized_for (goal.at.returns-in_default c).After-size_of-sized) c.in_default.is c.number.ensures)
+    (stopped a.rule.now a.point.now _ d.size_of-sized.result c.in_default.field-0 c.number.result (sized_for (goal.at.returns-in_default c).After-size_of-sized) c.in_default.is c.number.ensures)
 
 pub check_trimming-checked-requires : goal.check_trimming-checked-requires
 check_trimming-checked-requires c =
@@ -132,7 +132,7 @@ check_trimming-checked-requires c =
     let m = c.measure_decoded in
     covered m.result _ _ _ (length a.point.now) c.in-Words.field-0
     (covers a.rule.now _ _ _ _ c.check_header-header.ensures c.version-version.ensures c.count-count.ensures c.decode-entries.ensures m.result m.ensures)
-    (sym c.in-Words.is ∙ c.type_size.ensures)
+    (sym c.in-Words.is ∙ c.size_of-sized.ensures)
 
 pub returns-in_default-checked : goal.returns-in_default-checked
 returns-in_default-checked c =

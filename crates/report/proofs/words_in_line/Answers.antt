@@ -5,11 +5,9 @@ use Rattle.report.proofs.words_in_line.Goals as goal
 pub returns-in_default : goal.returns-in_default
 returns-in_default c fine =
     let f = c.formulas in
-    let told = c.enum_told-1.given in
-    absurd (formulas_known c.args.rule.now fine f.result f.ensures told.0.0 told.1)
+    absurd (formulas_known c.args.rule.now fine f.result f.ensures c.in_default.field-0 c.in_default.is)
 
 pub returns : goal.returns
 returns c fine =
     let f = c.formulas in
-    let told = c.columns-1.given in
-    formulas_counted c.args.rule.now fine f.result f.ensures told.0.0 told.1
+    formulas_counted c.args.rule.now fine f.result f.ensures c.in-Formulas.columns c.in-Formulas.is

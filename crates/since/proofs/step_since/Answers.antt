@@ -24,14 +24,14 @@ taking d = available _ _ _ _ (rw d.smaller-both.ensures at d.available-count.ens
 pub returns-then-block-eq0 : goal.returns-then-block-eq0
 returns-then-block-eq0 c =
     let a = c.args in
-    record { ends = (refl, refl, c.if-block-eq0.taken); steps = since_left a.low a.high a.view.now a.records.now a.block.now; keeps = c.requires.2 }
+    record { ends = (refl, refl, c.if-block-eq0.true); steps = since_left a.low a.high a.view.now a.records.now a.block.now; keeps = c.requires.2 }
 
 pub returns-then-block-eq0-2 : goal.returns-then-block-eq0-2
 returns-then-block-eq0-2 c =
     let after_if1 = c in
     let start = after_if1 in
     let a = start.args in
-    record { ends = (refl, refl, c.if-block-eq0-2.taken, λ e. pos_of_ne-zero after_if1.if-block-eq0.left); steps = since_right a.low a.high a.view.now a.records.now a.block.now; keeps = start.requires.2 }
+    record { ends = (refl, refl, c.if-block-eq0-2.true, λ e. pos_of_ne-zero after_if1.if-block-eq0.false); steps = since_right a.low a.high a.view.now a.records.now a.block.now; keeps = start.requires.2 }
 
 pub returns-then-count-eq0 : goal.returns-then-count-eq0
 returns-then-count-eq0 c =
@@ -40,7 +40,7 @@ returns-then-count-eq0 c =
     let start = earlier6 in
     let a = start.args in
     let (left, right, room) = both (earlier6) in
-    record { ends = refl; steps = since_open a.low a.high a.view.now a.records.now a.block.now after_available.available-count.result left right room (taking (goal.at.returns-then-count-eq0 c).After-available-count) c.if-count-eq0.taken; keeps = start.requires.2 }
+    record { ends = refl; steps = since_open a.low a.high a.view.now a.records.now a.block.now after_available.available-count.result left right room (taking (goal.at.returns-then-count-eq0 c).After-available-count) c.if-count-eq0.true; keeps = start.requires.2 }
 
 pub open-window-requires : goal.open-window-requires
 open-window-requires c =
@@ -56,8 +56,8 @@ take_window-bits-requires c =
     let start = earlier7 in
     let a = start.args in
     let pre = start.requires in
-    let opened = earlier3.«open».ensures in
-    (pre.0, pre.1, readable a.view.now (head a.block.now) opened, opened.long, pos_of_ne-zero after_if3.if-count-eq0.left, (taking (earlier7)).few)
+    let opened = earlier3.open-window.ensures in
+    (pre.0, pre.1, readable a.view.now (head a.block.now) opened, opened.long, pos_of_ne-zero after_if3.if-count-eq0.false, (taking (earlier7)).few)
 
 pub take_both-requires : goal.take_both-requires
 take_both-requires c =
@@ -71,12 +71,12 @@ take_both-requires c =
     let (left, right, room) = both (earlier16) in
     let turn = after_take_window.take_window-bits in
     takable a.low a.high a.view.now a.records.now a.block.now after_available.available-count.result left right room (taking (goal.at.take_both-requires c).After-available-count)
-    (pos_of_ne-zero after_if3.if-count-eq0.left)
-    earlier7.«open».result
+    (pos_of_ne-zero after_if3.if-count-eq0.false)
+    earlier7.open-window.result
     _
-    earlier7.«open».ensures
-    turn.last.1.1.1.1.1.1.0
-    turn.kept.1.1.1.1.1.1.0
+    earlier7.open-window.ensures
+    turn.new.block
+    turn.auto.block
     turn.result
     turn.ensures
     after_available.available-count.ensures.1
@@ -85,15 +85,15 @@ pub pass-requires : goal.pass-requires
 pass-requires c =
     let after_open = c in
     let after_available = after_open in
-    let opened = after_open.«open» in
-    (after_available.requires.3, (after_available.available-count.result, opened.last.1.1.1.1.0, omega arith, opened.ensures))
+    let opened = after_open.open-window in
+    (after_available.requires.3, (after_available.available-count.result, opened.new.copy, omega arith, opened.ensures))
 
 pub bounds-block-11-2 : goal.bounds-block-11-2
 bounds-block-11-2 c =
-    omega (arith, c.take_both.kept.0, c.take_window-bits.kept.1.1.1.1.1.1.0, c.requires.1)
+    omega (arith, c.take_both.auto.block, c.take_window-bits.auto.block, c.requires.1)
 
 pub shape_of-block : goal.shape_of-block
-shape_of-block c = length-set c.take_both.last.0 11 c.pass.result ∙ c.take_both.kept.0 ∙ c.take_window-bits.kept.1.1.1.1.1.1.0
+shape_of-block c = length-set c.take_both.new.block 11 c.pass.result ∙ c.take_both.auto.block ∙ c.take_window-bits.auto.block
 
 pub returns : goal.returns
 returns c =
@@ -109,20 +109,20 @@ returns c =
     let (left, right, room) = both (earlier20) in
     let turn = after_take_window.take_window-bits in
     let av = taking (goal.at.returns c).After-available-count in
-    let some = pos_of_ne-zero after_if3.if-count-eq0.left in
-    let opened = earlier11.«open».ensures in record {
+    let some = pos_of_ne-zero after_if3.if-count-eq0.false in
+    let opened = earlier11.open-window.ensures in record {
       ends = rw after_take_both.take_both.ensures
-          (since_onward a.low a.high a.view.now a.records.now a.block.now after_available.available-count.result left right room av some earlier11.«open».result _ opened
-          turn.last.1.1.1.1.1.1.0
-          turn.kept.1.1.1.1.1.1.0
+          (since_onward a.low a.high a.view.now a.records.now a.block.now after_available.available-count.result left right room av some earlier11.open-window.result _ opened
+          turn.new.block
+          turn.auto.block
           turn.result
           turn.ensures
           c.pass.result
           c.pass.ensures);
       steps = rw after_take_both.take_both.ensures
-          (since_batch a.low a.high a.view.now a.records.now a.block.now after_available.available-count.result left right room av some earlier11.«open».result _ opened
-          turn.last.1.1.1.1.1.1.0
-          turn.kept.1.1.1.1.1.1.0
+          (since_batch a.low a.high a.view.now a.records.now a.block.now after_available.available-count.result left right room av some earlier11.open-window.result _ opened
+          turn.new.block
+          turn.auto.block
           turn.result
           turn.ensures
           c.pass.result

@@ -21,7 +21,7 @@ first_waits-requires c =
     let o = c in
     let s = o in
     let room = s.requires.0 in
-    let next = o.«open».ensures in
+    let next = o.open-ahead.ensures in
     (omega arith, record { inside = readable s.args.view.now _ next; long = next.long })
 
 pub returns : goal.returns
@@ -46,10 +46,10 @@ returns c =
               some = omega arith;
               inside = omega arith;
               ends = omega arith;
-              next = o.«open».ensures;
+              next = o.open-ahead.ensures;
               start = t.first_time-start.ensures;
               unknown = c.first_waits.ensures e;
             }),
       );
-      keeps = o.«open».ensures.keeps;
+      keeps = o.open-ahead.ensures.keeps;
     }

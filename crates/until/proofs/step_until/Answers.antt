@@ -19,28 +19,28 @@ use Rattle.until.proofs.step_until.Goals.{After-open-ahead, After-walk_on-stride
 opened : (c : After-open-ahead) →
     let k = c in
     let a = k.args in
-    OpensAhead a.view.now a.records.now a.block.now k.room_of-room.result c.«open».result c.«open».new.1.1.1.1.0
+    OpensAhead a.view.now a.records.now a.block.now k.room_of-room.result c.open-ahead.result c.open-ahead.new.copy
 opened c =
     let k = c in
     let s = k in
-    record { room = s.requires.0; behind = (stands_inside _ _ _ k.if-total-at.false).0; fits = k.room_of-room.ensures; next = c.«open».ensures }
+    record { room = s.requires.0; behind = (stands_inside _ _ _ k.if-total-at.false).0; fits = k.room_of-room.ensures; next = c.open-ahead.ensures }
 
 -- what is known after the window ahead was opened
 opened_2 : (c : After-walk_on-stride) →
     let k = c in
     let a = k.args in
-    OpensAhead a.view.now a.records.now a.block.now k.room_of-room.result c.«open».result c.«open».new.1.1.1.1.0
+    OpensAhead a.view.now a.records.now a.block.now k.room_of-room.result c.open-ahead.result c.open-ahead.new.copy
 opened_2 c =
     let k = c in
     let s = k in
-    record { room = s.requires.0; behind = (stands_inside _ _ _ k.if-total-at.false).0; fits = k.room_of-room.ensures; next = c.«open».ensures }
+    record { room = s.requires.0; behind = (stands_inside _ _ _ k.if-total-at.false).0; fits = k.room_of-room.ensures; next = c.open-ahead.ensures }
 
 -- what is known after the walk
 went : (c : After-walk_on-stride) →
     let o = c in
     let k = o in
     let a = k.args in
-    Went a.low a.high o.smaller-most.result a.view.now a.records.now a.block.now k.room_of-room.result o.«open».result o.«open».new.1.1.1.1.0
+    Went a.low a.high o.smaller-most.result a.view.now a.records.now a.block.now k.room_of-room.result o.open-ahead.result o.open-ahead.new.copy
     c.walk_on-stride.result
 went c =
     let o = c in
@@ -56,8 +56,8 @@ went c =
 copies : (c : After-walk_on-stride) →
     let o = c in
     let s = o.args.records.now in
-    Keeps s o.«open».new.1.1.1.1.0 × Keeps s c.walk_on-stride.new.waiting
-copies c = (c.«open».ensures.keeps, c.walk_on-stride.ensures.keeps)
+    Keeps s o.open-ahead.new.copy × Keeps s c.walk_on-stride.new.waiting
+copies c = (c.open-ahead.ensures.keeps, c.walk_on-stride.ensures.keeps)
 
 pub returns-then-total-at : goal.returns-then-total-at
 returns-then-total-at c =
@@ -114,7 +114,7 @@ pub walk_on-stride-requires : goal.walk_on-stride-requires
 walk_on-stride-requires c =
     let o = c in
     let pre = o.requires in
-    (opened (goal.at.walk_on-stride-requires c).After-open-ahead, o.«open».ensures.keeps, pre.2, pre.3)
+    (opened (goal.at.walk_on-stride-requires c).After-open-ahead, o.open-ahead.ensures.keeps, pre.2, pre.3)
 
 pub wanted-requires-then-w-eq0-2 : goal.wanted-requires-then-w-eq0-2
 wanted-requires-then-w-eq0-2 c = (walk_fits (went (goal.at.wanted-requires-then-w-eq0-2 c).After-walk_on-stride).opens).0

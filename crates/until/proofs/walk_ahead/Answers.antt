@@ -14,5 +14,5 @@ walk_inside-requires c =
 pub returns : goal.returns
 returns c =
     let whole = let g = c in
-    rw (g.gap.ensures, g.read.ensures) at c.walk_Inside.ensures in
+    rw (g.gap.ensures, g.read.ensures) at (c.walk_inside.ensures.by_index, c.walk_inside.ensures.fact) in
     record { by_index = whole.0; fact = whole.1 }

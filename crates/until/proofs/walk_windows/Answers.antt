@@ -3,15 +3,15 @@ use native.Mathlib.Omega.{arith}
 use Rattle.until.proofs.walk_windows.Goals as goal
 
 pub read-next-requires : goal.read-next-requires
-read-next-requires c = c.requires.1.0.inside
+read-next-requires c = c.requires.has_records.0.inside
 
 pub next_time-after-requires : goal.next_time-after-requires
 next_time-after-requires c =
     let k = c in
-    rw k.read-next.ensures k.requires.1.0.long
+    rw k.read-next.ensures k.requires.has_records.0.long
 
 pub read-requires : goal.read-requires
-read-requires c = c.requires.1.1.inside
+read-requires c = c.requires.has_records.1.inside
 
 pub walk_words-requires : goal.walk_words-requires
 walk_words-requires c =

@@ -16,13 +16,13 @@ taking : (c : Else-count-eq0) →
     let a = c.args in
     let b = a.block.now in
     Shared (taken b) (left_count b) (right_count b) (total a.view.now) c.available-count.result
-taking c = shared _ _ _ _ _ _ c.smaller-both.ensures c.available-count.ensures.0 c.if-count-eq0.left
+taking c = shared _ _ _ _ _ _ c.smaller-both.ensures c.available-count.ensures.0 c.if-count-eq0.false
 
 pub returns-then-block-eq0 : goal.returns-then-block-eq0
-returns-then-block-eq0 c = record { ends = (refl, refl, c.if-block-eq0.taken); by_index = λ s φ ψ L g falls agrees ready. (refl, λ e. let core = ready.core in let w = ready.buffers.1.within in omega (arith, settled_or L φ ψ)) }
+returns-then-block-eq0 c = record { ends = (refl, refl, c.if-block-eq0.true); by_index = λ s φ ψ L g falls agrees ready. (refl, λ e. let core = ready.core in let w = ready.buffers.1.within in omega (arith, settled_or L φ ψ)) }
 
 pub returns-then-block-eq0-2 : goal.returns-then-block-eq0-2
-returns-then-block-eq0-2 c = record { ends = (refl, refl, c.if-block-eq0-2.taken, λ e. pos_of_ne-zero c.if-block-eq0.left); by_index = λ s φ ψ L g falls agrees ready. (refl, λ e. let core = ready.core in let w = ready.buffers.0.within in omega (arith, settled_or L φ ψ)) }
+returns-then-block-eq0-2 c = record { ends = (refl, refl, c.if-block-eq0-2.true, λ e. pos_of_ne-zero c.if-block-eq0.false); by_index = λ s φ ψ L g falls agrees ready. (refl, λ e. let core = ready.core in let w = ready.buffers.0.within in omega (arith, settled_or L φ ψ)) }
 
 pub returns-then-count-eq0 : goal.returns-then-count-eq0
 returns-then-count-eq0 c = record {

@@ -65,7 +65,7 @@ search-right-requires c =
     let lent = c.requires.0 in
     let few = lent.entry in
     let room = lent.words_room in
-    let kept = c.search-left.kept.1.1.1.1.1.1.1.1.1.0 in
+    let kept = c.search-left.auto.words in
     (omega arith, λ j h. lent.rows j (omega arith), omega arith, c.search-left.ensures.keeps.0, c.search-left.ensures.keeps.1, lent.views)
 
 pub returns : goal.returns
