@@ -11,7 +11,7 @@ use Rattle.checks.proofs.check_own.Goals.{In-Words}
 
 -- the words that `size_of` gives
 words_of : (d : In-Words) →
-    let a = d.args in Words d.in-Words.field-0 ≡ sized_by a.decreases (length a.point.now)
+    let a = d.args in Words d.in-Words.field-0 ≡ sized_by a.measured (length a.point.now)
 words_of d = sym d.in-Words.is ∙ d.size_of-sized.ensures
 
 pub returns-in_default : goal.returns-in_default
@@ -23,9 +23,8 @@ returns-in_default c =
 
 pub check_words-requires : goal.check_words-requires
 check_words-requires c =
-    let s = c in
-    let a = s.args in
-    covered a.decreases a.version a.entries a.count (length a.point.now) _ s.requires (words_of (goal.at.check_words-requires c).In-Words)
+    let a = c.args in
+    covered a.measured a.version a.entries a.count (length a.point.now) _ c.requires (words_of (goal.at.check_words-requires c).In-Words)
 
 pub returns : goal.returns
 returns c =

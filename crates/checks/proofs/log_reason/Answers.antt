@@ -29,9 +29,9 @@ total_records-requires c =
 
 pub records_reason-requires : goal.records_reason-requires
 records_reason-requires c =
-    let start = c in (
-      start.requires,
-      ((well_formed_iff start.args.log.now).0 (sym c.is_malformed.ensures ∙ c.if-is_malformed.false)).few,
+    (
+      c.requires,
+      ((well_formed_iff c.args.log.now).0 (sym c.is_malformed.ensures ∙ c.if-is_malformed.false)).few,
     )
 
 pub returns : goal.returns

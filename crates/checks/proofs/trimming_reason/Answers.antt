@@ -20,15 +20,15 @@ returns-then-not-skips c =
     simp (
       sym c.is_malformed.ensures ∙ c.if-is_malformed.false,
       sym c.is_other_version.ensures ∙ c.if-is_other_version.false,
-      ap negate (sym c.skips.ensures) ∙ c.if-not-skips.true,
+      ap negate (sym c.skips.ensures ∙ c.if-not-skips.true),
     )
 
 -- a log that passes check 12 has few records
 pub records_reason-requires : goal.records_reason-requires
 records_reason-requires c =
-    let start = c in (
-      start.requires,
-      ((well_formed_iff start.args.log.now).0 (sym c.is_malformed.ensures ∙ c.if-is_malformed.false)).few,
+    (
+      c.requires,
+      ((well_formed_iff c.args.log.now).0 (sym c.is_malformed.ensures ∙ c.if-is_malformed.false)).few,
     )
 
 pub returns : goal.returns
@@ -41,4 +41,4 @@ returns c =
     sym
     (passed_over 12 _ _ (sym c.is_malformed.ensures ∙ c.if-is_malformed.false) ∙
     passed_over 22 _ _ (sym c.is_other_version.ensures ∙ c.if-is_other_version.false) ∙
-    passed_over 23 _ _ (ap negate (sym c.skips.ensures) ∙ c.if-not-skips.false))
+    passed_over 23 _ _ (ap negate (sym c.skips.ensures ∙ c.if-not-skips.false)))

@@ -9,7 +9,7 @@ use Rattle.decimal.proofs.put_number.Goals.{After-decimal-count}
 
 -- what is put is the number's decimal
 spelled : (d : After-decimal-count) → take d.decimal-count.result d.decimal-count.new.out ≡ decimal d.args.n
-spelled d = decimal_of d.args.n d.decimal-count.result d.decimal-count.new.out d.decimal-count.ensures.len d.decimal-count.ensures.1.1
+spelled d = decimal_of d.args.n d.decimal-count.result d.decimal-count.new.out d.decimal-count.ensures.len d.decimal-count.ensures.digits
 
 pub put-requires : goal.put-requires
 put-requires c =

@@ -20,18 +20,16 @@ find_group-requires c =
 
 pub overflow_add-answers : goal.overflow_add-answers
 overflow_add-answers c =
-    let newest = c in
-    let l = newest.loop-i in
-    let a = newest.args in
-    let group = group_behind a.low (time_at a.window.now) a.marks a.first l.i 8 newest.newest_marked-last.result c.find_group.result newest.newest_marked-last.ensures.0 c.find_group.ensures in
+    let l = c.loop-i in
+    let a = c.args in
+    let group = group_behind a.low (time_at a.window.now) a.marks a.first l.i 8 c.newest_marked-last.result c.find_group.result c.newest_marked-last.ensures.0 c.find_group.ensures in
     record { fits = grown_fits (old_enough a.low (time_at a.window.now) a.marks a.first) 0 l.i 8 c.find_group.result l.answers (omega arith) group l.invariant.1 }
 
 pub loop-i-preserved : goal.loop-i-preserved
 loop-i-preserved c =
-    let newest = c in
-    let l = newest.loop-i in
-    let a = newest.args in
-    let group = group_behind a.low (time_at a.window.now) a.marks a.first l.i 8 newest.newest_marked-last.result c.find_group.result newest.newest_marked-last.ensures.0 c.find_group.ensures in
+    let l = c.loop-i in
+    let a = c.args in
+    let group = group_behind a.low (time_at a.window.now) a.marks a.first l.i 8 c.newest_marked-last.result c.find_group.result c.newest_marked-last.ensures.0 c.find_group.ensures in
     (omega arith, grown (old_enough a.low (time_at a.window.now) a.marks a.first) 0 l.i 8 c.find_group.result l.answers (omega arith) group l.invariant.1)
 
 pub find_group-requires-then-i-n : goal.find_group-requires-then-i-n
@@ -41,18 +39,16 @@ find_group-requires-then-i-n c =
 
 pub overflow_add-answers-then-i-n : goal.overflow_add-answers-then-i-n
 overflow_add-answers-then-i-n c =
-    let newest = c in
-    let l = newest.loop-i in
-    let a = newest.args in
-    let group = group_behind a.low (time_at a.window.now) a.marks a.first l.i (a.n - l.i) newest.newest_marked-last-then-i-n.result c.find_group-then-i-n.result newest.newest_marked-last-then-i-n.ensures.0 c.find_group-then-i-n.ensures in
+    let l = c.loop-i in
+    let a = c.args in
+    let group = group_behind a.low (time_at a.window.now) a.marks a.first l.i (a.n - l.i) c.newest_marked-last-then-i-n.result c.find_group-then-i-n.result c.newest_marked-last-then-i-n.ensures.0 c.find_group-then-i-n.ensures in
     record { fits = grown_fits (old_enough a.low (time_at a.window.now) a.marks a.first) 0 l.i (a.n - l.i) c.find_group-then-i-n.result l.answers (omega arith) group l.invariant.1 }
 
 pub returns-then-i-n : goal.returns-then-i-n
 returns-then-i-n c =
-    let newest = c in
-    let l = newest.loop-i in
-    let a = newest.args in
-    let group = group_behind a.low (time_at a.window.now) a.marks a.first l.i (a.n - l.i) newest.newest_marked-last-then-i-n.result c.find_group-then-i-n.result newest.newest_marked-last-then-i-n.ensures.0 c.find_group-then-i-n.ensures in
+    let l = c.loop-i in
+    let a = c.args in
+    let group = group_behind a.low (time_at a.window.now) a.marks a.first l.i (a.n - l.i) c.newest_marked-last-then-i-n.result c.find_group-then-i-n.result c.newest_marked-last-then-i-n.ensures.0 c.find_group-then-i-n.ensures in
     let all : l.i + (a.n - l.i) ≡ a.n = omega arith in
     rw all at (grown (old_enough a.low (time_at a.window.now) a.marks a.first) 0 l.i (a.n - l.i) c.find_group-then-i-n.result l.answers (omega arith) group l.invariant.1).packed
 

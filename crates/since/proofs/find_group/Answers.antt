@@ -24,21 +24,17 @@ push-answers-requires c = (omega arith, c.loop-i.invariant.2.small)
 
 pub loop-i-preserved : goal.loop-i-preserved
 loop-i-preserved c =
-    let chosen = c in
-    let test = chosen in
-    let time = test in
-    let l = time.loop-i in
-    let start = time in
-    let a = start.args in
+    let l = c.loop-i in
+    let a = c.args in
     let at = times_from a.window.now a.from in
-    let due : chosen.choose-due.result ≡ newest_at at a.marks a.last (l.i + 1) + a.low =
-    chosen.choose-due.ensures ∙ rw (test.test.ensures, time.time-now.ensures.0, l.invariant.1) (due_more at a.marks a.last l.i a.low) in
-    let here : leb a.low (at l.i - newest_at at a.marks a.last (suc l.i)) ≡ leb chosen.choose-due.result time.time-now.result =
-    sym (ap₂ leb (due ∙ ap (λ (k : ℕ). newest_at at a.marks a.last k + a.low) (add-one l.i)) time.time-now.ensures.0
-    ∙ due_is a.low (newest_at at a.marks a.last (suc l.i)) (at l.i) start.requires.0) in (
+    let due : c.choose-due.result ≡ newest_at at a.marks a.last (l.i + 1) + a.low =
+    c.choose-due.ensures ∙ rw (c.test.ensures, c.time-now.ensures.0, l.invariant.1) (due_more at a.marks a.last l.i a.low) in
+    let here : leb a.low (at l.i - newest_at at a.marks a.last (suc l.i)) ≡ leb c.choose-due.result c.time-now.result =
+    sym (ap₂ leb (due ∙ ap (λ (k : ℕ). newest_at at a.marks a.last k + a.low) (add-one l.i)) c.time-now.ensures.0
+    ∙ due_is a.low (newest_at at a.marks a.last (suc l.i)) (at l.i) c.requires.0) in (
       omega arith,
       due,
-      pushed_more (old_enough a.low at a.marks a.last) 0 l.i l.answers (leb chosen.choose-due.result time.time-now.result) c.push-answers.result
+      pushed_more (old_enough a.low at a.marks a.last) 0 l.i l.answers (leb c.choose-due.result c.time-now.result) c.push-answers.result
           (omega arith)
           (ap (old_enough a.low at a.marks a.last) (zero-add l.i) ∙ here)
           c.push-answers.ensures

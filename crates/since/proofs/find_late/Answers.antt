@@ -8,10 +8,9 @@ use Rattle.since.proofs.find_late.Goals as goal
 
 pub find_by_groups-requires : goal.find_by_groups-requires
 find_by_groups-requires c =
-    let z = c in
-    let a = z.args in
-    let (runs, small) = (and_iff (ltb 6 z.count_zeros-runs.result && leb a.low 4294967296) (leb a.first 4294967296)).0 c.if-runs-low.true in
-    let low = leb-true a.low 4294967296 ((and_iff (ltb 6 z.count_zeros-runs.result) (leb a.low 4294967296)).0 runs).1 in
+    let a = c.args in
+    let (runs, small) = (and_iff (ltb 6 c.count_zeros-runs.result && leb a.low 4294967296) (leb a.first 4294967296)).0 c.if-runs-low.true in
+    let low = leb-true a.low 4294967296 ((and_iff (ltb 6 c.count_zeros-runs.result) (leb a.low 4294967296)).0 runs).1 in
     let first = leb-true a.first 4294967296 small in
     omega arith
 

@@ -12,11 +12,9 @@ loop-i-init c = (omega arith, omega arith, λ k a h. absurd (omega arith))
 
 pub loop-i-preserved : goal.loop-i-preserved
 loop-i-preserved c =
-    let g = c in
-    let t = g in
-    let l = t.loop-i in
-    let a = t.args in
-    let here : time_at a.window.now l.i - a.last < a.low = rw (g.gap.ensures, t.time.ensures.0) at c.if-low-gap.false in (
+    let l = c.loop-i in
+    let a = c.args in
+    let here : time_at a.window.now l.i - a.last < a.low = rw (c.gap.ensures, c.time.ensures.0) at c.if-low-gap.false in (
       omega arith,
       omega arith,
       λ k b h.
@@ -33,12 +31,10 @@ returns-after-loop-i c =
 
 pub returns-then-low-gap : goal.returns-then-low-gap
 returns-then-low-gap c =
-    let g = c in
-    let t = g in
-    let l = t.loop-i in
+    let l = c.loop-i in
     record {
       behind = l.invariant.0;
       within = l.invariant.1;
       before = l.invariant.2;
-      there = λ h. rw (g.gap.ensures, t.time.ensures.0) at c.if-low-gap.true;
+      there = λ h. rw (c.gap.ensures, c.time.ensures.0) at c.if-low-gap.true;
     }

@@ -8,10 +8,8 @@ use Rattle.since.proofs.keep_reached.Goals as goal
 
 pub returns-then-gap-high : goal.returns-then-gap-high
 returns-then-gap-high c rises =
-    let g = c in
-    let t = g in
-    let a = t.args in
-    let near : time_at a.window.now (a.n - 1) - a.first ≤ a.high = rw (g.gap.ensures, t.time.ensures.0) at c.if-gap-high.true in
+    let a = c.args in
+    let near : time_at a.window.now (a.n - 1) - a.first ≤ a.high = rw (c.gap.ensures, c.time.ensures.0) at c.if-gap-high.true in
     all_in_reach a.right rises a.alive (omega arith) near
 
 pub returns : goal.returns

@@ -8,17 +8,15 @@ use Rattle.since.proofs.newest_marked.Goals as goal
 
 pub returns-then-behind-eq0 : goal.returns-then-behind-eq0
 returns-then-behind-eq0 c =
-    let z = c in
-    let a = z.args in
+    let a = c.args in
     let e = c.if-behind-eq0.true in
-    let zero = z.find_last_zero-behind.ensures.0 in
+    let zero = c.find_last_zero-behind.ensures.0 in
     (sym (newest_last (time_at a.window.now) a.marks a.first a.n (omega arith) (omega arith) ∙ rw (← zero, eq-eqb _ _ e) refl), λ small. small)
 
 pub returns : goal.returns
 returns c =
-    let z = c in
-    let a = z.args in
-    let zero = z.find_last_zero-behind.ensures.0 in
+    let a = c.args in
+    let zero = c.find_last_zero-behind.ensures.0 in
     let below = c.time.ensures.1 in (
       c.time.ensures.0
           ∙ sym (newest_last (time_at a.window.now) a.marks a.first a.n (omega arith) (omega arith) ∙ rw (← zero, ne_eqb _ _ c.if-behind-eq0.false) refl),

@@ -5,24 +5,13 @@ use Rattle.since.proofs.take_word.Goals as goal
 
 pub returns : goal.returns
 returns c =
-    let p = c in
-    let newest = p in
-    let test = newest in
-    let keep = test in
-    let fill = keep in
-    let flag = fill in
-    let some = flag in
-    let first = some in
-    let time = first in
-    let cells = time in
-    let start = cells in
-    let a = start.args in
-    takes_low first.newest-first.result fill.find_alive-alive.result keep.keep_reached-answers.result newest.newest_marked.result some.has_some.result test.test-last.result
-    (λ qs r. some.has_some.ensures (ring_words a.high) qs r)
-    (rw (cells.cells_for.ensures.0, time.time.ensures.0) at first.newest-first.ensures)
-    (rw flag.flag-begun.ensures at fill.find_alive-alive.ensures)
-    keep.keep_reached-answers.ensures
-    start.requires.2
-    test.test-last.ensures
-    newest.newest_marked.ensures.0
-    (p.put_one.ensures (ring_words a.high))
+    let a = c.args in
+    takes_low c.newest-first.result c.find_alive-alive.result c.keep_reached-answers.result c.newest_marked.result c.has_some.result c.test-last.result
+    (λ qs r. c.has_some.ensures (ring_words a.high) qs r)
+    (rw (c.cells_for.ensures.0, c.time.ensures.0) at c.newest-first.ensures)
+    (rw c.flag-begun.ensures at c.find_alive-alive.ensures)
+    c.keep_reached-answers.ensures
+    c.requires.2
+    c.test-last.ensures
+    c.newest_marked.ensures.0
+    (c.put_one.ensures (ring_words a.high))

@@ -4,10 +4,5 @@ use Rattle.since.proofs.turn_word.Goals as goal
 
 pub returns : goal.returns
 returns c =
-    let p = c in
-    let cells = p in
-    let gap = cells in
-    let kept = gap in
-    let zero = kept in
-    rw (gap.gap-from.ensures, zero.find_last_zero-after.ensures.0, cells.cells_for.ensures.0)
-    at (followed (kept.keep_if.ensures cells.cells_for.result) p.push_all.ensures)
+    rw (c.gap-from.ensures, c.find_last_zero-after.ensures.0, c.cells_for.ensures.0)
+    at (followed (c.keep_if.ensures c.cells_for.result) c.push_all.ensures)

@@ -11,45 +11,35 @@ returns-then-room-ne0 c = record { take_value = λ e. absurd (true≢false (sym 
 
 pub returns-then-block : goal.returns-then-block
 returns-then-block c =
-    let e = c in
-    let k = e in
-    let a = k.args in
-    record { take_value = λ t. (e.if-room-ne0.false, stuck_fresh a.low a.high a.view.now a.records.now a.block.now (λ i. (k.type_inv.records i).fits) c.if-block.true); keeps = k.requires.1 }
+    let a = c.args in
+    record { take_value = λ t. (c.if-room-ne0.false, stuck_fresh a.low a.high a.view.now a.records.now a.block.now (λ i. (c.type_inv.records i).fits) c.if-block.true); keeps = c.requires.1 }
 
 pub first_waits-requires : goal.first_waits-requires
 first_waits-requires c =
-    let o = c in
-    let s = o in
-    let room = s.requires.0 in
-    let next = o.open-ahead.ensures in
-    (omega arith, record { inside = readable s.args.view.now _ next; long = next.long })
+    let room = c.requires.0 in
+    let next = c.open-ahead.ensures in
+    (omega arith, record { inside = readable c.args.view.now _ next; long = next.long })
 
 pub returns : goal.returns
 returns c =
-    let t = c in
-    let o = t in
-    let e2 = o in
-    let e1 = e2 in
-    let k = e1 in
-    let s = k in
-    let behind = s.requires.2 in
-    let fits = s.requires.3 in
-    let none = e1.if-room-ne0.false in
+    let behind = c.requires.2 in
+    let fits = c.requires.3 in
+    let none = c.if-room-ne0.false in
     let inside = fits.inside in
     let ends = fits.ahead in
-    let different = e2.if-block.false in record {
+    let different = c.if-block.false in record {
       take_value = λ e. (
         none,
         stuck_first
             (record {
-              byte = λ i. (k.type_inv.records i).fits;
+              byte = λ i. (c.type_inv.records i).fits;
               some = omega arith;
               inside = omega arith;
               ends = omega arith;
-              next = o.open-ahead.ensures;
-              start = t.first_time-start.ensures;
+              next = c.open-ahead.ensures;
+              start = c.first_time-start.ensures;
               unknown = c.first_waits.ensures e;
             }),
       );
-      keeps = o.open-ahead.ensures.keeps;
+      keeps = c.open-ahead.ensures.keeps;
     }

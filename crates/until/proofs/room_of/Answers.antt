@@ -4,7 +4,4 @@ use Rattle.until.proofs.room_of.Goals as goal
 
 pub returns : goal.returns
 returns c =
-    let k = c in
-    let q = k in
-    let a = q in
-    room a.args.block.now a.args.total a.requires.2 (rw q.smaller-both.ensures at q.available-take.ensures.0) q.available-take.ensures.1 k.smaller.ensures c.smaller-2.ensures
+    room c.args.block.now c.args.total c.requires.2 (rw c.smaller-both.ensures at c.available-take.ensures.0) c.available-take.ensures.1 c.smaller.ensures c.smaller-2.ensures

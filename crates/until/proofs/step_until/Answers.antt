@@ -13,6 +13,7 @@ use Rattle.blocks.specs.Block.{taken, answered}
 use Rattle.until.specs.Code.{OpensAhead}
 use Rattle.until.proofs.Steps.{Went, stands_outside, stands_inside, walk_fits, put_back_fits, ahead_windowed, walked_onward, wanted_ends, wants_more, took_ends, wants, takes_some, answers_some}
 use Rattle.until.proofs.step_until.Goals as goal
+use Rattle.until.proofs.step_until.Goals.{then-w-eq0+else-w-eq0-2, else-w-eq0}
 use Rattle.until.proofs.step_until.Goals.{After-open-ahead, After-walk_on-stride}
 
 -- what is known after the window ahead was opened
@@ -54,15 +55,13 @@ went c =
 
 -- the copies keep what they say
 copies : (c : After-walk_on-stride) →
-    let o = c in
-    let s = o.args.records.now in
-    Keeps s o.open-ahead.new.copy × Keeps s c.walk_on-stride.new.waiting
+    let s = c.args.records.now in
+    Keeps s c.open-ahead.new.copy × Keeps s c.walk_on-stride.new.waiting
 copies c = (c.open-ahead.ensures.keeps, c.walk_on-stride.ensures.keeps)
 
 pub returns-then-total-at : goal.returns-then-total-at
 returns-then-total-at c =
-    let begin = c in
-    let a = begin.args in
+    let a = c.args in
     let outside = stands_outside (total a.view.now) (taken a.block.now) (answered a.block.now) c.if-total-at.true in record {
       ends = refl;
       steps = λ φ ψ L g falls agrees ready.
@@ -71,7 +70,7 @@ returns-then-total-at c =
           let i = ready.core.own.0 in
           let ahead = ready.core.own.1.ahead in
           absurd (⊎_elim (λ h. omega arith) (λ h. omega arith) outside);
-      keeps = (begin.requires.1, begin.requires.2);
+      keeps = (c.requires.1, c.requires.2);
     }
 
 pub room_of-room-requires : goal.room_of-room-requires
@@ -83,46 +82,38 @@ room_of-room-requires c =
 
 pub must_wait-requires : goal.must_wait-requires
 must_wait-requires c =
-    let k = c in
-    let pre = k.requires in
-    (pre.0, pre.1, (stands_inside _ _ _ k.if-total-at.false).0, k.room_of-room.ensures, pre.3)
+    let pre = c.requires in
+    (pre.0, pre.1, (stands_inside _ _ _ c.if-total-at.false).0, c.room_of-room.ensures, pre.3)
 
 pub wanted-requires : goal.wanted-requires
 wanted-requires c = let room = c.requires.0 in omega arith
 
 pub returns-then-must_wait : goal.returns-then-must_wait
 returns-then-must_wait c =
-    let m = c in
-    let w = m in
-    let k = w in
-    let s = k in
-    let a = s.args in
+    let a = c.args in
     let t = c.wanted in
-    let stuck = w.must_wait.ensures.take_value m.if-must_wait.true in record {
+    let stuck = c.must_wait.ensures.take_value c.if-must_wait.true in record {
       ends = wanted_ends a.view.now a.block.now t.result t.ensures;
       steps = λ φ ψ L g falls agrees ready.
-          wants_more ready agrees k.room_of-room.ensures stuck.0 (stuck.1 a.high φ ψ L g w.smaller-most.ensures falls agrees ready) t.result t.ensures;
-      keeps = (w.must_wait.ensures.keeps, s.requires.2);
+          wants_more ready agrees c.room_of-room.ensures stuck.0 (stuck.1 a.high φ ψ L g c.smaller-most.ensures falls agrees ready) t.result t.ensures;
+      keeps = (c.must_wait.ensures.keeps, c.requires.2);
     }
 
 pub open-ahead-requires : goal.open-ahead-requires
 open-ahead-requires c =
-    let w = c in
-    (search rules, w.must_wait.ensures.keeps, w.requires.3)
+    (search rules, c.must_wait.ensures.keeps, c.requires.3)
 
 pub walk_on-stride-requires : goal.walk_on-stride-requires
 walk_on-stride-requires c =
-    let o = c in
-    let pre = o.requires in
-    (opened (goal.at.walk_on-stride-requires c).After-open-ahead, o.open-ahead.ensures.keeps, pre.2, pre.3)
+    let pre = c.requires in
+    (opened (goal.at.walk_on-stride-requires c).After-open-ahead, c.open-ahead.ensures.keeps, pre.2, pre.3)
 
 pub wanted-requires-then-w-eq0-2 : goal.wanted-requires-then-w-eq0-2
 wanted-requires-then-w-eq0-2 c = (walk_fits (went (goal.at.wanted-requires-then-w-eq0-2 c).After-walk_on-stride).opens).0
 
 pub returns-then-w-eq0-2 : goal.returns-then-w-eq0-2
 returns-then-w-eq0-2 c =
-    let k = c in
-    let a = k.args in
+    let a = c.args in
     let t = c.wanted-then-w-eq0-2 in record {
       ends = wanted_ends a.view.now a.block.now t.result t.ensures;
       steps = λ φ ψ L g falls agrees ready.
@@ -131,37 +122,32 @@ returns-then-w-eq0-2 c =
     }
 
 pub pass-requires : goal.pass-requires
-pass-requires c = let k = c in (k.requires.3, ahead_windowed (went (goal.at.pass-requires c).After-walk_on-stride))
+pass-requires c = (c.requires.3, ahead_windowed (went (goal.at.pass-requires c).After-walk_on-stride))
 
 pub put_back-requires : goal.put_back-requires
 put_back-requires c = put_back_fits (went (goal.at.put_back-requires c).After-walk_on-stride)
 
 pub returns-then-w-eq0-3 : goal.returns-then-w-eq0-3
 returns-then-w-eq0-3 c =
-    let whole = let p = c in
-    let k = p in
     let none = c.if-w-eq0-3.true in
-    let some : 0 < k.walk_on-stride.result.walked.took =
-    ⊎_elim (λ t. let l = t.2.left in omega arith) (λ t. let l = t.left in absurd (omega arith)) p.if-w-eq0.branch in
-    rw p.put_back.ensures (
-      took_ends (went (goal.at.returns-then-w-eq0-3 c).After-walk_on-stride) p.pass.ensures some,
-      (
-        λ φ ψ L g falls agrees ready. takes_some (went (goal.at.returns-then-w-eq0-3 c).After-walk_on-stride) φ ψ L g falls agrees ready p.pass.ensures none,
-        copies (goal.at.returns-then-w-eq0-3 c).After-walk_on-stride,
-      ),
-    ) in
-    record { ends = whole.0; steps = whole.1.0; keeps = whole.1.1 }
+    let some : 0 < c.walk_on-stride.result.walked.took =
+    elim c.if-w-eq0.branch [
+      then-w-eq0+else-w-eq0-2 w ↦ let l = w.if-w-eq0-2.false in omega arith
+    | else-w-eq0 w ↦ let l = w.if-w-eq0.false in absurd (omega arith)
+    ] in
+    record {
+      ends = rw c.put_back.ensures (took_ends (went (goal.at.returns-then-w-eq0-3 c).After-walk_on-stride) c.pass.ensures some);
+      steps = rw c.put_back.ensures
+          (λ φ ψ L g falls agrees ready. takes_some (went (goal.at.returns-then-w-eq0-3 c).After-walk_on-stride) φ ψ L g falls agrees ready c.pass.ensures none);
+      keeps = copies (goal.at.returns-then-w-eq0-3 c).After-walk_on-stride;
+    }
 
 pub returns : goal.returns
 returns c =
-    let whole = let p = c in
-    let k = p in
-    rw p.put_back.ensures (
-      walked_onward (went (goal.at.returns c).After-walk_on-stride) p.pass.ensures,
-      (
-        λ φ ψ L g falls agrees ready.
-            answers_some (went (goal.at.returns c).After-walk_on-stride) φ ψ L g falls agrees ready p.pass.ensures (omega arith),
-        copies (goal.at.returns c).After-walk_on-stride,
-      ),
-    ) in
-    record { ends = whole.0; steps = whole.1.0; keeps = whole.1.1 }
+    record {
+      ends = rw c.put_back.ensures (walked_onward (went (goal.at.returns c).After-walk_on-stride) c.pass.ensures);
+      steps = rw c.put_back.ensures
+          (λ φ ψ L g falls agrees ready.
+            answers_some (went (goal.at.returns c).After-walk_on-stride) φ ψ L g falls agrees ready c.pass.ensures (omega arith));
+      keeps = copies (goal.at.returns c).After-walk_on-stride;
+    }

@@ -6,13 +6,12 @@ read-requires c = c.requires.4.inside
 
 pub walk_inside-requires : goal.walk_inside-requires
 walk_inside-requires c =
-    let g = c in
-    let r = g in
-    let pre = r.requires in
-    (pre.1, pre.2, rw r.read.ensures pre.4.long, rw g.gap.ensures pre.3)
+    let pre = c.requires in
+    (pre.1, pre.2, rw c.read.ensures pre.4.long, rw c.gap.ensures pre.3)
 
 pub returns : goal.returns
 returns c =
-    let whole = let g = c in
-    rw (g.gap.ensures, g.read.ensures) at (c.walk_inside.ensures.by_index, c.walk_inside.ensures.fact) in
-    record { by_index = whole.0; fact = whole.1 }
+    record {
+      by_index = simp (c.gap.ensures, c.read.ensures) at c.walk_inside.ensures.by_index;
+      fact = simp (c.gap.ensures, c.read.ensures) at c.walk_inside.ensures.fact;
+    }

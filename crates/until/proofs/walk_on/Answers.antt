@@ -62,9 +62,8 @@ walked c =
 
 -- all that wait are answered
 all : (c : Else-walked-eq0) →
-    let w = c in
-    let b = w.args.block.now in
-    taken b - answered b < w.walk_ahead-walked.result.count
+    let b = c.args.block.now in
+    taken b - answered b < c.walk_ahead-walked.result.count
 all c = ⊎_elim (λ none. absurd (omega (arith, c.if-walked-eq0.false))) (λ some. some) c.walk_ahead-walked.ensures.fact
 
 pub bounds-block-16 : goal.bounds-block-16
@@ -75,17 +74,13 @@ tells-requires c = let o = c.requires.0 in ((walk_fits o).0, some_holds o)
 
 pub walk_ahead-walked-requires : goal.walk_ahead-walked-requires
 walk_ahead-walked-requires c =
-    let t = c in
-    let o = t.requires.0 in
+    let o = c.requires.0 in
     let by = told (goal.at.walk_ahead-walked-requires c).Then-tells in
     ((walk_fits o).0, by.some, (walk_fits o).1, by.few, some_holds o)
 
 pub returns-then-walked-eq0 : goal.returns-then-walked-eq0
 returns-then-walked-eq0 c =
-    let w = c in
-    let f = w in
-    let s = f in
-    record { strides = by_first_none s.requires.0 f.first_time-start.result f.first_time-start.ensures (walked (goal.at.returns-then-walked-eq0 c).After-walk_ahead-walked) c.if-walked-eq0.true; keeps = s.requires.2 }
+    record { strides = by_first_none c.requires.0 c.first_time-start.result c.first_time-start.ensures (walked (goal.at.returns-then-walked-eq0 c).After-walk_ahead-walked) c.if-walked-eq0.true; keeps = c.requires.2 }
 
 pub overflow_sub-some : goal.overflow_sub-some
 overflow_sub-some c = omega (arith, all (goal.at.overflow_sub-some c).Else-walked-eq0, c.gap.ensures)
@@ -95,42 +90,29 @@ bounds-block-11 c = let room = c.requires.0.room in omega arith
 
 pub pass-head-requires : goal.pass-head-requires
 pass-head-requires c =
-    let g = c in
-    let w = g in
-    let s = w in
-    (s.requires.3, rw g.gap.ensures (beyond_windowed s.requires.0 (walked (goal.at.pass-head-requires c).After-walk_ahead-walked)))
+    (c.requires.3, rw c.gap.ensures (beyond_windowed c.requires.0 (walked (goal.at.pass-head-requires c).After-walk_ahead-walked)))
 
 pub returns-then-tells : goal.returns-then-tells
 returns-then-tells c =
-    let g = c in
-    let e = g in
-    let w = e in
-    let f = w in
-    let s = f in
-    record { strides = by_first_all s.requires.0 f.first_time-start.result f.first_time-start.ensures (walked (goal.at.returns-then-tells c).After-walk_ahead-walked) (all (goal.at.returns-then-tells c).Else-walked-eq0) (rw g.gap.ensures at c.pass-head.ensures); keeps = s.requires.2 }
+    record { strides = by_first_all c.requires.0 c.first_time-start.result c.first_time-start.ensures (walked (goal.at.returns-then-tells c).After-walk_ahead-walked) (all (goal.at.returns-then-tells c).Else-walked-eq0) (rw c.gap.ensures at c.pass-head.ensures); keeps = c.requires.2 }
 
 pub answer_told-walked-requires : goal.answer_told-walked-requires
 answer_told-walked-requires c =
-    let t = c in
-    let lead = t.gap-lead.result in
-    let both = (and_iff (leb lead 64) t.is_told.result).0 c.if-lead-is_told.true in
-    (sym t.is_told.ensures ∙ both.1, leb-true lead 64 both.0)
+    let lead = c.gap-lead.result in
+    let both = (and_iff (leb lead 64) c.is_told.result).0 c.if-lead-is_told.true in
+    (sym c.is_told.ensures ∙ both.1, leb-true lead 64 both.0)
 
 pub returns-then-lead-is_told : goal.returns-then-lead-is_told
 returns-then-lead-is_told c =
-    let t = c in
-    let l = t in
-    let f = l in
-    let s = f in
-    let a = s.args in
+    let a = c.args in
     let b = a.block.now in
-    let lead = l.gap-lead.ensures in record {
-      strides = by_last s.requires.0 f.first_time-start.result f.first_time-start.ensures
-          (rw f.if-low-eq0.true
-          (rw (lead, l.last_of-last.ensures)
-          at (t.answer_told-walked.ensures.walk a.high a.room.take (left_bits b) (right_bits b) (from_first s.requires.0 f.first_time-start.result) (ahead_of a.ahead a.records.now a.copy.now a.room.take a.room.look (closed a.view.now)))))
-          (t.answer_told-walked.ensures.count_value ∙ lead);
-      keeps = s.requires.2;
+    let lead = c.gap-lead.ensures in record {
+      strides = by_last c.requires.0 c.first_time-start.result c.first_time-start.ensures
+          (rw c.if-low-eq0.true
+          (rw (lead, c.last_of-last.ensures)
+          at (c.answer_told-walked.ensures.walk a.high a.room.take (left_bits b) (right_bits b) (from_first c.requires.0 c.first_time-start.result) (ahead_of a.ahead a.records.now a.copy.now a.room.take a.room.look (closed a.view.now)))))
+          (c.answer_told-walked.ensures.count_value ∙ lead);
+      keeps = c.requires.2;
     }
 
 pub share-starts-requires : goal.share-starts-requires
@@ -140,19 +122,15 @@ share-starts-requires c =
 
 pub walk_windows-walked-requires : goal.walk_windows-walked-requires
 walk_windows-walked-requires c =
-    let h = c in
-    let o = h.requires.0 in
-    record { in_bounds = walk_fits o; has_records = (ahead_holds o, starts_holds o h.share-starts.ensures.opened) }
+    let o = c.requires.0 in
+    record { in_bounds = walk_fits o; has_records = (ahead_holds o, starts_holds o c.share-starts.ensures.opened) }
 
 pub pass-head-requires-2 : goal.pass-head-requires-2
 pass-head-requires-2 c =
-    let h = c in
-    let pre = h.requires in
-    (pre.3, starts_windowed pre.0 c.walk_windows-walked.ensures h.share-starts.ensures.opened)
+    let pre = c.requires in
+    (pre.3, starts_windowed pre.0 c.walk_windows-walked.ensures c.share-starts.ensures.opened)
 
 pub returns : goal.returns
 returns c =
-    let w = c in
-    let h = w in
-    let pre = h.requires in
-    record { strides = by_window pre.0 h.share-starts.ensures.opened w.walk_windows-walked.ensures c.pass-head-2.ensures; keeps = h.share-starts.ensures.keeps }
+    let pre = c.requires in
+    record { strides = by_window pre.0 c.share-starts.ensures.opened c.walk_windows-walked.ensures c.pass-head-2.ensures; keeps = c.share-starts.ensures.keeps }
