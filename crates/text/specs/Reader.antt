@@ -1,6 +1,8 @@
 -- What the crate's own functions answer. The reader of the grammar, as a function of tokens: proofs/Grammar shows that it finds
 -- what the grammar derives. Nothing that `parse` promises speaks of it.
 -- (Derivations and Examples are named first so that the worked rows are checked before any proof.)
+use Rattle.text.specs.Derivations
+use Rattle.text.specs.Examples
 use Rattle.std.specs.Prelude.{ℕ, zero, suc, ◌+◌, ◌-◌, ◌*◌, ◌≤◌, ◌<◌, min, Bool, true, false, cond, ◌&&◌, ◌||◌, ◌≡◌, List, [], ◌∷◌, ◌++◌, ltb, eqb, length, take, drop, get_or}
 use Rattle.std.proofs.Math.Option.{Option, none, some}
 use Rattle.rule.specs.declared.Entry.{Entry}
