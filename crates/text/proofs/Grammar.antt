@@ -1,6 +1,6 @@
 -- The reader of tokens finds just what the grammar derives: what it finds is a derivation of the tokens before the rest, and
 -- every derivation is found. So no tokens have two derivations.
-use Prim.Native.Nat.{ℕ, zero, suc, ◌+◌, ◌-◌}
+use Prim.Native.Nat.{ℕ, zero, suc}
 use native.Mathlib.Omega.{arith}
 use borrow.Author.Tests.{eqb-true, ne_eqb}
 use mathlib.Core.Path.{◌≡◌, refl, sym, ap, ◌∙◌}
@@ -15,7 +15,7 @@ use Rattle.text.proofs.Cases.{by, nothing, same}
 use Rattle.text.proofs.TokenNumbers.{decode, numbered}
 use Rattle.text.specs.Grammar.{Level, Prefix, Infix, Tree, end_token, interval, spell_prefix, spell_infix, spell}
 use Rattle.text.specs.Grammar.Level.{ors, timed, prefixed, atom}
-use Rattle.text.specs.Grammar.Tree.{letter, brackets, tight, one, untimed, two, or}
+use Rattle.text.specs.Grammar.Tree.{letter, brackets, tight, one, untimed, two}
 use Rattle.text.specs.Reader.{letter_value, number_value, first_token, first_letter, first_number, tail, Timing, end_of, bounded, timing, prefix_of, infix_of, before_operand, between_operands, Phrase, then, joined, bracketed, phrase}
 
 -- the first token, once its number is known

@@ -23,7 +23,7 @@ use Rattle.rule.proofs.Encoded.{length_body, weighed}
 use Rattle.text.specs.Tokens.{Token, tokens, some_unknown, unreadable}
 use Rattle.text.specs.Grammar.{meaning, Derived}
 use Rattle.text.specs.Grammar.Level.{ors}
-use Rattle.text.specs.Parse.{parsed_refusal, text_refusal, bytes, Parses}
+use Rattle.text.specs.Parse.{parsed_refusal, text_refusal, Parses}
 use Rattle.text.specs.Reader.{Lexed, remaining, phrase, Contains, ReadsPhrase, ReadsLevel}
 use Rattle.text.specs.Reader.{first_token as first_kind}
 use Rattle.text.specs.declared.Parsed.TheVariants.{Written, Refused}

@@ -7,20 +7,16 @@ returns-then-kind-eq-NOT c = timed_not _ _ _ c.if-kind-eq-NOT.true
 
 pub returns-then-bounded : goal.returns-then-bounded
 returns-then-bounded c =
-    let e = c in
-    let a = e in
-    let s = a.before.before.before.args in
-    interval_there s.text.now s.at s.kind a.before.if1.false a.token-at.result e.token_at-low.result
-    e.token_at-comma.result e.token_at-high.result e.token_at-to.result a.token-at.ensures
-    e.token_at-low.ensures e.token_at-comma.ensures e.token_at-high.ensures e.token_at-to.ensures
+    let s = c.args in
+    interval_there s.text.now s.at s.kind c.if-kind-eq-NOT.false c.token_at-from.result c.token_at-low.result
+    c.token_at-comma.result c.token_at-high.result c.token_at-to.result c.token_at-from.ensures
+    c.token_at-low.ensures c.token_at-comma.ensures c.token_at-high.ensures c.token_at-to.ensures
     c.end.result c.end.ensures c.if-bounded.true
 
 pub returns-else-bounded : goal.returns-else-bounded
 returns-else-bounded c =
-    let e = c in
-    let a = e in
-    let s = a.before.before.before.args in
-    interval_missing s.text.now s.at s.kind a.before.if1.false a.token-at.result e.token_at-low.result
-    e.token_at-comma.result e.token_at-high.result e.token_at-to.result a.token-at.ensures
-    e.token_at-low.ensures e.token_at-comma.ensures e.token_at-high.ensures e.token_at-to.ensures
+    let s = c.args in
+    interval_missing s.text.now s.at s.kind c.if-kind-eq-NOT.false c.token_at-from.result c.token_at-low.result
+    c.token_at-comma.result c.token_at-high.result c.token_at-to.result c.token_at-from.ensures
+    c.token_at-low.ensures c.token_at-comma.ensures c.token_at-high.ensures c.token_at-to.ensures
     c.if-bounded.false

@@ -1,6 +1,5 @@
 -- `text::token::any_unknown` meets its contract: a known token passed leaves the answer.
 use native.Mathlib.Omega.{arith}
-use Prim.Native.Nat.{◌-◌}
 use mathlib.Core.Path.{refl, ◌∙◌}
 use Rattle.text.proofs.Lexing.{unknown_here, none_unknown, unknown_later}
 use Rattle.text.proofs.token.any_unknown.Goals as goal

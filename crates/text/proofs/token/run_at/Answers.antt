@@ -1,6 +1,6 @@
 -- `text::token::run_at` meets its contract: a byte of the run leaves the tokens as they are from the run so far on.
 use native.Mathlib.Omega.{arith}
-use Prim.Native.Nat.{◌-◌, ◌+◌}
+use Prim.Native.Nat.{◌+◌}
 use mathlib.Core.Path.{◌≡◌, refl, sym, ap, ◌∙◌}
 use mathlib.Core.Bool.{true, false}
 use lib.ListN.{drop, get_or}

@@ -1,6 +1,5 @@
 -- `text::token::skip` meets its contract: a space passed leaves the tokens.
 use native.Mathlib.Omega.{arith}
-use Prim.Native.Nat.{◌-◌}
 use mathlib.Core.Path.{refl, sym, ◌∙◌}
 use Rattle.text.proofs.Lexing.{inside, space}
 use Rattle.text.proofs.token.skip.Goals as goal
