@@ -18,66 +18,58 @@ pub step_or-requires : goal.step_or-requires
 step_or-requires c = room (goal.at.step_or-requires c).Start
 
 pub step_previous-requires : goal.step_previous-requires
-step_previous-requires c = let start = c in (room (goal.at.step_previous-requires c).Start, start.requires.5, start.requires.6)
+step_previous-requires c = (room (goal.at.step_previous-requires c).Start, c.requires.5, c.requires.6)
 
 pub step_next-requires : goal.step_next-requires
-step_next-requires c = let start = c in (room (goal.at.step_next-requires c).Start, start.requires.4, start.requires.6)
+step_next-requires c = (room (goal.at.step_next-requires c).Start, c.requires.4, c.requires.6)
 
 pub step_since-requires : goal.step_since-requires
 step_since-requires c =
-    let start = c in
-    (start.requires.2, since_room_of start.args.kind start.args.high _ c.in-5.is start.requires.3, start.requires.4, start.requires.6)
+    (c.requires.2, since_room_of c.args.kind c.args.high _ c.in-5.is c.requires.3, c.requires.4, c.requires.6)
 
 pub step_until-requires : goal.step_until-requires
 step_until-requires c =
-    let start = c in
-    let last : start.args.kind ≡ 6 = omega arith in
-    (until_room_of start.args.kind start.args.high _ last start.requires.3, start.requires.4, start.requires.5, start.requires.6)
+    let last : c.args.kind ≡ 6 = omega arith in
+    (until_room_of c.args.kind c.args.high _ last c.requires.3, c.requires.4, c.requires.5, c.requires.6)
 
 pub returns-in-1 : goal.returns-in-1
 returns-in-1 c =
     let whole = let step = c.step_not in
-    let start = c in
     promised 1 step.result step.new.block
-    c.in-1.is step.ensures.ends (λ c φ ψ. step.ensures.by_index _ ψ) (start.requires.4, start.requires.5) in
+    c.in-1.is step.ensures.ends (λ c φ ψ. step.ensures.by_index _ ψ) (c.requires.4, c.requires.5) in
     record { ends = whole.0; steps = whole.1.0; keeps = whole.1.1 }
 
 pub returns-in-2 : goal.returns-in-2
 returns-in-2 c =
     let whole = let step = c.step_or in
-    let start = c in
     promised 2 step.result step.new.block
-    c.in-2.is step.ensures.ends (λ c φ ψ. step.ensures.by_index _ φ ψ) (start.requires.4, start.requires.5) in
+    c.in-2.is step.ensures.ends (λ c φ ψ. step.ensures.by_index _ φ ψ) (c.requires.4, c.requires.5) in
     record { ends = whole.0; steps = whole.1.0; keeps = whole.1.1 }
 
 pub returns-in-3 : goal.returns-in-3
 returns-in-3 c =
     let whole = let step = c.step_previous in
-    let start = c in
     promised 3 step.result step.new.block
-    c.in-3.is step.ensures.ends (λ c φ ψ. step.ensures.steps ψ) (start.requires.4, step.ensures.keeps) in
+    c.in-3.is step.ensures.ends (λ c φ ψ. step.ensures.steps ψ) (c.requires.4, step.ensures.keeps) in
     record { ends = whole.0; steps = whole.1.0; keeps = whole.1.1 }
 
 pub returns-in-4 : goal.returns-in-4
 returns-in-4 c =
     let whole = let step = c.step_next in
-    let start = c in
     promised 4 step.result step.new.block
-    c.in-4.is step.ensures.ends (λ c φ ψ. step.ensures.steps ψ) (step.ensures.keeps, start.requires.5) in
+    c.in-4.is step.ensures.ends (λ c φ ψ. step.ensures.steps ψ) (step.ensures.keeps, c.requires.5) in
     record { ends = whole.0; steps = whole.1.0; keeps = whole.1.1 }
 
 pub returns-in-5 : goal.returns-in-5
 returns-in-5 c =
     let whole = let step = c.step_since in
-    let start = c in
     promised 5 step.result step.new.block
-    c.in-5.is step.ensures.ends (λ c. step.ensures.steps) (step.ensures.keeps, start.requires.5) in
+    c.in-5.is step.ensures.ends (λ c. step.ensures.steps) (step.ensures.keeps, c.requires.5) in
     record { ends = whole.0; steps = whole.1.0; keeps = whole.1.1 }
 
 pub returns-in_default : goal.returns-in_default
 returns-in_default c =
-    let whole = let start = c in
-    let step = c.step_until in
-    let kind : start.args.kind ≡ 6 = omega (arith, start.requires.0, start.requires.1, c.in-1) in
+    let whole = let step = c.step_until in
+    let kind : c.args.kind ≡ 6 = omega arith in
     promised 6 step.result step.new.block kind step.ensures.ends (λ c. step.ensures.steps) step.ensures.keeps in
     record { ends = whole.0; steps = whole.1.0; keeps = whole.1.1 }

@@ -37,16 +37,15 @@ returns-then-count-eq0 c = record {
 pub take_both-requires : goal.take_both-requires
 take_both-requires c =
     let n = taking (goal.at.take_both-requires c).Else-count-eq0 in
-    (c.pre, n.left, n.right, c.available-count.ensures.1)
+    (c.requires, n.left, n.right, c.available-count.ensures.1)
 
 pub returns : goal.returns
 returns c =
-    let start = c in
-    let b = start.args.block.now in
+    let b = c.args.block.now in
     let count = c.available-count.result in
     let n = taking (goal.at.returns c).Else-count-eq0 in record {
-      ends = rw c.take_both.ensures (both_onward count b start.requires);
+      ends = rw c.take_both.ensures (both_onward count b c.requires);
       by_index = λ s φ ψ L g falls agrees ready.
           rw c.take_both.ensures
-          (or_batch start.args.view.now b start.requires count n.some L g φ ψ n.left n.right ready);
+          (or_batch c.args.view.now b c.requires count n.some L g φ ψ n.left n.right ready);
     }

@@ -56,38 +56,35 @@ ending c =
 
 pub returns-then-total-g : goal.returns-then-total-g
 returns-then-total-g c =
-    let start = c in
-    let a = start.args in record { ends = refl; steps = λ φ L g falls agrees ready. next_none a.view.now a.block.now start.requires.0 a.low a.high φ L g agrees ready c.if-total-g.true; keeps = start.requires.1 }
+    let a = c.args in record { ends = refl; steps = λ φ L g falls agrees ready. next_none a.view.now a.block.now c.requires.0 a.low a.high φ L g agrees ready c.if-total-g.true; keeps = c.requires.1 }
 
 pub overflow_add-block : goal.overflow_add-block
 overflow_add-block c =
     let some = left (goal.at.overflow_add-block c).Else-total-g in
-    let end = ending (c) in
-    omega (arith, c.type_inv.block 0)
+    let end = ending (goal.at.overflow_add-block c).Then-view-at in
+    omega (arith, (goal.at.overflow_add-block c).Else-total-g.type_inv.block 0)
 
 pub returns-then-view-at : goal.returns-then-view-at
 returns-then-view-at c =
-    let start = c in
-    let a = start.args in
+    let a = c.args in
     let b = a.block.now in
     let end = ending (goal.at.returns-then-view-at c).Then-view-at in record {
       ends = stores_onward (put 5 _ ∷ []) b (omega arith) (omega arith) (omega arith);
       steps = λ φ L g falls agrees ready.
-          next_end a.view.now b start.requires.0 a.low a.high φ L g agrees ready (agrees.ends ∙ end.0) (left (goal.at.returns-then-view-at c).Else-total-g).0 end.1;
-      keeps = start.requires.1;
+          next_end a.view.now b c.requires.0 a.low a.high φ L g agrees ready (agrees.ends ∙ end.0) (left (goal.at.returns-then-view-at c).Else-total-g).0 end.1;
+      keeps = c.requires.1;
     }
 
 pub returns-then-block-eq0 : goal.returns-then-block-eq0
 returns-then-block-eq0 c =
-    let start = c in
-    let a = start.args in record {
+    let a = c.args in record {
       ends = (refl, refl, c.if-block-eq0.true, λ e. absurd (true_and_false e refl));
       steps = λ φ L g falls agrees ready. (
         refl,
-        next_right a.view.now a.block.now start.requires.0 a.low a.high φ L g agrees ready
+        next_right a.view.now a.block.now c.requires.0 a.low a.high φ L g agrees ready
             (λ ended all. before_end _ _ _ c.if-view-at.false (sym agrees.ends ∙ ended) all),
       );
-      keeps = start.requires.1;
+      keeps = c.requires.1;
     }
 
 pub returns-then-count-eq0 : goal.returns-then-count-eq0
@@ -100,15 +97,14 @@ returns-then-count-eq0 c = record {
 
 pub returns-then-at-eq0 : goal.returns-then-at-eq0
 returns-then-at-eq0 c =
-    let start = c in
-    let a = start.args in
+    let a = c.args in
     let b = a.block.now in
     let n = taking (goal.at.returns-then-at-eq0 c).Else-count-eq0 in record {
-      ends = rw c.take_right.ensures (right_less a.view.now b start.requires.0 1 (omega arith) (omega arith), right_onward 1 b start.requires.0);
+      ends = rw c.take_right.ensures (right_less a.view.now b c.requires.0 1 (omega arith) (omega arith), right_onward 1 b c.requires.0);
       steps = λ φ L g falls agrees ready.
           rw c.take_right.ensures
-          (next_pass a.view.now b start.requires.0 1 (omega arith) L g a.low a.high φ (omega arith) c.if-at-eq0.true refl ready);
-      keeps = start.requires.1;
+          (next_pass a.view.now b c.requires.0 1 (omega arith) L g a.low a.high φ (omega arith) c.if-at-eq0.true refl ready);
+      keeps = c.requires.1;
     }
 
 pub take_near-bits-requires : goal.take_near-bits-requires
@@ -125,15 +121,14 @@ overflow_add-block-2 c =
 
 pub returns : goal.returns
 returns c =
-    let start = c in
-    let a = start.args in
+    let a = c.args in
     let b = a.block.now in
     let count = c.available-count.result in
     let took = c.take_near-bits.ensures.took_near in
     let n = taking (goal.at.returns c).Else-count-eq0 in record {
-      ends = rw took.words (answered_onward count _ b start.requires.0 took.onward);
+      ends = rw took.words (answered_onward count _ b c.requires.0 took.onward);
       steps = λ φ L g falls agrees ready.
           rw took.words
-          (next_batch a.view.now b start.requires.0 count n.2 L g a.low a.high φ n.0 took agrees (pos_of_ne-zero c.if-at-eq0.false) n.3 ready);
+          (next_batch a.view.now b c.requires.0 count n.2 L g a.low a.high φ n.0 took agrees (pos_of_ne-zero c.if-at-eq0.false) n.3 ready);
       keeps = c.take_near-bits.ensures.keeps;
     }

@@ -37,32 +37,29 @@ taking c =
 
 pub returns-then-total-g : goal.returns-then-total-g
 returns-then-total-g c =
-    let start = c in
-    let a = start.args in record { ends = refl; steps = λ φ L g falls agrees ready. previous_open a.view.now a.block.now a.low a.high φ L g agrees ready c.if-total-g.true; keeps = start.requires.1 }
+    let a = c.args in record { ends = refl; steps = λ φ L g falls agrees ready. previous_open a.view.now a.block.now a.low a.high φ L g agrees ready c.if-total-g.true; keeps = c.requires.1 }
 
 pub returns-then-g-eq0 : goal.returns-then-g-eq0
 returns-then-g-eq0 c =
-    let start = c in
-    let a = start.args in
+    let a = c.args in
     let b = a.block.now in
     let left = not_open (total a.view.now) (answered b) (answered b) (taken b) c.if-total-g.false in record {
       ends = stores_onward (put 5 1 ∷ []) b (omega arith) (omega arith) (omega arith);
       steps = λ φ L g falls agrees ready.
-          previous_first a.view.now b start.requires.0 (omega arith) c.if-g-eq0.true a.low a.high φ L g agrees ready;
-      keeps = start.requires.1;
+          previous_first a.view.now b c.requires.0 (omega arith) c.if-g-eq0.true a.low a.high φ L g agrees ready;
+      keeps = c.requires.1;
     }
 
 pub returns-then-block-eq0 : goal.returns-then-block-eq0
 returns-then-block-eq0 c =
-    let start = c in
-    let a = start.args in
+    let a = c.args in
     let past = pos_of_ne-zero c.if-g-eq0.false in record {
       ends = (refl, refl, c.if-block-eq0.true, λ e. absurd (true_and_false e refl));
       steps = λ φ L g falls agrees ready. (
         refl,
         λ e. let reached = ready.core.reached in let own = ready.core.own in omega (arith, settled_previous L a.low a.high φ),
       );
-      keeps = start.requires.1;
+      keeps = c.requires.1;
     }
 
 pub take_near-bits-requires : goal.take_near-bits-requires
@@ -77,14 +74,13 @@ overflow_add-block c = omega (arith, c.available-count.ensures.1)
 
 pub returns : goal.returns
 returns c =
-    let start = c in
-    let a = start.args in
+    let a = c.args in
     let b = a.block.now in
     let n = c.available-count.result in
     let took = c.take_near-bits.ensures.took_near in
     let (past, (behind, some, most, few, inside)) = taking (goal.at.returns c).After-available-count in record {
-      ends = rw took.words (answered_onward n _ b start.requires.0 took.onward);
+      ends = rw took.words (answered_onward n _ b c.requires.0 took.onward);
       steps = λ φ L g falls agrees ready.
-          rw took.words (previous_batch a.view.now b start.requires.0 n some L g a.low a.high φ most took agrees past inside ready);
+          rw took.words (previous_batch a.view.now b c.requires.0 n some L g a.low a.high φ most took agrees past inside ready);
       keeps = c.take_near-bits.ensures.keeps;
     }

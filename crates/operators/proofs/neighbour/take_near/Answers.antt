@@ -11,20 +11,18 @@ open-window-requires c = let pre = c.requires in (omega arith, pre.1, pre.2)
 
 pub read_near-near-requires : goal.read_near-near-requires
 read_near-near-requires c =
-    let start = c in
     let opened = c.open-window.ensures in
-    (start.requires.3, omega (arith, opened.long), readable start.args.view.now (head start.args.block.now) opened)
+    (c.requires.3, omega (arith, opened.long), readable c.args.view.now (head c.args.block.now) opened)
 
 pub pass-requires : goal.pass-requires
-pass-requires c = let start = c in (start.requires.2, (start.args.count + 1, _, omega arith, c.open-window.ensures))
+pass-requires c = (c.requires.2, (c.args.count + 1, _, omega arith, c.open-window.ensures))
 
 pub returns : goal.returns
 returns c =
-    let start = c in
-    let a = start.args in
+    let a = c.args in
     let near = c.read_near-near in
     let opened = c.open-window.ensures in record {
       took_near = rw c.take_right.ensures
-          (took_near a.low a.high a.view.now a.records.now a.block.now a.count start.requires.0 _ _ opened near.result c.pass.result near.ensures c.pass.ensures);
+          (took_near a.low a.high a.view.now a.records.now a.block.now a.count c.requires.0 _ _ opened near.result c.pass.result near.ensures c.pass.ensures);
       keeps = opened.keeps;
     }
