@@ -15,18 +15,16 @@ use Rattle.emit.proofs.emit.Goals.{After-lay_out, After-lay_tops-tops}
 
 -- the rule's entries, once they are laid out
 entries_laid : (d : After-lay_out) →
-    let s = d in
-    (fs : List Formula) → Ended s.args.entries s.args.count s.args.ends s.args.number fs →
-    LaidAs s.args.entries s.args.count d.lay_out.new.table s.args.ends s.args.number fs
+    (fs : List Formula) → Ended d.args.entries d.args.count d.args.ends d.args.number fs →
+    LaidAs d.args.entries d.args.count d.lay_out.new.table d.args.ends d.args.number fs
 entries_laid d fs ended =
     let p = d.requires in
     record { few = p.few; well_formed = p.well_formed; rows = d.lay_out.ensures; ended = ended }
 
 -- the rule's entries, once they are laid out
 entries_laid_2 : (d : After-lay_tops-tops) →
-    let s = d in
-    (fs : List Formula) → Ended s.args.entries s.args.count s.args.ends s.args.number fs →
-    LaidAs s.args.entries s.args.count d.lay_out.new.table s.args.ends s.args.number fs
+    (fs : List Formula) → Ended d.args.entries d.args.count d.args.ends d.args.number fs →
+    LaidAs d.args.entries d.args.count d.lay_out.new.table d.args.ends d.args.number fs
 entries_laid_2 d fs ended =
     let p = d.requires in
     record { few = p.few; well_formed = p.well_formed; rows = d.lay_out.ensures; ended = ended }
@@ -46,9 +44,8 @@ lay_out-requires c = let p = c.requires in (p.few, p.well_formed, refl, zeros 10
 
 pub lay_tops-tops-requires : goal.lay_tops-tops-requires
 lay_tops-tops-requires c =
-    let s = c in
-    let p = s.requires in
-    (p.header.1, (s.args.entries, s.args.count, p.the_formulas, entries_laid (goal.at.lay_tops-tops-requires c).After-lay_out p.the_formulas p.ended))
+    let p = c.requires in
+    (p.header.1, (c.args.entries, c.args.count, p.the_formulas, entries_laid (goal.at.lay_tops-tops-requires c).After-lay_out p.the_formulas p.ended))
 
 pub write_view-requires : goal.write_view-requires
 write_view-requires c = let p = c.requires in (omega (arith, p.size, p.header.0), p.given, refl)
@@ -58,42 +55,33 @@ shift_of-shift-requires c = let p = c.requires in omega (arith, p.size, p.header
 
 pub give-emitted-requires : goal.give-emitted-requires
 give-emitted-requires c =
-    let s = c in
-    let p = s.requires in (
+    let p = c.requires in (
       record {
-        fits = (s.args.base, p.the_formulas, laid (goal.at.give-emitted-requires c).After-lay_tops-tops, p.header.2);
+        fits = (c.args.base, p.the_formulas, laid (goal.at.give-emitted-requires c).After-lay_tops-tops, p.header.2);
         formulas = p.formulas;
         small = p.small;
         given = p.given;
         noes = p.noes;
       },
-      keeps_none s.args.records.now,
-      keeps_none s.args.records.now,
+      keeps_none c.args.records.now,
+      keeps_none c.args.records.now,
       made_views c.write_view.ensures (omega (arith, p.wanted, p.records)),
     )
 
 pub note-requires : goal.note-requires
 note-requires c =
-    let s = c in
-    let p = s.requires in
-    let g = c.give-emitted.ensures s.args.base p.the_formulas (laid (goal.at.note-requires c).After-lay_tops-tops) p.header.2 in
+    let p = c.requires in
+    let g = c.give-emitted.ensures c.args.base p.the_formulas (laid (goal.at.note-requires c).After-lay_tops-tops) p.header.2 in
     (omega (arith, g.words_length, p.size, p.header.0), omega (arith, g.frame.header 7 (omega arith) (λ e. omega arith), p.wanted))
 
 pub returns : goal.returns
 returns c fs ended deep =
-    let after_note = c in
-    let after_give = after_note in
-    let after_write_view = after_give in
-    let after_lay_tops = after_write_view in
-    let after_lay_out = after_lay_tops in
-    let after_shared_slice_known = after_lay_out in
-    let s = after_shared_slice_known in
-    let a = s.args in
-    let g = after_give.give-emitted in
-    let view = after_write_view.write_view in
-    let y = after_note.note in
-    let fits = fits_of a.entries a.count a.t3 a.number a.most a.base a.depth a.records.now a.words.now after_lay_out.lay_out.new.table
-    after_lay_tops.lay_tops-tops.result s.requires fs ended (after_lay_tops.lay_tops-tops.ensures a.entries a.count fs (entries_laid (goal.at.returns c).After-lay_out fs ended)) in
+    let a = c.args in
+    let g = c.give-emitted in
+    let view = c.write_view in
+    let y = c.note in
+    let fits = fits_of a.entries a.count a.t3 a.number a.most a.base a.depth a.records.now a.words.now c.lay_out.new.table
+    c.lay_tops-tops.result c.requires fs ended (c.lay_tops-tops.ensures a.entries a.count fs (entries_laid (goal.at.returns c).After-lay_out fs ended)) in
     emitted a.skips a.closed a.records.now a.words.now a.sheet.now view.new.view g.result g.new.words
-    g.new.sheet y.new.words fits (λ i. (after_shared_slice_known.type_inv.records i).fits)
-    (rw deep at view.ensures) (g.ensures a.base fs fits s.requires.header.2) (rw deep at y.ensures)
+    g.new.sheet y.new.words fits (λ i. (c.type_inv.records i).fits)
+    (rw deep at view.ensures) (g.ensures a.base fs fits c.requires.header.2) (rw deep at y.ensures)

@@ -7,9 +7,8 @@ use Rattle.emit.proofs.give_one.Goals as goal
 
 pub loop-answers-init : goal.loop-answers-init
 loop-answers-init c =
-    let s = c in
-    let a = s.args in
-    (refl, underway_none a.table.now a.tops.now 1 a.most a.view.now a.records.now a.words.now a.sheet.now, s.requires.1, s.requires.2)
+    let a = c.args in
+    (refl, underway_none a.table.now a.tops.now 1 a.most a.view.now a.records.now a.words.now a.sheet.now, c.requires.1, c.requires.2)
 
 pub hold-ready-requires : goal.hold-ready-requires
 hold-ready-requires c =
@@ -36,34 +35,29 @@ copy_answers-requires c =
 
 pub write_answers-requires : goal.write_answers-requires
 write_answers-requires c =
-    let s = c in
-    let p = s.requires.0 in
+    let p = c.requires.0 in
     let l = c.loop-answers in
-    let (room, word) = writable p l.invariant.1 c.hold-ready.ensures.holds_all c.available-n.result c.available-n.ensures.0 (omega (arith, s.well_formed.1.1.1.1.1.1.1.1.1.0.1)) in
+    let (room, word) = writable p l.invariant.1 c.hold-ready.ensures.holds_all c.available-n.result c.available-n.ensures.0 (omega (arith, c.well_formed.1.1.1.1.1.1.1.1.1.0.1)) in
     (room, word, omega arith)
 
 pub take_verdicts-requires : goal.take_verdicts-requires
 take_verdicts-requires c =
-    let s = c in
-    takes_out s.requires.0 c.loop-answers.invariant.1 c.hold-ready.ensures.holds_all c.available-n.result c.available-n.ensures.0 (omega (arith, s.well_formed.1.1.1.1.1.1.1.1.1.0.1))
+    takes_out c.requires.0 c.loop-answers.invariant.1 c.hold-ready.ensures.holds_all c.available-n.result c.available-n.ensures.0 (omega (arith, c.well_formed.1.1.1.1.1.1.1.1.1.0.1))
 
 pub overflow_add-done : goal.overflow_add-done
 overflow_add-done c =
-    let s = c in
-    record { fits = countable s.requires.0 c.loop-answers.invariant.1 c.hold-ready.ensures.holds_all c.available-n.result c.available-n.ensures.0 (omega (arith, s.well_formed.1.1.1.1.1.1.1.1.1.0.1)) }
+    record { fits = countable c.requires.0 c.loop-answers.invariant.1 c.hold-ready.ensures.holds_all c.available-n.result c.available-n.ensures.0 (omega (arith, c.well_formed.1.1.1.1.1.1.1.1.1.0.1)) }
 
 pub loop-answers-smaller : goal.loop-answers-smaller
 loop-answers-smaller c =
-    let s = c in
-    fewer s.requires.0 c.loop-answers.invariant.1 c.hold-ready.ensures.holds_all c.available-n.result c.available-n.ensures.0 (omega (arith, s.well_formed.1.1.1.1.1.1.1.1.1.0.1)) (omega arith)
+    fewer c.requires.0 c.loop-answers.invariant.1 c.hold-ready.ensures.holds_all c.available-n.result c.available-n.ensures.0 (omega (arith, c.well_formed.1.1.1.1.1.1.1.1.1.0.1)) (omega arith)
 
 pub loop-answers-preserved : goal.loop-answers-preserved
 loop-answers-preserved c =
-    let s = c in
     let h = c.hold-ready in
     let a = c.copy_answers in (
       a.ensures.long,
-      turned s.requires.0 c.loop-answers.invariant.1 h.ensures.holds_all c.available-n.result c.available-n.ensures.0 (omega (arith, s.well_formed.1.1.1.1.1.1.1.1.1.0.1))
+      turned c.requires.0 c.loop-answers.invariant.1 h.ensures.holds_all c.available-n.result c.available-n.ensures.0 (omega (arith, c.well_formed.1.1.1.1.1.1.1.1.1.0.1))
           a.new.answers 1 refl a.ensures _ _ c.take_verdicts.ensures c.write_answers.ensures,
       h.ensures.keeps.0,
       h.ensures.keeps.1,

@@ -11,9 +11,8 @@ use Rattle.held.proofs.copy_answers.Goals as goal
 
 pub loop-k-init : goal.loop-k-init
 loop-k-init c =
-    let s = c in
-    let first = length-set s.args.answers.now 0 _ in
-    (zero-le, first ∙ s.requires.1, λ j h. absurd (omega arith), λ e. get_or-set_same s.args.answers.now 0 _ 0 (omega (arith, s.requires.1)))
+    let first = length-set c.args.answers.now 0 _ in
+    (zero-le, first ∙ c.requires.1, λ j h. absurd (omega arith), λ e. get_or-set_same c.args.answers.now 0 _ 0 (omega (arith, c.requires.1)))
 
 pub place-held-requires : goal.place-held-requires
 place-held-requires c = (omega arith, omega arith)

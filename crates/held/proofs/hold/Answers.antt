@@ -10,14 +10,12 @@ bounds-words-1 c = let f = c.requires.0.2 in omega (arith, f.header, f.all)
 
 pub returns-then-least-eq0 : goal.returns-then-least-eq0
 returns-then-least-eq0 c =
-    let s = c in
-    let a = s.args in record { holds_all = λ base fs fits. none_settled (asked_none base fs a.view.now a.records.now a.words.now 0 (omega (arith, c.not_given-least.ensures))) (omega arith); keeps = (s.requires.1, s.requires.2) }
+    let a = c.args in record { holds_all = λ base fs fits. none_settled (asked_none base fs a.view.now a.records.now a.words.now 0 (omega (arith, c.not_given-least.ensures))) (omega arith); keeps = (c.requires.1, c.requires.2) }
 
 pub loop-k-init : goal.loop-k-init
 loop-k-init c =
-    let s = c in
-    let a = s.args in
-    (zero-le, refl, s.requires.1, s.requires.2, λ base fs fits. asked_none base fs a.view.now a.records.now a.words.now _ c.not_given-least.ensures)
+    let a = c.args in
+    (zero-le, refl, c.requires.1, c.requires.2, λ base fs fits. asked_none base fs a.view.now a.records.now a.words.now _ c.not_given-least.ensures)
 
 pub hold_one-count-requires : goal.hold_one-count-requires
 hold_one-count-requires c =

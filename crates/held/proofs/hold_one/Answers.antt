@@ -9,25 +9,22 @@ use Rattle.held.proofs.hold_one.Goals as goal
 
 pub ask-requires : goal.ask-requires
 ask-requires c =
-    let s = c in
-    let a = s.args in
-    let m = may_ask a.table.now a.tops.now a.number a.k (length a.words.now) s.requires.0 s.requires.1 in
+    let a = c.args in
+    let m = may_ask a.table.now a.tops.now a.number a.k (length a.words.now) c.requires.0 c.requires.1 in
     rw (c.place-entry.ensures, c.place-from.ensures, c.place-to.ensures, c.place-held.ensures)
-    (m.0, m.1, m.2, m.3, m.4, s.requires.2, s.requires.3, s.requires.4)
+    (m.0, m.1, m.2, m.3, m.4, c.requires.2, c.requires.3, c.requires.4)
 
 pub offset_bounds-words-held : goal.offset_bounds-words-held
 offset_bounds-words-held c =
-    let s = c in
-    let a = s.args in
-    let m = may_ask a.table.now a.tops.now a.number a.k (length a.words.now) s.requires.0 s.requires.1 in
-    let most = s.well_formed.1.1.1.1.1.1.1.1.1.0.1 in
+    let a = c.args in
+    let m = may_ask a.table.now a.tops.now a.number a.k (length a.words.now) c.requires.0 c.requires.1 in
+    let most = c.well_formed.1.1.1.1.1.1.1.1.1.0.1 in
     record { fits = omega (arith, m.4, c.place-held.ensures) }
 
 pub bounds-words-held : goal.bounds-words-held
 bounds-words-held c =
-    let s = c in
-    let a = s.args in
-    let m = may_ask a.table.now a.tops.now a.number a.k (length a.words.now) s.requires.0 s.requires.1 in
+    let a = c.args in
+    let m = may_ask a.table.now a.tops.now a.number a.k (length a.words.now) c.requires.0 c.requires.1 in
     omega (arith, m.4, c.ask.auto, c.place-held.ensures)
 
 pub returns : goal.returns

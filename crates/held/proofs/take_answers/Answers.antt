@@ -8,5 +8,4 @@ bounds-words-held-3 c = simp length-set (omega arith)
 
 pub returns : goal.returns
 returns c =
-    let s = c in
     simp (c.rest.ensures, c.later_end-after.ensures, c.find_last_zero-last.ensures.0, c.count_zeros.ensures.0)

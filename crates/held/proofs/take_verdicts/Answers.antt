@@ -13,9 +13,8 @@ use Rattle.held.proofs.take_verdicts.Goals.{After-loop-k}
 -- the words are as many as before
 long : (c : After-loop-k) → length c.loop-k.words ≡ length c.args.words.now
 long c =
-    let s = c in
     ap length c.loop-k.invariant.1 ∙
-    length_taken_out (top_column 3 s.args.tops.now) s.args.most (given s.args.words.now) s.args.n s.args.number s.args.words.now s.requires.row c.loop-k.k
+    length_taken_out (top_column 3 c.args.tops.now) c.args.most (given c.args.words.now) c.args.n c.args.number c.args.words.now c.requires.row c.loop-k.k
 
 pub bounds-words-1 : goal.bounds-words-1
 bounds-words-1 c = c.requires.room
@@ -39,20 +38,18 @@ overflow_add-most-in-loop-k c = record { fits = let p = c.requires in omega (ari
 
 pub take_answers-requires : goal.take_answers-requires
 take_answers-requires c =
-    let s = c in
     let l = c.loop-k in
-    may_take s.args.tops.now s.args.number s.args.most s.args.n s.args.words.now s.requires l.k (omega arith) c.place-held.result l.words
+    may_take c.args.tops.now c.args.number c.args.most c.args.n c.args.words.now c.requires l.k (omega arith) c.place-held.result l.words
     c.place-held.ensures l.invariant.1
 
 pub loop-k-preserved : goal.loop-k-preserved
 loop-k-preserved c =
-    let s = c in
     let l = c.loop-k in (
       omega arith,
       c.take_answers.ensures ∙
-          ap (λ h. taken_answers h (8 + l.k) (8 + s.args.most + l.k) (given s.args.words.now) s.args.n l.words) c.place-held.ensures ∙
-          ap (taken_answers (top_column 3 s.args.tops.now l.k) (8 + l.k) (8 + s.args.most + l.k) (given s.args.words.now) s.args.n) l.invariant.1 ∙
-          taken_out_next (top_column 3 s.args.tops.now) s.args.most (given s.args.words.now) s.args.n l.k s.args.words.now,
+          ap (λ h. taken_answers h (8 + l.k) (8 + c.args.most + l.k) (given c.args.words.now) c.args.n l.words) c.place-held.ensures ∙
+          ap (taken_answers (top_column 3 c.args.tops.now l.k) (8 + l.k) (8 + c.args.most + l.k) (given c.args.words.now) c.args.n) l.invariant.1 ∙
+          taken_out_next (top_column 3 c.args.tops.now) c.args.most (given c.args.words.now) c.args.n l.k c.args.words.now,
     )
 
 pub overflow_add-words : goal.overflow_add-words
@@ -66,8 +63,7 @@ shape_of-words c = simp length-set (long (goal.at.shape_of-words c).After-loop-k
 
 pub returns : goal.returns
 returns c =
-    let s = c in
     let l = c.loop-k in
-    let all : l.k ≡ s.args.number = omega arith in
-    ap (λ ws. set ws 1 (given s.args.words.now + s.args.n))
-    (l.invariant.1 ∙ ap (λ k. taken_out (top_column 3 s.args.tops.now) s.args.most (given s.args.words.now) s.args.n k s.args.words.now) all)
+    let all : l.k ≡ c.args.number = omega arith in
+    ap (λ ws. set ws 1 (given c.args.words.now + c.args.n))
+    (l.invariant.1 ∙ ap (λ k. taken_out (top_column 3 c.args.tops.now) c.args.most (given c.args.words.now) c.args.n k c.args.words.now) all)

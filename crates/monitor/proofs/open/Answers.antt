@@ -82,9 +82,8 @@ slice_bounds-write-end c = let e = fit (goal.at.slice_bounds-write-end c).In-Wor
 pub write-requires : goal.write-requires
 write-requires c =
     let a = c.args in
-    let s = c in
     let e = fit (goal.at.write-requires c).In-Words in
-    let l = length-take-le (s.in-Words.words - 0) a.point.now (omega arith) in
+    let l = length-take-le (c.in-Words.words - 0) a.point.now (omega arith) in
     let d = decoded_for (goal.at.write-requires c).In-Words in
     rw (version_for (goal.at.write-requires c).In-Words, d.entries_are, d.count_is)
     (version_most a.rule.now e.accepted, (accepted _ e.accepted).few_entries, omega arith)
@@ -92,7 +91,6 @@ write-requires c =
 pub returns : goal.returns
 returns c =
     let a = c.args in
-    let s = c in
     let w = c.write in
     let e = fit (goal.at.returns c).In-Words in
     let d = decoded_for (goal.at.returns c).In-Words in
@@ -100,8 +98,8 @@ returns c =
     a.rule.now
     a.point.now
     w.new.words
-    s.in-Words.words
-    (s.in-Words.words - 0)
+    c.in-Words.words
+    (c.in-Words.words - 0)
     (words_of (goal.at.returns c).In-Words)
     (omega arith)
     w.auto.words

@@ -105,7 +105,6 @@ checked_for : (d : After-check_point-checked) →
     d.check_point-checked.result ≡
     checked_by (point_refusal a.closing (version a.rule.now) (decoded a.rule.now) (count a.rule.now) a.log.now a.point.now)
 checked_for d =
-    let s = d in
     let e = decoded_for_2 d in
     rw (version_for_2 d, e.entries_are, e.count_is) at d.check_point-checked.ensures
 
@@ -151,7 +150,6 @@ checked_for_2 : (d : In-Passed) →
     d.check_point-checked.result ≡
     checked_by (point_refusal a.closing (version a.rule.now) (decoded a.rule.now) (count a.rule.now) a.log.now a.point.now)
 checked_for_2 d =
-    let s = d in
     let e = decoded_for_3 d in
     rw (version_for_3 d, e.entries_are, e.count_is) at d.check_point-checked.ensures
 
@@ -176,23 +174,19 @@ measure_decoded-requires c = few_to_decode _ _ c.check_header-header.ensures
 pub returns-in_default : goal.returns-in_default
 returns-in_default c =
     let a = c.args in
-    let d = c in
     resume_refused a.closing a.rule.now a.log.now a.point.now a.sheet.now c.number.result
-    (stopped a.rule.now a.point.now _ d.size_of-sized.result c.in_default.field-0 c.number.result (sized_for (goal.at.returns-in_default c).After-size_of-sized) c.in_default.is c.number.ensures)
+    (stopped a.rule.now a.point.now _ c.size_of-sized.result c.in_default.field-0 c.number.result (sized_for (goal.at.returns-in_default c).After-size_of-sized) c.in_default.is c.number.ensures)
 
 pub check_point-checked-requires : goal.check_point-checked-requires
 check_point-checked-requires c =
-    let s = c in
     let e = fit (goal.at.check_point-checked-requires c).In-Words in
     fits_in _ _ _ _ _ e.accepted (version_for (goal.at.check_point-checked-requires c).In-Words) (decoded_for (goal.at.check_point-checked-requires c).In-Words) e.room
 
 pub returns-in_default-checked : goal.returns-in_default-checked
 returns-in_default-checked c =
     let a = c.args in
-    let s = c in
-    let d = c in
     resume_refused a.closing a.rule.now a.log.now a.point.now a.sheet.now c.number-in_default-checked.result
-    (failed a.rule.now a.point.now _ s.in-Words.words d.check_point-checked.result c.in_default-checked.field-0 c.number-in_default-checked.result (words_of (goal.at.returns-in_default-checked c).In-Words) (checked_for (goal.at.returns-in_default-checked c).After-check_point-checked) c.in_default-checked.is
+    (failed a.rule.now a.point.now _ c.in-Words.words c.check_point-checked.result c.in_default-checked.field-0 c.number-in_default-checked.result (words_of (goal.at.returns-in_default-checked c).In-Words) (checked_for (goal.at.returns-in_default-checked c).After-check_point-checked) c.in_default-checked.is
     c.number-in_default-checked.ensures)
 
 pub ends_of-ends-requires : goal.ends_of-ends-requires
@@ -214,7 +208,6 @@ depth-requires c =
 -- the first wanted record is among the words
 pub bounds-point-7 : goal.bounds-point-7
 bounds-point-7 c =
-    let s = c in
     let e = fit (goal.at.bounds-point-7 c).In-Words in
     omega (arith, header_least (version c.args.rule.now))
 
@@ -224,20 +217,16 @@ slice_bounds-emit-end c = let e = fit (goal.at.slice_bounds-emit-end c).In-Words
 pub emit-emitted-requires : goal.emit-emitted-requires
 emit-emitted-requires c =
     let a = c.args in
-    let s = c in
     let ends = c.ends_of-ends in
     let depth = c.depth in
-    let records = c in
     rw (c.most_of.ensures, c.header_words.ensures)
-    (ready_of a.closing a.rule.now a.log.now a.point.now _ _ _ ends.result s.in-Words.words (words_of (goal.at.emit-emitted-requires c).In-Words) (version_for (goal.at.emit-emitted-requires c).In-Words) (decoded_for (goal.at.emit-emitted-requires c).In-Words)
-    ends.ensures (none_of (goal.at.emit-emitted-requires c).In-Passed) depth.result depth.ensures records.records_from.result.now (handed (goal.at.emit-emitted-requires c).After-records_from))
+    (ready_of a.closing a.rule.now a.log.now a.point.now _ _ _ ends.result c.in-Words.words (words_of (goal.at.emit-emitted-requires c).In-Words) (version_for (goal.at.emit-emitted-requires c).In-Words) (decoded_for (goal.at.emit-emitted-requires c).In-Words)
+    ends.ensures (none_of (goal.at.emit-emitted-requires c).In-Passed) depth.result depth.ensures c.records_from.result.now (handed (goal.at.emit-emitted-requires c).After-records_from))
 
 pub returns : goal.returns
 returns c =
     let a = c.args in
-    let s = c in
     let ends = c.ends_of-ends in
-    let records = c in
     let depth = c.depth in
     let skips = c.skips in
     let y = c.emit-emitted in
@@ -250,7 +239,7 @@ returns c =
     _
     _
     ends.result
-    s.in-Words.words
+    c.in-Words.words
     (words_of (goal.at.returns c).In-Words)
     (version_for (goal.at.returns c).In-Words)
     (decoded_for (goal.at.returns c).In-Words)
@@ -259,7 +248,7 @@ returns c =
     depth.result
     depth.ensures
     a.sheet.now
-    records.records_from.result.now
+    c.records_from.result.now
     skips.result
     y.result
     y.new.words

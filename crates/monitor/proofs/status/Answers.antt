@@ -63,9 +63,8 @@ check_own-checked-requires c =
 pub returns-in_default : goal.returns-in_default
 returns-in_default c =
     let a = c.args in
-    let d = c in
     status_refused a.rule.now a.point.now c.number.result
-    (fails_with _ d.check_own-checked.result c.in_default.field-0 c.number.result (checked_for (goal.at.returns-in_default c).After-check_own-checked) c.in_default.is c.number.ensures)
+    (fails_with _ c.check_own-checked.result c.in_default.field-0 c.number.result (checked_for (goal.at.returns-in_default c).After-check_own-checked) c.in_default.is c.number.ensures)
 
 pub bounds-point-1 : goal.bounds-point-1
 bounds-point-1 c = omega (arith, room (goal.at.bounds-point-1 c).In-Passed)
@@ -82,5 +81,4 @@ bounds-point-5 c = omega (arith, room (goal.at.bounds-point-5 c).In-Passed)
 pub returns : goal.returns
 returns c =
     let a = c.args in
-    let told = c in
     status_told a.rule.now a.point.now (fine (goal.at.returns c).In-Passed)

@@ -89,9 +89,8 @@ check_own-checked-requires c =
 pub returns-in_default : goal.returns-in_default
 returns-in_default c =
     let a = c.args in
-    let d = c in
     summary_refused a.rule.now a.point.now a.no.now a.latest.now c.number.result
-    (fails_with _ d.check_own-checked.result c.in_default.field-0 c.number.result (checked_for (goal.at.returns-in_default c).After-check_own-checked) c.in_default.is c.number.ensures)
+    (fails_with _ c.check_own-checked.result c.in_default.field-0 c.number.result (checked_for (goal.at.returns-in_default c).After-check_own-checked) c.in_default.is c.number.ensures)
 
 pub ends_of-ends-requires : goal.ends_of-ends-requires
 ends_of-ends-requires c =
@@ -104,18 +103,14 @@ ends_of-ends-requires c =
 pub write_noes-requires : goal.write_noes-requires
 write_noes-requires c =
     let a = c.args in
-    let d = c in
-    let told = c in
     let is = c.most_of.ensures in
-    let fit = counts_fit a.rule.now a.point.now (fine (goal.at.write_noes-requires c).In-Passed) _ (version_for (goal.at.write_noes-requires c).In-Passed) d.columns_of-formulas.result (columns_for (goal.at.write_noes-requires c).After-columns_of-formulas) in
+    let fit = counts_fit a.rule.now a.point.now (fine (goal.at.write_noes-requires c).In-Passed) _ (version_for (goal.at.write_noes-requires c).In-Passed) c.columns_of-formulas.result (columns_for (goal.at.write_noes-requires c).After-columns_of-formulas) in
     omega (arith, fit, is)
 
 pub returns : goal.returns
 returns c =
     let a = c.args in
-    let d = c in
-    let told = c in
     let w = c.write_noes in
     summary_told a.rule.now a.point.now (fine (goal.at.returns c).In-Passed) a.no.now a.latest.now w.new.no w.new.latest _ (version_for (goal.at.returns c).In-Passed)
-    d.columns_of-formulas.result (columns_for (goal.at.returns c).After-columns_of-formulas)
+    c.columns_of-formulas.result (columns_for (goal.at.returns c).After-columns_of-formulas)
     (rw c.most_of.ensures at (c.write_noes.ensures.no_after, c.write_noes.ensures.latest_after))

@@ -68,11 +68,10 @@ checked_for : (d : After-check_trimming-checked) →
     (words_refusal (version a.rule.now) (decoded a.rule.now) (count a.rule.now) a.point.now (trimming_refusal (length a.out.now) a.log.now a.point.now))
 checked_for d =
     let a = d.args in
-    let w = d in
-    let m = w.measure_decoded in
+    let m = d.measure_decoded in
     d.check_trimming-checked.ensures ∙
     ap checked_by
-    (words_once a.rule.now _ _ _ _ w.check_header-header.ensures w.version-version.ensures w.count-count.ensures w.decode-entries.ensures m.result m.ensures
+    (words_once a.rule.now _ _ _ _ d.check_header-header.ensures d.version-version.ensures d.count-count.ensures d.decode-entries.ensures m.result m.ensures
     (enough a.rule.now (length a.point.now) _ (words_of_2 d)).accepted a.point.now _)
 
 -- the answer of `size_of` is by the rule's own answer
@@ -100,11 +99,10 @@ checked_for_2 : (d : In-Passed) →
     (words_refusal (version a.rule.now) (decoded a.rule.now) (count a.rule.now) a.point.now (trimming_refusal (length a.out.now) a.log.now a.point.now))
 checked_for_2 d =
     let a = d.args in
-    let w = d in
-    let m = w.measure_decoded in
+    let m = d.measure_decoded in
     d.check_trimming-checked.ensures ∙
     ap checked_by
-    (words_once a.rule.now _ _ _ _ w.check_header-header.ensures w.version-version.ensures w.count-count.ensures w.decode-entries.ensures m.result m.ensures
+    (words_once a.rule.now _ _ _ _ d.check_header-header.ensures d.version-version.ensures d.count-count.ensures d.decode-entries.ensures m.result m.ensures
     (enough a.rule.now (length a.point.now) _ (words_of_3 d)).accepted a.point.now _)
 
 -- no refusal applies where the check passed
@@ -122,9 +120,8 @@ measure_decoded-requires c = few_to_decode _ _ c.check_header-header.ensures
 pub returns-in_default : goal.returns-in_default
 returns-in_default c =
     let a = c.args in
-    let d = c in
     trim_refused a.rule.now a.log.now a.point.now a.out.now c.number.result
-    (stopped a.rule.now a.point.now _ d.size_of-sized.result c.in_default.field-0 c.number.result (sized_for (goal.at.returns-in_default c).After-size_of-sized) c.in_default.is c.number.ensures)
+    (stopped a.rule.now a.point.now _ c.size_of-sized.result c.in_default.field-0 c.number.result (sized_for (goal.at.returns-in_default c).After-size_of-sized) c.in_default.is c.number.ensures)
 
 pub check_trimming-checked-requires : goal.check_trimming-checked-requires
 check_trimming-checked-requires c =
@@ -137,9 +134,8 @@ check_trimming-checked-requires c =
 pub returns-in_default-checked : goal.returns-in_default-checked
 returns-in_default-checked c =
     let a = c.args in
-    let d = c in
     trim_refused a.rule.now a.log.now a.point.now a.out.now c.number-in_default-checked.result
-    (failed a.rule.now a.point.now _ c.in-Words.field-0 d.check_trimming-checked.result c.in_default-checked.field-0 c.number-in_default-checked.result (words_of (goal.at.returns-in_default-checked c).In-Words) (checked_for (goal.at.returns-in_default-checked c).After-check_trimming-checked)
+    (failed a.rule.now a.point.now _ c.in-Words.field-0 c.check_trimming-checked.result c.in_default-checked.field-0 c.number-in_default-checked.result (words_of (goal.at.returns-in_default-checked c).In-Words) (checked_for (goal.at.returns-in_default-checked c).After-check_trimming-checked)
     c.in_default-checked.is c.number-in_default-checked.ensures)
 
 -- the first wanted record is among the words

@@ -10,18 +10,16 @@ use Rattle.report.proofs.put_counts.Goals as goal
 pub put_number-first-requires : goal.put_number-first-requires
 put_number-first-requires c =
     let w = c.put-verdicts in
-    let s = c in
-    let few = four_digits s.args.given s.requires.0 in
-    let room : w.result + length (decimal s.args.given) ≤ length w.new.text = omega (arith, s.requires.2, w.ensures.ends, w.auto.text) in
+    let few = four_digits c.args.given c.requires.0 in
+    let room : w.result + length (decimal c.args.given) ≤ length w.new.text = omega (arith, c.requires.2, w.ensures.ends, w.auto.text) in
     room
 
 pub put-of-requires : goal.put-of-requires
 put-of-requires c =
     let w = c.put-verdicts in
     let n = c.put_number-first in
-    let s = c in
-    let few = four_digits s.args.given s.requires.0 in
-    let room : n.result + 4 ≤ length n.new.text = omega (arith, s.requires.2, w.ensures.ends, w.auto.text, n.ensures.ends, n.auto.text) in
+    let few = four_digits c.args.given c.requires.0 in
+    let room : n.result + 4 ≤ length n.new.text = omega (arith, c.requires.2, w.ensures.ends, w.auto.text, n.ensures.ends, n.auto.text) in
     room
 
 pub put_number-second-requires : goal.put_number-second-requires
@@ -29,11 +27,10 @@ put_number-second-requires c =
     let w = c.put-verdicts in
     let n = c.put_number-first in
     let v = c.put-of in
-    let s = c in
-    let few = four_digits s.args.given s.requires.0 in
-    let few_records = four_digits s.args.records s.requires.1 in
-    let room : v.result + length (decimal s.args.records) ≤ length v.new.text =
-    omega (arith, s.requires.2, w.ensures.ends, w.auto.text, n.ensures.ends, n.auto.text, v.ensures.ends, v.auto.text) in
+    let few = four_digits c.args.given c.requires.0 in
+    let few_records = four_digits c.args.records c.requires.1 in
+    let room : v.result + length (decimal c.args.records) ≤ length v.new.text =
+    omega (arith, c.requires.2, w.ensures.ends, w.auto.text, n.ensures.ends, n.auto.text, v.ensures.ends, v.auto.text) in
     room
 
 pub put-requires : goal.put-requires
@@ -42,13 +39,12 @@ put-requires c =
     let n = c.put_number-first in
     let v = c.put-of in
     let m = c.put_number-second in
-    let s = c in
-    let few = four_digits s.args.given s.requires.0 in
-    let few_records = four_digits s.args.records s.requires.1 in
+    let few = four_digits c.args.given c.requires.0 in
+    let few_records = four_digits c.args.records c.requires.1 in
     let room : m.result + 1 ≤ length m.new.text =
     omega (
       arith,
-      s.requires.2,
+      c.requires.2,
       w.ensures.ends,
       w.auto.text,
       n.ensures.ends,
@@ -67,9 +63,8 @@ returns c =
     let n = c.put_number-first in
     let v = c.put-of in
     let m = c.put_number-second in
-    let s = c in
-    let few = four_digits s.args.given s.requires.0 in
-    let few_records = four_digits s.args.records s.requires.1 in
+    let few = four_digits c.args.given c.requires.0 in
+    let few_records = four_digits c.args.records c.requires.1 in
     let one = w.ensures.ends in
     let two = n.ensures.ends in
     let three = v.ensures.ends in
@@ -77,10 +72,10 @@ returns c =
     writes_more
     (writes_more
     (writes_more
-    (writes_more w.ensures (omega (arith, s.requires.2)) n.ensures)
-    (omega (arith, s.requires.2))
+    (writes_more w.ensures (omega (arith, c.requires.2)) n.ensures)
+    (omega (arith, c.requires.2))
     v.ensures)
-    (omega (arith, s.requires.2))
+    (omega (arith, c.requires.2))
     m.ensures)
-    (omega (arith, s.requires.2))
+    (omega (arith, c.requires.2))
     c.put.ensures

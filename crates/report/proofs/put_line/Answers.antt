@@ -10,28 +10,25 @@ use Rattle.report.proofs.put_line.Goals as goal
 
 pub put_number-first-requires : goal.put_number-first-requires
 put_number-first-requires c =
-    let s = c in
-    let few = four_digits s.args.position s.requires.0 in
-    let room : s.args.at + length (decimal s.args.position) ≤ length s.args.text.now = omega (arith, s.requires.2) in
+    let few = four_digits c.args.position c.requires.0 in
+    let room : c.args.at + length (decimal c.args.position) ≤ length c.args.text.now = omega (arith, c.requires.2) in
     room
 
 pub put_words-behind-requires : goal.put_words-behind-requires
 put_words-behind-requires c =
     let n = c.put_number-first in
-    let s = c in
-    let few = four_digits s.args.position s.requires.0 in
-    let room : n.result + s.args.columns * 4 ≤ length n.new.text = omega (arith, s.requires.1, s.requires.2, n.ensures.ends, n.auto.text) in
-    (s.requires.1, room)
+    let few = four_digits c.args.position c.requires.0 in
+    let room : n.result + c.args.columns * 4 ≤ length n.new.text = omega (arith, c.requires.1, c.requires.2, n.ensures.ends, n.auto.text) in
+    (c.requires.1, room)
 
 pub put-requires : goal.put-requires
 put-requires c =
     let w = c.put_words-behind in
     let n = c.put_number-first in
-    let s = c in
-    let few = four_digits s.args.position s.requires.0 in
-    let short = short_words s.args.verdict s.args.columns in
+    let few = four_digits c.args.position c.requires.0 in
+    let short = short_words c.args.verdict c.args.columns in
     let room : w.result + 1 ≤ length w.new.text =
-    omega (arith, s.requires.1, s.requires.2, n.ensures.ends, n.auto.text, w.ensures.ends, w.auto.text) in
+    omega (arith, c.requires.1, c.requires.2, n.ensures.ends, n.auto.text, w.ensures.ends, w.auto.text) in
     room
 
 pub returns : goal.returns
@@ -39,12 +36,11 @@ unfolding ascii
 returns c =
     let w = c.put_words-behind in
     let n = c.put_number-first in
-    let s = c in
-    let few = four_digits s.args.position s.requires.0 in
-    let short = short_words s.args.verdict s.args.columns in
+    let few = four_digits c.args.position c.requires.0 in
+    let short = short_words c.args.verdict c.args.columns in
     let one = n.ensures.ends in
     let two = w.ensures.ends in
     writes_more
-    (writes_more n.ensures (omega (arith, s.requires.2)) w.ensures)
-    (omega (arith, s.requires.1, s.requires.2))
+    (writes_more n.ensures (omega (arith, c.requires.2)) w.ensures)
+    (omega (arith, c.requires.1, c.requires.2))
     c.put.ensures

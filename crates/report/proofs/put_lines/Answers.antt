@@ -18,24 +18,22 @@ loop-i-init c =
 pub put_line-at-requires : goal.put_line-at-requires
 put_line-at-requires c =
     let l = c.loop-i in
-    let s = c in
-    let few = short_lines s.args.columns s.args.verdicts.now l.i s.requires.1 (omega (arith, s.requires.0)) in
-    let room : l.at + 37 ≤ length l.text = omega (arith, s.requires.2, l.invariant.2.ends) in
-    (omega (arith, s.requires.0), s.requires.1, room)
+    let few = short_lines c.args.columns c.args.verdicts.now l.i c.requires.1 (omega (arith, c.requires.0)) in
+    let room : l.at + 37 ≤ length l.text = omega (arith, c.requires.2, l.invariant.2.ends) in
+    (omega (arith, c.requires.0), c.requires.1, room)
 
 pub loop-i-preserved : goal.loop-i-preserved
 unfolding lines
 loop-i-preserved c =
     let l = c.loop-i in
     let w = c.put_line-at in
-    let s = c in
-    let few = short_lines s.args.columns s.args.verdicts.now l.i s.requires.1 (omega (arith, s.requires.0)) in
+    let few = short_lines c.args.columns c.args.verdicts.now l.i c.requires.1 (omega (arith, c.requires.0)) in
     let next : suc l.i ≡ l.i + 1 = omega arith in
-    let more : Writes s.args.text.now s.args.from (lines s.args.columns s.args.verdicts.now (suc l.i)) w.result w.new.text =
-    writes_more l.invariant.2 (omega (arith, s.requires.2, l.invariant.2.ends)) w.ensures in (
+    let more : Writes c.args.text.now c.args.from (lines c.args.columns c.args.verdicts.now (suc l.i)) w.result w.new.text =
+    writes_more l.invariant.2 (omega (arith, c.requires.2, l.invariant.2.ends)) w.ensures in (
       omega arith,
       w.auto.text ∙ l.invariant.1,
-      subst (λ (k : ℕ). Writes s.args.text.now s.args.from (lines s.args.columns s.args.verdicts.now k) w.result w.new.text) next more,
+      subst (λ (k : ℕ). Writes c.args.text.now c.args.from (lines c.args.columns c.args.verdicts.now k) w.result w.new.text) next more,
     )
 
 pub shape_of-text : goal.shape_of-text

@@ -10,18 +10,16 @@ use Rattle.report.proofs.put_refused.Goals as goal
 pub put_number-at-requires : goal.put_number-at-requires
 put_number-at-requires c =
     let w = c.put-word in
-    let s = c in
-    let few = ten_digits s.args.number (omega arith) in
-    let room : w.result + length (decimal s.args.number) ≤ length w.new.text = omega (arith, s.requires, w.ensures.ends, w.auto.text) in
+    let few = ten_digits c.args.number (omega arith) in
+    let room : w.result + length (decimal c.args.number) ≤ length w.new.text = omega (arith, c.requires, w.ensures.ends, w.auto.text) in
     room
 
 pub put-requires : goal.put-requires
 put-requires c =
     let w = c.put-word in
     let n = c.put_number-at in
-    let s = c in
-    let few = ten_digits s.args.number (omega arith) in
-    let room : n.result + 1 ≤ length n.new.text = omega (arith, s.requires, w.ensures.ends, w.auto.text, n.ensures.ends, n.auto.text) in
+    let few = ten_digits c.args.number (omega arith) in
+    let room : n.result + 1 ≤ length n.new.text = omega (arith, c.requires, w.ensures.ends, w.auto.text, n.ensures.ends, n.auto.text) in
     room
 
 pub returns : goal.returns
@@ -29,9 +27,8 @@ unfolding ascii
 returns c =
     let w = c.put-word in
     let n = c.put_number-at in
-    let s = c in
-    let few = ten_digits s.args.number (omega arith) in
+    let few = ten_digits c.args.number (omega arith) in
     writes_more
-    (writes_more w.ensures (omega (arith, s.requires, w.ensures.ends)) n.ensures)
-    (omega (arith, s.requires, w.ensures.ends, n.ensures.ends))
+    (writes_more w.ensures (omega (arith, c.requires, w.ensures.ends)) n.ensures)
+    (omega (arith, c.requires, w.ensures.ends, n.ensures.ends))
     c.put.ensures

@@ -25,9 +25,8 @@ test-requires c = omega (arith, c.requires.0)
 pub put_word-at-requires : goal.put_word-at-requires
 put_word-at-requires c =
     let l = c.loop-left in
-    let s = c in
-    let short = short_words s.args.verdict (s.args.columns - l.left) in
-    let room : l.at + 4 ≤ length l.text = omega (arith, s.requires.1, l.invariant.2.ends) in
+    let short = short_words c.args.verdict (c.args.columns - l.left) in
+    let room : l.at + 4 ≤ length l.text = omega (arith, c.requires.1, l.invariant.2.ends) in
     room
 
 pub loop-left-preserved : goal.loop-left-preserved
@@ -35,15 +34,14 @@ unfolding verdict_words
 loop-left-preserved c =
     let l = c.loop-left in
     let w = c.put_word-at in
-    let s = c in
-    let k = s.args.columns - l.left in
-    let short = short_words s.args.verdict k in
-    let next : suc k ≡ s.args.columns - (l.left - 1) = omega arith in
-    let more : Writes s.args.text.now s.args.from (verdict_words s.args.verdict (suc k)) w.result w.new.text =
-    writes_more l.invariant.2 (omega (arith, s.requires.1, l.invariant.2.ends)) (rw c.test.ensures at w.ensures) in (
+    let k = c.args.columns - l.left in
+    let short = short_words c.args.verdict k in
+    let next : suc k ≡ c.args.columns - (l.left - 1) = omega arith in
+    let more : Writes c.args.text.now c.args.from (verdict_words c.args.verdict (suc k)) w.result w.new.text =
+    writes_more l.invariant.2 (omega (arith, c.requires.1, l.invariant.2.ends)) (rw c.test.ensures at w.ensures) in (
       omega arith,
       w.auto.text ∙ l.invariant.1,
-      subst (λ (m : ℕ). Writes s.args.text.now s.args.from (verdict_words s.args.verdict m) w.result w.new.text) next more,
+      subst (λ (m : ℕ). Writes c.args.text.now c.args.from (verdict_words c.args.verdict m) w.result w.new.text) next more,
     )
 
 pub shape_of-text : goal.shape_of-text

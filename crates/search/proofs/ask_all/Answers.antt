@@ -7,59 +7,38 @@ use Rattle.search.proofs.ask_all.Goals as goal
 
 pub loop-done-init : goal.loop-done-init
 loop-done-init c =
-    let after_clear = c in
-    let start = after_clear in
-    let a = start.args in
-    let p = start.requires in
-    (refl, p.3, p.4, omega arith, omega arith, omega arith, going_none a.table.now a.view.now a.records.now a.k a.want a.from a.to after_clear.clear.new.words (after_clear.clear.auto.words ∙ p.2) after_clear.clear.ensures)
+    let a = c.args in
+    let p = c.requires in
+    (refl, p.3, p.4, omega arith, omega arith, omega arith, going_none a.table.now a.view.now a.records.now a.k a.want a.from a.to c.clear.new.words (c.clear.auto.words ∙ p.2) c.clear.ensures)
 
 pub answer-reply-requires : goal.answer-reply-requires
 answer-reply-requires c =
-    let round = c in
-    let after_clear = round in
-    let start = after_clear in
-    let p = start.requires in
-    let l = round.loop-done in
-    (p.0, p.1, l.invariant.0 ∙ after_clear.clear.auto.words ∙ p.2, l.invariant.1, l.invariant.2, p.5)
+    let p = c.requires in
+    let l = c.loop-done in
+    (p.0, p.1, l.invariant.0 ∙ c.clear.auto.words ∙ p.2, l.invariant.1, l.invariant.2, p.5)
 
 pub shape_of-words-in_default : goal.shape_of-words-in_default
 shape_of-words-in_default c =
-    let after_answer = c in
-    let round = after_answer in
-    let after_clear = round in
-    let l = round.loop-done in
-    after_answer.answer-reply.auto.words ∙ l.invariant.0 ∙ after_clear.clear.auto.words
+    let l = c.loop-done in
+    c.answer-reply.auto.words ∙ l.invariant.0 ∙ c.clear.auto.words
 
 pub returns-in_default : goal.returns-in_default
 returns-in_default c =
-    let after_answer = c in
-    let tested = after_answer in
-    let round = tested in
-    let start = round in
-    let a = start.args in
-    let l = round.loop-done in
+    let a = c.args in
+    let l = c.loop-done in
     let told = c.in_default.is in
-    record { bounded = ((l.invariant.3, l.invariant.4, l.invariant.5), going_open a.table.now a.view.now a.records.now a.k a.want a.from a.to l.words l.done l.first l.after l.invariant.6 tested.loop-done-test.true after_answer.answer-reply.new.words (rw told at after_answer.answer-reply.ensures.answers)); keeps = after_answer.answer-reply.ensures.keeps }
+    record { bounded = ((l.invariant.3, l.invariant.4, l.invariant.5), going_open a.table.now a.view.now a.records.now a.k a.want a.from a.to l.words l.done l.first l.after l.invariant.6 c.loop-done-test.true c.answer-reply.new.words (rw told at c.answer-reply.ensures.answers)); keeps = c.answer-reply.ensures.keeps }
 
 pub shape_of-words-then-n-eq0 : goal.shape_of-words-then-n-eq0
 shape_of-words-then-n-eq0 c =
-    let after_answer = c in
-    let round = after_answer in
-    let after_clear = round in
-    let l = round.loop-done in
-    after_answer.answer-reply.auto.words ∙ l.invariant.0 ∙ after_clear.clear.auto.words
+    let l = c.loop-done in
+    c.answer-reply.auto.words ∙ l.invariant.0 ∙ c.clear.auto.words
 
 pub returns-then-n-eq0 : goal.returns-then-n-eq0
 returns-then-n-eq0 c =
-    let after_available = c in
-    let after_reply = after_available in
-    let after_answer = after_reply in
-    let tested = after_answer in
-    let round = tested in
-    let start = round in
-    let a = start.args in
-    let l = round.loop-done in
-    record { bounded = ((l.invariant.3, l.invariant.4, l.invariant.5), going_some a.table.now a.view.now a.records.now a.k a.want a.from a.to l.words l.done l.first l.after l.invariant.6 tested.loop-done-test.true c.in-Batch.bits c.in-Batch.count after_available.available-n.result after_answer.answer-reply.new.words (rw c.in-Batch.is at after_answer.answer-reply.ensures.answers) after_available.available-n.ensures.0 c.if-n-eq0.true); keeps = after_answer.answer-reply.ensures.keeps }
+    let a = c.args in
+    let l = c.loop-done in
+    record { bounded = ((l.invariant.3, l.invariant.4, l.invariant.5), going_some a.table.now a.view.now a.records.now a.k a.want a.from a.to l.words l.done l.first l.after l.invariant.6 c.loop-done-test.true c.in-Batch.bits c.in-Batch.count c.available-n.result c.answer-reply.new.words (rw c.in-Batch.is at c.answer-reply.ensures.answers) c.available-n.ensures.0 c.if-n-eq0.true); keeps = c.answer-reply.ensures.keeps }
 
 pub first_of-first-requires : goal.first_of-first-requires
 first_of-first-requires c =
@@ -79,22 +58,15 @@ loop-done-smaller c = omega (arith, c.available-n.ensures.0, c.loop-done-test.tr
 
 pub loop-done-preserved : goal.loop-done-preserved
 loop-done-preserved c =
-    let after_first_of = c in
-    let after_available = after_first_of in
-    let after_reply = after_available in
-    let after_answer = after_reply in
-    let tested = after_answer in
-    let round = tested in
-    let start = round in
-    let a = start.args in
-    let l = round.loop-done in (
-      after_answer.answer-reply.auto.words ∙ l.invariant.0,
-      after_answer.answer-reply.ensures.keeps.0,
-      after_answer.answer-reply.ensures.keeps.1,
-      omega (arith, after_available.available-n.ensures.0, l.invariant.3),
-      after_first_of.first_of-first.ensures.0,
+    let a = c.args in
+    let l = c.loop-done in (
+      c.answer-reply.auto.words ∙ l.invariant.0,
+      c.answer-reply.ensures.keeps.0,
+      c.answer-reply.ensures.keeps.1,
+      omega (arith, c.available-n.ensures.0, l.invariant.3),
+      c.first_of-first.ensures.0,
       c.after_no-after.ensures.0,
-      going_on a.table.now a.view.now a.records.now a.k a.want a.from a.to l.words l.done l.first l.after l.invariant.6 tested.loop-done-test.true c.in-Batch.bits c.in-Batch.count after_available.available-n.result after_answer.answer-reply.new.words (rw c.in-Batch.is at after_answer.answer-reply.ensures.answers) after_available.available-n.ensures.0 after_first_of.first_of-first.result c.after_no-after.result after_first_of.first_of-first.ensures.1 c.after_no-after.ensures.1,
+      going_on a.table.now a.view.now a.records.now a.k a.want a.from a.to l.words l.done l.first l.after l.invariant.6 c.loop-done-test.true c.in-Batch.bits c.in-Batch.count c.available-n.result c.answer-reply.new.words (rw c.in-Batch.is at c.answer-reply.ensures.answers) c.available-n.ensures.0 c.first_of-first.result c.after_no-after.result c.first_of-first.ensures.1 c.after_no-after.ensures.1,
     )
 
 pub shape_of-words : goal.shape_of-words
