@@ -36,7 +36,7 @@ laid : (d : After-lay_tops-tops) →
 laid d =
     let s = d in
     let a = s.args in
-    fits_of a.entries a.count a.t3 a.number a.most a.base a.depth a.records.now a.words.now d.lay_out.new.table
+    fits_of a.entries a.count a.ends a.number a.most a.base a.depth a.records.now a.words.now d.lay_out.new.table
     d.lay_tops-tops.result s.requires s.requires.the_formulas s.requires.ended (d.lay_tops-tops.ensures a.entries a.count s.requires.the_formulas (entries_laid_2 d s.requires.the_formulas s.requires.ended))
 
 pub lay_out-requires : goal.lay_out-requires
@@ -80,7 +80,7 @@ returns c fs ended deep =
     let g = c.give-emitted in
     let view = c.write_view in
     let y = c.note in
-    let fits = fits_of a.entries a.count a.t3 a.number a.most a.base a.depth a.records.now a.words.now c.lay_out.new.table
+    let fits = fits_of a.entries a.count a.ends a.number a.most a.base a.depth a.records.now a.words.now c.lay_out.new.table
     c.lay_tops-tops.result c.requires fs ended (c.lay_tops-tops.ensures a.entries a.count fs (entries_laid (goal.at.returns c).After-lay_out fs ended)) in
     emitted a.skips a.closed a.records.now a.words.now a.sheet.now view.new.view g.result g.new.words
     g.new.sheet y.new.words fits (λ i. (c.type_inv.records i).fits)
