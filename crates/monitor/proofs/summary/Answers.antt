@@ -113,4 +113,4 @@ returns c =
     let w = c.write_noes in
     summary_told a.rule.now a.point.now (fine (goal.at.returns c).In-Passed) a.no.now a.latest.now w.new.no w.new.latest _ (version_for (goal.at.returns c).In-Passed)
     c.columns_of-formulas.result (columns_for (goal.at.returns c).After-columns_of-formulas)
-    (rw c.most_of.ensures at (c.write_noes.ensures.no_after, c.write_noes.ensures.latest_after))
+    (c.write_noes.ensures.no_after, rw c.most_of.ensures at c.write_noes.ensures.latest_after)
