@@ -28,7 +28,7 @@ slice_bounds-lines-end c =
     let a = c.args in
     let r = c.reason_of-reason in
     let lines = r.new.text in
-    let inside = ends_inside _ r.result c.in-Ends.length c.in-Ends.is r.ensures.0 in
+    let inside = rw c.in-Ends.is at r.ensures.0 in
     let kept = r.auto.text in
     omega arith
 
@@ -37,7 +37,7 @@ slice_bounds-put-end c =
     let a = c.args in
     let r = c.reason_of-reason in
     let lines = r.new.text in
-    let inside = ends_inside _ r.result c.in-Ends.length c.in-Ends.is r.ensures.0 in
+    let inside = rw c.in-Ends.is at r.ensures.0 in
     let kept = r.auto.text in
     sym (length-take-le _ lines (omega arith))
 
@@ -46,7 +46,7 @@ put-requires c =
     let a = c.args in
     let r = c.reason_of-reason in
     let lines = r.new.text in
-    let inside = ends_inside _ r.result c.in-Ends.length c.in-Ends.is r.ensures.0 in
+    let inside = rw c.in-Ends.is at r.ensures.0 in
     let kept = r.auto.text in
     let size = length-take-le c.in-Ends.length lines (omega arith) in
     omega (arith, c.if-text-length.false)

@@ -24,14 +24,6 @@ neither_far c k n i e =
     let second : n ≤ i → ⊥ = λ h. true_and_false ((or_iff (leb c k) (leb n i)).1 (inr (le-leb n i h))) e in
     (omega arith, omega arith)
 
-unturned : (b : Bool) → negate b ≡ true → b ≡ false
-unturned true e = sym e
-unturned false e = refl
-
-turned_back : (b : Bool) → negate b ≡ false → b ≡ true
-turned_back true e = refl
-turned_back false e = sym e
-
 pub returns-then-columns_of-formula : goal.returns-then-columns_of-formula
 returns-then-columns_of-formula c =
     let a = c.args in
@@ -49,7 +41,7 @@ returns-then-not-answered c =
     let a = c.args in
     let few = c.requires.2 in
     let (one_of_lem, inside) = neither_far c.columns_of.result a.formula (total a.view.now) a.position c.if-columns_of-formula.false in
-    (Prim.tt {0}, none_answered a.table.now a.view.now a.records.now a.ends.now a.number a.formula a.position a.text.now inside (rw (unturned c.all_answered-answered.result c.if-not-answered.true) at c.all_answered-answered.ensures.all_answered))
+    (Prim.tt {0}, none_answered a.table.now a.view.now a.records.now a.ends.now a.number a.formula a.position a.text.now inside (rw c.if-not-answered.true at c.all_answered-answered.ensures.all_answered))
 
 pub returns-then-number-eq0 : goal.returns-then-number-eq0
 unfolding ascii
@@ -59,7 +51,7 @@ returns-then-number-eq0 c =
     let (one_of_lem, inside) = neither_far c.columns_of.result a.formula (total a.view.now) a.position c.if-columns_of-formula.false in
     let room = c.requires.1 in (
       omega (arith, c.put.ensures.ends),
-      empty_reasoned a.table.now a.view.now a.records.now a.ends.now a.number a.formula a.position a.text.now c.columns_of.result c.columns_of.ensures one_of_lem inside (rw (turned_back c.all_answered-answered.result c.if-not-answered.false) at c.all_answered-answered.ensures.all_answered) c.if-number-eq0.true
+      empty_reasoned a.table.now a.view.now a.records.now a.ends.now a.number a.formula a.position a.text.now c.columns_of.result c.columns_of.ensures one_of_lem inside (rw c.if-not-answered.false at c.all_answered-answered.ensures.all_answered) c.if-number-eq0.true
           c.put.result c.put.new.text c.put.ensures,
     )
 
@@ -113,6 +105,6 @@ returns c =
     let text_room = c.requires.1 in
     let ends = c.tell-told.ensures.tells.room in (
       omega arith,
-      formula_reasoned a.table.now a.view.now a.records.now a.ends.now a.number a.formula a.position a.text.now c.columns_of.result c.columns_of.ensures one_of_lem inside (rw (turned_back c.all_answered-answered.result c.if-not-answered.false) at c.all_answered-answered.ensures.all_answered) c.if-number-eq0.false
+      formula_reasoned a.table.now a.view.now a.records.now a.ends.now a.number a.formula a.position a.text.now c.columns_of.result c.columns_of.ensures one_of_lem inside (rw c.if-not-answered.false at c.all_answered-answered.ensures.all_answered) c.if-number-eq0.false
           c.tell-told.result c.tell-told.new.text c.tell-told.ensures.tells,
     )
