@@ -1,5 +1,4 @@
 -- `rule_cases::run` is safe and ends: the rule's bytes stay within their array, and a character is passed at each turn.
-use Prim.Native.Nat.{◌-◌}
 use native.Mathlib.Omega.{arith}
 use mathlib.Core.Path.{sym}
 use lib.Seq.{length-take-le}
