@@ -14,9 +14,7 @@ fn main() {
     println!("cargo:rerun-if-changed={}", archive.display());
     if !archive.is_file() {
         eprintln!("{} is not there.", archive.display());
-        eprintln!(
-            "Build it with `rt staticlib havdrims` in the repository, or name its directory in HAVDRIMS_LIB_DIR."
-        );
+        eprintln!("Build it with `tools/archive` in the repository, or name its directory in HAVDRIMS_LIB_DIR.");
         std::process::exit(1);
     }
     println!("cargo:rustc-link-search=native={}", directory.display());

@@ -2,10 +2,11 @@
 // each call answers. The file stdin has every way of meeting each refusal, and stdout what document 01 says of it.
 #![tactic(auto)]
 
-ghost use Rattle.std.specs.Prelude.{◌<◌};
+ghost use Rattle.std.specs.Prelude.{◌<◌, ◌≤◌, length};
 
-use libc::{STDIN_FILENO, STDOUT_FILENO};
 use rule::Measured;
+use std::io;
+use std::io::Read;
 
 // What has been read of a line: whether its name is still going on, the bytes of its rule so far, a first digit that waits
 // for its second (16: none), and the byte that the last character completed.
@@ -89,40 +90,53 @@ impl Scan {
     }
 }
 
-fn show(rule: &[u8]) {
+fn show(rt: &impl Print, rule: &[u8]) -> io::Result<()> {
     let measured = rule::measure(rule);
     let Measured::Words { words, reach } = measured else {
-        io::write_all(STDOUT_FILENO, b" refused ");
-        io::print_decimal(STDOUT_FILENO, measured.number() as u64);
-        io::write_all(STDOUT_FILENO, b"\n");
-        return;
+        let number = measured.number();
+        println!(rt; " refused {number}")?;
+        return Ok(());
     };
-    io::write_all(STDOUT_FILENO, b" words ");
-    io::print_decimal(STDOUT_FILENO, words as u64);
-    io::write_all(STDOUT_FILENO, b", reach ");
-    io::print_decimal(STDOUT_FILENO, reach);
-    io::write_all(STDOUT_FILENO, b"\n");
+    println!(rt; " words {words}, reach {reach}")
 }
 
-fn run(text: &[u8]) {
+fn run(rt: &impl Print, text: &[u8]) -> io::Result<()> {
     let mut rule = [0u8; 4096];
     let mut scan = Scan::line();
     let mut i: usize = 0;
     while i < text.len() {
         let at = scan.len;
         if text[i] == b'\n' {
-            show(&rule[..at]);
+            show(rt, &rule[..at])?;
         } else if scan.name {
-            io::write_all(STDOUT_FILENO, &text[i..i + 1]);
+            rt.write_all(&text[i..i + 1])?;
         }
         scan = scan.next(text[i]);
         rule[at] = scan.byte;
         i += 1;
     }
+    Ok(())
 }
 
-fn main() {
-    let mut text = io::large_buffer();
-    let n = io::read_full(STDIN_FILENO, &mut text);
-    run(&text[..n]);
+// Reads until buf is full, the input ends or a read fails, and gives how many bytes lie at the start of buf.
+fn read_full(input: &mut impl Read, buf: &mut [u8]) -> usize
+    ensures { result ≤ length buf.new }
+{
+    let mut done = 0;
+    while done < buf.len() {
+        let Ok(n) = input.read(&mut buf[done..]) else {
+            break;
+        };
+        if n == 0 {
+            break;
+        }
+        done += n;
+    }
+    done
+}
+
+fn main(rt: HostRuntime) -> io::Result<()> {
+    let mut text = [0u8; 65536];
+    let n = read_full(&mut rt.stdin(), &mut text);
+    run(&rt, &text[..n])
 }

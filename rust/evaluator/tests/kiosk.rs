@@ -38,12 +38,12 @@ fn p1_log() -> Vec<u8> {
     log::encode(&cases::p1_records())
 }
 
-/// The program that `rt check kiosk` builds, or the one that KIOSK_PROGRAM names.
+/// The program that `rt run` builds in crates/kiosk, and `rt ci` too, or the one that KIOSK_PROGRAM names.
 fn program() -> PathBuf {
-    let built = concat!(env!("CARGO_MANIFEST_DIR"), "/../../target/bin/kiosk");
+    let built = concat!(env!("CARGO_MANIFEST_DIR"), "/../../crates/kiosk/out/kiosk");
     let named = env::var_os("KIOSK_PROGRAM").map_or(PathBuf::from(built), PathBuf::from);
     named.canonicalize().unwrap_or_else(|e| {
-        panic!("no program {}: {e}; `rt check kiosk` builds it, or set KIOSK_PROGRAM", named.display())
+        panic!("no program {}: {e}; `rt run` in crates/kiosk builds it, or set KIOSK_PROGRAM", named.display())
     })
 }
 

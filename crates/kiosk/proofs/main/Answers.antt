@@ -20,4 +20,4 @@ pub slice_bounds-text-end : goal.slice_bounds-text-end
 slice_bounds-text-end c = text_fits c.report-len.ensures
 
 pub slice_bounds-write_all-end : goal.slice_bounds-write_all-end
-slice_bounds-write_all-end c = sym (length-take-le _ _ (slice_bounds-text-end c))
+slice_bounds-write_all-end c = sym (length-take-le _ _ (text_fits c.report-len.ensures))

@@ -118,10 +118,10 @@ fn run(document: &str, others: &[&str]) {
 }
 
 const OF_README: [&str; 7] = [
-    "rt check kiosk && (cd examples/day && ../../target/bin/kiosk)",
+    "(cd crates/kiosk && rt run > /dev/null) && (cd examples/day && ../../crates/kiosk/out/kiosk)",
     "verdicts 12 of 14",
     "bash .ci/run",
-    "rt staticlib havdrims && (cd rust && cargo build --release --offline -p cli)",
+    "tools/archive && (cd rust && cargo build --release --offline -p cli)",
     "Monday       |#####----|",
     "#  verdict given this evening",
     "let mut monitor = Monitor::new(\"not e2 or e0 until[0,90] e1\".parse()?);",
