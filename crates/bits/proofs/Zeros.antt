@@ -4,7 +4,7 @@ use native.Mathlib.Nat.{eq-or-lt_of_le, mod-lt, pow-suc}
 use native.Mathlib.Omega.{arith}
 use mathlib.Core.Bool.{Bool, true, false, cond, true≢false}
 use mathlib.Core.Bool.{not as negate}
-use mathlib.Core.Logic.{◌⊎◌, ⊎_elim}
+use mathlib.Core.Logic.{⊎_elim}
 use mathlib.Core.Path.{◌≡◌, refl, sym, ap, ◌∙◌}
 use borrow.Author.Tests.{eq-eqb, ne_eqb}
 use lib.Count.{ones, ones_cat, ones-le, count_leading_zeros, leading_unique, under, count_trailing_zeros}

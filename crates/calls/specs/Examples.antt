@@ -1,6 +1,6 @@
 -- Paper 14 worked by hand: P7's first log and P5's open position, each with the two records that settle it and the verdicts then; and logs of
 -- which one condition of the paper is not met; and words lent to a call. Proved by computation.
-use Rattle.std.specs.Prelude.{ℕ, suc, ◌+◌, ◌-◌, Bool, true, false, cond, ◌&&◌, ◌||◌, not as negate, List, [], ◌∷◌, ◌++◌, ◌≡◌, refl, eqb, leb, ltb}
+use Rattle.std.specs.Prelude.{ℕ, suc, ◌-◌, Bool, true, false, cond, ◌&&◌, ◌||◌, not as negate, List, [], ◌∷◌, ◌++◌, ◌≡◌, refl, eqb, leb, ltb}
 use Rattle.mtl.specs.Formula.{Formula}
 use Rattle.mtl.specs.Formula.Formula.{letter, next, until}
 use Rattle.mtl.specs.Satisfaction.{any, all, sat}

@@ -1,7 +1,7 @@
 -- Document 02, paper 14, of bytes and calls: "For a rule that is one next or until over letters, show that a position is open only if two
 -- accepted lengthenings, each by one record, settle it differently." Such a position is settled differently exactly when it is open.
 -- proofs/Sooner.antt proves it; of the logic alone it stands in `sooner`.
-use Rattle.std.specs.Prelude.{ℕ, suc, ◌+◌, ◌-◌, ◌*◌, ◌≤◌, ◌<◌, ◌^◌, Bool, true, false, ◌&&◌, ◌↔◌, ◌≡◌, List, [], ◌∷◌, ◌++◌, length, get_or, take}
+use Rattle.std.specs.Prelude.{ℕ, suc, ◌-◌, ◌*◌, ◌≤◌, ◌<◌, ◌^◌, Bool, true, false, ◌&&◌, ◌↔◌, ◌≡◌, List, [], ◌∷◌, ◌++◌, length, get_or, take}
 use Rattle.mtl.specs.Formula.{Formula}
 use Rattle.mtl.specs.Log.{Log}
 use Rattle.sooner.specs.Sooner.{OneTimed, timed_letter, letter_in, latest, settling_time}

@@ -23,7 +23,6 @@ use Rattle.verdicts.proofs.Written.{written, length_written, drop_written, writt
 use Rattle.rule.specs.Postfix.{formula}
 use Rattle.blocks.specs.Block.{word}
 use Rattle.blocks.specs.Step.{Agrees}
-use Rattle.engine.specs.Tops.{top_column}
 use Rattle.engine.proofs.Onward.{formula_refl, formula_trans}
 use Rattle.engine.proofs.Uniform.{agrees_later}
 use Rattle.checkpoint.specs.Checkpoint.{given, stored_noes}

@@ -1,5 +1,5 @@
 -- The whole call: what it lends to the search, check 27, and the refusals before it. Assumes nothing.
-use Prim.Native.Nat.{ℕ, suc, ◌+◌, ◌-◌, ◌≤◌, ◌<◌}
+use Prim.Native.Nat.{ℕ, suc, ◌≤◌, ◌<◌}
 use mathlib.Core.Bool.{Bool, true, false, cond}
 use mathlib.Core.Logic.{◌⊎◌, inl, inr, ⊎_elim}
 use mathlib.Core.Path.{◌≡◌, refl, sym, ◌∙◌, ap}
@@ -13,7 +13,7 @@ use Rattle.mtl.specs.Log.{Log}
 use Rattle.mtl.specs.Progress.{joint_progress}
 use Rattle.mtl.proofs.Bounded.{or_iff}
 use Rattle.rule.specs.declared.Entry.{Entry}
-use Rattle.rule.specs.Postfix.{size, formula, start}
+use Rattle.rule.specs.Postfix.{formula, start}
 use Rattle.rule.specs.Refusal.{first, or_else, refusal}
 use Rattle.rule.proofs.Order.{some_size, start_grows}
 use Rattle.trace.specs.Format.{record_count, records_of, dropped, malformed}

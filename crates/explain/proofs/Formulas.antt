@@ -13,7 +13,7 @@ use Rattle.mtl.specs.Log.{Log}
 use Rattle.mtl.specs.Satisfaction.{sat}
 use Rattle.mtl.specs.Progress.{settled_to, joint_progress}
 use Rattle.mtl.proofs.Joint.{joint_le_size}
-use Rattle.rule.specs.Postfix.{size, formula, start}
+use Rattle.rule.specs.Postfix.{formula, start}
 use Rattle.rule.specs.Operands.{FormulaAt}
 use Rattle.rule.proofs.Order.{some_size, within_whole}
 use Rattle.engine.proofs.Rows.{has_at, column_is_part}

@@ -2,7 +2,7 @@
 use Prim.Native.Nat.{ℕ, zero, suc, ◌+◌, ◌-◌, ◌≤◌, ◌<◌, min}
 use mathlib.Core.Bool.{Bool}
 use mathlib.Core.Bool.{not as negate}
-use mathlib.Core.Logic.{inl, inr, ⊎_elim, ◌⊎◌}
+use mathlib.Core.Logic.{inl, inr, ⊎_elim}
 use mathlib.Core.Path.{◌≡◌, refl, sym, ◌∙◌, ap, ap₂}
 use native.Mathlib.Nat.{le_of_eq}
 use native.Mathlib.Omega.{arith}

@@ -13,7 +13,7 @@ use borrow.Author.Tests.{leb-true, leb-false, ltb-true, ltb-false, lt-ltb, le-lt
 use Rattle.mtl.specs.Formula.{Formula}
 use Rattle.mtl.specs.Formula.Formula.{letter, not, or, previous, next}
 use Rattle.mtl.specs.Log.{Log, head_of}
-use Rattle.mtl.specs.Satisfaction.{sat, within}
+use Rattle.mtl.specs.Satisfaction.{sat}
 use Rattle.mtl.specs.Progress.{settled_to}
 use Rattle.mtl.proofs.Bounded.{or_iff}
 use Rattle.mtl.proofs.Closing.{

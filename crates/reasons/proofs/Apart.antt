@@ -2,7 +2,7 @@
 use Prim.Native.Nat.{ℕ, zero, suc, ◌+◌, ◌-◌, ◌*◌, ◌/◌, ◌%◌, ◌≤◌, ◌<◌}
 use mathlib.Core.Bool.{Bool, true, false, cond, ◌&&◌}
 use mathlib.Core.Bool.{not as negate}
-use mathlib.Core.Logic.{◌⊎◌, ⊎_elim}
+use mathlib.Core.Logic.{⊎_elim}
 use mathlib.Core.Path.{◌≡◌, refl, sym, ◌∙◌, ap, ap₂}
 use mathlib.Core.List.{List, [], ◌∷◌, ◌++◌, append_assoc, append-nil, map}
 use native.Mathlib.Omega.{arith}
@@ -12,7 +12,7 @@ use borrow.Author.Tests.{lt-ltb, le-ltb, ne_eqb}
 use Rattle.mtl.proofs.Bounded.{le_or_lt, and_iff, not_iff, false_iff}
 use Rattle.reasons.specs.Reason.{Cause, Says, Line}
 use Rattle.reasons.specs.Reason.Cause.{by_left, by_time}
-use Rattle.reasons.specs.Reason.Says.{stands, not, or, prev, next, prev_none, since, until, since-no, until_no}
+use Rattle.reasons.specs.Reason.Says.{stands, not, or, prev, next, prev_none, since, until, since_no, until_no}
 use Rattle.reasons.specs.Reason.Line.{empty, sentence}
 use Rattle.decimal.specs.Text.{ascii, decimal_in, decimal}
 use Rattle.reasons.specs.Text.{spaced_line, cause_text, said_words, parts, text}
@@ -132,7 +132,7 @@ says_of (w ∷ (a ∷ [])) =
     (cond (eqb (first w) 110) (next (value 0 a)) (cond (eqb (first w) 115) (since (value 0 a)) (until (value 0 a)))))
 says_of (w ∷ (a ∷ (c ∷ more))) =
     cond (eqb (first w) 115)
-    (since-no (value 0 a) (cond (eqb (first c) 108) by_left by_time))
+    (since_no (value 0 a) (cond (eqb (first c) 108) by_left by_time))
     (until_no (value 0 a) (cond (eqb (first c) 108) by_left by_time))
 
 line_of : List (List ℕ) → Line
@@ -151,8 +151,8 @@ says_back (next gap) = ap next (number_back gap)
 says_back prev_none = refl
 says_back (since j) = ap since (number_back j)
 says_back (until j) = ap until (number_back j)
-says_back (since-no p by_left) = ap (λ n. since-no n by_left) (number_back p)
-says_back (since-no p by_time) = ap (λ n. since-no n by_time) (number_back p)
+says_back (since_no p by_left) = ap (λ n. since_no n by_left) (number_back p)
+says_back (since_no p by_time) = ap (λ n. since_no n by_time) (number_back p)
 says_back (until_no p by_left) = ap (λ n. until_no n by_left) (number_back p)
 says_back (until_no p by_time) = ap (λ n. until_no n by_time) (number_back p)
 
@@ -190,7 +190,7 @@ plain_words (next gap) = (plain_by (ascii "next") refl, (plain_number gap, tt))
 plain_words prev_none = (plain_by (ascii "prev") refl, (plain_by (ascii "none") refl, tt))
 plain_words (since j) = (plain_by (ascii "since") refl, (plain_number j, tt))
 plain_words (until j) = (plain_by (ascii "until") refl, (plain_number j, tt))
-plain_words (since-no p c) = (plain_by (ascii "since") refl, (plain_number p, (plain_cause c, tt)))
+plain_words (since_no p c) = (plain_by (ascii "since") refl, (plain_number p, (plain_cause c, tt)))
 plain_words (until_no p c) = (plain_by (ascii "until") refl, (plain_number p, (plain_cause c, tt)))
 
 -- a line of a text, and what follows it

@@ -2,7 +2,7 @@
 use Prim.Native.Nat.{ℕ, suc, ◌-◌, ◌≤◌, ◌<◌}
 use mathlib.Core.Bool.{Bool, true, false, cond, ◌||◌, false≢true}
 use mathlib.Core.Bool.{not as negate}
-use mathlib.Core.Logic.{◌⊎◌, inl, inr, ⊎_elim}
+use mathlib.Core.Logic.{inl, inr, ⊎_elim}
 use mathlib.Core.Path.{◌≡◌, refl, ap}
 use native.Mathlib.Omega.{arith}
 use lib.Dec.{leb, ltb}
@@ -15,7 +15,7 @@ use Rattle.mtl.proofs.Until.{Ended}
 use Rattle.reasons.specs.Search.{IsFirst}
 use Rattle.reasons.specs.Reason.{Cause, Says, since_witness, until_witness, first_near, after_failure, since_denied, denied_left, first_end, cause, until_denied}
 use Rattle.reasons.specs.Reason.Cause.{by_left, by_time}
-use Rattle.reasons.specs.Reason.Says.{since-no, until_no}
+use Rattle.reasons.specs.Reason.Says.{since_no, until_no}
 use Rattle.reasons.specs.Facts.{SinceCause, UntilCause, SinceNo, UntilNo}
 use Rattle.reasons.proofs.Searches.{first_is, last_is, none_after}
 
@@ -73,11 +73,11 @@ module _ (low high : ℕ) (time : ℕ → ℕ) (left right : ℕ → Bool) (i : 
         (true_or_false (left k))
 
     pub since_denied_is : (P : Says → Type 0) →
-        ((p : ℕ) (cause : Cause) → SinceNo low high time left right i p cause → P (since-no p cause)) → P (since_denied high time left i)
+        ((p : ℕ) (cause : Cause) → SinceNo low high time left right i p cause → P (since_no p cause)) → P (since_denied high time left i)
     since_denied_is P give = by (ltb (first_near high time i) (after_failure left i)) refl
       where
         by : (b : Bool) → ltb (first_near high time i) (after_failure left i) ≡ b →
-            P (cond b (since-no (after_failure left i - 1) by_left) (since-no (first_near high time i) by_time))
+            P (cond b (since_no (after_failure left i - 1) by_left) (since_no (first_near high time i) by_time))
         by true e =
             let l = ltb-true (first_near high time i) (after_failure left i) e in
             let last = last_is (suc i) (λ (q : ℕ). negate (left q)) (omega arith) in

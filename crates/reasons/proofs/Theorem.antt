@@ -2,7 +2,7 @@
 use Prim.Native.Nat.{ℕ, suc, ◌+◌, ◌-◌, ◌<◌}
 use mathlib.Core.Bool.{Bool, true, false, cond, ◌&&◌, ◌||◌}
 use mathlib.Core.Bool.{not as negate}
-use mathlib.Core.Logic.{◌⊎◌, ⊎_elim}
+use mathlib.Core.Logic.{⊎_elim}
 use mathlib.Core.Path.{◌≡◌, refl, ◌∙◌, ap}
 use mathlib.Core.List.{List, [], ◌∷◌, ◌++◌}
 use native.Mathlib.Omega.{arith}
@@ -17,7 +17,7 @@ use Rattle.mtl.proofs.Until.{progress_le_size, answered_operands, answered_fits,
 use Rattle.rule.specs.Postfix.{size}
 use Rattle.reasons.specs.Reason.{Line, either, if_within, since_witness, until_witness, first_near, after_failure, since_denied, denied_left, first_end, cause, until_denied, reason}
 use Rattle.reasons.specs.Reason.Cause.{by_left, by_time}
-use Rattle.reasons.specs.Reason.Says.{prev, next, prev_none, since, until, since-no}
+use Rattle.reasons.specs.Reason.Says.{prev, prev_none, since, until, since_no}
 use Rattle.reasons.specs.Reason.Line.{sentence}
 use Rattle.reasons.specs.Facts.{Said, Facts}
 use Rattle.reasons.proofs.Lines.{since_witness_is, since_forced, since_denied_is, until_witness_is, until_forced, until_denied_is}
@@ -145,7 +145,7 @@ module _ (at : ℕ → Formula) where
     since_line low high φ ψ i false told = by (ltb (first_near high L.time i) (after_failure (sat φ L) i)) told
       where
         by : (b : Bool) → Said (Formula.since low high φ ψ) K i
-            (cond b (since-no (after_failure (sat φ L) i - 1) by_left) (since-no (first_near high L.time i) by_time)) →
+            (cond b (since_no (after_failure (sat φ L) i - 1) by_left) (since_no (first_near high L.time i) by_time)) →
             since_at low high K.time (sat φ K) (sat ψ K) i ≡ false
         by true t = since_forced low high K.time (sat φ K) (sat ψ K) i (after_failure (sat φ L) i - 1) by_left t
         by false t = since_forced low high K.time (sat φ K) (sat ψ K) i (first_near high L.time i) by_time t

@@ -10,7 +10,7 @@ use Rattle.blocks.specs.Block.{low_of, high_of}
 use Rattle.blocks.specs.Step.{left_of, right_of}
 use Rattle.reasons.specs.Reason.{Cause, Says, Line}
 use Rattle.reasons.specs.Reason.Cause.{by_left, by_time}
-use Rattle.reasons.specs.Reason.Says.{stands, not, or, prev, next, prev_none, since, until, since-no, until_no}
+use Rattle.reasons.specs.Reason.Says.{stands, not, or, prev, next, prev_none, since, until, since_no, until_no}
 use Rattle.reasons.specs.Reason.Line.{empty, sentence}
 
 -- why a since at i is no by position p: left fails there; or it is "the first at most high before"
@@ -47,7 +47,7 @@ Said φ L i (next gap) = (i + 1 < L.size) × (L.time (i + 1) - L.time i ≡ gap)
 Said φ L i prev_none = i ≡ 0
 Said φ L i (since j) = (j ≤ i) × (since_by (low_of φ) (high_of φ) L.time (sat (left_of φ) L) (sat (right_of φ) L) i j ≡ true)
 Said φ L i (until j) = (j < L.size) × (until_by (low_of φ) (high_of φ) L.time (sat (left_of φ) L) (sat (right_of φ) L) i j ≡ true)
-Said φ L i (since-no p cause) = SinceNo (low_of φ) (high_of φ) L.time (sat (left_of φ) L) (sat (right_of φ) L) i p cause
+Said φ L i (since_no p cause) = SinceNo (low_of φ) (high_of φ) L.time (sat (left_of φ) L) (sat (right_of φ) L) i p cause
 Said φ L i (until_no p cause) = UntilNo (low_of φ) (high_of φ) L.time (sat (left_of φ) L) (sat (right_of φ) L) L.size i p cause
 
 -- what a line says; the position stands in the log

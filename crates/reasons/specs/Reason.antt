@@ -23,7 +23,7 @@ pub data Says : Type 0 where
   -- "Since and until give the earliest fitting j for yes."
   since until : (j : ℕ) → Says
   -- "For no, until gives the first position .. the line then ends with left or time"
-  since-no until_no : (p : ℕ) → Cause → Says
+  since_no until_no : (p : ℕ) → Cause → Says
 
 -- "an empty rule's reason is the one line empty"; "A sentence is a line, .. the entry's number from 0, the position, then .."
 pub data Line : Type 0 where
@@ -48,7 +48,7 @@ after_failure left i = after_last (suc i) (λ (q : ℕ). negate (left q))
 -- "For no, .. since the latest where left fails, or the first at most high before if none does from there on"
 abbrev pub since_denied : (high : ℕ) (time : ℕ → ℕ) (left : ℕ → Bool) (i : ℕ) → Says
 since_denied high time left i =
-    cond (ltb (first_near high time i) (after_failure left i)) (since-no (after_failure left i - 1) by_left) (since-no (first_near high time i) by_time)
+    cond (ltb (first_near high time i) (after_failure left i)) (since_no (after_failure left i - 1) by_left) (since_no (first_near high time i) by_time)
 
 -- of until at i: q, from i on, is a position "where left is answered no"; `answered` is how many left has answered
 abbrev pub denied_left : (left : ℕ → Bool) (answered i q : ℕ) → Bool

@@ -3,7 +3,7 @@ use Rattle.std.specs.Prelude.{ℕ, cond, List, [], ◌∷◌, ◌++◌}
 use Rattle.decimal.specs.Text.{ascii, decimal}
 use Rattle.reasons.specs.Reason.{Cause, Says, Line}
 use Rattle.reasons.specs.Reason.Cause.{by_left, by_time}
-use Rattle.reasons.specs.Reason.Says.{stands, not, or, prev, next, prev_none, since, until, since-no, until_no}
+use Rattle.reasons.specs.Reason.Says.{stands, not, or, prev, next, prev_none, since, until, since_no, until_no}
 use Rattle.reasons.specs.Reason.Line.{empty, sentence}
 
 -- "A sentence is a line, one space between its parts, then byte 10"
@@ -28,7 +28,7 @@ said_words (next gap) = ascii "next" ∷ decimal gap ∷ []
 said_words prev_none = ascii "prev" ∷ ascii "none" ∷ []
 said_words (since j) = ascii "since" ∷ decimal j ∷ []
 said_words (until j) = ascii "until" ∷ decimal j ∷ []
-said_words (since-no p cause) = ascii "since" ∷ decimal p ∷ cause_text cause ∷ []
+said_words (since_no p cause) = ascii "since" ∷ decimal p ∷ cause_text cause ∷ []
 said_words (until_no p cause) = ascii "until" ∷ decimal p ∷ cause_text cause ∷ []
 
 -- "the entry's number from 0, the position, then .."; "an empty rule's reason is the one line empty"

@@ -413,7 +413,7 @@ followed {f} p q =
     }
 
 -- a time written behind those that are held: it is one of them now, unless it was the newest already
-module _ (cells start : ℕ) (b : List ℕ) (count newest at : ℕ) (first_Cell : start < cells) (free : count < cells) (room : 16 + cells ≤ length b) (small : at < 4294967296) where
+module _ (cells start : ℕ) (b : List ℕ) (count newest at : ℕ) (first_cell : start < cells) (free : count < cells) (room : 16 + cells ≤ length b) (small : at < 4294967296) where
   abbrev pub written : List ℕ
   written = set b (16 + wrap cells (start + count)) at
 
@@ -424,7 +424,7 @@ module _ (cells start : ℕ) (b : List ℕ) (count newest at : ℕ) (first_Cell 
     still : (i : ℕ) → i < length times → get_or written (16 + wrap cells (start + i)) 0 ≡ get_or times i 0
     still i l =
         let c = h.counted in
-        let apart = wrap_apart cells start i count first_Cell (omega arith) free in
+        let apart = wrap_apart cells start i count first_cell (omega arith) free in
         get_or-set_other b (16 + wrap cells (start + count)) (16 + wrap cells (start + i)) at 0 (λ p. apart (omega arith)) ∙ h.at i l
 
     some_newest_is : 0 < length times → newest ≡ get_or times (length times - 1) 0
@@ -526,15 +526,15 @@ module _ (cells : ℕ) (at : ℕ → ℕ) (right from : ℕ) (b : List ℕ) (sta
           last = λ qs r. rw (same qs r) (so_far.last qs r);
         }
 
-    module _ (first_Cell : start < cells) (free : count < cells) (room : 16 + cells ≤ length d) (small : at i < 4294967296) (yes : bit right i ≡ true) where
-      pub pushing_next : Pushing (i + 1) (written cells start d count newest (at i) first_Cell free room small) (count + number (negate (eqb (at i) newest))) (at i)
+    module _ (first_cell : start < cells) (free : count < cells) (room : 16 + cells ≤ length d) (small : at i < 4294967296) (yes : bit right i ≡ true) where
+      pub pushing_next : Pushing (i + 1) (written cells start d count newest (at i) first_cell free room small) (count + number (negate (eqb (at i) newest))) (at i)
       pushing_next =
           let grows : (qs : List ℕ) → pushes cells at right from (i + 1 - from) qs ≡ pushed cells true (at i) (pushes cells at right from (i - from) qs) =
           λ qs. next_is qs ∙ ap (λ (x : Bool). pushed cells x (at i) (pushes cells at right from (i - from) qs)) yes in
           record {
             others = λ k l. get_or-set_other d (16 + wrap cells (start + count)) k (at i) 0 (omega arith) ∙ so_far.others k l;
-            held = λ qs r. rw (grows qs) (adds cells start d count newest (at i) first_Cell free room small (pushes cells at right from (i - from) qs) (so_far.held qs r) (so_far.last qs r)).0;
-            last = λ qs r. rw (grows qs) (adds cells start d count newest (at i) first_Cell free room small (pushes cells at right from (i - from) qs) (so_far.held qs r) (so_far.last qs r)).1;
+            held = λ qs r. rw (grows qs) (adds cells start d count newest (at i) first_cell free room small (pushes cells at right from (i - from) qs) (so_far.held qs r) (so_far.last qs r)).0;
+            last = λ qs r. rw (grows qs) (adds cells start d count newest (at i) first_cell free room small (pushes cells at right from (i - from) qs) (so_far.held qs r) (so_far.last qs r)).1;
           }
 
   -- right does not hold any more

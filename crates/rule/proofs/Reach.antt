@@ -10,7 +10,7 @@ use lib.ListN.{length}
 use mathlib.Core.Path.{◌≡◌, refl, ap, ◌∙◌}
 use lib.Dec.{eqb}
 use borrow.Author.Tests.{ne_eqb}
-use Rattle.mtl.specs.Formula.{Formula, unbounded, has_next, untils_end, reach, largest}
+use Rattle.mtl.specs.Formula.{Formula, unbounded, has_next, untils_end, largest}
 use Rattle.mtl.specs.Formula.Formula.{letter, not, or, previous, next, since, until}
 use Rattle.mtl.specs.Log.{Log, NeverFalls}
 use Rattle.mtl.specs.Progress.{joint_progress}

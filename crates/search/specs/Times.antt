@@ -1,5 +1,5 @@
 -- The records and the times of positions, of a log that is shown whole.
-use Rattle.std.specs.Prelude.{ℕ, ◌-◌, ◌≤◌, ◌<◌, ◌≡◌, List, leb}
+use Rattle.std.specs.Prelude.{ℕ, ◌≤◌, ◌<◌, ◌≡◌, List, leb}
 use Rattle.mtl.specs.Log.{Log}
 use Rattle.trace.specs.Format.{record_count, time_at, has_letter}
 use Rattle.trace.specs.Positions.{place, before}

@@ -10,7 +10,7 @@ use Rattle.decimal.specs.Text.{ascii, decimal}
 use Rattle.decimal.proofs.Decimals.{few_digits, ten_digits}
 use Rattle.reasons.specs.Reason.{Says}
 use Rattle.reasons.specs.Reason.Cause.{by_left, by_time}
-use Rattle.reasons.specs.Reason.Says.{stands, not, or, prev, next, prev_none, since, until, since-no, until_no}
+use Rattle.reasons.specs.Reason.Says.{stands, not, or, prev, next, prev_none, since, until, since_no, until_no}
 use Rattle.reasons.specs.Reason.Line.{sentence}
 use Rattle.reasons.specs.Text.{spaced_line, parts}
 use Rattle.sentences.specs.declared.sentence.Sentence.{Sentence}
@@ -28,8 +28,8 @@ line_is k i (next gap) = refl
 line_is k i prev_none = refl
 line_is k i (since j) = refl
 line_is k i (until j) = refl
-line_is k i (since-no p by_left) = refl
-line_is k i (since-no p by_time) = refl
+line_is k i (since_no p by_left) = refl
+line_is k i (since_no p by_time) = refl
 line_is k i (until_no p by_left) = refl
 line_is k i (until_no p by_time) = refl
 

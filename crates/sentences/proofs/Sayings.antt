@@ -1,5 +1,5 @@
 -- What an entry says, by its kind. Assumes nothing.
-use Prim.Native.Nat.{ℕ, ◌+◌, ◌-◌, ◌≤◌, ◌<◌}
+use Prim.Native.Nat.{ℕ, ◌+◌, ◌≤◌, ◌<◌}
 use mathlib.Core.Bool.{true}
 use mathlib.Core.Bool.{not as negate}
 use mathlib.Core.Path.{◌≡◌, sym, ◌∙◌, ap}

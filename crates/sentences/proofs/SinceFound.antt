@@ -3,7 +3,7 @@
 use Prim.Native.Nat.{ℕ, suc, ◌+◌, ◌-◌, ◌≤◌, ◌<◌, min}
 use mathlib.Core.Bool.{Bool, true, false, cond}
 use mathlib.Core.Bool.{not as negate}
-use mathlib.Core.Logic.{◌⊎◌, inl, ⊎_elim}
+use mathlib.Core.Logic.{inl, ⊎_elim}
 use mathlib.Core.Path.{◌≡◌, refl, sym, ◌∙◌, ap}
 use native.Mathlib.Omega.{arith}
 use lib.Dec.{leb, ltb}
@@ -152,7 +152,7 @@ module _ (low high : ℕ) (time : ℕ → ℕ) (left right : ℕ → Bool) (size
     where
       denied : (n : ℕ) (b : Bool) → ltb n fail ≡ b → n ≡ near →
           found_saying 5 false found (cond (ltb near fail) (fail - 1) near) (ltb near fail) ≡
-          alone (cond b (Rattle.reasons.specs.Reason.Says.since-no (fail - 1) Rattle.reasons.specs.Reason.Cause.by_left) (Rattle.reasons.specs.Reason.Says.since-no n Rattle.reasons.specs.Reason.Cause.by_time)) false
+          alone (cond b (Rattle.reasons.specs.Reason.Says.since_no (fail - 1) Rattle.reasons.specs.Reason.Cause.by_left) (Rattle.reasons.specs.Reason.Says.since_no n Rattle.reasons.specs.Reason.Cause.by_time)) false
       denied n true e same = rw (sym same, e) refl
       denied n false e same = rw (sym same, e) refl
 

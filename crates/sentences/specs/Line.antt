@@ -3,7 +3,7 @@ use Rattle.std.specs.Prelude.{ℕ, ◌-◌, cond, ◌||◌, List, [], ◌++◌, 
 use Rattle.decimal.specs.Text.{ascii, decimal}
 use Rattle.reasons.specs.Reason.{Cause, Says}
 use Rattle.reasons.specs.Reason.Cause.{by_left, by_time}
-use Rattle.reasons.specs.Reason.Says.{stands, not, or, prev, next, prev_none, since, until, since-no, until_no}
+use Rattle.reasons.specs.Reason.Says.{stands, not, or, prev, next, prev_none, since, until, since_no, until_no}
 use Rattle.sentences.specs.declared.sentence.Sentence.{Sentence}
 
 -- what is said, as numbers: the kind's word, a number, and the word at the end of the line
@@ -20,7 +20,7 @@ encode (next gap) = record { kind = 4; number = gap; tail = 0 }
 encode prev_none = record { kind = 3; number = 0; tail = 3 }
 encode (since j) = record { kind = 5; number = j; tail = 0 }
 encode (until j) = record { kind = 6; number = j; tail = 0 }
-encode (since-no p cause) = record { kind = 5; number = p; tail = tail_of cause }
+encode (since_no p cause) = record { kind = 5; number = p; tail = tail_of cause }
 encode (until_no p cause) = record { kind = 6; number = p; tail = tail_of cause }
 
 -- one of three words

@@ -24,8 +24,8 @@ use Rattle.sentences.specs.Line.{encode}
 -- WHAT ONE ENTRY SAYS
 
 -- behind the gap to the position beside, the operand's sentences follow at that position if the gap is within
-abbrev pub beside : (says : Says) (is_Within : Bool) (at : ℕ) → Saying
-beside says is_Within at = record { says = encode says; operands = number is_Within; at = at; holds = false }
+abbrev pub beside : (says : Says) (is_within : Bool) (at : ℕ) → Saying
+beside says is_within at = record { says = encode says; operands = number is_within; at = at; holds = false }
 
 -- since and until: nothing follows
 abbrev pub alone : Says → Bool → Saying

@@ -1,5 +1,5 @@
 -- What `simulate` promises: the log that it writes, the numbers that it gives, and refusal 26.
-use Rattle.std.specs.Prelude.{ℕ, suc, ◌+◌, Bool, true, false, cond, ◌||◌, List, ◌++◌, ◌≡◌, ltb, eqb, length, drop}
+use Rattle.std.specs.Prelude.{ℕ, suc, Bool, true, false, cond, ◌||◌, List, ◌++◌, ◌≡◌, ltb, eqb, length, drop}
 use Rattle.bits.specs.Packed.{number}
 use Rattle.trace.specs.Making.{log_length, log_bytes}
 use Rattle.simulation.specs.Kiosk.{is_printing, events_of, kiosk_after}

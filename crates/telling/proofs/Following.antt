@@ -16,7 +16,6 @@ use Rattle.mtl.specs.Progress.{progress}
 use Rattle.mtl.proofs.Until.{progress_le_size, progress_not, progress_previous, progress_next}
 use Rattle.bits.specs.Packed.{number}
 use Rattle.rule.specs.declared.Entry.{Entry}
-use Rattle.rule.specs.Postfix.{size}
 use Rattle.rule.specs.Operands.{FormulaAt}
 use Rattle.window.specs.Window.{Keeps}
 use Rattle.decimal.specs.Text.{Writes}

@@ -1,5 +1,5 @@
 -- Small logs and how many seconds they keep waiting, by computation; and the bytes of a written log.
-use Rattle.std.specs.Prelude.{ℕ, suc, ◌-◌, cond, List, [], ◌∷◌, ◌≡◌, refl, eqb}
+use Rattle.std.specs.Prelude.{ℕ, suc, cond, List, [], ◌∷◌, ◌≡◌, refl, eqb}
 use Rattle.mtl.specs.Satisfaction.{any, all, sat}
 use Rattle.mtl.specs.Progress.{run, progress}
 use Rattle.mtl.specs.Examples.{Records, log_of_list}

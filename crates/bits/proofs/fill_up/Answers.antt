@@ -1,5 +1,4 @@
 -- `bits::fill_up` meets its contract: with each turn of the loop it has looked twice as far. Assumes nothing.
-use Prim.Native.Nat.{◌-◌}
 use native.Mathlib.Omega.{arith}
 use borrow.Author.Tests.{ltb-false}
 use Rattle.bits.proofs.Filling.{from_top, filling_one, up_more, up_filled}

@@ -28,11 +28,10 @@ total_records-requires c =
     ((well_formed_iff a.log.now).0 (sym c.is_malformed.ensures ∙ c.if-is_malformed.false)).few
 
 pub records_reason-requires : goal.records_reason-requires
-records_reason-requires c =
-    (
-      c.requires,
-      ((well_formed_iff c.args.log.now).0 (sym c.is_malformed.ensures ∙ c.if-is_malformed.false)).few,
-    )
+records_reason-requires c = (
+  c.requires,
+  ((well_formed_iff c.args.log.now).0 (sym c.is_malformed.ensures ∙ c.if-is_malformed.false)).few,
+)
 
 pub returns : goal.returns
 returns c =

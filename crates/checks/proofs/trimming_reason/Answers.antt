@@ -25,11 +25,10 @@ returns-then-not-skips c =
 
 -- a log that passes check 12 has few records
 pub records_reason-requires : goal.records_reason-requires
-records_reason-requires c =
-    (
-      c.requires,
-      ((well_formed_iff c.args.log.now).0 (sym c.is_malformed.ensures ∙ c.if-is_malformed.false)).few,
-    )
+records_reason-requires c = (
+  c.requires,
+  ((well_formed_iff c.args.log.now).0 (sym c.is_malformed.ensures ∙ c.if-is_malformed.false)).few,
+)
 
 pub returns : goal.returns
 returns c =

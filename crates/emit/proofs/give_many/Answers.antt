@@ -1,5 +1,4 @@
 -- `give_many` meets its contract.
-use Prim.Native.Nat.{◌-◌}
 use mathlib.Core.Path.{refl, ◌∙◌}
 use native.Mathlib.Omega.{arith}
 use Rattle.emit.proofs.Turns.{underway_none, fitting, ended, copyable, writable, fewer, countable, takes_out, turned}

@@ -1,6 +1,6 @@
 -- The cycle of calls {answer, fill, ask}. An entry's operands are filled, and asked, at earlier entries: the measures are k * 3 + 2, k * 3 + 1
 -- and operand * 3 + 3. At the head of the loop the words stand for whatever formula they stood for at first; what is left to do falls.
-use Prim.Native.Nat.{◌+◌, ◌*◌, ◌-◌}
+use Prim.Native.Nat.{◌+◌, ◌*◌}
 use mathlib.Core.Path.{◌≡◌}
 use lib.ListN.{length, drop}
 use Rattle.window.specs.Window.{Keeps}

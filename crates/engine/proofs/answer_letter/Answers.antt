@@ -16,20 +16,17 @@ room c =
 
 pub read_letter-read-requires : goal.read_letter-read-requires
 read_letter-read-requires c =
-    let start = c in
-    let row = start.requires.1 start.args.k (omega arith) in
-    (rw c.field-letter.ensures row.letter, room (goal.at.read_letter-read-requires c).Start, start.requires.5, start.requires.4)
+    let row = c.requires.1 c.args.k (omega arith) in
+    (rw c.field-letter.ensures row.letter, room (goal.at.read_letter-read-requires c).Start, c.requires.5, c.requires.4)
 
 pub returns-then-count-eq0 : goal.returns-then-count-eq0
 returns-then-count-eq0 c =
-    let start = c in
-    let a = start.args in
+    let a = c.args in
     let read = c.read_letter-read in
-    record { answers = letter_open a.table.now a.view.now a.records.now a.k a.words.now _ read.result.count read.result.bits start.requires.2 c.field-letter.ensures c.if-count-eq0.true read.ensures.ends read.ensures.steps; keeps = read.ensures.keeps }
+    record { answers = letter_open a.table.now a.view.now a.records.now a.k a.words.now _ read.result.count read.result.bits c.requires.2 c.field-letter.ensures c.if-count-eq0.true read.ensures.ends read.ensures.steps; keeps = read.ensures.keeps }
 
 pub returns : goal.returns
 returns c =
-    let start = c in
-    let a = start.args in
+    let a = c.args in
     let read = c.read_letter-read in
-    record { answers = letter_batch a.table.now a.view.now a.records.now a.k a.words.now _ read.result.count read.result.bits start.requires.2 c.field-letter.ensures c.if-count-eq0.false read.ensures.ends read.ensures.steps; keeps = read.ensures.keeps }
+    record { answers = letter_batch a.table.now a.view.now a.records.now a.k a.words.now _ read.result.count read.result.bits c.requires.2 c.field-letter.ensures c.if-count-eq0.false read.ensures.ends read.ensures.steps; keeps = read.ensures.keeps }

@@ -1,5 +1,4 @@
 -- `explain::all_answered` meets its contract.
-use Prim.Native.Nat.{◌-◌}
 use mathlib.Core.Path.{◌≡◌, refl, ◌∙◌}
 use native.Mathlib.Omega.{arith}
 use Rattle.explain.proofs.Formulas.{reached_none, reached_next, all_reached, not_reached}

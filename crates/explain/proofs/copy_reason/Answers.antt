@@ -3,7 +3,7 @@ use mathlib.Core.Path.{sym}
 use native.Mathlib.Omega.{arith}
 use lib.Seq.{length-take-le}
 use Rattle.trace.specs.Log.{log_of}
-use Rattle.explain.proofs.Calling.{reasoned_missing, reasoned_ends, ends_inside, copies_none, copies_short, copies_all}
+use Rattle.explain.proofs.Calling.{reasoned_missing, reasoned_ends, copies_none, copies_short, copies_all}
 use Rattle.explain.proofs.copy_reason.Goals as goal
 
 pub returns-in_default : goal.returns-in_default

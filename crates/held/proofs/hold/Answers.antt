@@ -1,5 +1,5 @@
 -- `hold` meets its contract. The invariant: the first k formulas were asked, and `least` is what each of them holds at least.
-use Prim.Native.Nat.{◌-◌, zero-le}
+use Prim.Native.Nat.{zero-le}
 use mathlib.Core.Path.{refl, ◌∙◌}
 use native.Mathlib.Omega.{arith}
 use Rattle.held.proofs.Holding.{asked_none, one_more, all_asked, none_settled}

@@ -1,5 +1,5 @@
 -- `take_verdicts` meets its contract. The invariant: n verdicts are taken out of the first k formulas' answers.
-use Prim.Native.Nat.{◌+◌, ◌-◌}
+use Prim.Native.Nat.{◌+◌}
 use mathlib.Core.Path.{◌≡◌, ap, ◌∙◌}
 use native.Mathlib.Omega.{arith}
 use lib.ListN.{length, set, length-set}

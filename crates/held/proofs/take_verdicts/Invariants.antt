@@ -2,7 +2,6 @@
 use Prim.Native.Nat.{◌-◌, ◌≤◌}
 use mathlib.Core.Path.{◌≡◌}
 use Rattle.engine.specs.Tops.{top_column}
-use Rattle.checkpoint.specs.Checkpoint.{given}
 use Rattle.held.specs.Code.{taken_out}
 use Rattle.held.proofs.take_verdicts.Given as goal
 

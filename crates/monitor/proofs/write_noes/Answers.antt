@@ -1,5 +1,5 @@
 -- `write_noes` meets its contract. The loop's invariant: the counts and the latest positions of the first k formulas are written.
-use Prim.Native.Nat.{ℕ, ◌-◌}
+use Prim.Native.Nat.{ℕ}
 use native.Mathlib.Omega.{arith}
 use mathlib.Core.Option.{Option}
 use mathlib.Core.Path.{◌≡◌, refl, ap, ◌∙◌}

@@ -43,7 +43,7 @@ returns c =
     let l = c.loop-count in
     remains_done a.cells a.high a.at a.block.now (omega arith) l.start l.count l.invariant.0
     (elim c.loop-count-test.branch [
-      else-loop-count-test w ↦ inl (let e = w.loop-count-test.false in omega arith)
-    | then-loop-count-test+then-gap-high w ↦ inr (w.cell.result, w.cell.ensures.2 (omega arith), let g = w.gap.ensures in let t = w.if-gap-high.true in omega arith)
+      | else-loop-count-test w ↦ inl (let e = w.loop-count-test.false in omega arith)
+      | then-loop-count-test+then-gap-high w ↦ inr (w.cell.result, w.cell.ensures.2 (omega arith), let g = w.gap.ensures in let t = w.if-gap-high.true in omega arith)
     ])
     l.invariant.2

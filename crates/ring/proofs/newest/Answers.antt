@@ -5,19 +5,15 @@ use Rattle.ring.proofs.newest.Goals as goal
 
 pub returns-then-held-eq0 : goal.returns-then-held-eq0
 returns-then-held-eq0 c =
-    let k = c in
-    let a = k.args in
-    none_newest a.cells a.block.now k.at_most-held.result k.at_most-held.ensures.1 c.if-held-eq0.true a.none
+    let a = c.args in
+    none_newest a.cells a.block.now c.at_most-held.result c.at_most-held.ensures.1 c.if-held-eq0.true a.none
 
 pub returns : goal.returns
 returns c =
-    let l = c in
-    let start = l in
-    let k = start in
-    let a = k.args in
-    some_newest a.cells a.block.now start.at_most-start.result k.at_most-held.result l.cell.result
-    (λ h. start.at_most-start.ensures.1 (omega arith))
-    k.at_most-held.ensures.1
+    let a = c.args in
+    some_newest a.cells a.block.now c.at_most-start.result c.at_most-held.result c.cell.result
+    (λ h. c.at_most-start.ensures.1 (omega arith))
+    c.at_most-held.ensures.1
     (omega arith)
-    (λ h m. l.cell.ensures.2 (omega arith))
+    (λ h m. c.cell.ensures.2 (omega arith))
     a.none

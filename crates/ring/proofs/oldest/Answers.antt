@@ -10,11 +10,8 @@ returns-then-block-eq0 c =
 
 pub returns : goal.returns
 returns c =
-    let l = c in
-    let start = l in
-    let e = start in
-    let a = e.args in
-    some_oldest a.cells a.block.now start.at_most-start.result l.cell.result e.if-block-eq0.false
-    (λ h. start.at_most-start.ensures.1 (omega arith))
-    (l.cell.ensures.2 (omega arith))
+    let a = c.args in
+    some_oldest a.cells a.block.now c.at_most-start.result c.cell.result c.if-block-eq0.false
+    (λ h. c.at_most-start.ensures.1 (omega arith))
+    (c.cell.ensures.2 (omega arith))
     a.none

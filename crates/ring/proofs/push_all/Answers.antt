@@ -23,64 +23,58 @@ turned false e = refl
 
 pub loop-i-init : goal.loop-i-init
 loop-i-init c =
-    let count = c in
-    let start = count in
-    let a = start.args in (
+    let a = c.args in (
       omega arith,
       omega arith,
-      count.at_most-count.ensures.0,
+      c.at_most-count.ensures.0,
       refl,
-      pushing_none a.cells (time_at a.window.now) a.right a.from a.block.now start.at_most-start.result count.at_most-count.result c.newest-newest.result
-          (λ h. start.at_most-start.ensures.1 (omega arith))
-          count.at_most-count.ensures.1
+      pushing_none a.cells (time_at a.window.now) a.right a.from a.block.now c.at_most-start.result c.at_most-count.result c.newest-newest.result
+          (λ h. c.at_most-start.ensures.1 (omega arith))
+          c.at_most-count.ensures.1
           c.newest-newest.ensures,
     )
 
 pub add-count-requires : goal.add-count-requires
 add-count-requires c =
-    let t = c in
-    let l = t.loop-i in
-    let start = t in
-    let a = start.args in
-    let first = start.at_most-start.ensures.0 in
-    let free = ltb-true l.count a.cells ((and_iff t.test.result (ltb l.count a.cells)).0 c.if-test-count.true).1 in
+    let l = c.loop-i in
+    let a = c.args in
+    let first = c.at_most-start.ensures.0 in
+    let free = ltb-true l.count a.cells ((and_iff c.test.result (ltb l.count a.cells)).0 c.if-test-count.true).1 in
     omega arith
 
 pub loop-i-preserved : goal.loop-i-preserved
 loop-i-preserved c =
-    let t = c in
-    let l = t.loop-i in
-    let start = t in
-    let a = start.args in
+    let l = c.loop-i in
+    let a = c.args in
     let at = time_at a.window.now in
     elim c.if-test-count.branch [
-      then-test-count w ↦
-        let (yes', free) = (and_iff t.test.result (ltb l.count a.cells)).0 w.if-test-count.true in
-        let added = w.add-count in (
-          omega arith,
-          omega arith,
-          rw w.count-is added.ensures.1,
-          rw w.block-is (added.auto.block ∙ l.invariant.3),
-          rw (w.block-is, w.count-is, w.newest-is, added.ensures.0, added.ensures.2, w.time-now.ensures.0)
-              (pushing_next a.cells at a.right a.from a.block.now start.at_most-start.result l.i l.block l.count l.newest
-              l.invariant.0
-              l.invariant.4
-              (omega arith)
-              (ltb-true l.count a.cells free)
-              (omega arith)
-              (rw w.time-now.ensures.0 at w.time-now.ensures.1)
-              (sym t.test.ensures ∙ yes')),
-        )
-    | else-test-count w ↦ (
+      | then-test-count w ↦
+          let (yes', free) = (and_iff c.test.result (ltb l.count a.cells)).0 w.if-test-count.true in
+          let added = w.add-count in (
+            omega arith,
+            omega arith,
+            rw w.count-is added.ensures.1,
+            rw w.block-is (added.auto.block ∙ l.invariant.3),
+            rw (w.block-is, w.count-is, w.newest-is, added.ensures.0, added.ensures.2, w.time-now.ensures.0)
+                (pushing_next a.cells at a.right a.from a.block.now c.at_most-start.result l.i l.block l.count l.newest
+                l.invariant.0
+                l.invariant.4
+                (omega arith)
+                (ltb-true l.count a.cells free)
+                (omega arith)
+                (rw w.time-now.ensures.0 at w.time-now.ensures.1)
+                (sym c.test.ensures ∙ yes')),
+          )
+      | else-test-count w ↦ (
         omega arith,
         omega arith,
         rw w.count-is l.invariant.2,
         rw w.block-is l.invariant.3,
         rw (w.block-is, w.count-is, w.newest-is)
-            (pushing_skip a.cells at a.right a.from a.block.now start.at_most-start.result l.i l.block l.count l.newest
+            (pushing_skip a.cells at a.right a.from a.block.now c.at_most-start.result l.i l.block l.count l.newest
             l.invariant.0
             l.invariant.4
-            (rw t.test.ensures at w.if-test-count.false)),
+            (rw c.test.ensures at w.if-test-count.false)),
       )
     ]
 
@@ -90,13 +84,11 @@ shape_of-block c = length-set c.loop-i.block 10 c.loop-i.count ∙ c.loop-i.inva
 pub returns : goal.returns
 returns c =
     let l = c.loop-i in
-    let start = c in
-    let a = start.args in
+    let a = c.args in
     let e : l.i + (a.n - l.i) ≡ a.n = omega arith in
-    let last = start in
     let none : (j : ℕ) → l.i ≤ j → j < l.i + (a.n - l.i) → bit a.right j ≡ false =
-    λ j b h. turned (bit a.right j) (sym (bit_not 64 a.right j (omega arith) (omega arith)) ∙ one_behind_last a.n (2 ^ 64 - 1 - a.right) j (let f = last.find_last_zero-end.ensures.0 in omega arith) (omega arith)) in
-    pushing_done a.cells (time_at a.window.now) a.right a.from a.block.now start.at_most-start.result a.n l.block l.count l.newest
-    (λ h. start.at_most-start.ensures.1 (omega arith))
+    λ j b h. turned (bit a.right j) (sym (bit_not 64 a.right j (omega arith) (omega arith)) ∙ one_behind_last a.n (2 ^ 64 - 1 - a.right) j (let f = c.find_last_zero-end.ensures.0 in omega arith) (omega arith)) in
+    pushing_done a.cells (time_at a.window.now) a.right a.from a.block.now c.at_most-start.result a.n l.block l.count l.newest
+    (λ h. c.at_most-start.ensures.1 (omega arith))
     (omega arith)
-    (rw e at (pushing_rest a.cells (time_at a.window.now) a.right a.from a.block.now start.at_most-start.result l.i (a.n - l.i) l.block l.count l.newest l.invariant.0 none l.invariant.4))
+    (rw e at (pushing_rest a.cells (time_at a.window.now) a.right a.from a.block.now c.at_most-start.result l.i (a.n - l.i) l.block l.count l.newest l.invariant.0 none l.invariant.4))

@@ -2,8 +2,8 @@
 use mathlib.Core.Logic.{inl, inr}
 use lib.Dec.{ltb}
 use native.Mathlib.Omega.{arith}
-use lib.ListN.{length-set, get_or}
-use borrow.Author.Tests.{ltb-true, eqb-true, eqb-false, not-true, not-false}
+use lib.ListN.{length-set}
+use borrow.Author.Tests.{ltb-true}
 use Rattle.mtl.proofs.Bounded.{and_iff}
 use Rattle.ring.proofs.Cells.{not_pushed, newest_already, is_pushed}
 use Rattle.ring.proofs.push_if.Goals as goal
@@ -28,8 +28,8 @@ returns-then-count-eq0 c =
     f
     c.if-right-count.true
     (elim c.then-count-eq0.branch [
-      then-count-eq0-via-then-count-eq0 w ↦ inl w.if-count-eq0.true
-    | then-count-eq0-via-else-count-eq0+then-block-cell w ↦ inr (w.cell.result, omega arith, w.cell.ensures.2 (omega arith), w.if-block-cell.true)
+      | then-count-eq0-via-then-count-eq0 w ↦ inl w.if-count-eq0.true
+      | then-count-eq0-via-else-count-eq0+then-block-cell w ↦ inr (w.cell.result, omega arith, w.cell.ensures.2 (omega arith), w.if-block-cell.true)
     ])
 
 pub returns-else-block-cell : goal.returns-else-block-cell

@@ -1,5 +1,4 @@
 -- `search::ask_all` meets its contract.
-use Prim.Native.Nat.{◌-◌}
 use mathlib.Core.Path.{refl, ◌∙◌}
 use native.Mathlib.Omega.{arith}
 use Rattle.search.proofs.Asking.{going_none, going_end, going_open, going_some, going_on}

@@ -1,6 +1,5 @@
 -- `simulation::run` meets its contract. The loop's invariant: generator, kiosk and log are those of the first t seconds.
 -- Assumes nothing.
-use Prim.Native.Nat.{◌-◌}
 use native.Mathlib.Omega.{arith}
 use mathlib.Core.Path.{◌≡◌, refl, ◌∙◌}
 use Rattle.trace.specs.Making.{records_bytes}

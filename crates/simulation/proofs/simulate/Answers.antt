@@ -34,10 +34,9 @@ run-k-requires c =
 pub returns : goal.returns
 returns c =
     let a = c.args in
-    let e = c in
     let h = c.write_header in
     let r = c.run-k in
-    accepts a.settings a.seconds a.seed a.log.now r.result _ c.flag.result (sym e.is_refused.ensures ∙ e.if-is_refused.false)
+    accepts a.settings a.seconds a.seed a.log.now r.result _ c.flag.result (sym c.is_refused.ensures ∙ c.if-is_refused.false)
     r.ensures.value
     (c.flag.ensures ∙ ap number c.is_printing.ensures)
     (r.ensures.log_after ∙ ap (λ (l : List ℕ). put l 8 (records_bytes time_of (events_in a.settings a.seed) a.seconds)) h.ensures)

@@ -1,5 +1,4 @@
 -- `since::turn_all` meets its contract, by the laws of proofs/Turn.
-use Prim.Native.Nat.{◌-◌}
 use native.Mathlib.Omega.{arith}
 use mathlib.Core.Path.{◌≡◌, refl, ◌∙◌}
 use Rattle.trace.specs.Format.{time_at}

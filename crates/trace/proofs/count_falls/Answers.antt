@@ -1,5 +1,5 @@
 -- `trace::count_falls` meets its contract. The loop's invariant: the first i records are counted. Assumes nothing.
-use Prim.Native.Nat.{ℕ, ◌+◌, ◌-◌}
+use Prim.Native.Nat.{ℕ, ◌+◌}
 use native.Mathlib.Omega.{arith}
 use mathlib.Core.Path.{◌≡◌, ap₂, ◌∙◌}
 use lib.Dec.{ltb}

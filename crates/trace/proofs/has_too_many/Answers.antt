@@ -6,7 +6,7 @@ use native.Mathlib.Omega.{arith}
 use lib.Dec.{ltb}
 use borrow.Author.Tests.{lt-ltb, ltb-true}
 use Rattle.mtl.proofs.Bounded.{same_test}
-use Rattle.trace.specs.Format.{record_count, dropped, total_records}
+use Rattle.trace.specs.Format.{record_count, total_records}
 use Rattle.trace.proofs.has_too_many.Goals as goal
 
 pub returns-then-here-gt1000000 : goal.returns-then-here-gt1000000

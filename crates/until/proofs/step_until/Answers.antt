@@ -132,8 +132,8 @@ returns-then-w-eq0-3 c =
     let none = c.if-w-eq0-3.true in
     let some : 0 < c.walk_on-stride.result.walked.took =
     elim c.if-w-eq0.branch [
-      then-w-eq0+else-w-eq0-2 w ↦ let l = w.if-w-eq0-2.false in omega arith
-    | else-w-eq0 w ↦ let l = w.if-w-eq0.false in absurd (omega arith)
+      | then-w-eq0+else-w-eq0-2 w ↦ let l = w.if-w-eq0-2.false in omega arith
+      | else-w-eq0 w ↦ let l = w.if-w-eq0.false in absurd (omega arith)
     ] in
     record {
       ends = rw c.put_back.ensures (took_ends (went (goal.at.returns-then-w-eq0-3 c).After-walk_on-stride) c.pass.ensures some);
@@ -148,6 +148,6 @@ returns c =
       ends = rw c.put_back.ensures (walked_onward (went (goal.at.returns c).After-walk_on-stride) c.pass.ensures);
       steps = rw c.put_back.ensures
           (λ φ ψ L g falls agrees ready.
-            answers_some (went (goal.at.returns c).After-walk_on-stride) φ ψ L g falls agrees ready c.pass.ensures (omega arith));
+          answers_some (went (goal.at.returns c).After-walk_on-stride) φ ψ L g falls agrees ready c.pass.ensures (omega arith));
       keeps = copies (goal.at.returns c).After-walk_on-stride;
     }

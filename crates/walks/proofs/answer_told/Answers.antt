@@ -18,9 +18,8 @@ yes_for-requires c =
 
 pub returns : goal.returns
 returns c =
-    let k = c in
-    let s = k in record {
+    record {
       walk = λ high n left right start next.
-          rw c.yes_for.ensures (told_walk (tells 0 s.args.lead s.args.from s.requires.0) (omega arith) (found (goal.at.returns c).After-keep_if start));
+          rw c.yes_for.ensures (told_walk (tells 0 c.args.lead c.args.from c.requires.0) (omega arith) (found (goal.at.returns c).After-keep_if start));
       count_value = refl;
     }

@@ -22,11 +22,8 @@ time-last-requires c = let m = may (goal.at.time-last-requires c).Else-n-lead in
 
 pub returns : goal.returns
 returns c t starts first =
-    let last = c in
-    let met = last in
-    let e = met in
-    let a = e.args in
-    goes a.low a.high a.lead a.n met.gap.result c.gap-2.result a.from starts (time_at a.ahead.now) (may (goal.at.returns c).Else-n-lead)
-    (met.gap.ensures ∙ rw first refl)
-    (c.gap-2.ensures ∙ rw (last.time-last.ensures.0, first) refl)
+    let a = c.args in
+    goes a.low a.high a.lead a.n c.gap.result c.gap-2.result a.from starts (time_at a.ahead.now) (may (goal.at.returns c).Else-n-lead)
+    (c.gap.ensures ∙ rw first refl)
+    (c.gap-2.ensures ∙ rw (c.time-last.ensures.0, first) refl)
     t

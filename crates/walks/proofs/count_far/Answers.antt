@@ -14,12 +14,10 @@ loop-i-init c =
 
 pub loop-i-preserved : goal.loop-i-preserved
 loop-i-preserved c =
-    let t = c in
-    let l = t.loop-i in
-    let f = t in
-    let a = f.args in
-    let is = t.time.ensures.0 in
-    let last = f.time-last.ensures.0 in (
+    let l = c.loop-i in
+    let a = c.args in
+    let is = c.time.ensures.0 in
+    let last = c.time-last.ensures.0 in (
       omega arith,
       λ j h m.
           ⊎_elim
@@ -33,9 +31,7 @@ returns-after-loop-i c = let l = c.loop-i in record { below = l.invariant.0; ove
 
 pub returns-then-time-high : goal.returns-then-time-high
 returns-then-time-high c =
-    let t = c in
-    let l = t.loop-i in
-    let f = t in
-    let is = t.time.ensures.0 in
-    let last = f.time-last.ensures.0 in
+    let l = c.loop-i in
+    let is = c.time.ensures.0 in
+    let last = c.time-last.ensures.0 in
     record { below = l.invariant.0; over = λ h. omega arith; near = l.invariant.1 }

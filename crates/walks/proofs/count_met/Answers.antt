@@ -1,5 +1,4 @@
 -- `walks::count_met` meets its contract. The loop's invariant: the first i lie low before it. Assumes nothing.
-use Prim.Native.Nat.{◌-◌}
 use native.Mathlib.Nat.{eq-or-lt_of_le}
 use native.Mathlib.Omega.{arith}
 use mathlib.Core.Logic.{⊎_elim}
@@ -12,10 +11,9 @@ loop-i-init c = (omega arith, λ j h. absurd (omega arith))
 
 pub loop-i-preserved : goal.loop-i-preserved
 loop-i-preserved c =
-    let t = c in
-    let l = t.loop-i in
-    let a = t.args in
-    let is = t.time.ensures.0 in (
+    let l = c.loop-i in
+    let a = c.args in
+    let is = c.time.ensures.0 in (
       omega arith,
       λ j h.
           ⊎_elim
@@ -29,7 +27,6 @@ returns-after-loop-i c = let l = c.loop-i in record { most = l.invariant.0; far 
 
 pub returns-then-to-time : goal.returns-then-to-time
 returns-then-to-time c =
-    let t = c in
-    let l = t.loop-i in
-    let is = t.time.ensures.0 in
+    let l = c.loop-i in
+    let is = c.time.ensures.0 in
     record { most = l.invariant.0; far = l.invariant.1; next = λ h. omega arith }

@@ -33,9 +33,8 @@ shorter c =
 
 pub loop-end-init : goal.loop-end-init
 loop-end-init c =
-    let start = c in
-    let a = start.args in
-    let pre = start.requires in
+    let a = c.args in
+    let pre = c.requires in
     let up_to_lem = leads_up_to a.leads a.n pre.3 (omega arith) c.find_last_zero-end.ensures in
     let (inside, stands) = ends_inside a.leads a.n _ pre.2 pre.5 c.find_last_zero-end.ensures.1 up_to_lem in (
       inside,
@@ -63,36 +62,31 @@ loop-end-smaller c = omega (arith, shorter (goal.at.loop-end-smaller c).After-fi
 
 pub loop-end-preserved : goal.loop-end-preserved
 loop-end-preserved c =
-    let ones = c in
-    let met = ones in
-    let to = met in
-    let from = to in
-    let l = from.loop-end in
-    let some = from.loop-end-test.true in
-    let start = from in
-    let a = start.args in
+    let l = c.loop-end in
+    let some = c.loop-end-test.true in
+    let a = c.args in
     let less = shorter (goal.at.loop-end-preserved c).After-find_last_zero-from in
-    let begin = from.find_last_zero-from.ensures in
-    let few_from : from.find_last_zero-from.result ≤ 64 = omega (arith, l.invariant.0, start.requires.3) in
-    let up_to_lem = leads_up_to a.leads from.find_last_zero-from.result few_from (omega arith) c.find_last_zero-end-in-loop-end.ensures in
+    let begin = c.find_last_zero-from.ensures in
+    let few_from : c.find_last_zero-from.result ≤ 64 = omega (arith, l.invariant.0, c.requires.3) in
+    let up_to_lem = leads_up_to a.leads c.find_last_zero-from.result few_from (omega arith) c.find_last_zero-end-in-loop-end.ensures in
     let most = c.find_last_zero-end-in-loop-end.ensures.1 in
-    let off : 0 < from.find_last_zero-from.result → bit a.leads (from.find_last_zero-from.result - 1) ≡ false = rw begin.0 (last_is_zero l.end a.leads) in (
+    let off : 0 < c.find_last_zero-from.result → bit a.leads (c.find_last_zero-from.result - 1) ≡ false = rw begin.0 (last_is_zero l.end a.leads) in (
       omega (arith, l.invariant.0),
       λ h.
           ⊎_elim
           (λ same.
-          let e : c.find_last_zero-end-in-loop-end.result - 1 ≡ from.find_last_zero-from.result - 1 = omega arith in
+          let e : c.find_last_zero-end-in-loop-end.result - 1 ≡ c.find_last_zero-from.result - 1 = omega arith in
           absurd (true_and_false (up_to_lem.0 h) (ap (bit a.leads) e ∙ off (omega arith))))
           (λ below. (up_to_lem.0 h, up_to_lem.1 c.find_last_zero-end-in-loop-end.result (omega arith) below))
-          (le_or_lt from.find_last_zero-from.result c.find_last_zero-end-in-loop-end.result),
+          (le_or_lt c.find_last_zero-from.result c.find_last_zero-end-in-loop-end.result),
       λ left right positive few w rising.
-          rw (c.pick-latest.ensures, to.time-to.ensures.0)
+          rw (c.pick-latest.ensures, c.time-to.ensures.0)
           (stretched_more a.low (time_at a.ahead.now) left right a.n positive few w rising some l.invariant.0 (l.invariant.1 some).1 (l.invariant.1 some).0 (l.invariant.2 left right positive few w rising)
-          ones.ones_between-bits.result
+          c.ones_between-bits.result
           begin.0
           begin.1
-          (rw to.time-to.ensures.0 at met.find_met-met.ensures)
-          ones.ones_between-bits.ensures
+          (rw c.time-to.ensures.0 at c.find_met-met.ensures)
+          c.ones_between-bits.ensures
           up_to_lem
           most),
     )
@@ -100,7 +94,6 @@ loop-end-preserved c =
 pub returns : goal.returns
 returns c left right w rising =
     let l = c.loop-end in
-    let start = c in
-    let a = start.args in
-    let (packed, latest) = stretched_all a.low (time_at a.ahead.now) left right a.n start.requires.0 start.requires.3 w start.requires.2 (omega arith) (l.invariant.2 left right start.requires.0 start.requires.3 w rising) in
+    let a = c.args in
+    let (packed, latest) = stretched_all a.low (time_at a.ahead.now) left right a.n c.requires.0 c.requires.3 w c.requires.2 (omega arith) (l.invariant.2 left right c.requires.0 c.requires.3 w rising) in
     (packed, c.keep_if.ensures ∙ rw c.test.ensures latest)

@@ -133,9 +133,8 @@ words_of_2 f =
     words_are a.left a.right a.n f.fill_down-own.result (omega arith) (omega arith) (rw f.first_bits.ensures at f.fill_down-own.ensures)
 
 words : (z : After-find_last_zero-i) →
-    let f = z in
-    let a = f.args in
-    Words a.left a.right a.n f.fill_down-own.result (leads a.left f.fill_down-own.result)
+    let a = z.args in
+    Words a.left a.right a.n z.fill_down-own.result (leads a.left z.fill_down-own.result)
 words z = words_of_2 z
 
 -- the last of them
@@ -150,9 +149,8 @@ up_to z =
 
 inside : (z : After-find_last_zero-i) → z.find_last_zero-i.result < z.args.n
 inside z =
-    let f = z in
-    let a = f.args in
-    end_inside a.low (time_at a.ahead.now) a.left a.right a.n f.fill_down-own.result (leads a.left f.fill_down-own.result) (omega arith) (omega arith) (omega arith) (words z)
+    let a = z.args in
+    end_inside a.low (time_at a.ahead.now) a.left a.right a.n z.fill_down-own.result (leads a.left z.fill_down-own.result) (omega arith) (omega arith) (omega arith) (words z)
     z.find_last_zero-i.result
     z.find_last_zero-i.ensures.1
     (up_to z).0
@@ -166,19 +164,16 @@ words_of_3 f =
     words_are a.left a.right a.n f.fill_down-own.result (omega arith) (omega arith) (rw f.first_bits.ensures at f.fill_down-own.ensures)
 
 words_2 : (z : After-pick-latest) →
-    let f = z in
-    let a = f.args in
-    Words a.left a.right a.n f.fill_down-own.result (leads a.left f.fill_down-own.result)
+    let a = z.args in
+    Words a.left a.right a.n z.fill_down-own.result (leads a.left z.fill_down-own.result)
 words_2 z = words_of_3 z
 
 -- what is known in a turn
 fits : (c : After-pick-latest) → c.loop-i.bits * 2 + 1 < 2 ^ 64
 fits c =
     let l = c.loop-i in
-    let z = c in
-    let f = z in
-    let a = f.args in
-    bound a.low (time_at a.ahead.now) a.left a.right a.n f.fill_down-own.result (leads a.left f.fill_down-own.result) (omega arith) (omega arith) (omega arith) (words_2 c)
+    let a = c.args in
+    bound a.low (time_at a.ahead.now) a.left a.right a.n c.fill_down-own.result (leads a.left c.fill_down-own.result) (omega arith) (omega arith) (omega arith) (words_2 c)
     l.i
     l.latest
     l.bits
@@ -187,14 +182,12 @@ fits c =
 
 pub find_by_stretches-requires : goal.find_by_stretches-requires
 find_by_stretches-requires c =
-    let f = c in
-    let pre = f.requires in
+    let pre = c.requires in
     (pre.0, pre.1, pre.2, pre.3, pre.4, last_off (goal.at.find_by_stretches-requires c).After-fill_down-own)
 
 pub returns-then-count_zeros-le-FEW_STRETCHES : goal.returns-then-count_zeros-le-FEW_STRETCHES
 returns-then-count_zeros-le-FEW_STRETCHES c rising =
-    let f = c in
-    let a = f.args in
+    let a = c.args in
     c.find_by_stretches.ensures a.left a.right (words_of (goal.at.returns-then-count_zeros-le-FEW_STRETCHES c).After-fill_down-own) rising
 
 pub time-latest-requires : goal.time-latest-requires
@@ -202,12 +195,10 @@ time-latest-requires z = omega (arith, inside (goal.at.time-latest-requires z).A
 
 pub loop-i-init : goal.loop-i-init
 loop-i-init c =
-    let z = c in
-    let f = z in
-    let a = f.args in
+    let a = c.args in
     rw c.time-latest.ensures.0
-    (none_yet a.low (time_at a.ahead.now) a.left a.right a.n f.fill_down-own.result (leads a.left f.fill_down-own.result) (omega arith) (omega arith) (omega arith) (words (goal.at.loop-i-init c).After-find_last_zero-i)
-    z.find_last_zero-i.result
+    (none_yet a.low (time_at a.ahead.now) a.left a.right a.n c.fill_down-own.result (leads a.left c.fill_down-own.result) (omega arith) (omega arith) (omega arith) (words (goal.at.loop-i-init c).After-find_last_zero-i)
+    c.find_last_zero-i.result
     (inside (goal.at.loop-i-init c).After-find_last_zero-i)
     (up_to (goal.at.loop-i-init c).After-find_last_zero-i).1)
 
@@ -216,44 +207,36 @@ overflow_mul-bits c = record { fits = omega (arith, fits (goal.at.overflow_mul-b
 
 pub overflow_add-bits : goal.overflow_add-bits
 overflow_add-bits c =
-    let t = c in
-    let a = t.args in
-    record { fits = omega (arith, fits (goal.at.overflow_add-bits c).After-pick-latest, c.flag.ensures, number_lt (leb (t.time-now.result + a.low) c.pick-latest.result)) }
+    let a = c.args in
+    record { fits = omega (arith, fits (goal.at.overflow_add-bits c).After-pick-latest, c.flag.ensures, number_lt (leb (c.time-now.result + a.low) c.pick-latest.result)) }
 
 pub loop-i-preserved : goal.loop-i-preserved
 loop-i-preserved c =
-    let p = c in
-    let t = p in
-    let l = t.loop-i in
-    let z = t in
-    let f = z in
-    let a = f.args in
-    rw (c.flag.ensures, t.time-now.ensures.0)
-    (more a.low (time_at a.ahead.now) a.left a.right a.n f.fill_down-own.result (leads a.left f.fill_down-own.result) (omega arith) (omega arith) (omega arith) (words (goal.at.loop-i-preserved c).After-find_last_zero-i)
+    let l = c.loop-i in
+    let a = c.args in
+    rw (c.flag.ensures, c.time-now.ensures.0)
+    (more a.low (time_at a.ahead.now) a.left a.right a.n c.fill_down-own.result (leads a.left c.fill_down-own.result) (omega arith) (omega arith) (omega arith) (words (goal.at.loop-i-preserved c).After-find_last_zero-i)
     l.i
     l.latest
     l.bits
-    p.pick-latest.result
+    c.pick-latest.result
     (omega arith)
-    (p.pick-latest.ensures ∙ rw (p.test.ensures, t.time-now.ensures.0) refl)
+    (c.pick-latest.ensures ∙ rw (c.test.ensures, c.time-now.ensures.0) refl)
     l.invariant)
 
 pub returns : goal.returns
 returns c rising =
-    let t = c in
-    let l = t.loop-i in
-    let z = t in
-    let f = z in
-    let a = f.args in
+    let l = c.loop-i in
+    let a = c.args in
     let e : l.i ≡ 0 = omega arith in
     let all : a.n - l.i ≡ a.n = omega arith in
     let whole : a.n - 0 ≡ a.n = omega arith in
     let seen = l.invariant.seen rising in (
       rw (all, e) at seen.packed,
       c.keep_if.ensures
-          ∙ rw t.test-2.ensures
-          (by (bit f.fill_down-own.result 0)
-          (λ o. seen.is_latest (ap (bit f.fill_down-own.result) e ∙ o) ∙ ap (λ (k : ℕ). latest_right (time_at a.ahead.now) a.left a.right (a.n - k) k) e)
+          ∙ rw c.test-2.ensures
+          (by (bit c.fill_down-own.result 0)
+          (λ o. seen.is_latest (ap (bit c.fill_down-own.result) e ∙ o) ∙ ap (λ (k : ℕ). latest_right (time_at a.ahead.now) a.left a.right (a.n - k) k) e)
           (λ o. right_from_none (time_at a.ahead.now) a.left a.right a.n (omega arith) (words (goal.at.returns c).After-find_last_zero-i) 0 (omega arith) o))
           ∙ ap (λ (d : ℕ). latest_right (time_at a.ahead.now) a.left a.right d 0) whole,
     )

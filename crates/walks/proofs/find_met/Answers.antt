@@ -15,10 +15,9 @@ time-requires c = omega (arith, c.loop-i.invariant.1)
 
 pub loop-i-preserved : goal.loop-i-preserved
 loop-i-preserved c =
-    let t = c in
-    let l = t.loop-i in
-    let a = t.args in
-    let is = t.time.ensures.0 in
+    let l = c.loop-i in
+    let a = c.args in
+    let is = c.time.ensures.0 in
     let near = c.if-time-low.false in (
       omega arith,
       omega (arith, l.invariant.1),
@@ -36,8 +35,7 @@ returns-after-loop-i c =
 
 pub returns-then-time-low : goal.returns-then-time-low
 returns-then-time-low c =
-    let t = c in
-    let l = t.loop-i in
-    let is = t.time.ensures.0 in
+    let l = c.loop-i in
+    let is = c.time.ensures.0 in
     let far = c.if-time-low.true in
     record { behind = l.invariant.0; within = l.invariant.1; there = λ h. omega arith; after = l.invariant.2 }

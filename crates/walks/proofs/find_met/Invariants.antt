@@ -1,5 +1,5 @@
 -- The invariants of `walks::find_met`.
-use Prim.Native.Nat.{ℕ, ◌+◌, ◌-◌, ◌≤◌, ◌<◌}
+use Prim.Native.Nat.{ℕ, ◌+◌, ◌≤◌, ◌<◌}
 use Rattle.trace.specs.Format.{time_at}
 use Rattle.walks.proofs.find_met.Given as goal
 

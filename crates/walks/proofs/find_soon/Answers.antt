@@ -72,19 +72,16 @@ overflow_mul-bits c = record { fits = omega (arith, fits (goal.at.overflow_mul-b
 
 pub overflow_add-bits : goal.overflow_add-bits
 overflow_add-bits c =
-    let t = c in
-    let a = t.args in
-    record { fits = omega (arith, fits (goal.at.overflow_add-bits c).After-pick-next, c.flag.ensures, number_lt (leb c.pick-next.result (t.time-now.result + a.high))) }
+    let a = c.args in
+    record { fits = omega (arith, fits (goal.at.overflow_add-bits c).After-pick-next, c.flag.ensures, number_lt (leb c.pick-next.result (c.time-now.result + a.high))) }
 
 pub loop-i-preserved : goal.loop-i-preserved
 loop-i-preserved c =
-    let p = c in
-    let t = p in
-    let l = t.loop-i in
-    let a = t.args in
-    rw (c.flag.ensures, t.time-now.ensures.0)
-    (more a.high (time_at a.ahead.now) a.right a.n l.i l.next l.bits p.pick-next.result (omega arith) (omega arith)
-    (p.pick-next.ensures ∙ rw (p.test.ensures, t.time-now.ensures.0) refl)
+    let l = c.loop-i in
+    let a = c.args in
+    rw (c.flag.ensures, c.time-now.ensures.0)
+    (more a.high (time_at a.ahead.now) a.right a.n l.i l.next l.bits c.pick-next.result (omega arith) (omega arith)
+    (c.pick-next.ensures ∙ rw (c.test.ensures, c.time-now.ensures.0) refl)
     l.invariant)
 
 pub returns : goal.returns

@@ -13,7 +13,6 @@ time-start-requires c = c.requires.2 (omega arith)
 
 pub returns : goal.returns
 returns c =
-    let k = c in
-    let a = k.args in
+    let a = c.args in
     let behind = lt-leb (a.lead + a.at) a.waiting (omega arith) in
-    c.settle.ensures ∙ rw (k.time-start.ensures.0, c.next_time.ensures, behind)
+    c.settle.ensures ∙ rw (c.time-start.ensures.0, c.next_time.ensures, behind)

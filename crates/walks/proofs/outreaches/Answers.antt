@@ -12,28 +12,22 @@ returns-then-n-lead c e = absurd (true≢false (sym e))
 
 pub time-first-requires : goal.time-first-requires
 time-first-requires c =
-    let e = c in
-    let a = e.args in
-    omega (arith, some_few a.n a.lead e.if-n-lead.false)
+    let a = c.args in
+    omega (arith, some_few a.n a.lead c.if-n-lead.false)
 
 pub overflow_sub-n : goal.overflow_sub-n
 overflow_sub-n c =
-    let e = c in
-    let a = e.args in
-    (some_few a.n a.lead e.if-n-lead.false).0
+    let a = c.args in
+    (some_few a.n a.lead c.if-n-lead.false).0
 
 pub time-last-requires : goal.time-last-requires
 time-last-requires c =
-    let e = c in
-    let a = e.args in
-    omega (arith, some_few a.n a.lead e.if-n-lead.false)
+    let a = c.args in
+    omega (arith, some_few a.n a.lead c.if-n-lead.false)
 
 pub returns : goal.returns
 returns c =
-    let last = c in
-    let first = last in
-    let e = first in
-    let a = e.args in
-    reaches a.high a.lead a.n c.gap.result a.from (time_at a.ahead.now) (some_few a.n a.lead e.if-n-lead.false)
-    (c.gap.ensures ∙ rw (last.time-last.ensures.0, first.time-first.ensures.0) refl)
-    (rw last.time-last.ensures.0 at last.time-last.ensures.1)
+    let a = c.args in
+    reaches a.high a.lead a.n c.gap.result a.from (time_at a.ahead.now) (some_few a.n a.lead c.if-n-lead.false)
+    (c.gap.ensures ∙ rw (c.time-last.ensures.0, c.time-first.ensures.0) refl)
+    (rw c.time-last.ensures.0 at c.time-last.ensures.1)

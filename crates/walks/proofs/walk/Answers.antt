@@ -1,5 +1,4 @@
 -- `walks::walk` meets its contract. The loop's invariant is its promise, by the laws of proofs/Single. Assumes nothing.
-use Prim.Native.Nat.{◌-◌}
 use native.Mathlib.Omega.{arith}
 use mathlib.Core.Path.{◌≡◌, sym, ◌∙◌}
 use borrow.Author.Tests.{lt-ltb}
@@ -20,15 +19,13 @@ look-requires c = (omega arith, omega arith, λ h. omega arith)
 
 pub loop-count-preserved-in-Known : goal.loop-count-preserved-in-Known
 loop-count-preserved-in-Known c =
-    let k = c in
-    let q = k in
-    let l = q.loop-count in
-    let a = q.args in
+    let l = c.loop-count in
+    let a = c.args in
     let w = l.invariant.1 in
     let start = time_at a.starts.now in
     let next = next_of (time_at a.ahead.now) a.n a.after in
-    let e = sym q.look.ensures ∙ k.in-Known.is in
-    let some = known_behind a.low a.high start next a.lead l.count l.took l.last k.in-Known.holds e in (
+    let e = sym c.look.ensures ∙ c.in-Known.is in
+    let some = known_behind a.low a.high start next a.lead l.count l.took l.last c.in-Known.holds e in (
       c.push-bits.ensures.1,
       record {
         few = omega arith;
@@ -40,7 +37,7 @@ loop-count-preserved-in-Known c =
           (walks_known a.low a.high start next a.lead a.n a.left a.right a.from l.bits l.count l.took l.last
           (omega arith)
           w.most
-          k.in-Known.holds
+          c.in-Known.holds
           e
           l.invariant.0
           l.invariant.2),
@@ -48,10 +45,8 @@ loop-count-preserved-in-Known c =
 
 pub loop-count-preserved : goal.loop-count-preserved
 loop-count-preserved c =
-    let k = c in
-    let q = k in
-    let l = q.loop-count in
-    let a = q.args in
+    let l = c.loop-count in
+    let a = c.args in
     let w = l.invariant.1 in
     let start = time_at a.starts.now in
     let next = next_of (time_at a.ahead.now) a.n a.after in
@@ -63,7 +58,7 @@ loop-count-preserved c =
           (walks_unknown a.low a.high start next a.lead a.n a.left a.right a.from l.bits l.count l.took l.last
           (omega arith)
           w.most
-          (sym q.look.ensures ∙ k.in-Unknown.is)
+          (sym c.look.ensures ∙ c.in-Unknown.is)
           (omega arith)
           l.invariant.2),
     )
@@ -73,11 +68,9 @@ returns-after-loop-count c = let l = c.loop-count in record { limits = l.invaria
 
 pub returns-then-took-n : goal.returns-then-took-n
 returns-then-took-n c =
-    let k = c in
-    let q = k in
-    let l = q.loop-count in
+    let l = c.loop-count in
     record {
       limits = l.invariant.1;
-      waiting = λ h t. record { all = c.if-took-n.true; unknown = sym q.look.ensures ∙ k.in-Unknown.is };
+      waiting = λ h t. record { all = c.if-took-n.true; unknown = sym c.look.ensures ∙ c.in-Unknown.is };
       walks = l.invariant.2;
     }

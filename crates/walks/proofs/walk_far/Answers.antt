@@ -18,42 +18,35 @@ event : (z : After-find_last_zero-event) →
     let a = z.args in
     Known a.left a.right a.n z.find_last_zero-event.result
 event z =
-    let b = z in
-    let a = b.args in
-    known_is a.left a.right a.n b.requires.2 (omega arith) z.find_last_zero-event.ensures
+    let a = z.args in
+    known_is a.left a.right a.n z.requires.2 (omega arith) z.find_last_zero-event.ensures
 
 -- how many are told
 few_known : (k : After-pick-known) → k.pick-known.result ≤ k.args.n
 few_known k =
-    let q = k in
-    let z = q in
-    let most = z.find_last_zero-event.ensures.1 in
-    let below = q.count_far-far.ensures.below in
-    ⊎_elim (λ i. omega arith) (λ i. omega arith) (which_known z.find_last_zero-event.result q.count_far-far.result k.pick-known.result k.pick-known.ensures)
+    let most = k.find_last_zero-event.ensures.1 in
+    let below = k.count_far-far.ensures.below in
+    ⊎_elim (λ i. omega arith) (λ i. omega arith) (which_known k.find_last_zero-event.result k.count_far-far.result k.pick-known.result k.pick-known.ensures)
 
 -- how many are told
 few_known_2 : (k : After-taken_for-took) → k.pick-known.result ≤ k.args.n
 few_known_2 k =
-    let q = k in
-    let z = q in
-    let most = z.find_last_zero-event.ensures.1 in
-    let below = q.count_far-far.ensures.below in
-    ⊎_elim (λ i. omega arith) (λ i. omega arith) (which_known z.find_last_zero-event.result q.count_far-far.result k.pick-known.result k.pick-known.ensures)
+    let most = k.find_last_zero-event.ensures.1 in
+    let below = k.count_far-far.ensures.below in
+    ⊎_elim (λ i. omega arith) (λ i. omega arith) (which_known k.find_last_zero-event.result k.count_far-far.result k.pick-known.result k.pick-known.ensures)
 
 took : (t : After-taken_for-took) →
     (1 ≤ t.taken_for-took.result) × (t.taken_for-took.result ≤ t.args.n)
 took t =
-    let k = t in
-    let b = k in
-    let a = b.args in
-    takes_few a.lead k.pick-known.result a.n t.taken_for-took.result b.requires.4 b.requires.1 (few_known_2 t) t.taken_for-took.ensures
+    let a = t.args in
+    takes_few a.lead t.pick-known.result a.n t.taken_for-took.result t.requires.4 t.requires.1 (few_known_2 t) t.taken_for-took.ensures
 
 front_fits : (r : After-repeat-2) →
     bit_and r.repeat.result (2 ^ 64 - 1 - r.repeat-2.result) < 2 ^ r.args.lead
 front_fits r = lt_of_le_of_lt (and_le_l r.repeat.result (2 ^ 64 - 1 - r.repeat-2.result)) r.repeat.ensures.0
 
 pub repeat-requires-2 : goal.repeat-requires-2
-repeat-requires-2 c = let m = c in let most = m.count_met-over.ensures.most in omega arith
+repeat-requires-2 c = let most = c.count_met-over.ensures.most in omega arith
 
 pub taken_for-took-requires : goal.taken_for-took-requires
 taken_for-took-requires k = omega (arith, few_known (goal.at.taken_for-took-requires k).After-pick-known, k.requires)
@@ -72,41 +65,30 @@ take-requires c = omega (arith, took (goal.at.take-requires c).After-taken_for-t
 
 pub returns : goal.returns
 returns c after from reach =
-    let p = c in
-    let t = p in
-    let k = t in
-    let q = k in
-    let z = q in
-    let r = z in
-    let o = r in
-    let m = o in
-    let w = m in
-    let s = w in
-    let b = s in
-    let a = b.args in
-    let pre = b.requires in
+    let a = c.args in
+    let pre = c.requires in
     let time = time_at a.ahead.now in
     let next = next_of time a.n after in
-    let far = q.count_far-far.ensures in
+    let far = c.count_far-far.ensures in
     let longer = reach.longer in
-    let is = which_known z.find_last_zero-event.result q.count_far-far.result k.pick-known.result k.pick-known.ensures in
-    let some_far : 0 < q.count_far-far.result = ⊎_elim (λ n. let e = far.near 0 n pre.1 in absurd (omega (arith, longer, e))) (λ l. l) (le_or_lt q.count_far-far.result 0) in
-    let some : 0 < k.pick-known.result = ⊎_elim (λ i. omega arith) (λ i. omega arith) is in
+    let is = which_known c.find_last_zero-event.result c.count_far-far.result c.pick-known.result c.pick-known.ensures in
+    let some_far : 0 < c.count_far-far.result = ⊎_elim (λ n. let e = far.near 0 n pre.1 in absurd (omega (arith, longer, e))) (λ l. l) (le_or_lt c.count_far-far.result 0) in
+    let some : 0 < c.pick-known.result = ⊎_elim (λ i. omega arith) (λ i. omega arith) is in
     far_walk (reach_next a.high time a.right a.n after reach) some (few_known (goal.at.returns c).After-pick-known)
     (λ times.
-    far_words a.high next w.fill_down-own.result (omega (arith, pre.0)) (event (goal.at.returns c).After-find_last_zero-event) w.fill_down-own.ensures (far_next a.high time a.right a.n after far)
-    (soon_next a.high time a.right a.n after s.find_soon-soon.ensures.0)
-    o.repeat.result
-    r.repeat-2.result
-    (over_next a.high time a.right a.n after s.find_soon-soon.ensures.1 m.count_met-over.ensures)
+    far_words a.high next c.fill_down-own.result (omega (arith, pre.0)) (event (goal.at.returns c).After-find_last_zero-event) c.fill_down-own.ensures (far_next a.high time a.right a.n after far)
+    (soon_next a.high time a.right a.n after c.find_soon-soon.ensures.0)
+    c.repeat.result
+    c.repeat-2.result
+    (over_next a.high time a.right a.n after c.find_soon-soon.ensures.1 c.count_met-over.ensures)
     times
     pre.4
-    (λ i h. o.repeat.ensures.1 i h ∙ o.test.ensures)
-    r.repeat-2.ensures.0
-    r.repeat-2.ensures.1
+    (λ i h. c.repeat.ensures.1 i h ∙ c.test.ensures)
+    c.repeat-2.ensures.0
+    c.repeat-2.ensures.1
     is
     some
-    p.prolong.ensures)
-    c.smaller.result t.taken_for-took.result c.smaller.ensures t.taken_for-took.ensures c.take.result
-    (c.take.ensures.0 ∙ taken_at time a.n after (t.taken_for-took.result - 1) a.left a.right (omega (arith, took (goal.at.returns c).After-taken_for-took)))
+    c.prolong.ensures)
+    c.smaller.result c.taken_for-took.result c.smaller.ensures c.taken_for-took.ensures c.take.result
+    (c.take.ensures.0 ∙ taken_at time a.n after (c.taken_for-took.result - 1) a.left a.right (omega (arith, took (goal.at.returns c).After-taken_for-took)))
     c.take.ensures.1

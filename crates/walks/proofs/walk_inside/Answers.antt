@@ -18,14 +18,12 @@ known c =
 
 took : (c : After-taken_for-took) → (1 ≤ c.taken_for-took.result) × (c.taken_for-took.result ≤ c.args.n)
 took c =
-    let z = c in
-    let a = z.args in
-    takes_few a.lead z.find_last_zero-known.result a.n c.taken_for-took.result (omega arith) (omega arith) z.find_last_zero-known.ensures.1 c.taken_for-took.ensures
+    let a = c.args in
+    takes_few a.lead c.find_last_zero-known.result a.n c.taken_for-took.result (omega arith) (omega arith) c.find_last_zero-known.ensures.1 c.taken_for-took.ensures
 
 pub returns-then-known-eq0 : goal.returns-then-known-eq0
 returns-then-known-eq0 c =
-    let z = c in
-    let a = z.args in record {
+    let a = c.args in record {
       by_index = λ high after start from by.
           let next = next_of (time_at a.ahead.now) a.n after in
           settled_walk (by_next after by) (omega arith) (λ rises. soon_none next (known (goal.at.returns-then-known-eq0 c).After-find_last_zero-known) start a.lead c.if-known-eq0.true) 0 a.n refl (λ h. refl, λ h. absurd (omega arith)) c.take.result
@@ -42,20 +40,15 @@ take-requires-2 c = omega (arith, took (goal.at.take-requires-2 c).After-taken_f
 
 pub returns : goal.returns
 returns c =
-    let p = c in
-    let q = p in
-    let f = q in
-    let t = f in
-    let z = t in
-    let a = z.args in
-    let most = z.find_last_zero-known.ensures.1 in record {
+    let a = c.args in
+    let most = c.find_last_zero-known.ensures.1 in record {
       by_index = λ high after start from by.
           let next = next_of (time_at a.ahead.now) a.n after in
           settled_walk (by_next after by) (omega arith)
           (λ rises.
-          soon_some next (known (goal.at.returns c).After-find_last_zero-known) start a.lead (omega arith) f.fill_down-own.ensures (λ i h. q.repeat-front.ensures.1 i h ∙ q.test.ensures) p.prolong.ensures)
-          c.smaller.result t.taken_for-took.result c.smaller.ensures t.taken_for-took.ensures c.take-2.result
-          (c.take-2.ensures.0 ∙ taken_at (time_at a.ahead.now) a.n after (t.taken_for-took.result - 1) a.left a.right (omega (arith, took (goal.at.returns c).After-taken_for-took)))
+          soon_some next (known (goal.at.returns c).After-find_last_zero-known) start a.lead (omega arith) c.fill_down-own.ensures (λ i h. c.repeat-front.ensures.1 i h ∙ c.test.ensures) c.prolong.ensures)
+          c.smaller.result c.taken_for-took.result c.smaller.ensures c.taken_for-took.ensures c.take-2.result
+          (c.take-2.ensures.0 ∙ taken_at (time_at a.ahead.now) a.n after (c.taken_for-took.result - 1) a.left a.right (omega (arith, took (goal.at.returns c).After-taken_for-took)))
           c.take-2.ensures.1;
       fact = inr (omega (arith, c.smaller.ensures));
     }

@@ -24,9 +24,8 @@ known c =
 
 took : (c : After-taken_for-took) → (1 ≤ c.taken_for-took.result) × (c.taken_for-took.result ≤ c.args.n)
 took c =
-    let z = c in
-    let a = z.args in
-    takes_few a.lead z.find_last_zero-known.result a.n c.taken_for-took.result (omega arith) (omega arith) z.find_last_zero-known.ensures.1 c.taken_for-took.ensures
+    let a = c.args in
+    takes_few a.lead c.find_last_zero-known.result a.n c.taken_for-took.result (omega arith) (omega arith) c.find_last_zero-known.ensures.1 c.taken_for-took.ensures
 
 front_fits : (c : After-repeat-front) → c.repeat-front.result < 2 ^ c.args.lead
 front_fits c = lt_of_lt_of_le c.repeat-front.ensures.0 (pow_mono c.count_met-met.ensures.most)
@@ -36,22 +35,18 @@ repeat-front-requires c = let most = c.count_met-met.ensures.most in omega arith
 
 pub returns-then-known-eq0 : goal.returns-then-known-eq0
 returns-then-known-eq0 c high after from by =
-    let z = c in
-    let r = z in
-    let m = r in
-    let f = m in
-    let a = f.args in
+    let a = c.args in
     let time = time_at a.ahead.now in
-    let most = m.count_met-met.ensures.most in
+    let most = c.count_met-met.ensures.most in
     settled_walk (by_next after by) (omega arith)
     (λ rises.
     late_none a.low (next_of time a.n after) a.left a.right a.n (omega arith) (known (goal.at.returns-then-known-eq0 c).After-find_last_zero-known)
-    (late_next a.low time a.left a.right a.n after (f.find_late-late.ensures (rising_next time a.n after rises)).0)
-    (met_next a.low time a.left a.right a.n after (f.find_late-late.ensures (rising_next time a.n after rises)).1 m.count_met-met.ensures)
-    r.repeat-front.ensures.0
-    r.repeat-front.ensures.1
+    (late_next a.low time a.left a.right a.n after (c.find_late-late.ensures (rising_next time a.n after rises)).0)
+    (met_next a.low time a.left a.right a.n after (c.find_late-late.ensures (rising_next time a.n after rises)).1 c.count_met-met.ensures)
+    c.repeat-front.ensures.0
+    c.repeat-front.ensures.1
     c.if-known-eq0.true)
-    m.count_met-met.result a.n (omega arith) (λ h. refl, λ h. absurd (omega arith)) c.take.result
+    c.count_met-met.result a.n (omega arith) (λ h. refl, λ h. absurd (omega arith)) c.take.result
     (c.take.ensures.0 ∙ taken_at time a.n after (a.n - 1) a.left a.right (omega arith))
     c.take.ensures.1
 
@@ -66,25 +61,19 @@ take-requires-2 c = omega (arith, took (goal.at.take-requires-2 c).After-taken_f
 
 pub returns : goal.returns
 returns c high after from by =
-    let p = c in
-    let t = p in
-    let z = t in
-    let r = z in
-    let m = r in
-    let f = m in
-    let a = f.args in
+    let a = c.args in
     let time = time_at a.ahead.now in
-    let most = z.find_last_zero-known.ensures.1 in
+    let most = c.find_last_zero-known.ensures.1 in
     settled_walk (by_next after by) (omega arith)
     (λ rises.
     late_some a.low (next_of time a.n after) a.left a.right a.n (omega arith) (known (goal.at.returns c).After-find_last_zero-known)
-    (late_next a.low time a.left a.right a.n after (f.find_late-late.ensures (rising_next time a.n after rises)).0)
-    (met_next a.low time a.left a.right a.n after (f.find_late-late.ensures (rising_next time a.n after rises)).1 m.count_met-met.ensures)
-    r.repeat-front.ensures.0
-    r.repeat-front.ensures.1
+    (late_next a.low time a.left a.right a.n after (c.find_late-late.ensures (rising_next time a.n after rises)).0)
+    (met_next a.low time a.left a.right a.n after (c.find_late-late.ensures (rising_next time a.n after rises)).1 c.count_met-met.ensures)
+    c.repeat-front.ensures.0
+    c.repeat-front.ensures.1
     (omega arith)
-    p.prolong.ensures
+    c.prolong.ensures
     rises)
-    c.smaller.result t.taken_for-took.result c.smaller.ensures t.taken_for-took.ensures c.take-2.result
-    (c.take-2.ensures.0 ∙ taken_at time a.n after (t.taken_for-took.result - 1) a.left a.right (omega (arith, took (goal.at.returns c).After-taken_for-took)))
+    c.smaller.result c.taken_for-took.result c.smaller.ensures c.taken_for-took.ensures c.take-2.result
+    (c.take-2.ensures.0 ∙ taken_at time a.n after (c.taken_for-took.result - 1) a.left a.right (omega (arith, took (goal.at.returns c).After-taken_for-took)))
     c.take-2.ensures.1

@@ -30,27 +30,19 @@ ahead m =
 
 pub returns-then-took-eq0 : goal.returns-then-took-eq0
 returns-then-took-eq0 c after =
-    let m = c in
-    let b = m in
-    over_walk after b.requires.1 (b.requires.6, b.requires.7) (passed (ahead (goal.at.returns-then-took-eq0 c).After-count_met-took) (omega arith) (omega arith)) (omega arith) b.args.from (λ z. refl) (λ t. absurd (omega arith))
+    over_walk after c.requires.1 (c.requires.6, c.requires.7) (passed (ahead (goal.at.returns-then-took-eq0 c).After-count_met-took) (omega arith) (omega arith)) (omega arith) c.args.from (λ z. refl) (λ t. absurd (omega arith))
 
 pub returns-then-took-event : goal.returns-then-took-event
 returns-then-took-event c after =
-    let k = c in
-    let m = k in
-    let b = m in
-    let took = m.count_met-took.result in
-    let event = m.find_first_zero-event.result in
-    let (h, l) = (and_iff (leb took event) (ltb took b.args.n)).0 c.if-took-event.true in
-    over_walk after b.requires.1 (b.requires.6, b.requires.7) (passed (ahead (goal.at.returns-then-took-event c).After-count_met-took) (leb-true took event h) (ltb-true took b.args.n l)) (omega arith) k.take-last.result
+    let took = c.count_met-took.result in
+    let event = c.find_first_zero-event.result in
+    let (h, l) = (and_iff (leb took event) (ltb took c.args.n)).0 c.if-took-event.true in
+    over_walk after c.requires.1 (c.requires.6, c.requires.7) (passed (ahead (goal.at.returns-then-took-event c).After-count_met-took) (leb-true took event h) (ltb-true took c.args.n l)) (omega arith) c.take-last.result
     (λ z. absurd (omega arith))
-    (λ t. k.take-last.ensures)
+    (λ t. c.take-last.ensures)
 
 pub returns : goal.returns
 returns c after =
-    let k = c in
-    let m = k in
-    let b = m in
-    over_walk after b.requires.1 (b.requires.6, b.requires.7) (stopped (ahead (goal.at.returns c).After-count_met-took) (omega arith) (rw k.take-last.ensures.0 at c.count_met.ensures)) (omega arith) k.take-last.result
+    over_walk after c.requires.1 (c.requires.6, c.requires.7) (stopped (ahead (goal.at.returns c).After-count_met-took) (omega arith) (rw c.take-last.ensures.0 at c.count_met.ensures)) (omega arith) c.take-last.result
     (λ z. absurd (omega arith))
-    (λ t. k.take-last.ensures)
+    (λ t. c.take-last.ensures)

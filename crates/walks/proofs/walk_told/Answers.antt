@@ -15,8 +15,8 @@ found : (j : Joined-low-eq0) →
     Found a.low (time_at a.starts.now) a.from j.smaller-count.result j.if-low-eq0.met
 found j =
     elim j.if-low-eq0.branch [
-      then-low-eq0 w ↦ inl (w.if-low-eq0.true, w.met-is ∙ w.keep_if-met.ensures)
-    | else-low-eq0 w ↦ inr (omega arith, rw w.met-is (rw w.keep_if.ensures at w.count_met-met.ensures))
+      | then-low-eq0 w ↦ inl (w.if-low-eq0.true, w.met-is ∙ w.keep_if-met.ensures)
+      | else-low-eq0 w ↦ inr (omega arith, rw w.met-is (rw w.keep_if.ensures at w.count_met-met.ensures))
     ]
 
 pub count_met-met-requires : goal.count_met-met-requires
@@ -30,5 +30,4 @@ yes_for-requires c =
 
 pub returns : goal.returns
 returns c high n left right next =
-    let j = c in
-    rw c.yes_for.ensures (told_walk (settles (goal.at.returns c).Start) j.smaller-count.ensures (found (goal.at.returns c).Joined-low-eq0))
+    rw c.yes_for.ensures (told_walk (settles (goal.at.returns c).Start) c.smaller-count.ensures (found (goal.at.returns c).Joined-low-eq0))

@@ -19,9 +19,8 @@ walk_late-requires c =
 
 pub returns-then-by_words : goal.returns-then-by_words
 returns-then-by_words c =
-    let k = c in
-    let a = k.args in
-    c.walk_late.ensures a.high a.after a.from (k.by_words.ensures k.if-by_words.true)
+    let a = c.args in
+    c.walk_late.ensures a.high a.after a.from (c.by_words.ensures c.if-by_words.true)
 
 pub walk_told-requires : goal.walk_told-requires
 walk_told-requires c = (sym c.is_told.ensures ∙ c.if-is_told.true, omega arith)
@@ -34,9 +33,8 @@ walk_calm-requires c = let w = c.is_calm.ensures c.if-is_calm.true in (w.some, o
 
 pub returns-then-is_calm : goal.returns-then-is_calm
 returns-then-is_calm c =
-    let k = c in
-    let a = k.args in
-    c.walk_calm.ensures a.low a.high a.lead a.after (time_at a.starts.now) a.from (k.is_calm.ensures k.if-is_calm.true)
+    let a = c.args in
+    c.walk_calm.ensures a.low a.high a.lead a.after (time_at a.starts.now) a.from (c.is_calm.ensures c.if-is_calm.true)
 
 pub walk_far-requires : goal.walk_far-requires
 walk_far-requires c =
@@ -47,10 +45,8 @@ walk_far-requires c =
 
 pub returns-then-outreaches : goal.returns-then-outreaches
 returns-then-outreaches c =
-    let k = c in
-    let e = k in
-    let a = e.args in
-    rw e.if-low-ne0.false (c.walk_far.ensures a.after a.from (k.outreaches.ensures k.if-outreaches.true))
+    let a = c.args in
+    rw c.if-low-ne0.false (c.walk_far.ensures a.after a.from (c.outreaches.ensures c.if-outreaches.true))
 
 pub walk_told-requires-then-is_told-2 : goal.walk_told-requires-then-is_told-2
 walk_told-requires-then-is_told-2 c = (sym c.is_told-2.ensures ∙ c.if-is_told-2.true, omega arith)
@@ -60,15 +56,12 @@ returns-then-is_told-2 c = c.walk_told-then-is_told-2.ensures _ _ _ _ _
 
 pub walk_over-requires : goal.walk_over-requires
 walk_over-requires c =
-    let e = c in
-    let t = e in
-    let a = t.args in
+    let a = c.args in
     let (small, waiting, some) = may_take a.high a.lead a.n c.if-lead-n.true in
-    let (held, unmet) = quiet_last a.low a.lead a.from (sym t.is_told-2.ensures ∙ e.if-is_told-2.false) waiting (none (goal.at.walk_over-requires c).After-is_told-2) in
+    let (held, unmet) = quiet_last a.low a.lead a.from (sym c.is_told-2.ensures ∙ c.if-is_told-2.false) waiting (none (goal.at.walk_over-requires c).After-is_told-2) in
     (small, waiting, some, omega arith, omega arith, omega arith, held, unmet)
 
 pub returns-then-lead-n : goal.returns-then-lead-n
 returns-then-lead-n c =
-    let t = c in
-    let a = t.args in
+    let a = c.args in
     rw (none (goal.at.returns-then-lead-n c).After-is_told-2) (c.walk_over.ensures a.after)

@@ -1,5 +1,4 @@
 -- `window::behind_but` meets its contract: what is passed from the end down is counted. Assumes nothing.
-use Prim.Native.Nat.{◌-◌}
 use native.Mathlib.Omega.{arith}
 use Rattle.window.proofs.Windows.{down_none, down_on, down_all, down_here}
 use Rattle.window.proofs.behind_but.Goals as goal

@@ -1,5 +1,4 @@
 -- The invariants of `window::behind_but`.
-use Prim.Native.Nat.{◌-◌}
 use Rattle.window.proofs.Windows.{Down}
 use Rattle.window.proofs.behind_but.Given as goal
 

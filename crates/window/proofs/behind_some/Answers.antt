@@ -4,9 +4,8 @@ use Rattle.window.proofs.behind_some.Goals as goal
 
 pub returns-then-more-lt8 : goal.returns-then-more-lt8
 returns-then-more-lt8 c =
-    let start = c in
-    let a = start.args in
-    some_but a.records.now a.from a.end a.n a.more c.behind_but.result start.requires.1 c.behind_but.ensures
+    let a = c.args in
+    some_but a.records.now a.from a.end a.n a.more c.behind_but.result c.requires.1 c.behind_but.ensures
 
 pub returns : goal.returns
 returns c =

@@ -5,14 +5,11 @@ use Rattle.window.proofs.copy_group.Goals as goal
 
 pub returns-then-group_has_service : goal.returns-then-group_has_service
 returns-then-group_has_service c =
-    let copied = c in
-    let a = copied.args in
-    copied_again a.records.now a.from 8 a.k copied.copy_eight.ensures c.copy_mixed.ensures
+    let a = c.args in
+    copied_again a.records.now a.from 8 a.k c.copy_eight.ensures c.copy_mixed.ensures
 
 pub returns-else-group_has_service : goal.returns-else-group_has_service
 returns-else-group_has_service c =
-    let copied = c in
-    let start = copied in
-    let a = start.args in
-    copied_plain a.records.now a.from 8 a.k copied.copy_eight.ensures start.requires.0
+    let a = c.args in
+    copied_plain a.records.now a.from 8 a.k c.copy_eight.ensures c.requires.0
     (sym c.group_has_service.ensures ∙ c.if-group_has_service.false)

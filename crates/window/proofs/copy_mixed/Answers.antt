@@ -1,5 +1,4 @@
 -- `window::copy_mixed` meets its contract: the first i are copied. Assumes nothing.
-use Prim.Native.Nat.{◌-◌}
 use native.Mathlib.Nat.{le_antisymm}
 use native.Mathlib.Omega.{arith}
 use Rattle.window.proofs.Windows.{copied_none, copied_on}

@@ -1,5 +1,4 @@
 -- `window::count_mixed` meets its contract: the first i are counted. Assumes nothing.
-use Prim.Native.Nat.{◌-◌}
 use native.Mathlib.Nat.{le_antisymm}
 use native.Mathlib.Omega.{arith}
 use Rattle.window.proofs.Windows.{counted_none, counted_on}

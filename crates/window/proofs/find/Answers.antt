@@ -1,5 +1,4 @@
 -- `window::find` meets its contract. Assumes nothing.
-use Prim.Native.Nat.{◌-◌}
 use native.Mathlib.Omega.{arith}
 use Rattle.window.proofs.find.Goals as goal
 

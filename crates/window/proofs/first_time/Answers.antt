@@ -28,8 +28,7 @@ further : (c : After-behind-end) →
     Inside (skips a.view.now) s at 1 → (0 < end) × (end ≤ record_count s) × (end - 1 ≡ place (skips a.view.now) s at 0)
 further c =
     let a = c.args in
-    let e = c in
-    first_behind (skips a.view.now) a.records.now e.in_slice-at.result (sym e.is_position.ensures ∙ e.if-is_position.false) c.behind-end.result c.behind-end.ensures
+    first_behind (skips a.view.now) a.records.now c.in_slice-at.result (sym c.is_position.ensures ∙ c.if-is_position.false) c.behind-end.result c.behind-end.ensures
 
 -- the record behind the position is there
 there : (c : Then-end-count) → let end = c.behind-end.result in (0 < end) × (end ≤ c.count.result)
@@ -57,15 +56,13 @@ time-requires-then-end-count c = let t = there (goal.at.time-requires-then-end-c
 pub returns-then-end-count : goal.returns-then-end-count
 returns-then-end-count c =
     let a = c.args in
-    let b = c in
-    let at = b.in_slice-at in
+    let at = c.in_slice-at in
     rw (← at.ensures) (λ inside. c.time-then-end-count.ensures.0 ∙ ap (time_at a.records.now) (further (goal.at.returns-then-end-count c).After-behind-end inside).2)
 
 pub returns : goal.returns
 returns c =
-    let b = c in
-    let at = b.in_slice-at in
-    let end = b.behind-end.result in
+    let at = c.in_slice-at in
+    let end = c.behind-end.result in
     let count = c.count in
     rw (← at.ensures)
     (λ inside.

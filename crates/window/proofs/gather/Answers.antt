@@ -1,6 +1,6 @@
 -- `window::gather` meets its contract, by the laws of proofs/Windows on passing and copying.
 -- Assumes nothing.
-use Prim.Native.Nat.{◌+◌, ◌-◌, ◌≤◌}
+use Prim.Native.Nat.{◌+◌, ◌≤◌}
 use native.Mathlib.Omega.{arith}
 use Rattle.window.proofs.Windows.{ended, gathering_none, gathering_group, gathering_anew, gathered}
 use Rattle.window.proofs.gather.Goals as goal
@@ -16,9 +16,8 @@ fits_2 c = omega (arith, c.can_take-in-loop-copy-2.ensures.0 c.loop-copy-2-test.
 
 pub loop-copy-init : goal.loop-copy-init
 loop-copy-init c =
-    let start = c in
-    let a = start.args in
-    gathering_none a.records.now a.from a.copy.now start.requires
+    let a = c.args in
+    gathering_none a.records.now a.from a.copy.now c.requires
 
 pub overflow_sub-k : goal.overflow_sub-k
 overflow_sub-k c = c.loop-copy.invariant.going.few

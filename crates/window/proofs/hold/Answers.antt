@@ -12,9 +12,7 @@ kept_of-requires c = c.requires.2.long
 
 pub returns-then-is_kept : goal.returns-then-is_kept
 returns-then-is_kept c =
-    let told = c in
-    let start = told in
-    let a = start.args in record { held = rw c.kept_of.ensures (found a.records.now a.copy.now a.at a.n start.requires.2 (sym told.is_kept.ensures ∙ told.if-is_kept.true)); keeps = start.requires.2 }
+    let a = c.args in record { held = rw c.kept_of.ensures (found a.records.now a.copy.now a.at a.n c.requires.2 (sym c.is_kept.ensures ∙ c.if-is_kept.true)); keeps = c.requires.2 }
 
 pub note-requires : goal.note-requires
 note-requires c = (omega arith, c.requires.2.long)
@@ -30,5 +28,4 @@ returns c =
     let say = c.say in
     let gather = c.gather-found in
     let note = c.note in
-    let start = c in
-    let a = start.args in record { held = rw c.larger-count.ensures (held_new a.records.now a.at gather.result note.ensures gather.ensures say.ensures a.n start.requires.0); keeps = keeps_new a.records.now a.at gather.result note.ensures gather.ensures say.ensures start.requires.1 }
+    let a = c.args in record { held = rw c.larger-count.ensures (held_new a.records.now a.at gather.result note.ensures gather.ensures say.ensures a.n c.requires.0); keeps = keeps_new a.records.now a.at gather.result note.ensures gather.ensures say.ensures c.requires.1 }

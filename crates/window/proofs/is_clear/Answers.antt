@@ -11,19 +11,17 @@ use Rattle.window.proofs.is_clear.Goals as goal
 
 pub overflow_add-from : goal.overflow_add-from
 overflow_add-from c =
-    let start = c in
-    let a = start.args in
-    omega (arith, start.requires.1.numbered, leb-true (a.from + a.n) (record_count a.records.now) (sym c.has_room.ensures ∙ c.if-has_room.true))
+    let a = c.args in
+    omega (arith, c.requires.1.numbered, leb-true (a.from + a.n) (record_count a.records.now) (sym c.has_room.ensures ∙ c.if-has_room.true))
 
 pub returns-then-has_room : goal.returns-then-has_room
 returns-then-has_room c =
-    let start = c in
-    let a = start.args in
+    let a = c.args in
     let x = c.is_marked in
     let y = c.is_marked-then-has_room in
     let fits = sym c.has_room.ensures ∙ c.if-has_room.true in (
-      clear a.view.now a.records.now a.from a.n start.requires.0 start.requires.1 x.result y.result x.ensures y.ensures fits,
-      λ e inside some. not_clear a.view.now a.records.now a.from a.n start.requires.0 start.requires.1 x.result y.result x.ensures y.ensures e,
+      clear a.view.now a.records.now a.from a.n c.requires.0 c.requires.1 x.result y.result x.ensures y.ensures fits,
+      λ e inside some. not_clear a.view.now a.records.now a.from a.n c.requires.0 c.requires.1 x.result y.result x.ensures y.ensures e,
     )
 
 pub returns : goal.returns

@@ -21,10 +21,9 @@ own_part-requires c =
 
 pub returns-then-is_plain : goal.returns-then-is_plain
 returns-then-is_plain c =
-    let start = c in
-    let a = start.args in
+    let a = c.args in
     let at = c.in_slice-at in
-    rw (c.own_part.ensures, ← at.ensures) (opened_dense (skips a.view.now) a.records.now at.result a.n a.copy.now start.requires.1 (told (goal.at.returns-then-is_plain c).Then-is_plain))
+    rw (c.own_part.ensures, ← at.ensures) (opened_dense (skips a.view.now) a.records.now at.result a.n a.copy.now c.requires.1 (told (goal.at.returns-then-is_plain c).Then-is_plain))
 
 pub returns : goal.returns
 returns c = rw (← c.in_slice-at.ensures) c.open_mixed.ensures

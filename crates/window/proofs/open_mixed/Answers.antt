@@ -12,20 +12,17 @@ own_part-requires c =
 
 pub returns-then-is_clear : goal.returns-then-is_clear
 returns-then-is_clear c =
-    let d = c in
-    let start = d in
-    let a = start.args in
+    let a = c.args in
     rw c.own_part.ensures
-    (opened_dense (skips a.view.now) a.records.now a.at a.n a.copy.now start.requires.1 (d.is_clear.ensures.0 d.if-is_clear.true))
+    (opened_dense (skips a.view.now) a.records.now a.at a.n a.copy.now c.requires.1 (c.is_clear.ensures.0 c.if-is_clear.true))
 
 pub hold-requires : goal.hold-requires
 hold-requires c = let pre = c.requires in (pre.0, omega (arith, pre.2.numbered), pre.1)
 
 pub returns : goal.returns
 returns c =
-    let start = c in
-    let a = start.args in
+    let a = c.args in
     let hold = c.hold in
     rw c.copied.ensures
-    (opened_copied (skips a.view.now) a.records.now a.at a.n false hold.new.copy hold.result start.requires.0
+    (opened_copied (skips a.view.now) a.records.now a.at a.n false hold.new.copy hold.result c.requires.0
     (c.is_clear.ensures.1 c.if-is_clear.false) hold.ensures.keeps hold.ensures.held)

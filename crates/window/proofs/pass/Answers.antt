@@ -16,9 +16,8 @@ fits c =
 few : (c : After-struct_known-1) →
     let a = c.args in (a.window.at ≤ a.window.end) × (a.window.end ≤ max a.window.at (record_count a.records.now)) × (a.n ≤ a.window.count)
 few c =
-    let start = c in
-    let a = start.args in
-    passed_few a.view.now a.records.now a.head a.n a.window start.requires.1 (omega arith)
+    let a = c.args in
+    passed_few a.view.now a.records.now a.head a.n a.window c.requires.1 (omega arith)
 
 pub returns-then-n-eq0 : goal.returns-then-n-eq0
 returns-then-n-eq0 c =
@@ -41,7 +40,6 @@ behind_some-requires c = ((few (goal.at.behind_some-requires c).After-struct_kno
 
 pub returns : goal.returns
 returns c =
-    let start = c in
-    let a = start.args in
-    passed_some a.view.now a.records.now a.head a.n a.window start.requires.1 (omega arith) c.if-window.false
+    let a = c.args in
+    passed_some a.view.now a.records.now a.head a.n a.window c.requires.1 (omega arith) c.if-window.false
     c.behind_some.result c.behind_some.ensures

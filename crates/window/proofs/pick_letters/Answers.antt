@@ -1,6 +1,6 @@
 -- `window::pick_letters` meets its contract, by the laws of proofs/Picking.
 -- Assumes nothing.
-use Prim.Native.Nat.{◌+◌, ◌-◌, ◌≤◌}
+use Prim.Native.Nat.{◌+◌, ◌≤◌}
 use native.Mathlib.Omega.{arith}
 use Rattle.trace.specs.Format.{record_count}
 use Rattle.window.proofs.Windows.{ended}
@@ -31,13 +31,12 @@ overflow_shl-bits c = omega (arith, fits (goal.at.overflow_shl-bits c).In-loop-g
 
 pub overflow_add-bits : goal.overflow_add-bits
 overflow_add-bits c =
-    let start = c in
-    let a = start.args in
+    let a = c.args in
     let l = c.loop-group in
     let group = c.pick_group-group in
     record {
       fits =
-          picking_fits a.records.now a.letter a.from a.n l.k l.at l.bits 8 l.invariant start.requires.0 (fits (goal.at.overflow_add-bits c).In-loop-group) group.result
+          picking_fits a.records.now a.letter a.from a.n l.k l.at l.bits 8 l.invariant c.requires.0 (fits (goal.at.overflow_add-bits c).In-loop-group) group.result
           group.ensures;
     }
 
@@ -52,11 +51,10 @@ loop-group-smaller c = omega (arith, fits (goal.at.loop-group-smaller c).In-loop
 
 pub loop-group-preserved : goal.loop-group-preserved
 loop-group-preserved c =
-    let start = c in
-    let a = start.args in
+    let a = c.args in
     let l = c.loop-group in
     let group = c.pick_group-group in
-    picking_on a.records.now a.letter a.from a.n l.k l.at l.bits 8 l.invariant start.requires.0 (fits (goal.at.loop-group-preserved c).In-loop-group) group.result
+    picking_on a.records.now a.letter a.from a.n l.k l.at l.bits 8 l.invariant c.requires.0 (fits (goal.at.loop-group-preserved c).In-loop-group) group.result
     group.ensures
 
 pub loop-one-init : goal.loop-one-init
@@ -73,13 +71,12 @@ overflow_shl-bits-in-loop-one c = omega (arith, fits_2 (goal.at.overflow_shl-bit
 
 pub overflow_add-bits-in-loop-one : goal.overflow_add-bits-in-loop-one
 overflow_add-bits-in-loop-one c =
-    let start = c in
-    let a = start.args in
+    let a = c.args in
     let l = c.loop-one in
     let one = c.pick_one-one in
     record {
       fits =
-          picking_fits a.records.now a.letter a.from a.n l.k l.at l.bits 1 l.invariant start.requires.0 (fits_2 (goal.at.overflow_add-bits-in-loop-one c).In-loop-one) one.result
+          picking_fits a.records.now a.letter a.from a.n l.k l.at l.bits 1 l.invariant c.requires.0 (fits_2 (goal.at.overflow_add-bits-in-loop-one c).In-loop-one) one.result
           one.ensures;
     }
 
@@ -94,11 +91,10 @@ loop-one-smaller c = omega (arith, fits_2 (goal.at.loop-one-smaller c).In-loop-o
 
 pub loop-one-preserved : goal.loop-one-preserved
 loop-one-preserved c =
-    let start = c in
-    let a = start.args in
+    let a = c.args in
     let l = c.loop-one in
     let one = c.pick_one-one in
-    picking_on a.records.now a.letter a.from a.n l.k l.at l.bits 1 l.invariant start.requires.0 (fits_2 (goal.at.loop-one-preserved c).In-loop-one) one.result
+    picking_on a.records.now a.letter a.from a.n l.k l.at l.bits 1 l.invariant c.requires.0 (fits_2 (goal.at.loop-one-preserved c).In-loop-one) one.result
     one.ensures
 
 pub returns : goal.returns

@@ -18,6 +18,5 @@ behind_some-end-requires c = let held = c.hold-held.ensures.held in (held.onward
 pub returns : goal.returns
 returns c =
     let hold = c.hold-held in
-    let start = c in
-    let a = start.args in
-    let letters = c.letter_bits-bits in record { lettered = lettered_held a.records.now a.letter a.at a.n hold.new.copy hold.result letters.result c.behind_some-end.result start.requires.0 hold.ensures.held letters.ensures c.behind_some-end.ensures; keeps = hold.ensures.keeps }
+    let a = c.args in
+    let letters = c.letter_bits-bits in record { lettered = lettered_held a.records.now a.letter a.at a.n hold.new.copy hold.result letters.result c.behind_some-end.result c.requires.0 hold.ensures.held letters.ensures c.behind_some-end.ensures; keeps = hold.ensures.keeps }

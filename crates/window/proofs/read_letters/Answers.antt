@@ -16,9 +16,8 @@ told c =
 
 pub letter_bits-bits-requires : goal.letter_bits-bits-requires
 letter_bits-bits-requires c =
-    let start = c in
-    let a = start.args in
-    (dense_fits (skips a.view.now) a.records.now c.in_slice-at.result a.n (told (goal.at.letter_bits-bits-requires c).Then-is_plain), start.requires.1, start.requires.2)
+    let a = c.args in
+    (dense_fits (skips a.view.now) a.records.now c.in_slice-at.result a.n (told (goal.at.letter_bits-bits-requires c).Then-is_plain), c.requires.1, c.requires.2)
 
 pub overflow_add-end : goal.overflow_add-end
 overflow_add-end c =
@@ -27,9 +26,8 @@ overflow_add-end c =
 
 pub returns-then-is_plain : goal.returns-then-is_plain
 returns-then-is_plain c =
-    let start = c in
-    let a = start.args in
-    let at = c.in_slice-at in record { lettered = rw (← at.ensures) (lettered_dense (skips a.view.now) a.records.now a.letter at.result a.n c.letter_bits-bits.result (told (goal.at.returns-then-is_plain c).Then-is_plain) c.letter_bits-bits.ensures); keeps = start.requires.4 }
+    let a = c.args in
+    let at = c.in_slice-at in record { lettered = rw (← at.ensures) (lettered_dense (skips a.view.now) a.records.now a.letter at.result a.n c.letter_bits-bits.result (told (goal.at.returns-then-is_plain c).Then-is_plain) c.letter_bits-bits.ensures); keeps = c.requires.4 }
 
 pub returns : goal.returns
 returns c = record { lettered = rw (← c.in_slice-at.ensures) c.read_mixed.ensures.lettered; keeps = c.read_mixed.ensures.keeps }

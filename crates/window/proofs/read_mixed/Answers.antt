@@ -13,9 +13,8 @@ returns-then-view-is_kept c =
 
 pub letter_bits-bits-requires : goal.letter_bits-bits-requires
 letter_bits-bits-requires c =
-    let start = c in
-    let a = start.args in
-    (dense_fits (skips a.view.now) a.records.now a.at a.n (c.is_clear.ensures.0 c.if-is_clear.true), start.requires.1, start.requires.2)
+    let a = c.args in
+    (dense_fits (skips a.view.now) a.records.now a.at a.n (c.is_clear.ensures.0 c.if-is_clear.true), c.requires.1, c.requires.2)
 
 pub overflow_add-end : goal.overflow_add-end
 overflow_add-end c =
@@ -24,11 +23,10 @@ overflow_add-end c =
 
 pub returns-then-is_clear : goal.returns-then-is_clear
 returns-then-is_clear c =
-    let start = c in
-    let a = start.args in record {
+    let a = c.args in record {
       lettered = lettered_dense (skips a.view.now) a.records.now a.letter a.at a.n c.letter_bits-bits.result
           (c.is_clear.ensures.0 c.if-is_clear.true) c.letter_bits-bits.ensures;
-      keeps = start.requires.4;
+      keeps = c.requires.4;
     }
 
 pub kept_of-requires : goal.kept_of-requires
@@ -36,11 +34,10 @@ kept_of-requires c = c.requires.4.long
 
 pub returns-then-kept_of-eq0 : goal.returns-then-kept_of-eq0
 returns-then-kept_of-eq0 c =
-    let start = c in
-    let a = start.args in record {
+    let a = c.args in record {
       lettered = lettered_mixed (skips a.view.now) a.records.now a.letter a.at a.n c.pick_letters.result
           (c.is_clear.ensures.1 c.if-is_clear.false) c.pick_letters.ensures;
-      keeps = start.requires.4;
+      keeps = c.requires.4;
     }
 
 pub read_kept-requires-2 : goal.read_kept-requires-2

@@ -6,18 +6,15 @@ use Rattle.window.proofs.say.Goals as goal
 
 pub note-requires : goal.note-requires
 note-requires c =
-    let start = c in
-    let a = start.args in
-    (omega arith, count_long a.copy.now a.found start.requires.1 refl ∙ start.requires.1)
+    let a = c.args in
+    (omega arith, count_long a.copy.now a.found c.requires.1 refl ∙ c.requires.1)
 
 pub returns-then-found-ne0 : goal.returns-then-found-ne0
 returns-then-found-ne0 c =
-    let start = c in
-    let a = start.args in
-    said_some a.copy.now a.found start.requires.1 refl c.note.ensures
+    let a = c.args in
+    said_some a.copy.now a.found c.requires.1 refl c.note.ensures
 
 pub returns-else-found-ne0 : goal.returns-else-found-ne0
 returns-else-found-ne0 c =
-    let start = c in
-    let a = start.args in
-    said_none a.copy.now a.found start.requires.1 refl (omega arith)
+    let a = c.args in
+    said_none a.copy.now a.found c.requires.1 refl (omega arith)

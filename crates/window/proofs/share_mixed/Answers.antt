@@ -15,12 +15,10 @@ own_part-requires c =
 
 pub returns-then-is_clear : goal.returns-then-is_clear
 returns-then-is_clear c =
-    let d = c in
-    let start = d in
-    let a = start.args in record {
+    let a = c.args in record {
       opened = rw c.own_part.ensures
-          (opened_dense (skips a.view.now) a.records.now a.at a.n a.copy.now start.requires.2 (d.is_clear.ensures.0 d.if-is_clear.true));
-      keeps = start.requires.2;
+          (opened_dense (skips a.view.now) a.records.now a.at a.n a.copy.now c.requires.2 (c.is_clear.ensures.0 c.if-is_clear.true));
+      keeps = c.requires.2;
     }
 
 pub is_kept-requires : goal.is_kept-requires
@@ -31,14 +29,12 @@ kept_of-requires c = c.requires.1.long
 
 pub returns-then-is_kept : goal.returns-then-is_kept
 returns-then-is_kept c =
-    let start = c in
-    let a = start.args in
-    let told = c in
-    let held = found a.records.now a.other.now a.at a.n start.requires.1 (sym told.is_kept.ensures ∙ told.if-is_kept.true) in record {
+    let a = c.args in
+    let held = found a.records.now a.other.now a.at a.n c.requires.1 (sym c.is_kept.ensures ∙ c.if-is_kept.true) in record {
       opened = rw (c.copied.ensures, c.kept_of.ensures)
-          (opened_copied (skips a.view.now) a.records.now a.at a.n true a.other.now (kept_of a.other.now) start.requires.0
-          (c.is_clear.ensures.1 c.if-is_clear.false) start.requires.1 held);
-      keeps = start.requires.2;
+          (opened_copied (skips a.view.now) a.records.now a.at a.n true a.other.now (kept_of a.other.now) c.requires.0
+          (c.is_clear.ensures.1 c.if-is_clear.false) c.requires.1 held);
+      keeps = c.requires.2;
     }
 
 pub hold-requires : goal.hold-requires
@@ -46,11 +42,10 @@ hold-requires c = let pre = c.requires in (pre.0, omega (arith, pre.3.numbered),
 
 pub returns : goal.returns
 returns c =
-    let start = c in
-    let a = start.args in
+    let a = c.args in
     let hold = c.hold in record {
       opened = rw c.copied-2.ensures
-          (opened_copied (skips a.view.now) a.records.now a.at a.n false hold.new.copy hold.result start.requires.0
+          (opened_copied (skips a.view.now) a.records.now a.at a.n false hold.new.copy hold.result c.requires.0
           (c.is_clear.ensures.1 c.if-is_clear.false) hold.ensures.keeps hold.ensures.held);
       keeps = hold.ensures.keeps;
     }

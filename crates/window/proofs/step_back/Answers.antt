@@ -1,6 +1,6 @@
 -- `window::step_back` meets its contract: from record `at` on stand as many positions as were counted, and the last one
 -- counted stands there. Assumes nothing.
-use Prim.Native.Nat.{◌-◌, ◌<◌}
+use Prim.Native.Nat.{◌<◌}
 use native.Mathlib.Omega.{arith}
 use Rattle.window.proofs.Windows.{back_none, back_on, back_found, goes_on, stops}
 use Rattle.window.proofs.step_back.Goals as goal

@@ -1,5 +1,4 @@
 -- The invariants of `window::step_back`.
-use Prim.Native.Nat.{◌-◌}
 use Rattle.window.proofs.Windows.{Back}
 use Rattle.window.proofs.step_back.Given as goal
 

@@ -1,5 +1,5 @@
 -- `worst::write_records` meets its contract. The loop's invariant: the first i records are written, `at` is behind them, and all else is as lent.
-use Prim.Native.Nat.{ℕ, ◌-◌}
+use Prim.Native.Nat.{ℕ}
 use native.Mathlib.Omega.{arith}
 use mathlib.Core.List.{List}
 use mathlib.Core.Path.{◌≡◌, refl, ap, ◌∙◌}

@@ -1,6 +1,5 @@
 -- `blocks::time::close_group` meets its contract. The loop's invariant: all positions but the first i are answered, one bit each.
 -- Assumes nothing.
-use Prim.Native.Nat.{◌-◌}
 use native.Mathlib.Omega.{arith}
 use Rattle.bits.proofs.Laws.{downward_none, downward_bound, downward_more, downward_all}
 use Rattle.trace.specs.Format.{time_at}

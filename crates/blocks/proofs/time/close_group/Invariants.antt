@@ -1,5 +1,4 @@
 -- The invariants of `blocks::time::close_group`.
-use Prim.Native.Nat.{◌-◌}
 use Rattle.bits.proofs.Laws.{Downward}
 use Rattle.trace.specs.Format.{time_at}
 use Rattle.blocks.specs.Near.{close_after}

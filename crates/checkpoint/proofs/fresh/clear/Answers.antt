@@ -1,5 +1,5 @@
 -- `fresh::clear` meets its contract. The loop's invariant: the first i words are 0, the rest as lent.
-use Prim.Native.Nat.{◌-◌, ◌<◌}
+use Prim.Native.Nat.{◌<◌}
 use native.Mathlib.Omega.{arith}
 use mathlib.Core.List.{append-nil}
 use mathlib.Core.Path.{◌≡◌, ap, ◌∙◌}

@@ -1,5 +1,5 @@
 -- `check::block_faults` meets its contract. The loop's invariant: a walk over the blocks, and both answers are those for the blocks passed.
-use Prim.Native.Nat.{◌+◌, ◌-◌, ◌≤◌}
+use Prim.Native.Nat.{◌+◌, ◌≤◌}
 use native.Mathlib.Omega.{arith}
 use mathlib.Core.Path.{refl, sym}
 use lib.ListN.{length}

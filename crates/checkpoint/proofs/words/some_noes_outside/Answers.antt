@@ -1,5 +1,4 @@
 -- `check::some_noes_outside` meets its contract. The loop's invariant: `outside` is the answer for the formulas passed.
-use Prim.Native.Nat.{◌-◌}
 use native.Mathlib.Omega.{arith}
 use mathlib.Core.Path.{◌≡◌, refl, sym}
 use Rattle.mtl.specs.Satisfaction.{any}

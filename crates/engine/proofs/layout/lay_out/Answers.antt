@@ -20,17 +20,15 @@ loop-k-init c = (
 
 pub words_of-left_words-requires : goal.words_of-left_words-requires
 words_of-left_words-requires c =
-    let s = c in
     let l = c.loop-k in
     let t = c.takes_left-takes in
     let e = c.left_entry-left in
-    left_fits s.args.entries s.args.count s.requires.1 l.k (omega arith) (omega arith) e.result
-    (left_next s.args.entries s.args.count s.requires.1 l.k (omega arith) (omega arith) l.firsts t.result e.result l.invariant.4
+    left_fits c.args.entries c.args.count c.requires.1 l.k (omega arith) (omega arith) e.result
+    (left_next c.args.entries c.args.count c.requires.1 l.k (omega arith) (omega arith) l.firsts t.result e.result l.invariant.4
     t.ensures e.ensures)
 
 pub put-requires : goal.put-requires
 put-requires c =
-    let s = c in
     let l = c.loop-k in
     let t = c.takes_left-takes in
     let e = c.left_entry-left in
@@ -38,28 +36,26 @@ put-requires c =
     let o = c.one_less in
     let b = c.words_of-right_words in
     let row =
-    next_row s.args.entries s.args.count s.requires.1 l.k (omega arith) (omega arith) l.firsts l.table t.result _ e.result o.result
+    next_row c.args.entries c.args.count c.requires.1 l.k (omega arith) (omega arith) l.firsts l.table t.result _ e.result o.result
     a.result b.result l.invariant.4 l.invariant.2 t.ensures refl e.ensures o.ensures a.ensures b.ensures in
-    let fits = left_fits s.args.entries s.args.count s.requires.1 l.k (omega arith) (omega arith) e.result row.at_is in
-    (omega arith, fits, next_fits s.args.entries s.args.count s.requires.1 l.k (omega arith) (omega arith) e.result a.result b.result row)
+    let fits = left_fits c.args.entries c.args.count c.requires.1 l.k (omega arith) (omega arith) e.result row.at_is in
+    (omega arith, fits, next_fits c.args.entries c.args.count c.requires.1 l.k (omega arith) (omega arith) e.result a.result b.result row)
 
 pub first_entry-first-requires : goal.first_entry-first-requires
 first_entry-first-requires c =
-    let s = c in
     let l = c.loop-k in (
       omega arith,
       λ t.
-          let b = (binary_at s.args.entries s.args.count s.requires.1 l.k (omega arith) t).below in
+          let b = (binary_at c.args.entries c.args.count c.requires.1 l.k (omega arith) t).below in
           let e = l.invariant.4 (l.k - 1) (omega arith) in
           omega arith,
     )
 
 pub loop-k-preserved : goal.loop-k-preserved
 loop-k-preserved c =
-    let s = c in
     let l = c.loop-k in
     let g = c.loop-k-test in
-    let q = s.requires.0 in
+    let q = c.requires.0 in
     let t = c.takes_left-takes in
     let e = c.left_entry-left in
     let a = c.words_of-left_words in
@@ -68,14 +64,14 @@ loop-k-preserved c =
     let p = c.put in
     let f = c.first_entry-first in
     let row =
-    next_row s.args.entries s.args.count s.requires.1 l.k (omega arith) (omega arith) l.firsts l.table t.result _ e.result o.result
+    next_row c.args.entries c.args.count c.requires.1 l.k (omega arith) (omega arith) l.firsts l.table t.result _ e.result o.result
     a.result b.result l.invariant.4 l.invariant.2 t.ensures refl e.ensures o.ensures a.ensures b.ensures in (
       omega arith,
       rw p.ensures (simp length-sets l.invariant.1),
-      rw p.ensures (laid_next s.args.entries s.args.count s.requires.1 l.table l.k e.result a.result b.result (omega arith) (omega arith) l.invariant.1 l.invariant.2 row),
+      rw p.ensures (laid_next c.args.entries c.args.count c.requires.1 l.table l.k e.result a.result b.result (omega arith) (omega arith) l.invariant.1 l.invariant.2 row),
       simp length-set l.invariant.3,
-      set_below (subformula_first s.args.entries) l.firsts l.k f.result (omega arith) l.invariant.4
-          (f.ensures ∙ first_step s.args.entries s.args.count s.requires.1 l.firsts l.k (omega arith) l.invariant.4),
+      set_below (subformula_first c.args.entries) l.firsts l.k f.result (omega arith) l.invariant.4
+          (f.ensures ∙ first_step c.args.entries c.args.count c.requires.1 l.firsts l.k (omega arith) l.invariant.4),
     )
 
 pub returns : goal.returns

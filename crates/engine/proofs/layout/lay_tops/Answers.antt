@@ -1,5 +1,5 @@
 -- `engine::layout::lay_tops` meets its contract: the rows before k say where the formulas before formula k stand.
-use Prim.Native.Nat.{ℕ, ◌-◌, ◌<◌}
+use Prim.Native.Nat.{ℕ, ◌<◌}
 use mathlib.Core.Path.{◌≡◌, refl}
 use mathlib.Core.List.{List}
 use native.Mathlib.Omega.{arith}
@@ -80,20 +80,17 @@ put-requires c =
 
 pub loop-k-preserved : goal.loop-k-preserved
 loop-k-preserved c =
-    let d = c in
-    let s = d in
-    let l = d.loop-k in
-    let g = d.loop-k-test in (
+    let l = c.loop-k in
+    let g = c.loop-k-test in (
       omega arith,
       rw c.put.ensures (simp length-sets l.invariant.1),
       λ t n fs is.
           rw (c.put.ensures, c.field.ensures, c.field-left.ensures, c.field-right.ensures)
-          (before_next fs l.rows s.args.base l.from l.k d.one_less-last.result _ _ _ (omega (arith, is.ended.number, is.ended.few)) l.invariant.1 (l.invariant.2 t n fs is) (turn_at (goal.at.loop-k-preserved c).After-one_less-last t n fs is)),
+          (before_next fs l.rows c.args.base l.from l.k c.one_less-last.result _ _ _ (omega (arith, is.ended.number, is.ended.few)) l.invariant.1 (l.invariant.2 t n fs is) (turn_at (goal.at.loop-k-preserved c).After-one_less-last t n fs is)),
     )
 
 pub returns : goal.returns
 returns c t n fs is =
-    let s = c in
     let l = c.loop-k in
-    let e : l.k ≡ s.args.number = omega arith in
-    tops_of is l.rows s.args.base l.from (rw e at (l.invariant.2 t n fs is))
+    let e : l.k ≡ c.args.number = omega arith in
+    tops_of is l.rows c.args.base l.from (rw e at (l.invariant.2 t n fs is))

@@ -1,5 +1,5 @@
 -- `entries::decode` meets its contract. The loop's invariant: the first k entries stand in their places.
-use Prim.Native.Nat.{zero-le, ◌-◌}
+use Prim.Native.Nat.{zero-le}
 use native.Mathlib.Numerals.{add-one}
 use native.Mathlib.Omega.{arith}
 use mathlib.Core.Path.{refl, ◌≡◌}

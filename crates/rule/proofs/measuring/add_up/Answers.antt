@@ -1,5 +1,5 @@
 -- `measuring::add_up` meets its contract. The loop's invariant: the sums are those over the entries passed, and the words have a bound that fits.
-use Prim.Native.Nat.{zero-le, ◌-◌}
+use Prim.Native.Nat.{zero-le}
 use native.Mathlib.Omega.{arith}
 use mathlib.Core.Path.{sym, ap, ◌∙◌, refl, ◌≡◌}
 use Rattle.mtl.specs.Satisfaction.{any}

@@ -1,5 +1,5 @@
 -- `measuring::ends_of` meets its contract. The loop's invariant: the array holds where each formula on the stack after k entries ends.
-use Prim.Native.Nat.{◌<◌, zero-le, ◌-◌, ◌≤◌}
+use Prim.Native.Nat.{◌<◌, zero-le, ◌≤◌}
 use native.Mathlib.Omega.{arith}
 use mathlib.Core.Path.{◌≡◌}
 use Rattle.rule.specs.Entries.{entry}

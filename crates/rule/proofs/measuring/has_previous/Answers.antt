@@ -1,5 +1,5 @@
 -- `measuring::has_previous` meets its contract. The loop's invariant: what was found is found among the entries passed. Assumes nothing.
-use Prim.Native.Nat.{ℕ, zero-le, ◌-◌}
+use Prim.Native.Nat.{ℕ, zero-le}
 use native.Mathlib.Numerals.{add-one}
 use native.Mathlib.Omega.{arith}
 use mathlib.Core.Bool.{Bool, ◌||◌}

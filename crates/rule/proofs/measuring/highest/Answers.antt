@@ -1,5 +1,5 @@
 -- `measuring::highest` meets its contract. The loop's invariant: the largest so far is that of the positions passed.
-use Prim.Native.Nat.{ℕ, zero-le, ◌+◌, ◌-◌, max}
+use Prim.Native.Nat.{ℕ, zero-le, ◌+◌, max}
 use native.Mathlib.Omega.{arith}
 use mathlib.Core.Path.{◌≡◌, refl, sym, ap, ◌∙◌}
 use lib.ListN.{get_or}

@@ -33,7 +33,6 @@ unfolding token_of
 returns-then-run-eq6909542 c = bare_word Token.inf 0x696E66 _ _ refl refl refl c.if-run-eq6909542.true c.bare-then-run-eq6909542.ensures
 
 pub returns-else-run-eq6909542 : goal.returns-else-run-eq6909542
-returns-else-run-eq6909542 c = let b = c in
-    marks_as _ _ _
-    (other_word _ b.if-run-eq7237492.false b.if-run-eq28530.false b.if-run-eq1886545270.false b.if-run-eq1852143732.false b.if-run-eq495690081125.false b.if-run-eq504364296556.false b.if-run-eq6909542.false)
+returns-else-run-eq6909542 c = marks_as _ _ _
+    (other_word _ c.if-run-eq7237492.false c.if-run-eq28530.false c.if-run-eq1886545270.false c.if-run-eq1852143732.false c.if-run-eq495690081125.false c.if-run-eq504364296556.false c.if-run-eq6909542.false)
     c.letter_or_number.ensures

@@ -1,5 +1,5 @@
 -- `counting::has_bit_beyond` meets its contract. The loop's invariant: `all` has the bits of the first i bytes.
-use Prim.Native.Nat.{ℕ, ◌-◌, ◌/◌, ◌^◌}
+use Prim.Native.Nat.{ℕ, ◌/◌, ◌^◌}
 use native.Mathlib.Omega.{arith}
 use mathlib.Core.Path.{◌≡◌, ap, ◌∙◌}
 use lib.Dec.{ltb}

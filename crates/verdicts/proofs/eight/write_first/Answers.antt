@@ -1,5 +1,4 @@
 -- `eight::write_first` meets its contract. The loop's invariant: i bytes are written, and `rest` has those behind them.
-use Prim.Native.Nat.{◌-◌}
 use native.Mathlib.Omega.{arith}
 use mathlib.Core.Path.{◌≡◌, refl}
 use lib.ListN.{length-set}

@@ -1,12 +1,12 @@
 -- `window::view::mark_blocks` meets its contract, by the laws of proofs/Marks. Assumes nothing.
-use Prim.Native.Nat.{◌+◌, ◌-◌}
+use Prim.Native.Nat.{◌+◌}
 use native.Mathlib.Omega.{arith}
 use Rattle.trace.proofs.Counting.{count_few}
 use Rattle.window.proofs.Marks.{marking_none, marking_on, marking_all}
 use Rattle.window.proofs.view.mark_blocks.Goals as goal
 
 pub loop-from-init : goal.loop-from-init
-loop-from-init c = let s = c in marking_none s.args.records.now s.args.view.now s.requires
+loop-from-init c = marking_none c.args.records.now c.args.view.now c.requires
 
 pub count_many-here-requires : goal.count_many-here-requires
 count_many-here-requires c = omega (arith, c.block_size-n.ensures)

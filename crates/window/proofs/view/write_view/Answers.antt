@@ -7,9 +7,8 @@ use Rattle.window.proofs.view.write_view.Goals as goal
 
 pub overflow_add-view : goal.overflow_add-view
 overflow_add-view c =
-    let s = c in
-    let a = s.args in
-    omega (arith, c.mark_positions-positions.ensures.0, before_few a.skips a.records.now (record_count a.records.now), s.requires.1)
+    let a = c.args in
+    omega (arith, c.mark_positions-positions.ensures.0, before_few a.skips a.records.now (record_count a.records.now), c.requires.1)
 
 pub returns : goal.returns
 returns c =
