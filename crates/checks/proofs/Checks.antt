@@ -1,5 +1,6 @@
 -- What the checks of a call tell by their outcome: a refusal's number, or what holds where none is met.
 -- (Examples is named first so that the worked rows are checked before any law.)
+use Rattle.checks.specs.Examples
 use Prim.Native.Nat.{ℕ, ◌+◌, ◌-◌, ◌≤◌, ◌<◌, ◌^◌}
 use mathlib.Core.Bool.{Bool, true, false, cond, ◌&&◌}
 use mathlib.Core.Bool.{not as negate}

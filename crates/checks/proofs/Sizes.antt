@@ -1,5 +1,6 @@
 -- What `measure` answers, read as refusals 1 to 9 or the need.
 -- (Examples is named first so that the worked cases are checked before any law.)
+use Rattle.checks.specs.Examples
 use Prim.Native.Nat.{ℕ, ◌+◌, ◌≤◌, ◌<◌}
 use native.Mathlib.Omega.{arith}
 use mathlib.Core.Bool.{Bool, true, false, cond}

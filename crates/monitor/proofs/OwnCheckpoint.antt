@@ -1,5 +1,6 @@
 -- A checkpoint that stands for its rule and a log never meets refusal 11 with that rule. Assumes nothing.
 -- (Examples is named first so that the table of worked examples is checked before any theorem.)
+use Rattle.monitor.specs.Examples
 use Prim.Native.Nat.{ℕ, zero, suc, ◌+◌, ◌-◌, ◌≤◌, ◌<◌, ◌^◌}
 use mathlib.Core.Bool.{Bool, true, false, cond}
 use mathlib.Core.Logic.{⊎_elim}

@@ -1,5 +1,6 @@
 -- Each test of specs/ and the statement it decides: the laws by which proofs cross from Bool to Type and back.
 -- (Examples is named first so that the table of worked examples is checked before any theorem.)
+use Rattle.mtl.specs.Examples
 use Prim.Native.Nat.{ℕ, zero, suc, ◌-◌, ◌≤◌, ◌<◌}
 use mathlib.Core.Bool.{Bool, true, false, cond, ◌&&◌, ◌||◌, true≢false, false≢true}
 use mathlib.Core.Bool.{not as negate}

@@ -1,5 +1,6 @@
 -- What an accepted header says of the bytes, and that the entries decoded once are the rule's.
 -- (Cases is named first so that the worked rows are checked before any theorem.)
+use Rattle.rule.proofs.Cases
 use Prim.Native.Nat.{ℕ, suc, ◌+◌, ◌*◌, ◌≤◌, zero-le}
 use native.Mathlib.Omega.{arith}
 use borrow.Author.Tests.{eqb-true, eqb-false, ltb-false, not-false}

@@ -1,5 +1,6 @@
 -- What holds of the kiosk after every second: nobody is lost. Assumes nothing.
 -- (Examples is named first so that the worked run is checked before any theorem.)
+use Rattle.simulation.specs.Examples
 use Prim.Native.Nat.{ℕ, zero, suc, ◌+◌, ◌≤◌}
 use mathlib.Core.Bool.{Bool, true, false, cond, ◌&&◌}
 use mathlib.Core.Path.{◌≡◌, refl, sym, ap, ◌∙◌}

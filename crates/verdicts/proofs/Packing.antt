@@ -1,5 +1,6 @@
 -- Numbers below 256 as the bytes of a word. Assumes nothing.
 -- (Examples is named first so that the worked rows are checked before any law.)
+use Rattle.verdicts.specs.Examples
 use Prim.Native.Nat.{ℕ, zero, suc, ◌+◌, ◌*◌, ◌/◌, ◌%◌, ◌<◌, ◌^◌}
 use native.Mathlib.Omega.{arith}
 use mathlib.Core.Bool.{Bool, true}
