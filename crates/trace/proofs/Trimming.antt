@@ -4,7 +4,7 @@ use Prim.Native.Nat.{ℕ, ◌+◌, ◌-◌, ◌*◌, ◌/◌, ◌%◌, ◌≤◌
 use native.Mathlib.Omega.{arith}
 use mathlib.Core.Bool.{true, false}
 use mathlib.Core.List.{List, ◌++◌}
-use mathlib.Core.Path.{◌≡◌, refl, ap, ◌∙◌}
+use mathlib.Core.Path.{◌≡◌, refl, ap, ap₂, ◌∙◌}
 use lib.ListN.{length, get_or, length-drop}
 use lib.Seq.{get_or-drop}
 use borrow.Author.Tests.{le-leb, le-ltb}
@@ -37,7 +37,7 @@ module _ (n : ℕ) (s : List ℕ) where
         rw has_count (omega arith)
 
     pub trimmed_total : total_records (trimmed_bytes n s) ≡ n + record_count s
-    trimmed_total = rw (trimmed_dropped, trimmed_records) refl
+    trimmed_total = ap₂ (λ (dropped count : ℕ). dropped + count) trimmed_dropped (ap record_count trimmed_records)
 
     -- trimmed again from the same record on it is what it was
     pub trimmed_again : trimmed (trimmed_bytes n s) n ≡ trimmed_bytes n s
