@@ -20,10 +20,11 @@ use Rattle.window.specs.Window.{window_of, some_service, letter_at, Lettered, Op
 use Rattle.window.specs.declared.Letters.{Letters}
 use Rattle.window.specs.declared.Window.{Window}
 use Rattle.window.proofs.Reading.{shown_inside, shown_time, shown_letter, head_behind, window_time}
+use Rattle.window.specs.declared.view.View.{View}
 use Rattle.blocks.specs.Step.{Agrees}
 
 -- whatever the words hold: the window can be read
-module _ (v : List ℕ) (h : ℕ) {s : List ℕ} {n : ℕ} {w : Window} {copy : List ℕ} (opened : Opened (skips v) s (in_slice (slice_first v) h) n w copy) where
+module _ (v : View) (h : ℕ) {s : List ℕ} {n : ℕ} {w : Window} {copy : List ℕ} (opened : Opened (skips v) s (in_slice (slice_first v) h) n w copy) where
   pub readable : w.dense ≡ true → w.at * 8 ≤ length s
   readable e =
       let at = in_slice (slice_first v) h in
@@ -33,12 +34,12 @@ module _ (v : List ℕ) (h : ℕ) {s : List ℕ} {n : ℕ} {w : Window} {copy : 
       omega arith
 
 -- where view and slice tell the log, they show n positions from p on, which the log has
-shows : {v s : List ℕ} {L : Log} {g : ℕ} → Agrees v s L g → (p n : ℕ) → g ≤ p → p + n ≤ L.size → (i : ℕ) → p ≤ i → i < p + n →
+shows : {v : View} {s : List ℕ} {L : Log} {g : ℕ} → Agrees v s L g → (p n : ℕ) → g ≤ p → p + n ≤ L.size → (i : ℕ) → p ≤ i → i < p + n →
     Shows (skips v) s (slice_first v) L i
 shows agrees p n from inside i l m = agrees.shows i (omega arith) (omega arith)
 
 -- the head is that of position p: a letter at these positions, and the head behind them
-module _ {v s : List ℕ} {L : Log} {g : ℕ} (agrees : Agrees v s L g) {h : ℕ} (p : ℕ) (head : h ≡ head_of L p) (from : g ≤ p) {n : ℕ} (inside : p + n ≤ L.size)
+module _ {v : View} {s : List ℕ} {L : Log} {g : ℕ} (agrees : Agrees v s L g) {h : ℕ} (p : ℕ) (head : h ≡ head_of L p) (from : g ≤ p) {n : ℕ} (inside : p + n ≤ L.size)
     {k : ℕ} {r : Letters} (lettered : Lettered (skips v) s k (in_slice (slice_first v) h) n r) where
   letters : Lettered (skips v) s k (in_slice (slice_first v) (head_of L p)) n r
   letters = rw head at lettered
@@ -55,7 +56,7 @@ module _ {v s : List ℕ} {L : Log} {g : ℕ} (agrees : Agrees v s L g) {h : ℕ
       head_behind (skips v) s (slice_first v) L p n (shows agrees p n from inside) n some (omega arith)
 
 -- their times
-module _ {v s : List ℕ} {L : Log} {g : ℕ} (agrees : Agrees v s L g) {h : ℕ} (p : ℕ) (head : h ≡ head_of L p) (from : g ≤ p) {n : ℕ} (inside : p + n ≤ L.size) where
+module _ {v : View} {s : List ℕ} {L : Log} {g : ℕ} (agrees : Agrees v s L g) {h : ℕ} (p : ℕ) (head : h ≡ head_of L p) (from : g ≤ p) {n : ℕ} (inside : p + n ≤ L.size) where
   pub read_slice : (i : ℕ) → i < n → time_at s (place (skips v) s (in_slice (slice_first v) h) i) ≡ L.time (p + i)
   read_slice = rw head (shown_time (skips v) s (slice_first v) L p n (shows agrees p n from inside))
 
@@ -66,7 +67,7 @@ module _ {v s : List ℕ} {L : Log} {g : ℕ} (agrees : Agrees v s L g) {h : ℕ
       first (rw head (λ i l. window i (omega arith))) ∙ read_slice 0 some ∙ ap L.time (add-zero p)
 
 -- a window of them
-module _ {v s : List ℕ} {L : Log} {g : ℕ} (agrees : Agrees v s L g) {h : ℕ} (p : ℕ) (head : h ≡ head_of L p) (from : g ≤ p) {n : ℕ} (inside : p + n ≤ L.size)
+module _ {v : View} {s : List ℕ} {L : Log} {g : ℕ} (agrees : Agrees v s L g) {h : ℕ} (p : ℕ) (head : h ≡ head_of L p) (from : g ≤ p) {n : ℕ} (inside : p + n ≤ L.size)
     {w : Window} {copy : List ℕ} (opened : Opened (skips v) s (in_slice (slice_first v) h) n w copy) where
   here : Opened (skips v) s (in_slice (slice_first v) (head_of L p)) n w copy
   here = rw head at opened

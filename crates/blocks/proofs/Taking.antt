@@ -12,6 +12,7 @@ use Rattle.mtl.specs.Progress.{settled_to}
 use Rattle.bits.specs.Packed.{Packed}
 use Rattle.bits.proofs.Laws.{packed_first}
 use Rattle.window.specs.View.{total}
+use Rattle.window.specs.declared.view.View.{View}
 use Rattle.blocks.specs.Block.{taken, left_count, left_bits, right_count, right_bits, kind_of, high_of, cells_of, Onward, InRange, Own, Heads, Buffer, LeftBuffer, RightBuffer, Buffers, Ready, took_right, took_both}
 use Rattle.blocks.specs.Step.{Agrees, Moved, has_left}
 use Rattle.blocks.proofs.Words.{Store, put, stores_onward, available, later, fits}
@@ -30,7 +31,7 @@ pub both_onward : (n : ℕ) (b : List ℕ) → 16 ≤ length b → Onward 12 b (
 both_onward n b room = stores_onward (both_stores n b []) b (omega arith) (omega arith) (omega arith)
 
 -- `available` gives all of a buffer
-pub all_of : {v s : List ℕ} {φ : Formula} {L : Log} {g p count bits : ℕ} → Agrees v s L g → Buffer φ L p count bits →
+pub all_of : {v : View} {s : List ℕ} {φ : Formula} {L : Log} {g p count bits : ℕ} → Agrees v s L g → Buffer φ L p count bits →
     (n : ℕ) → n ≡ min (min count (total v - p)) 64 → n ≡ count
 all_of agrees buffer n e =
     let size = agrees.size in

@@ -15,6 +15,7 @@ use Rattle.mtl.specs.Progress.{settled_to}
 use Rattle.mtl.proofs.Closing.{settled_le_size}
 use Rattle.bits.proofs.Laws.{packed_none, packed_rest}
 use Rattle.window.specs.View.{total}
+use Rattle.window.specs.declared.view.View.{View}
 use Rattle.blocks.specs.Block.{word, taken, left_count, right_count, answered, head, Onward, Buffer}
 use Rattle.blocks.specs.Step.{empty, left_to_do}
 
@@ -101,7 +102,7 @@ empty_most zero = omega arith
 empty_most (suc n) = omega arith
 
 -- positions taken leave less to do
-pub less_to_do : (v b b' : List ℕ) (n : ℕ) → 0 < n → taken b + n ≤ total v → taken b' ≡ taken b + n → left_to_do v b' < left_to_do v b
+pub less_to_do : (v : View) (b b' : List ℕ) (n : ℕ) → 0 < n → taken b + n ≤ total v → taken b' ≡ taken b + n → left_to_do v b' < left_to_do v b
 less_to_do v b b' n some h e = omega (arith, empty_most (left_count b'), empty_most (right_count b'))
 
 -- what `available` gives: as many of count positions as there is room for, in the log and in one word

@@ -8,11 +8,18 @@ ghost use Rattle.blocks.specs.Block.{taken, left_count, right_count, took_right,
 pub mod time;
 pub mod word;
 
+// A word of answers for count positions.
+#[derive(Clone, Copy, PartialEq, Eq)]
+pub struct Batch {
+    pub bits: u64,
+    pub count: u64,
+}
+
 // What one step finds.
 #[derive(Clone, Copy)]
 pub enum Step {
-    // A word of answers for count positions from the next one on.
-    Batch { bits: u64, count: u64 },
+    // The answers from the next position on.
+    Batch(Batch),
     // The left operand's buffer is empty and wanted.
     Left,
     // The right operand's, or only one's; the left operand's is not.
@@ -27,14 +34,14 @@ pub enum Step {
 pub fn smaller(left: u64, right: u64) -> u64
     ensures { result ≡ min left right }
 {
-    if left <= right { left } else { right }
+    left.min(right)
 }
 
 // How many of count positions from `at` on lie within a log of so many positions, and in one word.
 pub fn available(at: u64, count: u64, total: u64) -> u64
     ensures { (result ≡ min (min count (total - at)) 64) × (at + result < 2 ^ 64) }
 {
-    smaller(smaller(count, time::gap(at, total)), 64)
+    count.min(total.saturating_sub(at)).min(64)
 }
 
 // Takes n positions out of the right or only operand's buffer.

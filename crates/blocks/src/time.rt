@@ -9,7 +9,7 @@ ghost use Rattle.blocks.specs.Near.{close_after, near_after};
 pub fn gap(earlier: u64, later: u64) -> u64
     ensures { result ≡ later - earlier }
 {
-    if earlier <= later { later - earlier } else { 0 }
+    later.saturating_sub(earlier)
 }
 
 // low ≤ gap ≤ high. A gap to a 32-bit time never lies above the high that means no upper end.
@@ -17,8 +17,8 @@ pub fn within(low: u64, high: u64, earlier: u64, later: u64) -> bool
     requires { later < 2 ^ 32 }
     ensures { result ≡ within_spec low high earlier later }
 {
-    let g = gap(earlier, later);
-    (low <= g) & (g <= high)
+    let gap = later.saturating_sub(earlier);
+    (low <= gap) & (gap <= high)
 }
 
 // 1 where the later of two times lies no farther than `far` behind the earlier, else 0.
@@ -36,9 +36,7 @@ fn close_group(far: u64, window: &[u8], from: usize, n: usize) -> u64
     ensures { (result < 2 ^ n) × Packed (close_after far (time_at window.now)) from n result }
 {
     let mut answers: u64 = 0;
-    let mut i = n;
-    while 0 < i {
-        i -= 1;
+    for i in (0..n).rev() {
         let earlier = trace::time(window, from + i);
         let later = trace::time(window, from + i + 1);
         answers = answers * 2 + close_bit(far, earlier, later);
@@ -56,13 +54,14 @@ fn close(far: u64, window: &[u8], n: usize) -> u64
         return !0;
     }
     let mut answers: u64 = 0;
-    let mut i: usize = 0;
-    while i + 8 <= n {
-        answers = answers + (close_group(far, window, i, 8) << i as u64);
-        i += 8;
+    for group in 0..n / 8 {
+        let from = group * 8;
+        answers += close_group(far, window, from, 8) << from as u64;
     }
-    if i < n {
-        answers = answers + (close_group(far, window, i, n - i) << i as u64);
+    let rest = n % 8;
+    if rest != 0 {
+        let from = n - rest;
+        answers += close_group(far, window, from, rest) << from as u64;
     }
     answers
 }

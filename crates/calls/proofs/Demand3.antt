@@ -29,7 +29,7 @@ use Rattle.trace.specs.Making.{trimmed}
 use Rattle.trace.proofs.Laws.{well_formed_iff, Keeps, ordered_iff, same_time, count_prefix}
 use Rattle.trace.proofs.Positions.{before_few, log_placed, positions_keep, wanted_place, wanted_counts}
 use Rattle.trace.proofs.Parts.{Part, Cut, prefix_part, time_part, keeps_part, before_cut}
-use Rattle.window.proofs.Slices.{slice_shows, closing_shows, flag_told}
+use Rattle.window.proofs.Slices.{slice_shows, closing_shows}
 use Rattle.trace.proofs.Growing.{before_stays, grown_continues}
 use Rattle.trace.proofs.Trimming.{trimmed_again, cut_behind}
 use Rattle.blocks.specs.Step.{Agrees}
@@ -280,13 +280,13 @@ module _ (rule log : List ℕ) (untouched : Untouched log) where
       brought_agrees =
           let counts = begins.1 in
           record {
-            ends = sym (flag_told closed);
+            ends = refl;
             size =
                 ap (λ b. first_position + before b slice (record_count slice)) brings.kind ∙
                 ap (λ k. k + before skips slice (record_count slice)) (sym counts) ∙
                 sym (before_cut (first_bytes n) slice (first_wanted p) cut skips);
             shows = λ i lo hi.
-                subst (λ b. Shows b slice (first_wanted p) new i) (sym (flag_told (skips_of log') ∙ brings.kind))
+                subst (λ b. Shows b slice (first_wanted p) new i) (sym brings.kind)
                 (closing_shows closed skips slice (first_wanted p) (log_of skips (first_bytes n)) i
                 (slice_shows skips (first_bytes n) slice (first_wanted p) cut i (omega arith) hi));
           }

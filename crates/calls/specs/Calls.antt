@@ -1,6 +1,6 @@
 -- Demands 2 and 3 as claims about a whole list of calls. Its steps are the records that the calls' `ensures` name, and nothing
 -- here names the inside of a checkpoint. proofs/Truth.antt proves demand 2's claim, proofs/Demand3.antt demand 3's.
-use Rattle.std.specs.Prelude.{ℕ, ◌+◌, ◌*◌, ◌-◌, ◌/◌, ◌%◌, ◌≤◌, ◌<◌, ◌^◌, min, Bool, true, false, cond, ◌&&◌, ◌≡◌, ◌↔◌, List, [], ◌∷◌, ◌++◌, length, get_or, take, drop, ltb}
+use Rattle.std.specs.Prelude.{ℕ, ◌+◌, ◌*◌, ◌-◌, ◌/◌, ◌%◌, ◌≤◌, ◌<◌, ◌^◌, min, Bool, true, false, cond, ◌&&◌, ◌≡◌, ◌↔◌, List, [], ◌∷◌, ◌++◌, length, get_or, take, drop, ltb, Result}
 use Rattle.std.proofs.Math.Option.{some}
 use Rattle.mtl.specs.Formula.{Formula}
 use Rattle.mtl.specs.Log.{Log, Stream, NeverFalls, StreamNeverFalls, Continues, Begins}
@@ -22,6 +22,7 @@ use Rattle.monitor.specs.Summary.{Answer as SummaryAnswer}
 use Rattle.monitor.specs.Status.{StatusFacts, known}
 use Rattle.monitor.specs.Status.{told as known_told, answer as standing_of}
 use Rattle.monitor.specs.declared.Standing.{Standing}
+use Rattle.refusal.specs.declared.Refusal.{Refusal}
 
 -- "One untouched log belongs to the list: a header without fault, then at most 1,000,000 records whose times never fall": the times of
 -- all records, service records too. None is dropped.
@@ -259,7 +260,7 @@ pub record Demand3 (rule log : List ℕ) (h : List Call) (point : List ℕ) : Ty
   -- 8. `status` of the point, whole in the words lent, is not refused: given is the sum of c, seen and closed are those of the last
   -- accepted call, and wanted is the record from which `BringsAfter` asks the log to stand
   pub status : (p : List ℕ) → Lends point p → length point ≤ length p →
-      (r : Standing) → standing_of r ≡ known rule p → standing_of r ≡ known_told (facts_after rule log h)
+      (r : Result Standing Refusal) → standing_of r ≡ known rule p → standing_of r ≡ known_told (facts_after rule log h)
   -- 9. of document 02, paper 11: a trimming that brings rule and log as it should, the point being whole in the words that it lends
   pub trims : (p : List ℕ) → Lends point p → length point ≤ length p →
       (n : ℕ) (log' out : List ℕ) → BringsAfter rule log h n log' →

@@ -1,7 +1,8 @@
 // What the words of a checkpoint must be, refusals 10 and 11: a copy of the rule, and each word in its range. Nothing is written.
 ghost use Rattle.std.specs.Prelude.{◌≡◌, ◌+◌, ◌-◌, ◌≤◌, ◌<◌, length, drop, eqb, ◌&&◌, ◌||◌, not as negate};
 ghost use Rattle.mtl.specs.Satisfaction.{any};
-ghost use Rattle.rule.specs.Words.{header_words, own, offset};
+ghost use Rattle.rule.specs.Words.{header_words, own};
+ghost use Rattle.rule.specs.Words.{words as needed};
 ghost use Rattle.checkpoint.specs.Checkpoint.{format, kind_of_log, copy_start, copy_head, copy_ends, copy_differs, room, block_in_range, waiting_in_range, block_outside, noes_outside, closed_in_range, kind_in_range, header_in_range};
 ghost use Rattle.verdicts.specs.Counts.{noes_in_range};
 ghost use Rattle.blocks.specs.Block.{word, cells_of};
@@ -9,7 +10,7 @@ ghost use Rattle.rule.specs.Postfix.{most_formulas};
 
 use super::header;
 use blocks::word;
-use rule::Entry;
+use rule::{Entry, Rule};
 
 // What one walk over the blocks finds.
 #[derive(Clone, Copy)]
@@ -22,25 +23,25 @@ pub struct Faults {
 pub const FORMAT: u64 = 5206537494274768903;
 
 // A rule's version and its number of entries, as a checkpoint keeps them.
-pub fn copy_start(version: usize, count: usize) -> u64
-    requires { (version ≤ 2) × (count ≤ 128) }
-    ensures { result ≡ copy_start version count }
+pub fn copy_start(rule: &Rule) -> u64
+    requires { rule.now.version ≤ 2 }
+    ensures { result ≡ copy_start rule.now.version rule.now.count }
 {
-    version as u64 * 256 + count as u64
+    rule.version as u64 * 256 + rule.count as u64
 }
 
 // An entry's kind and letter, as its block keeps them.
 pub fn head_of(e: Entry) -> u64
     ensures { result ≡ copy_head e }
 {
-    e.kind as u64 * 256 + e.letter as u64
+    u64::from(e.kind) * 256 + u64::from(e.letter)
 }
 
 // An entry's low and high, as its block keeps them.
 pub fn ends_of(e: Entry) -> u64
     ensures { result ≡ copy_ends e }
 {
-    e.low as u64 * 4294967296 + e.high as u64
+    u64::from(e.low) * 4294967296 + u64::from(e.high)
 }
 
 // The block that begins at `at` has another copy than the entry's.
@@ -52,23 +53,18 @@ fn copy_differs(e: Entry, point: &[u64], at: usize) -> bool
 }
 
 // Refusal 10, where it is known whether some block has another copy than its entry's.
-pub fn is_foreign(version: usize, count: usize, copies: bool, point: &[u64]) -> bool
-    requires { (version ≤ 2) × (count ≤ 128) × (16 ≤ length point.now) }
-    ensures { result ≡ negate (eqb (word point.now 0) format) || (negate (eqb (word point.now 4) (copy_start version count)) || copies) }
+pub fn is_foreign(rule: &Rule, copies: bool, point: &[u64]) -> bool
+    requires { (rule.now.version ≤ 2) × (16 ≤ length point.now) }
+    ensures { result ≡ negate (eqb (word point.now 0) format) || (negate (eqb (word point.now 4) (copy_start rule.now.version rule.now.count)) || copies) }
 {
-    (point[header::FORMAT] != FORMAT)
-        | ((point[header::COPY_START] != copy_start(version, count)) | copies)
+    (point[header::FORMAT] != FORMAT) | ((point[header::COPY_START] != copy_start(rule)) | copies)
 }
 
 // count positions from `at` on lie within so many.
 fn has_room(at: u64, count: u64, total: u64) -> bool
     ensures { result ≡ room at count total }
 {
-    if count <= total {
-        at <= total - count
-    } else {
-        false
-    }
+    (count <= total) && (at <= total - count)
 }
 
 // The ring's cells of an entry.
@@ -106,32 +102,26 @@ fn waiting_fits(e: Entry, size: u64, point: &[u64], at: usize) -> bool
     requires { at + own e ≤ length point.now }
     ensures { result ≡ waiting_in_range e.kind size (drop at point.now) }
 {
-    if e.kind == 6 {
-        point[at + word::WAITING_HEAD] <= size
-    } else {
-        true
-    }
+    (e.kind != 6) || (point[at + word::WAITING_HEAD] <= size)
 }
 
-// What is wrong with some entry's block, of the first count: it has another copy than the entry's, or a word outside its range. The first
-// block begins at `base`. One walk looks at both, since the entries are copied at each call that takes them.
-pub fn block_faults(base: usize, entries: [Entry; 128], count: usize, point: &[u64]) -> Faults
-    requires { (count ≤ 128) × (16 ≤ base) × (base + offset entries count ≤ length point.now) }
-    ensures { (result.copies ≡ any count (copy_differs base entries point.now)) × (result.ranges ≡ any count (block_outside base entries point.now)) }
+// What is wrong with some entry's block: it has another copy than the entry's, or a word outside its range.
+pub fn block_faults(rule: &Rule, point: &[u64]) -> Faults
+    requires { needed rule.now.version rule.now.entries rule.now.count ≤ length point.now }
+    ensures copies { result.copies ≡ any rule.now.count (copy_differs (header_words rule.now.version) rule.now.entries point.now) }
+    ensures ranges { result.ranges ≡ any rule.now.count (block_outside (header_words rule.now.version) rule.now.entries point.now) }
 {
     let given = point[header::GIVEN];
     let size = point[header::SEEN];
-    let mut at = base;
-    let mut k: usize = 0;
+    let mut at = rule.header_words();
     let mut copies = false;
     let mut ranges = false;
-    while k < count {
-        let e = entries[k];
+    for k in 0..rule.count {
+        let e = rule.entries[k];
         copies = copies | copy_differs(e, point, at);
         ranges = ranges
             | !(block_fits(given, size, cells(e), point, at) & waiting_fits(e, size, point, at));
         at += rule::own_words(e) as usize;
-        k += 1;
     }
     Faults { copies, ranges }
 }
@@ -149,12 +139,10 @@ fn some_noes_outside(most: usize, point: &[u64]) -> bool
     ensures { result ≡ any most (noes_outside most point.now) }
 {
     let given = point[header::GIVEN];
-    let mut k: usize = 0;
     let mut outside = false;
-    while k < most {
+    for k in 0..most {
         let at = header::NO_COUNT + k;
         outside = outside | !noes_fit(given, point[at], point[header::NO_COUNT + most + k]);
-        k += 1;
     }
     outside
 }
@@ -163,7 +151,7 @@ fn some_noes_outside(most: usize, point: &[u64]) -> bool
 fn closed_fits(noted: u64, seen: u64) -> bool
     ensures { result ≡ closed_in_range noted seen }
 {
-    if noted == 0 { true } else { noted - 1 == seen }
+    (noted == 0) || (noted - 1 == seen)
 }
 
 // A log's version is noted wherever a record was seen or a closing accepted.
@@ -181,11 +169,11 @@ pub fn log_kind(skips: bool) -> u64
 }
 
 // Refusal 11, where it is known whether some block has a word outside its range.
-pub fn is_outside(version: usize, ranges: bool, point: &[u64]) -> bool
-    requires { (16 ≤ length point.now) × (header_words version ≤ length point.now) }
-    ensures { result ≡ negate (header_in_range (most_formulas version) point.now) || ranges }
+pub fn is_outside(rule: &Rule, ranges: bool, point: &[u64]) -> bool
+    requires { (16 ≤ length point.now) × (header_words rule.now.version ≤ length point.now) }
+    ensures { result ≡ negate (header_in_range (most_formulas rule.now.version) point.now) || ranges }
 {
-    let most = rule::most_of(version);
+    let most = rule.most_formulas();
     let seen = point[header::SEEN];
     let fits = (seen <= 1000000)
         & (point[header::GIVEN] <= seen)

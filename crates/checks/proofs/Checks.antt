@@ -2,13 +2,13 @@
 -- (Examples is named first so that the worked rows are checked before any law.)
 use Rattle.checks.specs.Examples
 use Prim.Native.Nat.{ℕ, ◌+◌, ◌-◌, ◌≤◌, ◌<◌, ◌^◌}
-use mathlib.Core.Bool.{Bool, true, false, cond, ◌&&◌}
+use mathlib.Core.Bool.{Bool, true, false, ◌&&◌}
 use mathlib.Core.Bool.{not as negate}
-use mathlib.Core.Path.{◌≡◌, refl, sym, ap, ap₂, subst, ◌∙◌}
+use mathlib.Core.Path.{◌≡◌, refl, sym, ap, subst, ◌∙◌}
 use mathlib.Core.List.{List}
 use native.Mathlib.Omega.{arith}
-use borrow.Author.Tests.{ne_eqb, eqb-true, eqb-false, not-false, not-true, ltb-false}
-use lib.Dec.{eqb, leb, ltb}
+use borrow.Author.Tests.{ne_eqb, not-false, not-true, ltb-false}
+use lib.Dec.{leb, ltb}
 use lib.ListN.{length, drop}
 use lib.Seq.{get_or-drop}
 use Rattle.mtl.specs.Satisfaction.{any}
@@ -16,86 +16,67 @@ use Rattle.mtl.proofs.Bounded.{and_iff, leb_iff, any_false_iff}
 use Rattle.rule.specs.declared.Entry.{Entry}
 use Rattle.rule.specs.Entries.{version, count, decoded, entry}
 use Rattle.rule.specs.Refusal.{first, or_else, refusal}
-use Rattle.rule.proofs.Headers.{first_zero, or_left, or_right, Decoded, before_none, measured_once}
-use Rattle.rule.specs.declared.refusals.Header.{Header}
-use Rattle.rule.specs.declared.Measured.{Measured}
-use Rattle.rule.specs.declared.Measured.TheVariants.{Words as Weighed}
-use Rattle.rule.specs.declared.Measured.TheVariants.{Refused as Unmeasured}
+use Rattle.rule.proofs.Headers.{first_zero, or_left, or_right, before_none}
+use Rattle.refusal.specs.declared.Refusal.{Refusal}
+use Rattle.refusal.specs.Number.{number_of}
+use Rattle.refusal.proofs.Numbers.{number_positive}
 use Rattle.rule.specs.Postfix.{most_formulas}
-use Rattle.rule.specs.Words.{header_words, offset}
-use Rattle.rule.specs.Measure.{measured}
-use Rattle.rule.specs.Measure.{answer as weighing}
-use Rattle.rule.specs.Contract.{header_count, header_version, filled, measured_by, header}
-use Rattle.rule.proofs.Outcome.{passes_with}
+use Rattle.rule.specs.Words.{header_words}
 use Rattle.blocks.specs.Block.{word}
 use Rattle.trace.specs.Format.{skips_of, dropped, total_records, malformed, records_from}
 use Rattle.trace.specs.Order.{disordered}
 use Rattle.trace.specs.Making.{trimmed}
 use Rattle.trace.proofs.Laws.{well_formed_iff}
 use Rattle.checkpoint.specs.Checkpoint.{given, seen, last, closed_with, log_kind, first_wanted, no_count, after_latest, need, foreign, block_at, block_outside, block_in_range, waiting_in_range, room, noes_outside, closed_in_range, kind_in_range, words_outside, header_in_range}
-use Rattle.checks.specs.Refusal.{open_refusal, resumes_closed, closes_more, other_version, point_refusal, trimming_refusal, words_refusal, summary_refusal}
-use Rattle.checks.specs.Contract.{sized_number, sized_by, sized_of, checked_number, checked_by, Covers, own_checked}
-use Rattle.checks.specs.declared.Sized.{Sized}
-use Rattle.checks.specs.declared.Sized.TheVariants.{Words, Stopped}
-use Rattle.checks.specs.declared.Checked.{Checked}
-use Rattle.checks.specs.declared.Checked.TheVariants.{Passed, Failed}
-use Rattle.checks.proofs.Sizes.{sized_refusal, enough, stops, sized_is, is_decoded, is_version, fits_in, enough_words}
+use Rattle.checks.specs.Refusal.{resumes_closed, closes_more, other_version, version_refusal, records_refusal, point_refusal, trimming_refusal, words_refusal, summary_refusal}
+use Rattle.checks.proofs.Sizes.{enough_words}
 
 -- a refusal that is not met gives way to what comes after
 pub passed_over : (n : ℕ) (bad : Bool) (other : ℕ) → bad ≡ false → first n bad other ≡ other
 passed_over n bad other e = ap (λ (b : Bool). first n b other) e
 
--- n is the number of a refusal: of 1 to 9 where one applies, else `other`
-pub record Met (rule p : List ℕ) (other n : ℕ) : Type 0 where
-  pub number : n ≡ or_else (open_refusal rule (length p)) other
-  pub some : 0 < n
+-- the number of a refusal gives way to nothing, and no number to what comes after
+pub stops : (r : Refusal) (n other : ℕ) → number_of r ≡ n → number_of r ≡ or_else n other
+stops r n other e =
+    let some = number_positive r in
+    e ∙ sym (rw (ne_eqb n 0 (λ z. omega arith)))
 
--- refusals 1 to 9
-pub stopped : (rule p : List ℕ) (other : ℕ) (r : Sized) (m n : ℕ) → r ≡ sized_of rule (length p) → r ≡ Stopped m → n ≡ sized_number r →
-    Met rule p other n
-stopped rule p other r m n sized stops_at numbered =
-    let met : 0 < m =
-    stops rule (length p) m (sym stops_at ∙ sized) in
-    let is : n ≡ m = numbered ∙ ap sized_number stops_at in
-    let number : open_refusal rule (length p) ≡ n =
-    sym (sized_refusal rule (length p)) ∙ ap sized_number (sym sized) ∙ sym numbered in
-    let met_first : or_else n other ≡ n = rw (ne_eqb n 0 (λ e. omega arith)) in
-    record { number = sym (ap (λ (k : ℕ). or_else k other) number ∙ met_first); some = omega arith }
+pub goes_on : (n other : ℕ) → 0 ≡ n → or_else n other ≡ other
+goes_on n other e = ap (λ (m : ℕ). or_else m other) (sym e)
 
-pub not_stopped : (rule p : List ℕ) (other w : ℕ) → Words w ≡ sized_of rule (length p) → or_else (open_refusal rule (length p)) other ≡ other
-not_stopped rule p other w sized =
-    let none : open_refusal rule (length p) ≡ 0 = sym (sized_refusal rule (length p)) ∙ ap sized_number (sym sized) in
-    ap (λ (k : ℕ). or_else k other) none
+-- these refusals are asked first, and what comes after them only where none is met
+first_of_words : (other : ℕ) (a b : Bool) → first 10 a (first 11 b other) ≡ or_else (first 10 a (first 11 b 0)) other
+first_of_words other true b = refl
+first_of_words other false true = refl
+first_of_words other false false = refl
 
--- the number that the check's answer stands for is the refusal's
-checked_is : (number : ℕ) → checked_number (checked_by number) ≡ number
-checked_is number = go (eqb number 0) refl
-  where
-    go : (b : Bool) → eqb number 0 ≡ b → checked_number (cond b Passed (Failed number)) ≡ number
-    go true zero = sym (eqb-true number 0 zero)
-    go false some = refl
+first_of_version : (other : ℕ) (a b : Bool) → first 12 a (first 22 b other) ≡ or_else (first 12 a (first 22 b 0)) other
+first_of_version other true b = refl
+first_of_version other false true = refl
+first_of_version other false false = refl
 
-pub passed : (number : ℕ) → Passed ≡ checked_by number → number ≡ 0
-passed number e = sym (ap checked_number e ∙ checked_is number)
+first_of_records : (other : ℕ) (a b c d : Bool) → first 13 a (first 21 b (first 24 c (first 14 d other))) ≡ or_else (first 13 a (first 21 b (first 24 c (first 14 d 0)))) other
+first_of_records other true b c d = refl
+first_of_records other false true c d = refl
+first_of_records other false false true d = refl
+first_of_records other false false false true = refl
+first_of_records other false false false false = refl
 
-failed_by : (b : Bool) (number m : ℕ) → eqb number 0 ≡ b → Failed m ≡ cond b Passed (Failed number) → 0 < m
-failed_by true number m t e = let z : ◌≡◌ {A = ℕ} 0 1 = cc in absurd (omega arith)
-failed_by false number m t e = let z : m ≡ number = cc in let h = eqb-false number 0 t in omega arith
+pub words_first : (version : ℕ) (t : List Entry) (n : ℕ) (p : List ℕ) (other : ℕ) →
+    words_refusal version t n p other ≡ or_else (words_refusal version t n p 0) other
+words_first version t n p other = first_of_words other (foreign version t n p) (words_outside version t n p)
 
--- the number of an answer that fails
-pub fails_with : (number : ℕ) (r : Checked) (m n : ℕ) → r ≡ checked_by number → r ≡ Failed m → n ≡ checked_number r →
-    (n ≡ number) × (0 < n)
-fails_with number r m n checked fails numbered =
-    let met : 0 < m = failed_by (eqb number 0) number m refl (sym fails ∙ checked) in
-    let is : n ≡ m = numbered ∙ ap checked_number fails in
-    (numbered ∙ ap checked_number checked ∙ checked_is number, omega arith)
+pub version_first : (log p : List ℕ) (other : ℕ) → version_refusal log p other ≡ or_else (version_refusal log p 0) other
+version_first log p other = first_of_version other (malformed log) (other_version log (log_kind p))
 
--- refusals from 10 on
-pub failed : (rule p : List ℕ) (number w : ℕ) (r : Checked) (m n : ℕ) → Words w ≡ sized_of rule (length p) → r ≡ checked_by number →
-    r ≡ Failed m → n ≡ checked_number r → Met rule p number n
-failed rule p number w r m n sized checked fails numbered =
-    let e = fails_with number r m n checked fails numbered in
-    record { number = e.0 ∙ sym (not_stopped rule p number w sized); some = e.1 }
+pub records_first : (more : Bool) (log p : List ℕ) (other : ℕ) → records_refusal more log p other ≡ or_else (records_refusal more log p 0) other
+records_first more log p other =
+    first_of_records other (ltb (total_records log) (seen p)) more (ltb (first_wanted p) (dropped log))
+    (disordered (records_from log (first_wanted p)) (seen p - first_wanted p) (last p))
+
+-- a log that passes check 12 has few records
+pub few_records : (log p : List ℕ) (other : ℕ) → 0 ≡ version_refusal log p other → total_records log ≤ 1000000
+few_records log p other e = ((well_formed_iff log).0 (first_zero 11 (malformed log) _ (sym e)).0).few
 
 -- what the refusals that are not met tell
 pub record Passes (rule log p : List ℕ) : Type 0 where
@@ -175,84 +156,10 @@ room_to_trim version t n lent log p none =
     let ordered = first_zero 13 (disordered (records_from log (first_wanted p)) (seen p - first_wanted p) (last p)) _ missing.1 in
     ltb-false lent (length (trimmed log (first_wanted p))) (first_zero 24 _ 0 ordered.1).0
 
--- enough words are lent where weighing gives no more of them
-covered_by : (b : Bool) (version : ℕ) (t : List Entry) (n lent w v : ℕ) → ltb lent v ≡ b → Covers (Weighed v 0) version t n →
-    Words w ≡ cond b (Stopped 9) (Words v) → (version ≤ 2) × (n ≤ 128) × (header_words version + offset t n ≤ lent)
-covered_by true version t n lent w v test room e = let z : ◌≡◌ {A = ℕ} 0 1 = cc in absurd (omega arith)
-covered_by false version t n lent w v test (known, few, room) e = let h = ltb-false lent v test in (known, few, omega arith)
+-- where none of 1 to 11 is met
+module _ (rule p : List ℕ) (none : summary_refusal rule p ≡ 0) where
+  pub is_accepted : refusal rule ≡ 0
+  is_accepted = (before_none (refusal rule) _ (before_none _ (words_refusal (version rule) (decoded rule) (count rule) p 0) none).0).0
 
-pub covered : (m : Measured) (version : ℕ) (t : List Entry) (n lent w : ℕ) → Covers m version t n → Words w ≡ sized_by m lent →
-    (version ≤ 2) × (n ≤ 128) × (header_words version + offset t n ≤ lent)
-covered (Unmeasured k) version t n lent w room e = let z : ◌≡◌ {A = ℕ} 0 1 = cc in absurd (omega arith)
-covered (Weighed v far) version t n lent w room e = covered_by (ltb lent v) version t n lent w v refl room e
-
--- what weighing a rule answers covers the entries decoded
-covers_by : (s : List ℕ) (v : ℕ) (t : List Entry) (n : ℕ) → (refusal s ≡ 0 → v ≡ version s) → (refusal s ≡ 0 → Decoded s t n) → (m : Measured) →
-    weighing m ≡ measured s → Covers m v t n
-covers_by s v t n version-if decoded-if (Unmeasured k) e = tt
-covers_by s v t n version-if decoded-if (Weighed w far) e =
-    let o = passes_with s w far e in
-    let is = o.words_are in
-    fits_in s v t n w o.accepted (version-if o.accepted) (decoded-if o.accepted) (omega arith)
-
--- the words' checks by the entries decoded are those of the rule
-words_are : (rule : List ℕ) (v : ℕ) (t : List Entry) (n : ℕ) → v ≡ version rule → Decoded rule t n → (p : List ℕ) (other : ℕ) →
-    words_refusal v t n p other ≡ words_refusal (version rule) (decoded rule) (count rule) p other
-words_are rule v t n is_version d p other =
-    ap (λ (v : ℕ). words_refusal v t n p other) is_version
-    ∙ ap₂ (λ (t : List Entry) (n : ℕ). words_refusal (version rule) t n p other) d.entries_are d.count_is
-
-module _ (rule p : List ℕ) where
-  -- the number of refusal 10 or 11, or 0
-  abbrev own_number : ℕ
-  own_number = words_refusal (version rule) (decoded rule) (count rule) p 0
-
-  -- one of refusals 1 to 9
-  own_failed : (n : ℕ) → Met rule p own_number n → Failed n ≡ checked_by (summary_refusal rule p)
-  own_failed n met =
-      let number = met.number in
-      let some = met.some in
-      rw (ne_eqb (summary_refusal rule p) 0 (omega arith)) (ap Failed number)
-
-  -- the checks by the entries decoded, which are those of a rule that is accepted
-  own_by : (v : ℕ) (t : List Entry) (n : ℕ) → (refusal rule ≡ 0 → v ≡ version rule) → (refusal rule ≡ 0 → Decoded rule t n) → (r : Sized) →
-      r ≡ sized_of rule (length p) → own_checked r v t n p ≡ checked_by (summary_refusal rule p)
-  own_by v t n version-if decoded-if (Stopped m) sized = own_failed m (stopped rule p own_number (Stopped m) m m sized refl refl)
-  own_by v t n version-if decoded-if (Words w) sized =
-      let ok = (enough rule (length p) w sized).accepted in
-      ap checked_by (words_are rule v t n (version-if ok) (decoded-if ok) p 0 ∙ sym (not_stopped rule p own_number w sized))
-
-  -- where none of 1 to 11 is met
-  module _ (none : summary_refusal rule p ≡ 0) where
-    pub is_accepted : refusal rule ≡ 0
-    is_accepted = (before_none (refusal rule) _ (before_none _ own_number none).0).0
-
-    pub has_room : need rule ≤ length p
-    has_room = enough_words rule (length p) (before_none _ own_number none).0
-
--- of the entries decoded once by the rule's header, and what weighing them answers
-module _
-    (s : List ℕ)
-    (h : Header)
-    (v : ℕ)
-    (t : List Entry)
-    (n : ℕ)
-    (is : h ≡ header s)
-    (e₀ : v ≡ header_version h)
-    (e : n ≡ header_count h)
-    (e' : t ≡ filled s n)
-    (m : Measured)
-    (weighed : weighing m ≡ measured_by h t)
-  where
-    pub covers : Covers m v t n
-    covers = covers_by s v t n (is_version s h v is e₀) (is_decoded s h t n is e e') m (weighed ∙ measured_once s h is t n e e')
-
-    pub sized_once : (lent : ℕ) → sized_by m lent ≡ sized_of s lent
-    sized_once lent = sized_is s m lent (weighed ∙ measured_once s h is t n e e')
-
-    pub own_is : (p : List ℕ) → own_checked (sized_by m (length p)) v t n p ≡ checked_by (summary_refusal s p)
-    own_is p = own_by s p v t n (is_version s h v is e₀) (is_decoded s h t n is e e') (sized_by m (length p)) (sized_once (length p))
-
-    -- where it is accepted, what checks the words and goes on to `other` is by the rule
-    pub words_once : refusal s ≡ 0 → (p : List ℕ) (other : ℕ) → words_refusal v t n p other ≡ words_refusal (version s) (decoded s) (count s) p other
-    words_once ok = words_are s v t n (is_version s h v is e₀ ok) (is_decoded s h t n is e e' ok)
+  pub has_room : need rule ≤ length p
+  has_room = enough_words rule (length p) (before_none _ (words_refusal (version rule) (decoded rule) (count rule) p 0) none).0

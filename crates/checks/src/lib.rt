@@ -1,70 +1,50 @@
 // Refusals 1 to 14 (3 no longer occurs) and 20 to 25 of a call on a checkpoint: the first that applies. Nothing is written.
 #![tactic(auto)]
 
-ghost use Rattle.std.specs.Prelude.{◌≡◌, ◌+◌, ◌-◌, ◌≤◌, ◌<◌, length, ltb};
-ghost use Rattle.rule.specs.Words.{header_words, offset};
-ghost use Rattle.checks.specs.Contract.{sized_number, sized_by, checked_number, checked_by, Covers, own_checked};
-ghost use Rattle.checks.specs.Refusal.{closes_more, other_version, records_refusal, log_refusal, trimming_refusal, words_refusal, point_refusal};
+ghost use Rattle.std.specs.Prelude.{◌≡◌, ◌≤◌, length, ltb};
+ghost use Rattle.refusal.specs.Number.{number};
+ghost use Rattle.rule.specs.Words.{words as needed};
+ghost use Rattle.checks.specs.Contract.{Admits};
+ghost use Rattle.checks.specs.Refusal.{closes_more, other_version, version_refusal, records_refusal, log_refusal, trimming_refusal, words_refusal, point_refusal};
 ghost use Rattle.trace.specs.Format.{total_records};
 ghost use Rattle.trace.specs.Making.{trimmed};
 
 use checkpoint::{header, words};
-use rule::{Entry, Measured, refuse};
+use refusal::Refusal;
+use rule::Rule;
 
-// Refusals 1 to 9, or the words that the rule needs.
+// A rule that is not refused, and the words that it needs: as many are lent.
 #[derive(Clone, Copy)]
-pub enum Sized {
-    Words(usize),
-    Stopped(u32),
+pub struct Admitted {
+    pub rule: Rule,
+    pub words: usize,
 }
 
-impl Sized {
-    pub fn number(self) -> u32
-        ensures { result ≡ sized_number self }
-    {
-        match self {
-            Sized::Words(_) => 0,
-            Sized::Stopped(n) => n,
-        }
-    }
-}
-
-// Refusals 10 to 14 and 20 to 25, in `check_own` 1 to 9 as well, or none of them.
-#[derive(Clone, Copy)]
-pub enum Checked {
-    Passed,
-    Failed(u32),
-}
-
-impl Checked {
-    pub fn number(self) -> u32
-        ensures { result ≡ checked_number self }
-    {
-        match self {
-            Checked::Passed => 0,
-            Checked::Failed(n) => n,
-        }
-    }
-}
-
-pub fn size_of(measured: Measured, lent: usize) -> Sized
-    ensures { result ≡ sized_by measured lent }
+// Refusals 1 to 9.
+pub fn admit(rule: &[u8], lent: usize) -> Result<Admitted, Refusal>
+    ensures { Admits rule.now lent result }
 {
-    let Measured::Words { words, reach: _ } = measured else {
-        return Sized::Stopped(measured.number());
-    };
+    let rule = rule::decode(rule)?;
+    let words = rule.measure()?.words;
     if lent < words {
-        Sized::Stopped(9)
-    } else {
-        Sized::Words(words)
+        return Err(Refusal::ShortPoint);
     }
+    Ok(Admitted { rule, words })
 }
 
-// How many of the records from `first` on were seen, of so many in all.
-fn behind(first: usize, seen: usize) -> usize
-    ensures { result ≡ seen - first }
+// Refusals 10 and 11.
+pub fn check_words(rule: &Rule, point: &[u64]) -> Result<(), Refusal>
+    requires { (rule.now.version ≤ 2) × (needed rule.now.version rule.now.entries rule.now.count ≤ length point.now) }
+    ensures { number result ≡ words_refusal rule.now.version rule.now.entries rule.now.count point.now 0 }
 {
-    if first <= seen { seen - first } else { 0 }
+    let faults = words::block_faults(rule, point);
+    if words::is_foreign(rule, faults.copies, point) {
+        return Err(Refusal::ForeignPoint);
+    }
+    if words::is_outside(rule, faults.ranges, point) {
+        return Err(Refusal::PointRange);
+    }
+    Ok(())
 }
 
 // Refusal 22: a log of another version was noted.
@@ -74,28 +54,42 @@ fn is_other_version(log: &[u8], noted: u64) -> bool
     (0 < noted) & (noted != checkpoint::log_kind(trace::skips(log)))
 }
 
-// The number of the first of refusals 13, 21, 24 and 14 that applies, or another.
-fn records_reason(log: &[u8], more: bool, point: &[u64], other: u32) -> u32
+// Refusals 12 and 22.
+fn check_version(log: &[u8], point: &[u64]) -> Result<(), Refusal>
+    requires { 16 ≤ length point.now }
+    ensures { number result ≡ version_refusal log.now point.now 0 }
+{
+    if trace::is_malformed(log) {
+        return Err(Refusal::LogFormat);
+    }
+    if is_other_version(log, point[header::LOG_KIND]) {
+        return Err(Refusal::OtherVersion);
+    }
+    Ok(())
+}
+
+// Refusals 13, 21, 24 and 14.
+fn check_records(log: &[u8], more: bool, point: &[u64]) -> Result<(), Refusal>
     requires { (16 ≤ length point.now) × (total_records log.now ≤ 1000000) }
-    ensures { result ≡ records_refusal more log.now point.now other }
+    ensures { number result ≡ records_refusal more log.now point.now 0 }
 {
     let seen = point[header::SEEN] as usize;
     let first = point[header::WANTED];
-    let disordered = trace::is_disordered(
-        trace::records_from(log, first),
-        behind(first as usize, seen),
-        point[header::LAST],
-    );
-    let wanted = refuse(
-        24,
-        first < trace::dropped(log),
-        refuse(14, disordered, other),
-    );
-    refuse(
-        13,
-        trace::total_records(log) < seen,
-        refuse(21, more, wanted),
-    )
+    if trace::total_records(log) < seen {
+        return Err(Refusal::FewerRecords);
+    }
+    if more {
+        return Err(Refusal::MoreRecords);
+    }
+    if first < trace::dropped(log) {
+        return Err(Refusal::RecordDropped);
+    }
+    let wanted = trace::records_from(log, first);
+    let behind = seen.saturating_sub(first as usize);
+    if trace::is_disordered(wanted, behind, point[header::LAST]) {
+        return Err(Refusal::TimeFalls);
+    }
+    Ok(())
 }
 
 // A closing is repeated with so many records, more than at the first.
@@ -105,26 +99,18 @@ fn closes_more(closing: bool, noted: u64, records: usize) -> bool
     closing & ((0 < noted) & (noted <= records as u64))
 }
 
-// The number of the first of refusals 20, 12, 22 and these that applies to a resume or a closing, or 0.
-fn log_reason(log: &[u8], closing: bool, point: &[u64]) -> u32
+// Refusal 20, and those of the log of a resume or a closing.
+fn check_log(log: &[u8], closing: bool, point: &[u64]) -> Result<(), Refusal>
     requires { 16 ≤ length point.now }
-    ensures { result ≡ log_refusal closing log.now point.now }
+    ensures { number result ≡ log_refusal closing log.now point.now }
 {
-    if !closing & (0 < point[header::CLOSED_WITH]) {
-        return 20;
+    let noted = point[header::CLOSED_WITH];
+    if !closing & (0 < noted) {
+        return Err(Refusal::PointClosed);
     }
-    if trace::is_malformed(log) {
-        return 12;
-    }
-    if is_other_version(log, point[header::LOG_KIND]) {
-        return 22;
-    }
-    let more = closes_more(
-        closing,
-        point[header::CLOSED_WITH],
-        trace::total_records(log),
-    );
-    records_reason(log, more, point, 0)
+    check_version(log, point)?;
+    let more = closes_more(closing, noted, trace::total_records(log));
+    check_records(log, more, point)
 }
 
 // The log trimmed to the records from `first` on does not fit into so many bytes.
@@ -134,117 +120,36 @@ fn is_short(lent: usize, log: &[u8], first: u64) -> bool
     lent < 16 + trace::records_from(log, first).len()
 }
 
-// The number of the first of refusals 12, 22, 23, 13, 24, 14 and 25 that applies to a trimming into so many bytes, or 0.
-fn trimming_reason(log: &[u8], lent: usize, point: &[u64]) -> u32
+// Refusals 23 and 25, and those of the log of a trimming into so many bytes.
+fn check_trimmed(log: &[u8], lent: usize, point: &[u64]) -> Result<(), Refusal>
     requires { 16 ≤ length point.now }
-    ensures { result ≡ trimming_refusal lent log.now point.now }
+    ensures { number result ≡ trimming_refusal lent log.now point.now }
 {
-    if trace::is_malformed(log) {
-        return 12;
-    }
-    if is_other_version(log, point[header::LOG_KIND]) {
-        return 22;
-    }
+    check_version(log, point)?;
     if !trace::skips(log) {
-        return 23;
+        return Err(Refusal::TrimVersion);
     }
-    let short = is_short(lent, log, point[header::WANTED]);
-    records_reason(log, false, point, refuse(25, short, 0))
-}
-
-// 10 or 11 where it applies, else what comes after them.
-fn words_reason(
-    version: usize,
-    entries: [Entry; 128],
-    count: usize,
-    point: &[u64],
-    other: u32,
-) -> u32
-    requires { (version ≤ 2) × (count ≤ 128) × (header_words version + offset entries count ≤ length point.now) }
-    ensures { result ≡ words_refusal version entries count point.now other }
-{
-    let faults = words::block_faults(rule::header_words(version), entries, count, point);
-    refuse(
-        10,
-        words::is_foreign(version, count, faults.copies, point),
-        refuse(11, words::is_outside(version, faults.ranges, point), other),
-    )
-}
-
-fn checked_by(number: u32) -> Checked
-    ensures { result ≡ checked_by number }
-{
-    if number == 0 {
-        Checked::Passed
-    } else {
-        Checked::Failed(number)
+    check_records(log, false, point)?;
+    if is_short(lent, log, point[header::WANTED]) {
+        return Err(Refusal::ShortLog);
     }
-}
-
-// Refusals 10 and 11.
-fn check_words(version: usize, entries: [Entry; 128], count: usize, point: &[u64]) -> Checked
-    requires { (version ≤ 2) × (count ≤ 128) × (header_words version + offset entries count ≤ length point.now) }
-    ensures { result ≡ checked_by (words_refusal version entries count point.now 0) }
-{
-    checked_by(words_reason(version, entries, count, point, 0))
+    Ok(())
 }
 
 // Refusals 10 to 14, 20 to 22 and 24.
-pub fn check_point(
-    version: usize,
-    entries: [Entry; 128],
-    count: usize,
-    log: &[u8],
-    closing: bool,
-    point: &[u64],
-) -> Checked
-    requires { (version ≤ 2) × (count ≤ 128) × (header_words version + offset entries count ≤ length point.now) }
-    ensures { result ≡ checked_by (point_refusal closing version entries count log.now point.now) }
+pub fn check_point(rule: &Rule, log: &[u8], closing: bool, point: &[u64]) -> Result<(), Refusal>
+    requires { (rule.now.version ≤ 2) × (needed rule.now.version rule.now.entries rule.now.count ≤ length point.now) }
+    ensures { number result ≡ point_refusal closing rule.now.version rule.now.entries rule.now.count log.now point.now }
 {
-    checked_by(words_reason(
-        version,
-        entries,
-        count,
-        point,
-        log_reason(log, closing, point),
-    ))
+    check_words(rule, point)?;
+    check_log(log, closing, point)
 }
 
 // Refusals 10 to 14 and 22 to 25, of a trimming into so many bytes.
-pub fn check_trimming(
-    version: usize,
-    entries: [Entry; 128],
-    count: usize,
-    log: &[u8],
-    lent: usize,
-    point: &[u64],
-) -> Checked
-    requires { (version ≤ 2) × (count ≤ 128) × (header_words version + offset entries count ≤ length point.now) }
-    ensures { result ≡ checked_by (words_refusal version entries count point.now (trimming_refusal lent log.now point.now)) }
+pub fn check_trimming(rule: &Rule, log: &[u8], lent: usize, point: &[u64]) -> Result<(), Refusal>
+    requires { (rule.now.version ≤ 2) × (needed rule.now.version rule.now.entries rule.now.count ≤ length point.now) }
+    ensures { number result ≡ words_refusal rule.now.version rule.now.entries rule.now.count point.now (trimming_refusal lent log.now point.now) }
 {
-    checked_by(words_reason(
-        version,
-        entries,
-        count,
-        point,
-        trimming_reason(log, lent, point),
-    ))
-}
-
-// Refusals 1 to 11, which look at no log.
-pub fn check_own(
-    measured: Measured,
-    version: usize,
-    entries: [Entry; 128],
-    count: usize,
-    point: &[u64],
-) -> Checked
-    requires { Covers measured version entries count }
-    ensures { result ≡ own_checked (sized_by measured (length point.now)) version entries count point.now }
-{
-    let sized = size_of(measured, point.len());
-    let Sized::Words(_) = sized else {
-        return Checked::Failed(sized.number());
-    };
-    check_words(version, entries, count, point)
+    check_words(rule, point)?;
+    check_trimmed(log, lent, point)
 }

@@ -1,8 +1,8 @@
 // Bytes, numbers and words written into a lent text, one behind the other.
 #![tactic(auto)]
 
-ghost use Rattle.std.specs.Prelude.{◌+◌, ◌≤◌, length};
-ghost use Rattle.decimal.specs.Text.{decimal, verdict_word, Writes};
+ghost use Rattle.std.specs.Prelude.{◌≡◌, ◌+◌, ◌≤◌, length};
+ghost use Rattle.decimal.specs.Text.{decimal, Writes};
 
 // Writes bytes into the text from `at` on, and gives where they end.
 pub fn put(bytes: &[u8], text: &mut [u8], at: usize) -> usize
@@ -14,6 +14,7 @@ pub fn put(bytes: &[u8], text: &mut [u8], at: usize) -> usize
 }
 
 // A number in decimal.
+#[tactic(auto, using(crate::proofs::Decimals::decimal_of))]
 pub fn put_number(n: usize, text: &mut [u8], at: usize) -> usize
     requires { at + length (decimal n) ≤ length text.old }
     ensures { Writes text.old at (decimal n) result text.new }
@@ -23,14 +24,45 @@ pub fn put_number(n: usize, text: &mut [u8], at: usize) -> usize
     put(&digits[..count], text, at)
 }
 
-// One space, and yes or no.
-pub fn put_word(holds: bool, text: &mut [u8], at: usize) -> usize
-    requires { at + 4 ≤ length text.old }
-    ensures { Writes text.old at (verdict_word holds) result text.new }
-{
-    if holds {
-        put(b" yes", text, at)
-    } else {
-        put(b" no", text, at)
+// A lent buffer that a text is written into, one piece behind the other.
+#[derive(Drop)]
+pub struct Text<'a> {
+    bytes: &'a mut [u8],
+    // how many bytes are written
+    at: usize,
+}
+
+impl<'a> Text<'a> {
+    ghost use Rattle.decimal.specs.Written.{Begins, Room, Puts};
+
+    pub fn new(bytes: &'a mut [u8]) -> Text<'a>
+        ensures { Begins bytes.entry result }
+    {
+        Text { bytes, at: 0 }
+    }
+
+    pub fn len(&self) -> usize
+        ensures { result ≡ self.now.at }
+    {
+        self.at
+    }
+
+    pub fn put(&mut self, piece: &[u8])
+        requires { Room self.old (length piece.now) }
+        ensures { Puts self.old piece.now self.new }
+    {
+        bits::bytes::copy(piece, self.bytes, self.at);
+        self.at += piece.len();
+    }
+
+    // A number in decimal.
+    #[tactic(auto, using(crate::proofs::Decimals::decimal_of))]
+    pub fn put_number(&mut self, n: usize)
+        requires { Room self.old (length (decimal n)) }
+        ensures { Puts self.old (decimal n) self.new }
+    {
+        let mut digits = [0u8; 20];
+        let count = io::decimal(n as u64, &mut digits);
+        self.put(&digits[..count]);
     }
 }

@@ -21,12 +21,14 @@ use Rattle.window.specs.View.{skips as view_skips}
 use Rattle.window.specs.Window.{Found}
 use Rattle.trace.proofs.Laws.{last_time_bound}
 use Rattle.window.proofs.Reading.{wanted_shown}
-use Rattle.window.proofs.Slices.{served_before, served_shows, flag_told}
-use Rattle.window.proofs.Marks.{first_told, total_told, skips_told, closed_told}
+use Rattle.window.proofs.Slices.{served_before, served_shows}
+use Rattle.window.specs.declared.view.View.{View}
 use Rattle.blocks.specs.Block.{word}
 use Rattle.blocks.specs.Step.{Agrees}
 use Rattle.blocks.proofs.Words.{Store, put, after, word_stores}
 use Rattle.engine.specs.Tops.{Tops, Ended}
+use Rattle.engine.specs.declared.table.Row.{Row}
+use Rattle.engine.specs.declared.tops.Top.{Top as TopPlace}
 use Rattle.engine.proofs.Formulas.{rule_size}
 use Rattle.checkpoint.specs.Checkpoint.{given, seen, last, first_wanted, kind_of_log, stored_noes}
 use Rattle.held.specs.Top.{part_of, Top}
@@ -36,9 +38,9 @@ use Rattle.emit.specs.declared.Emitted.{Emitted}
 use Rattle.held.proofs.Places.{part_same}
 
 -- the formulas of the rule have all words behind the header
-pub fits_of : (t : List Entry) (n : ℕ) (ends : List ℕ) (number most base deep : ℕ) (s ws table tops : List ℕ) →
-    ReadyToEmit (record { entries = t; count = n; ends = ends; number = number; most = most; base = base; deep = deep }) s ws → (fs : List Formula) → Ended t n ends number fs → Tops table tops base number fs →
-    Fits (plan table tops number) base fs (length ws)
+pub fits_of : (t : List Entry) (n : ℕ) (ends : List ℕ) (number most base deep : ℕ) (s ws : List ℕ) (table : List Row) (tops : List TopPlace) →
+    ReadyToEmit (record { entries = t; count = n; ends = ends; number = number; most = most; base = base; deep = deep }) s ws → (fs : List Formula) → Ended t n ends number fs → Tops table tops base fs →
+    Fits (plan table tops) base fs (length ws)
 fits_of t n ends number most base deep s ws table tops ready fs ended laid =
     record {
       laid = laid;
@@ -48,14 +50,14 @@ fits_of t n ends number most base deep s ws table tops ready fs ended laid =
 
 -- THE VIEW
 
-module _ (skips closed : Bool) (s : List ℕ) (first q : ℕ) (L : Log) (v : List ℕ) (made : ViewOf first q skips closed s v) where
+module _ (skips closed : Bool) (s : List ℕ) (first q : ℕ) (L : Log) (v : View) (made : ViewOf first q skips closed s v) where
   -- where no service record lies in the slice, none is passed over, and it tells the same log
   viewed_agrees : (g : ℕ) → Agrees (view_of first q skips closed s) s L g → Agrees v s L g
   viewed_agrees g agrees =
       record {
-        ends = agrees.ends ∙ flag_told closed ∙ sym (closed_told made);
-        size = total_told made ∙ agrees.size;
-        shows = λ i low high. rw (skips_told made, first_told made) (served_shows skips s first L i (rw (flag_told skips) at (agrees.shows i low high)));
+        ends = agrees.ends ∙ sym made.closed;
+        size = made.total ∙ agrees.size;
+        shows = λ i low high. rw (made.skips, made.first) (served_shows skips s first L i (agrees.shows i low high));
       }
 
   -- the record found is the first still wanted
@@ -63,10 +65,10 @@ module _ (skips closed : Bool) (s : List ℕ) (first q : ℕ) (L : Log) (v : Lis
       first + n ≡ wanted_record L (first + record_count s) q'
   found_wanted q' n starts later inside agrees found =
       let size = agrees.size in
-      let here : q + before (view_skips v) s (record_count s) ≡ L.size = rw (skips_told made, served_before skips s) (sym (total_told made) ∙ size) in
+      let here : q + before (view_skips v) s (record_count s) ≡ L.size = rw (made.skips, served_before skips s) (sym (made.total) ∙ size) in
       let there : q + (q' - q) ≡ q' = omega arith in
       ap (λ (m : ℕ). first + m) (found.at (omega arith) ∙ ap (place (view_skips v) s 0) (omega arith)) ∙
-      sym (wanted_shown (view_skips v) s first L q starts here (λ i low high. rw (first_told made) at (agrees.shows i low high)) (q' - q) (omega arith)) ∙
+      sym (wanted_shown (view_skips v) s first L q starts here (λ i low high. rw (made.first) at (agrees.shows i low high)) (q' - q) (omega arith)) ∙
       ap (wanted_record L (first + record_count s)) there
 
 -- THE HEADER
@@ -110,8 +112,8 @@ module _ (skips closed : Bool) (s : List ℕ) (n : ℕ) (ws : List ℕ) (room : 
 
 -- THE CALL
 
-pub emitted : {table tops : List ℕ} {base number most : ℕ} {fs : List Formula} (skips closed : Bool) (s ws sheet v : List ℕ) (out : Emitted) (ws₁ sheet₁ ws₂ : List ℕ) →
-    Fits (plan table tops number) base fs (length ws) → ((i : ℕ) → get_or s i 0 < 256) → Viewed skips closed (deepest fs) s ws v →
+pub emitted : {table : List Row} {tops : List TopPlace} {base most : ℕ} {fs : List Formula} (skips closed : Bool) (s ws sheet : List ℕ) (v : View) (out : Emitted) (ws₁ sheet₁ ws₂ : List ℕ) →
+    Fits (plan table tops) base fs (length ws) → ((i : ℕ) → get_or s i 0 < 256) → Viewed skips closed (deepest fs) s ws v →
     Gave base most fs v s ws sheet out ws₁ sheet₁ → Notes skips (deepest fs) v s ws₁ ws₂ → Emits base most fs s skips closed ws sheet out ws₂ sheet₁
 emitted {base = base} {most = most} {fs = fs} skips closed s ws sheet v out ws₁ sheet₁ ws₂ fits byte made gave (n, found, is) =
     let header = fits.header in
@@ -121,7 +123,7 @@ emitted {base = base} {most = most} {fs = fs} skips closed s ws sheet v out ws�
     let first_same : first_wanted ws₁ ≡ first_wanted ws = frame.header 7 (omega arith) (λ e. omega arith) in
     let seen_same : seen ws₁ ≡ seen ws = frame.header 2 (omega arith) (λ e. omega arith) in
     let last_same : last ws₁ ≡ last ws = frame.header 3 (omega arith) (λ e. omega arith) in
-    let ending : ws₂ ≡ noted skips closed s n ws₁ = rw (closed_told made) at is in
+    let ending : ws₂ ≡ noted skips closed s n ws₁ = rw (made.closed) at is in
     let time : last ws₂ ≡ last_time s (seen ws - first_wanted ws) (last ws) = rw (ending, at 3, first_same, seen_same, last_same) refl in
     let size : seen ws₂ ≡ first_wanted ws + record_count s = rw (ending, at 2, first_same) refl in
     let next : first_wanted ws₂ ≡ first_wanted ws + n = rw (ending, at 7, first_same) refl in

@@ -11,6 +11,7 @@ use lib.Dec.{ltb}
 use lib.ListN.{length, get_or, take, drop, length-take}
 use lib.Seq.{drop-drop, get_or-take}
 use Rattle.mtl.specs.Formula.{Formula}
+use Rattle.window.specs.declared.view.View.{View}
 use Rattle.mtl.specs.Log.{Log, NeverFalls}
 use Rattle.mtl.specs.Progress.{joint_progress}
 use Rattle.mtl.specs.Wanted.{wanted}
@@ -33,6 +34,8 @@ use Rattle.emit.specs.Code.{Giving, Frame, Gave}
 use Rattle.meaning.proofs.Laws.{joint_least, all_bits, verdict_answers}
 use Rattle.held.proofs.Places.{count_at, bits_at}
 use Rattle.held.proofs.TakingOut.{its_row, length_all, now_given, now_header, now_spare, now_noes, now_onward, top_taken_out}
+use Rattle.engine.specs.declared.table.Row.{Row}
+use Rattle.engine.specs.declared.tops.Top.{Top as TopPlace}
 
 -- NOTHING COUNTED IN A WORD OF YES
 
@@ -67,7 +70,7 @@ frame_then base most fs ws ws' ws'' a b =
     }
 
 -- asking touches no header
-pub frame_held : {base most : ℕ} {fs : List Formula} {v s : List ℕ} {ws : List ℕ} {r : ℕ} {ws' : List ℕ} → 8 + most + most ≤ base →
+pub frame_held : {base most : ℕ} {fs : List Formula} {v : View} {s : List ℕ} {ws : List ℕ} {r : ℕ} {ws' : List ℕ} → 8 + most + most ≤ base →
     Held base fs v s ws r ws' → Frame base most fs ws ws'
 frame_held room held =
     record {
@@ -77,7 +80,7 @@ frame_held room held =
     }
 
 -- nor counts anything
-pub noes_held : {base most : ℕ} {fs : List Formula} {v s : List ℕ} {ws : List ℕ} {r : ℕ} {ws' : List ℕ} → 8 + most + most ≤ base →
+pub noes_held : {base most : ℕ} {fs : List Formula} {v : View} {s : List ℕ} {ws : List ℕ} {r : ℕ} {ws' : List ℕ} → 8 + most + most ≤ base →
     Held base fs v s ws r ws' → (k : ℕ) → k < most → stored_noes most ws' k ≡ stored_noes most ws k
 noes_held {most = most} room held k h =
     ap₂ (λ (c a : ℕ). noes c (latest_of a)) (held.header (8 + k) (omega arith)) (held.header (8 + most + k) (omega arith))
@@ -99,7 +102,7 @@ counted base fs L d c room r ws' fits full least top size short =
     (le_or_lt 1 r)
 
 -- after `done` verdicts
-pub record Going (base most : ℕ) (fs : List Formula) (v s ws sheet : List ℕ) (done : ℕ) (ws' sheet' : List ℕ) : Type 0 where
+pub record Going (base most : ℕ) (fs : List Formula) (v : View) (s ws sheet : List ℕ) (done : ℕ) (ws' sheet' : List ℕ) : Type 0 where
   pub room : done ≤ length sheet
   pub rest : drop done sheet' ≡ drop done sheet
   pub sheet_length : length sheet' ≡ length sheet
@@ -109,7 +112,7 @@ pub record Going (base most : ℕ) (fs : List Formula) (v s ws sheet : List ℕ)
   pub noes : (k : ℕ) → k < columns fs → stored_noes most ws' k ≡ laid_behind (stored_noes most ws k) (given ws) (noes_in k sheet' done)
   pub meaning : (L : Log) (d : ℕ) → NeverFalls L → Agrees v s L (wanted fs d) → Top base fs L d ws → Giving base fs L d done ws' sheet'
 
-pub going_none : (base most : ℕ) (fs : List Formula) (v s ws sheet : List ℕ) → Going base most fs v s ws sheet 0 ws sheet
+pub going_none : (base most : ℕ) (fs : List Formula) (v : View) (s ws sheet : List ℕ) → Going base most fs v s ws sheet 0 ws sheet
 unfolding count_of latest_no
 going_none base most fs v s ws sheet =
     record {
@@ -126,24 +129,24 @@ going_none base most fs v s ws sheet =
     }
 
 -- no more of them are no
-pub counted_so_far : {base most : ℕ} {fs : List Formula} {v s ws sheet : List ℕ} {done : ℕ} {ws' sheet' : List ℕ} →
+pub counted_so_far : {base most : ℕ} {fs : List Formula} {v : View} {s ws sheet : List ℕ} {done : ℕ} {ws' sheet' : List ℕ} →
     Going base most fs v s ws sheet done ws' sheet' → (k : ℕ) → k < columns fs → word ws' (8 + k) ≤ word ws (8 + k) + done
 counted_so_far {done = done} {sheet' = sheet'} going k h =
     omega (arith, ap (λ (x : Noes). x.count) (going.noes k h), count_le k sheet' false done)
 
-module _ {table tops : List ℕ} {base number most : ℕ} {fs : List Formula} {v s ws sheet : List ℕ} {done : ℕ} {ws₁ sheet₁ : List ℕ} {r : ℕ} {ws₂ : List ℕ}
-    (fits : Fits (plan table tops number) base fs (length ws)) (counts : 8 + most + most ≤ base) (few : number ≤ most) (some : 1 ≤ most)
+module _ {table : List Row} {tops : List TopPlace} {base most : ℕ} {fs : List Formula} {v : View} {s ws sheet : List ℕ} {done : ℕ} {ws₁ sheet₁ : List ℕ} {r : ℕ} {ws₂ : List ℕ}
+    (fits : Fits (plan table tops) base fs (length ws)) (counts : 8 + most + most ≤ base) (few : length tops ≤ most) (some : 1 ≤ most)
     (going : Going base most fs v s ws sheet done ws₁ sheet₁) (held : Held base fs v s ws₁ r ws₂) where
-  fits_now : Fits (plan table tops number) base fs (length ws₂)
+  fits_now : Fits (plan table tops) base fs (length ws₂)
   fits_now = rw (held.words_length, going.words_length) fits
 
   most_columns : (k : ℕ) → k < columns fs → k < most
   most_columns k h = omega (arith, fits.laid.number)
 
   module _ (n : ℕ) (answers : List ℕ) (within : n ≤ r) (inside : done + n ≤ length sheet)
-      (answered : Answered tops number ws₂ answers) where
+      (answered : Answered tops ws₂ answers) where
     abbrev ws₃ : List ℕ
-    ws₃ = taken_verdicts tops most n number ws₂
+    ws₃ = taken_verdicts tops most n ws₂
 
     abbrev rows : List ℕ
     rows = take (columns fs) answers
@@ -167,17 +170,17 @@ module _ {table tops : List ℕ} {base number most : ℕ} {fs : List Formula} {v
     noes_taken_out : (k : ℕ) → k < columns fs → stored_noes most ws₃ k ≡ laid_behind (stored_noes most ws₂ k) (given ws₂) (noes_of_bits n (get_or answers k 0))
     noes_taken_out k h =
         ⊎_elim
-        (λ (none : number ≤ k).
-        let empty : number ≡ 0 = omega (arith, fits.laid.number) in
+        (λ (none : length tops ≤ k).
+        let empty : (length tops) ≡ 0 = omega (arith, fits.laid.number) in
         let first : k ≡ 0 = omega (arith, fits.laid.number) in
         let (c, a) = now_spare most n ws₂ fits_now counts few k none (most_columns k h) in
         ap₂ (λ (c a : ℕ). noes c (latest_of a)) c a ∙ behind_none (stored_noes most ws₂ k) (given ws₂) ∙
         ap (laid_behind (stored_noes most ws₂ k) (given ws₂))
         (sym (ap (λ (b : ℕ). noes_of_bits n b) (ap (λ (i : ℕ). get_or answers i 0) first ∙ answered.none empty) ∙ yes_noes n few_bits)))
-        (λ (one : k < number).
+        (λ (one : k < length tops).
         now_noes most n ws₂ fits_now counts few k one ∙
         ap (λ (b : ℕ). laid_behind (stored_noes most ws₂ k) (given ws₂) (noes_of_bits n b)) (sym (answered.each k one)))
-        (le_or_lt number k)
+        (le_or_lt (length tops) k)
 
     noes_portion : (k : ℕ) → k < columns fs → stored_noes most ws₃ k ≡ laid_behind (stored_noes most ws k) (given ws) (noes_in k sheet₂ (done + n))
     noes_portion k h =
@@ -241,7 +244,7 @@ module _ {table tops : List ℕ} {base number most : ℕ} {fs : List Formula} {v
 
   -- a portion can be taken
   pub takeable : (n : ℕ) → n ≤ r → done + n ≤ length sheet → length sheet < 2 ^ 63 → most ≤ 8 → given ws ≤ 1000000 →
-      ((k : ℕ) → k < most → word ws (8 + k) ≤ 1000000) → CanTake tops number most n ws₂
+      ((k : ℕ) → k < most → word ws (8 + k) ≤ 1000000) → CanTake tops most n ws₂
   takeable n within inside short small given noes =
       let at : word ws₂ 1 ≡ word ws 1 + done = held.header 1 (omega (arith, fits.header)) ∙ going.count in
       record {

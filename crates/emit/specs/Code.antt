@@ -7,6 +7,8 @@ use Rattle.mtl.specs.Progress.{joint_progress}
 use Rattle.mtl.specs.Wanted.{deepest, wanted, wanted_record}
 use Rattle.verdicts.specs.Counts.{noes_in, laid_behind}
 use Rattle.rule.specs.declared.Entry.{Entry}
+use Rattle.rule.specs.declared.decoding.Rule.{Rule}
+use Rattle.rule.specs.declared.measuring.Ends.{Ends}
 use Rattle.rule.specs.Words.{offset}
 use Rattle.rule.specs.Postfix.{formula}
 use Rattle.rule.specs.Accepted.{WellFormed}
@@ -16,6 +18,7 @@ use Rattle.window.specs.View.{total, view_of, ViewOf}
 use Rattle.window.specs.View.{skips as view_skips}
 use Rattle.window.specs.View.{closed as view_closed}
 use Rattle.window.specs.Window.{Found}
+use Rattle.window.specs.declared.view.View.{View}
 use Rattle.blocks.specs.Block.{word}
 use Rattle.blocks.specs.Step.{Agrees}
 use Rattle.engine.specs.State.{OnwardFormula}
@@ -39,7 +42,7 @@ pub record Frame (base most : ℕ) (fs : List Formula) (ws ws' : List ℕ) : Typ
   pub onward : (k : ℕ) → k < length fs → OnwardFormula (formula fs k) (part_of base fs k ws) (part_of base fs k ws')
 
 -- `give` writes as many verdicts as the sheet holds, or as there are
-pub record Gave (base most : ℕ) (fs : List Formula) (v s ws sheet : List ℕ) (r : Emitted) (ws' sheet' : List ℕ) : Type 0 where
+pub record Gave (base most : ℕ) (fs : List Formula) (v : View) (s ws sheet : List ℕ) (r : Emitted) (ws' sheet' : List ℕ) : Type 0 where
   pub room : r.count ≤ length sheet
   pub rest : drop r.count sheet' ≡ drop r.count sheet
   pub sheet_length : length sheet' ≡ length sheet
@@ -51,14 +54,14 @@ pub record Gave (base most : ℕ) (fs : List Formula) (v s ws sheet : List ℕ) 
       Giving base fs L d r.count ws' sheet' × (r.count ≡ min (joint_progress fs L - d) (length sheet)) ×
       (r.more ≡ ltb (d + r.count) (joint_progress fs L))
 
-abbrev pub GivesVerdicts : (rule : Plan) (most : ℕ) (v s ws sheet : List ℕ) (r : Emitted) (ws' sheet' : List ℕ) → Type 0
+abbrev pub GivesVerdicts : (rule : Plan) (most : ℕ) (v : View) (s ws sheet : List ℕ) (r : Emitted) (ws' sheet' : List ℕ) → Type 0
 GivesVerdicts rule most v s ws sheet r ws' sheet' =
     (base : ℕ) (fs : List Formula) → Fits rule base fs (length ws) → 8 + most + most ≤ base → Gave base most fs v s ws sheet r ws' sheet'
 
 -- a call's verdicts begin with at most 1,000,000 given and as many counted, so that no count can wrap
 pub record Countable (rule : Plan) (most : ℕ) (ws : List ℕ) : Type 0 where
   pub fits : (base : ℕ) × (fs : List Formula) × Fits rule base fs (length ws) × (8 + most + most ≤ base)
-  pub formulas : rule.number ≤ most
+  pub formulas : length rule.tops ≤ most
   pub small : (1 ≤ most) × (most ≤ 8)
   pub given : given ws ≤ 1000000
   pub noes : (k : ℕ) → k < most → word ws (8 + k) ≤ 1000000
@@ -71,7 +74,7 @@ pub record Brought (fs : List Formula) (s : List ℕ) (skips closed : Bool) (fir
   pub agrees : Agrees (view_of first (wanted fs d) skips closed s) s L (wanted fs d)
 
 -- the view of these records that is handed on
-abbrev pub Viewed : (skips closed : Bool) (deep : ℕ) (s ws v : List ℕ) → Type 0
+abbrev pub Viewed : (skips closed : Bool) (deep : ℕ) (s ws : List ℕ) (v : View) → Type 0
 Viewed skips closed deep s ws v = ViewOf (first_wanted ws) (given ws - deep) skips closed s v
 
 -- what is noted of the log: the last time, the records seen, whether it is closed, its version, and the first record still wanted, the
@@ -83,7 +86,7 @@ noted skips closed s n ws =
     (first_wanted ws + n)
 
 -- it is the one from which on as many positions stand as are still wanted
-abbrev pub Notes : (skips : Bool) (deep : ℕ) (v s ws ws' : List ℕ) → Type 0
+abbrev pub Notes : (skips : Bool) (deep : ℕ) (v : View) (s ws ws' : List ℕ) → Type 0
 Notes skips deep v s ws ws' = (n : ℕ) × Found (view_skips v) s (total v - (given ws - deep)) n × (ws' ≡ noted skips (view_closed v) s n ws)
 
 -- an accepted call on exactly the words that the rule needs
@@ -134,6 +137,19 @@ pub record ReadyToEmit (rule : DecodedRule) (s ws : List ℕ) : Type 0 where
   pub depth : rule.deep ≡ deepest the_formulas
   pub wanted : first_wanted ws ≤ 1000000
   pub records : record_count s ≤ 1000000
+
+-- as a call hands it over
+abbrev pub as_decoded : Rule → Ends → (most base deep : ℕ) → DecodedRule
+as_decoded rule ends most base deep =
+    record {
+      entries = rule.entries;
+      count = rule.count;
+      ends = ends.at;
+      number = ends.number;
+      most = most;
+      base = base;
+      deep = deep;
+    }
 
 abbrev pub Emission : (rule : DecodedRule) (skips closed : Bool) (s ws sheet : List ℕ) → Emitted → (ws' sheet' : List ℕ) → Type 0
 Emission rule skips closed s ws sheet r ws' sheet' =

@@ -5,7 +5,7 @@ use mathlib.Core.Logic.{◌⊎◌, inl, inr, ⊎_elim}
 use mathlib.Core.Path.{◌≡◌, refl, sym, ap, ◌∙◌}
 use mathlib.Core.List.{List, ◌++◌}
 use native.Mathlib.Omega.{arith}
-use native.Mathlib.Nat.{zero-add, pos_of_ne-zero}
+use native.Mathlib.Nat.{zero-add}
 use lib.ListN.{length, take, drop, length-drop, take-append-drop}
 use lib.Seq.{length-take-le, take_at, get_or-drop}
 use Rattle.mtl.specs.Formula.{Formula}
@@ -13,18 +13,23 @@ use Rattle.mtl.specs.Log.{Log, NeverFalls}
 use Rattle.mtl.specs.Progress.{settled_to}
 use Rattle.mtl.proofs.Bounded.{le_or_lt, true_and_false}
 use Rattle.window.specs.View.{total}
+use Rattle.window.specs.declared.view.View.{View as LogView}
 use Rattle.rule.specs.Words.{own_words}
+use Rattle.rule.specs.Kinds.{number_of_kind}
+use Rattle.rule.specs.declared.kind.Kind.{Kind}
+use Rattle.rule.specs.declared.kind.Kind.TheVariants.{Letter, Not, Or, Previous, Next, Since, Until}
 use Rattle.rule.proofs.Spans.{own_least}
+use Rattle.std.specs.Prelude.{Some, None}
 use Rattle.blocks.specs.Block.{word, taken, left_count, Onward, Ready}
 use Rattle.blocks.specs.Step.{Agrees, Batched, Moved, Stepped, Steps, Ends, has_left, empty, left_to_do}
 use Rattle.engine.specs.State.{State}
 use Rattle.blocks.specs.Kinds.{takes_left, takes_right, Fields}
-use Rattle.engine.specs.Table.{Has, RowOk, RowsOk, column}
+use Rattle.engine.specs.declared.table.Row.{Row}
+use Rattle.engine.specs.Table.{Has, RowOk, RowsOk, row_at, kind_at}
 use Rattle.engine.specs.Answer.{GoesOn, first_read, Answers}
 use Rattle.engine.specs.Ask.{part, back, stored, Advances, Asks, Fills, StillStands, Full, Short, Refills}
 use Rattle.blocks.specs.declared.Step.{Step}
 use Rattle.blocks.specs.declared.Step.TheVariants.{Batch, Left, Right, Again, Open}
-use Rattle.engine.specs.declared.Reply.TheVariants.{Batch as Answered, Open as Unanswered}
 use Rattle.engine.proofs.Parts.{part_end, length_part, put_back, back_from, drop_back_last, Side, other, by_side, start, stop, slot, lent, lent_before, Asked, asked, asked_stored}
 use Rattle.engine.proofs.Parts.Side.{on_left, on_right}
 use Rattle.engine.proofs.Uniform.{View, view, unview, has, of, entry, StandsAt, operand, view_of, agrees_later, step_from, operand_from, row, operand_rows}
@@ -35,16 +40,26 @@ use Rattle.engine.proofs.Stored.{stored_at, stored_onward, stored_count, stored_
 -- A STEP
 
 -- the row of entry k as `advance` reads it, and words ws of as many as it has, in which its own block begins at `own`
-pub record RowRead (t : List ℕ) (k kind low high own : ℕ) (ws : List ℕ) : Type 0 where
-  pub is_kind : kind ≡ column 0 t k
-  pub is_low : low ≡ column 2 t k
-  pub is_high : high ≡ column 3 t k
+pub record RowRead (t : List Row) (k kind low high own : ℕ) (ws : List ℕ) : Type 0 where
+  pub is_kind : kind ≡ (kind_at t k)
+  pub is_low : low ≡ (row_at t k).low
+  pub is_high : high ≡ (row_at t k).high
   pub rows : RowsOk t k
-  pub some : 0 < column 0 t k
-  pub at : own ≡ column 5 t k + column 6 t k
-  pub all : length ws ≡ column 7 t k
+  pub some : 0 < kind_at t k
+  pub at : own ≡ (row_at t k).left_words + (row_at t k).right_words
+  pub all : length ws ≡ (row_at t k).words
 
-module _ {t : List ℕ} {k kind low high own : ℕ} {ws : List ℕ} (read : RowRead t k kind low high own ws) where
+-- a kind's number is one of the table of kinds
+kind_few : (kind : Kind) → number_of_kind kind ≤ 6
+kind_few Letter = omega arith
+kind_few Not = omega arith
+kind_few Or = omega arith
+kind_few Previous = omega arith
+kind_few Next = omega arith
+kind_few Since = omega arith
+kind_few Until = omega arith
+
+module _ {t : List Row} {k kind low high own : ℕ} {ws : List ℕ} (read : RowRead t k kind low high own ws) where
   own_row : RowOk t k
   own_row = read.rows k (omega arith)
 
@@ -61,13 +76,13 @@ module _ {t : List ℕ} {k kind low high own : ℕ} {ws : List ℕ} (read : RowR
   pub may_step : (0 < kind) × (kind ≤ 6) × (high < 2 ^ 32) × (own_words kind high ≤ length (part own (length ws) ws))
   may_step = (
     rw read.is_kind read.some,
-    rw read.is_kind own_row.kind,
+    rw read.is_kind (kind_few (row_at t k).kind),
     rw read.is_high own_row.high,
     omega (arith, sizes, length_part own (length ws) ws (omega arith)),
   )
 
   -- what it gives: block b' put back
-  pub advanced : (v s : List ℕ) (r : Step) (b' : List ℕ) →
+  pub advanced : (v : LogView) (s : List ℕ) (r : Step) (b' : List ℕ) →
       Ends (takes_left kind) (takes_right kind) v (part own (length ws) ws) r b' →
       ((φ : Formula) (c : ℕ) → Fields φ kind c low high → Steps φ v s (part own (length ws) ws) r b') →
       Advances t v s k own ws r (put_back own (length ws) b' ws)
@@ -82,7 +97,7 @@ module _ {t : List ℕ} {k kind low high own : ℕ} {ws : List ℕ} (read : RowR
             rw put
             (rw e at
             (steps φ
-            (column 1 t k)
+            (row_at t k).letter
             (record {
               kind = read.is_kind ∙ row.fields.kind;
               letter = row.fields.letter;
@@ -93,25 +108,30 @@ module _ {t : List ℕ} {k kind low high own : ℕ} {ws : List ℕ} (read : RowR
 
 -- THE LOOP
 
-pub stands_first : (t v s : List ℕ) (k : ℕ) (ws : List ℕ) → StillStands t v s k ws ws
+pub stands_first : (t : List Row) (v : LogView) (s : List ℕ) (k : ℕ) (ws : List ℕ) → StillStands t v s k ws ws
 stands_first t v s k ws = (λ φ entered. all_refl φ ws, λ φ L g entered never agrees state. state)
 
 -- the row of entry k as `answer` and `fill` read it: its operands have a and c words, and it has `end` in all
-pub record Reading (t : List ℕ) (k a c end : ℕ) : Type 0 where
-  pub is_a : a ≡ column 5 t k
-  pub is_c : c ≡ column 6 t k
+pub record Reading (t : List Row) (k a c end : ℕ) : Type 0 where
+  pub is_a : a ≡ (row_at t k).left_words
+  pub is_c : c ≡ (row_at t k).right_words
   pub few : k < 128
   pub rows : RowsOk t k
-  pub all : end ≡ column 7 t k
+  pub all : end ≡ (row_at t k).words
 
 -- words ws, which stand for what words ws₀ stood for
-pub record Standing (t v s : List ℕ) (k a c end : ℕ) (ws₀ ws : List ℕ) : Type 0 where
+pub record Standing (t : List Row) (v : LogView) (s : List ℕ) (k a c end : ℕ) (ws₀ ws : List ℕ) : Type 0 where
   pub read : Reading t k a c end
   pub last : length ws ≡ end
   pub stands : StillStands t v s k ws₀ ws
 
+-- the same from what the functions require
+pub standing : {t : List Row} {v : LogView} {s : List ℕ} {k : ℕ} {ws₀ ws : List ℕ} → k < 128 → RowsOk t k → length ws₀ ≡ (row_at t k).words →
+    length ws ≡ length ws₀ → StillStands t v s k ws₀ ws → Standing t v s k (row_at t k).left_words (row_at t k).right_words (length ws₀) ws₀ ws
+standing few rows all last stands = record { read = record { is_a = refl; is_c = refl; few = few; rows = rows; all = all }; last = last; stands = stands }
+
 -- one step of entry k, from words ws to words ws'
-pub record Turn (t v s : List ℕ) (k a c end : ℕ) (ws₀ ws : List ℕ) (r : Step) (ws' : List ℕ) : Type 0 where
+pub record Turn (t : List Row) (v : LogView) (s : List ℕ) (k a c end : ℕ) (ws₀ ws : List ℕ) (r : Step) (ws' : List ℕ) : Type 0 where
   pub here : Standing t v s k a c end ws₀ ws
   pub step : Advances t v s k (a + c) ws r ws'
 
@@ -124,7 +144,7 @@ abbrev pub takes : Side → ℕ → Bool
 takes on_left = takes_left
 takes on_right = takes_right
 
-module _ {t : List ℕ} {k a c end : ℕ} (read : Reading t k a c end) where
+module _ {t : List Row} {k a c end : ℕ} (read : Reading t k a c end) where
   this_row : RowOk t k
   this_row = read.rows k (omega arith)
 
@@ -132,29 +152,29 @@ module _ {t : List ℕ} {k a c end : ℕ} (read : Reading t k a c end) where
   bound = rw read.all this_row.bound
 
   pub room : a + c + 16 ≤ end
-  room = omega (arith, this_row.words, own_least (column 0 t k) (column 3 t k), read.is_a, read.is_c, read.all)
+  room = omega (arith, this_row.words, own_least (kind_at t k) (row_at t k).high, read.is_a, read.is_c, read.all)
 
   -- what `advance` requires
-  pub may_advance : (ws : List ℕ) → length ws ≡ end → (k < 128) × RowsOk t k × (a + c ≡ column 5 t k + column 6 t k) × (length ws ≡ column 7 t k)
+  pub may_advance : (ws : List ℕ) → length ws ≡ end → (k < 128) × RowsOk t k × (a + c ≡ (row_at t k).left_words + (row_at t k).right_words) × (length ws ≡ (row_at t k).words)
   may_advance ws last = (read.few, read.rows, omega (arith, read.is_a, read.is_c), last ∙ read.all)
 
   -- an operand's row is an earlier one, with its words
-  earlier : (side : Side) → takes side (column 0 t k) ≡ true →
-      (entry side (column 4 t k) k < k) × (start side a + column 7 t (entry side (column 4 t k) k) ≡ stop side a c)
+  earlier : (side : Side) → takes side (kind_at t k) ≡ true →
+      (entry side (row_at t k).left k < k) × (start side a + (row_at t (entry side (row_at t k).left k)).words ≡ stop side a c)
   earlier on_left has = (
     (this_row.left has).0,
-    zero-add (column 7 t (column 4 t k)) ∙ rw read.is_a (this_row.left has).1,
+    zero-add (row_at t (row_at t k).left).words ∙ rw read.is_a (this_row.left has).1,
   )
   earlier on_right has =
       let some = (this_row.right has).0 in
       (omega arith, ap (λ (n : ℕ). a + n) ((this_row.right has).1 ∙ sym read.is_c))
 
   -- what asking an operand requires of its entry
-  pub may_ask : (side : Side) → takes side (column 0 t k) ≡ true →
-      (entry side (column 4 t k) k < k) ×
-      (entry side (column 4 t k) k < 128) ×
-      RowsOk t (entry side (column 4 t k) k) ×
-      (start side a + column 7 t (entry side (column 4 t k) k) ≡ stop side a c)
+  pub may_ask : (side : Side) → takes side (kind_at t k) ≡ true →
+      (entry side (row_at t k).left k < k) ×
+      (entry side (row_at t k).left k < 128) ×
+      RowsOk t (entry side (row_at t k).left k) ×
+      (start side a + (row_at t (entry side (row_at t k).left k)).words ≡ stop side a c)
   may_ask side has =
       let e = earlier side has in
       let few = read.few in
@@ -166,7 +186,7 @@ same_words own ws ws' before block =
     sym (take-append-drop own ws') ∙ ap (λ (l : List ℕ). l ++ drop own ws') before ∙ ap (λ (l : List ℕ). take own ws ++ l) block ∙
     take-append-drop own ws
 
-module _ {t v s : List ℕ} {k a c end : ℕ} {ws₀ ws : List ℕ} (here : Standing t v s k a c end ws₀ ws) where
+module _ {t : List Row} {v : LogView} {s : List ℕ} {k a c end : ℕ} {ws₀ ws : List ℕ} (here : Standing t v s k a c end ws₀ ws) where
   -- words ws'' whose blocks have gone on from words ws
   goes_from : (ws'' : List ℕ) → Onward 12 (drop (a + c) ws) (drop (a + c) ws'') →
       ((φ : Formula) → Has φ t k → (x : Side) → OnwardAt x a c φ ws ws'') → GoesOn t k ws₀ ws''
@@ -201,7 +221,7 @@ short_of on_left φ L g b b' short st none =
 short_of on_right φ L g b b' short st left =
     ⊎_elim (λ l. let some = left l.0 in let none = l.1 in absurd (omega arith)) (λ r. st.1 r.2) short
 
-module _ {t v s : List ℕ} {k a c end : ℕ} {ws₀ ws ws' : List ℕ} where
+module _ {t : List Row} {v : LogView} {s : List ℕ} {k a c end : ℕ} {ws₀ ws ws' : List ℕ} where
   -- the outcome as it was told
   pub told : {r r' : Step} → r ≡ r' → Turn t v s k a c end ws₀ ws r ws' → Turn t v s k a c end ws₀ ws r' ws'
   told e turn = rw e at turn
@@ -238,7 +258,7 @@ module _ {t v s : List ℕ} {k a c end : ℕ} {ws₀ ws ws' : List ℕ} where
           (λ e. rw (stay on_left, moved.left e) (operand seen on_left e))
           (λ e. rw (stay on_right, moved.right e) (operand seen on_right e)))
 
-  pub batch_turn : {bits n : ℕ} → Turn t v s k a c end ws₀ ws (Batch bits n) ws' → Answers t v s k ws₀ (Answered bits n) ws'
+  pub batch_turn : {bits n : ℕ} → Turn t v s k a c end ws₀ ws (Batch (record { bits = bits; count = n })) ws' → Answers t v s k ws₀ (Some (record { bits = bits; count = n })) ws'
   batch_turn {bits} {n} turn = (
     goes_on turn turn.step.ends,
     λ φ L g entered never agrees state.
@@ -248,7 +268,7 @@ module _ {t v s : List ℕ} {k a c end : ℕ} {ws₀ ws ws' : List ℕ} where
   )
 
   -- a batch of no position, which no formula's words bring about
-  pub none_turn : {bits n : ℕ} → n ≡ 0 → Turn t v s k a c end ws₀ ws (Batch bits n) ws' → Answers t v s k ws₀ Unanswered ws'
+  pub none_turn : {bits n : ℕ} → n ≡ 0 → Turn t v s k a c end ws₀ ws (Batch (record { bits = bits; count = n })) ws' → Answers t v s k ws₀ None ws'
   none_turn {bits} {n} e turn =
       let all = batch_turn turn in (
         all.0,
@@ -266,7 +286,7 @@ module _ {t v s : List ℕ} {k a c end : ℕ} {ws₀ ws ws' : List ℕ} where
         moved_on turn φ L g entered g seen st.0 st.1,
   )
 
-  pub open_turn : Turn t v s k a c end ws₀ ws Open ws' → Answers t v s k ws₀ Unanswered ws'
+  pub open_turn : Turn t v s k a c end ws₀ ws Open ws' → Answers t v s k ws₀ None ws'
   open_turn turn =
       let same = same_words (a + c) ws ws' turn.step.before turn.step.ends in (
         rw same turn.here.stands.0,
@@ -277,7 +297,7 @@ module _ {t v s : List ℕ} {k a c end : ℕ} {ws₀ ws ws' : List ℕ} where
 
   -- a step that wants an operand: its buffer is empty, and the words as they were
   module _ (side : Side) (turn : Turn t v s k a c end ws₀ ws (wants side) ws') where
-    ended : (side : Side) → Ends (takes_left (column 0 t k)) (takes_right (column 0 t k)) v (drop (a + c) ws) (wants side) (drop (a + c) ws') →
+    ended : (side : Side) → Ends (takes_left (kind_at t k)) (takes_right (kind_at t k)) v (drop (a + c) ws) (wants side) (drop (a + c) ws') →
         (drop (a + c) ws' ≡ drop (a + c) ws) × (word (drop (a + c) ws) (slot side) ≡ 0)
     ended on_left e = (e.1, e.2)
     ended on_right e = (e.1, e.2)
@@ -289,16 +309,16 @@ module _ {t v s : List ℕ} {k a c end : ℕ} {ws₀ ws ws' : List ℕ} where
     wanted_none = (ended side turn.step.ends).1
 
     -- no operand is wanted whose buffer has answers
-    pub not_full : Full (takes_left (column 0 t k)) (drop (a + c) ws) → ⊥
+    pub not_full : Full (takes_left (kind_at t k)) (drop (a + c) ws) → ⊥
     not_full full = empty_side side turn.step.ends
       where
-        empty_side : (side : Side) → Ends (takes_left (column 0 t k)) (takes_right (column 0 t k)) v (drop (a + c) ws) (wants side) (drop (a + c) ws') → ⊥
+        empty_side : (side : Side) → Ends (takes_left (kind_at t k)) (takes_right (kind_at t k)) v (drop (a + c) ws) (wants side) (drop (a + c) ws') → ⊥
         empty_side on_left e = omega (arith, full.left e.0, e.2)
         empty_side on_right e = omega (arith, full.right, e.2)
 
     -- where an operand is short of answers, it is the one that is wanted
     pub short_turn : ((φ : Formula) (L : Log) (g : ℕ) → Has φ t k → NeverFalls L → Agrees v s L (first_read φ g) → State φ L g ws₀ → Short φ L (drop (a + c) ws)) →
-        Answers t v s k ws₀ Unanswered ws'
+        Answers t v s k ws₀ None ws'
     short_turn short = (
       rw unchanged turn.here.stands.0,
       λ φ L g entered never agrees state.
@@ -310,13 +330,13 @@ module _ {t v s : List ℕ} {k a c end : ℕ} {ws₀ ws ws' : List ℕ} where
     )
       where
         ended_left : (φ : Formula) → Has φ t k → (side : Side) →
-            Ends (takes_left (column 0 t k)) (takes_right (column 0 t k)) v (drop (a + c) ws) (wants side) (drop (a + c) ws') → LeftOf side φ (drop (a + c) ws)
+            Ends (takes_left (kind_at t k)) (takes_right (kind_at t k)) v (drop (a + c) ws) (wants side) (drop (a + c) ws') → LeftOf side φ (drop (a + c) ws)
         ended_left φ entered on_left e = e.2
         ended_left φ entered on_right e = λ h. e.3 (rw (row φ t k entered).fields.kind h)
 
 -- AN OPERAND'S BUFFER
 
-to_do : (side : Side) (v b : List ℕ) →
+to_do : (side : Side) (v : LogView) (b : List ℕ) →
     left_to_do v b ≡ 3 * (total v - taken b) + empty (word b (slot side)) + empty (word b (slot (other side)))
 to_do on_left v b = refl
 to_do on_right v b = omega arith
@@ -326,12 +346,12 @@ empty_some zero le = omega arith
 empty_some (suc n) le = refl
 
 -- an operator of this kind has the operand
-pub has_side : (t : List ℕ) (k : ℕ) (side : Side) (φ : Formula) → Has φ t k → takes side (column 0 t k) ≡ true → has side φ ≡ true
+pub has_side : (t : List Row) (k : ℕ) (side : Side) (φ : Formula) → Has φ t k → takes side (kind_at t k) ≡ true → has side φ ≡ true
 has_side t k on_left φ entered e = rw (row φ t k entered).fields.kind at e
 has_side t k on_right φ entered e = rw (row φ t k entered).fields.kind at e
 
 -- words ws'' after an operand's buffer was looked at, and filled if it was empty and the operand had answers, which x says
-pub record Topped (t v s : List ℕ) (k a c end : ℕ) (ws₀ ws : List ℕ) (side : Side) (x : Bool) (ws'' : List ℕ) : Type 0 where
+pub record Topped (t : List Row) (v : LogView) (s : List ℕ) (k a c end : ℕ) (ws₀ ws : List ℕ) (side : Side) (x : Bool) (ws'' : List ℕ) : Type 0 where
   pub here : Standing t v s k a c end ws₀ ws''
   pub less : left_to_do v (drop (a + c) ws'') ≤ left_to_do v (drop (a + c) ws)
   pub beside : word (drop (a + c) ws'') (slot (other side)) ≡ word (drop (a + c) ws) (slot (other side))
@@ -340,7 +360,7 @@ pub record Topped (t v s : List ℕ) (k a c end : ℕ) (ws₀ ws : List ℕ) (si
   pub settled : x ≡ false → (φ : Formula) (L : Log) (g : ℕ) → Has φ t k → NeverFalls L → Agrees v s L (first_read φ g) → State φ L g ws₀ →
       settled_to (of side φ) L ≡ taken (drop (a + c) ws'')
 
-module _ {t v s : List ℕ} {k a c end : ℕ} {ws₀ ws : List ℕ} (here : Standing t v s k a c end ws₀ ws) (side : Side) (taking : takes side (column 0 t k) ≡ true) where
+module _ {t : List Row} {v : LogView} {s : List ℕ} {k a c end : ℕ} {ws₀ ws : List ℕ} (here : Standing t v s k a c end ws₀ ws) (side : Side) (taking : takes side (kind_at t k) ≡ true) where
   inside : a + c ≤ length ws
   inside = omega (arith, room here.read, here.last)
 
@@ -350,7 +370,7 @@ module _ {t v s : List ℕ} {k a c end : ℕ} {ws₀ ws : List ℕ} (here : Stan
   -- its buffer is empty: it is asked, at the next position to take
   module _ (none : word (drop (a + c) ws) (slot side) ≡ 0) where
     ask_at : (P : Formula → Log → ℕ → Type 0) →
-        ((φ : Formula) (L : Log) (q : ℕ) → Has φ t (entry side (column 4 t k) k) → NeverFalls L → Agrees v s L (first_read φ q) →
+        ((φ : Formula) (L : Log) (q : ℕ) → Has φ t (entry side (row_at t k).left k) → NeverFalls L → Agrees v s L (first_read φ q) →
         State φ L q (lent side a c ws) → P φ L q) →
         (φ : Formula) (L : Log) (g : ℕ) → Has φ t k → NeverFalls L → Agrees v s L (first_read φ g) → View a c φ L g ws →
         P (of side φ) L (taken (drop (a + c) ws))
@@ -369,7 +389,7 @@ module _ {t v s : List ℕ} {k a c end : ℕ} {ws₀ ws : List ℕ} (here : Stan
 
     -- the operand goes on in its own blocks
     goes_asked : (ws'' ys b : List ℕ) → Asked side a c ws ys ws'' b → Onward 12 (drop (a + c) ws) b →
-        GoesOn t (entry side (column 4 t k) k) (lent side a c ws) ys → GoesOn t k ws₀ ws''
+        GoesOn t (entry side (row_at t k).left k) (lent side a c ws) ys → GoesOn t k ws₀ ws''
     goes_asked ws'' ys b frame own goes =
         goes_from here ws'' (rw frame.own own)
         (λ φ entered.
@@ -379,7 +399,7 @@ module _ {t v s : List ℕ} {k a c end : ℕ} {ws₀ ws : List ℕ} (here : Stan
         (λ e. rw frame.here (goes (of side φ) (operand_rows φ t k entered side e)))
         (λ e. rw frame.there (all_refl (of (other side) φ) (lent (other side) a c ws))))
 
-    asked_short : (ws'' : List ℕ) → length ws'' ≡ end → Asks t v s (entry side (column 4 t k) k) (start side a) (stop side a c) (a + c + slot side) ws false ws'' →
+    asked_short : (ws'' : List ℕ) → length ws'' ≡ end → Asks t v s (entry side (row_at t k).left k) (start side a) (stop side a c) (a + c + slot side) ws false ws'' →
         Topped t v s k a c end ws₀ ws side false ws''
     asked_short ws'' last got =
         let ys = got.0 in
@@ -424,7 +444,7 @@ module _ {t v s : List ℕ} {k a c end : ℕ} {ws₀ ws : List ℕ} (here : Stan
               (ask_at (λ φ L q. (settled_to φ L ≡ q) × State φ L q ys) got.3.1 φ L g entered never agrees (viewed here φ L g entered never agrees state)).0;
         })
 
-    asked_some : (ws'' : List ℕ) → length ws'' ≡ end → Asks t v s (entry side (column 4 t k) k) (start side a) (stop side a c) (a + c + slot side) ws true ws'' →
+    asked_some : (ws'' : List ℕ) → length ws'' ≡ end → Asks t v s (entry side (row_at t k).left k) (start side a) (stop side a c) (a + c + slot side) ws true ws'' →
         Topped t v s k a c end ws₀ ws side true ws''
     asked_some ws'' last got =
         let ys = got.0 in
@@ -481,7 +501,7 @@ module _ {t v s : List ℕ} {k a c end : ℕ} {ws₀ ws : List ℕ} (here : Stan
           settled = λ e. absurd (true_and_false refl e);
         })
 
-    asked_empty : (x : Bool) (ws'' : List ℕ) → length ws'' ≡ end → Asks t v s (entry side (column 4 t k) k) (start side a) (stop side a c) (a + c + slot side) ws x ws'' →
+    asked_empty : (x : Bool) (ws'' : List ℕ) → length ws'' ≡ end → Asks t v s (entry side (row_at t k).left k) (start side a) (stop side a c) (a + c + slot side) ws x ws'' →
         Topped t v s k a c end ws₀ ws side x ws''
     asked_empty false ws'' last got = asked_short ws'' last got
     asked_empty true ws'' last got = asked_some ws'' last got
@@ -499,7 +519,7 @@ module _ {t v s : List ℕ} {k a c end : ℕ} {ws₀ ws : List ℕ} (here : Stan
         settled = λ e. absurd (true_and_false refl e);
       })
 
-  pub topped : (x : Bool) (ws'' : List ℕ) → length ws'' ≡ end → Fills t v s (entry side (column 4 t k) k) (start side a) (stop side a c) (a + c + slot side) ws x ws'' →
+  pub topped : (x : Bool) (ws'' : List ℕ) → length ws'' ≡ end → Fills t v s (entry side (row_at t k).left k) (start side a) (stop side a c) (a + c + slot side) ws x ws'' →
       Topped t v s k a c end ws₀ ws side x ws''
   topped x ws'' last fills =
       let same : word ws (a + c + slot side) ≡ word (drop (a + c) ws) (slot side) = sym (get_or-drop (a + c) ws (slot side) 0) in
@@ -510,9 +530,9 @@ module _ {t v s : List ℕ} {k a c end : ℕ} {ws₀ ws : List ℕ} (here : Stan
 
 -- BOTH BUFFERS
 
-module _ {t v s : List ℕ} {k a c end : ℕ} {ws : List ℕ} where
+module _ {t : List Row} {v : LogView} {s : List ℕ} {k a c end : ℕ} {ws : List ℕ} where
   -- left has no more answers: right is not looked at
-  pub left_short : {ws' : List ℕ} → takes_left (column 0 t k) ≡ true → Topped t v s k a c end ws ws on_left false ws' → Refills t v s k (a + c) ws false ws'
+  pub left_short : {ws' : List ℕ} → takes_left (kind_at t k) ≡ true → Topped t v s k a c end ws ws on_left false ws' → Refills t v s k (a + c) ws false ws'
   left_short takes top =
       record {
         stands = top.here.stands;
@@ -526,7 +546,7 @@ module _ {t v s : List ℕ} {k a c end : ℕ} {ws : List ℕ} where
   short_top e top = rw e at top
 
   -- left has answers, or there is no left operand
-  pub right_last : {mid ws' : List ℕ} {x : Bool} → (takes_left (column 0 t k) ≡ true → 0 < left_count (drop (a + c) mid)) →
+  pub right_last : {mid ws' : List ℕ} {x : Bool} → (takes_left (kind_at t k) ≡ true → 0 < left_count (drop (a + c) mid)) →
       left_to_do v (drop (a + c) mid) ≤ left_to_do v (drop (a + c) ws) → Topped t v s k a c end ws mid on_right x ws' → Refills t v s k (a + c) ws x ws'
   right_last left less top =
       record {
@@ -543,7 +563,7 @@ module _ {t v s : List ℕ} {k a c end : ℕ} {ws : List ℕ} where
 
 -- A TURN OF THE LOOP
 
-stands_trans : (t v s : List ℕ) (k : ℕ) (ws₀ ws ws' : List ℕ) → StillStands t v s k ws₀ ws → StillStands t v s k ws ws' → StillStands t v s k ws₀ ws'
+stands_trans : (t : List Row) (v : LogView) (s : List ℕ) (k : ℕ) (ws₀ ws ws' : List ℕ) → StillStands t v s k ws₀ ws → StillStands t v s k ws ws' → StillStands t v s k ws₀ ws'
 stands_trans t v s k ws₀ ws ws' first next = (
   λ φ entered. all_trans φ ws₀ ws ws' (first.0 φ entered) (next.0 φ entered),
   λ φ L g entered never agrees state. next.1 φ L g entered never agrees (first.1 φ L g entered never agrees state),
@@ -551,15 +571,15 @@ stands_trans t v s k ws₀ ws ws' first next = (
 
 -- from words ws the buffers were filled, which x says, and a step was made, whose outcome is r: from `mid` on, as they were filled or after a
 -- first step that took positions
-pub record Made (t v s : List ℕ) (k a c end : ℕ) (ws₀ ws : List ℕ) (x : Bool) (r : Step) (ws' : List ℕ) : Type 0 where
+pub record Made (t : List Row) (v : LogView) (s : List ℕ) (k a c end : ℕ) (ws₀ ws : List ℕ) (x : Bool) (r : Step) (ws' : List ℕ) : Type 0 where
   pub mid : List ℕ
   pub turn : Turn t v s k a c end ws₀ mid r ws'
   pub less : left_to_do v (drop (a + c) mid) ≤ left_to_do v (drop (a + c) ws)
-  pub full : x ≡ true → Full (takes_left (column 0 t k)) (drop (a + c) mid) ⊎ (left_to_do v (drop (a + c) mid) < left_to_do v (drop (a + c) ws))
+  pub full : x ≡ true → Full (takes_left (kind_at t k)) (drop (a + c) mid) ⊎ (left_to_do v (drop (a + c) mid) < left_to_do v (drop (a + c) ws))
   pub short : x ≡ false → (φ : Formula) (L : Log) (g : ℕ) → Has φ t k → NeverFalls L → Agrees v s L (first_read φ g) → State φ L g ws₀ →
       Short φ L (drop (a + c) mid)
 
-module _ {t v s : List ℕ} {k a c end : ℕ} {ws₀ ws : List ℕ} where
+module _ {t : List Row} {v : LogView} {s : List ℕ} {k a c end : ℕ} {ws₀ ws : List ℕ} where
   pub one_step : {x : Bool} {mid : List ℕ} {r : Step} {ws' : List ℕ} → Standing t v s k a c end ws₀ ws → length mid ≡ end →
       Refills t v s k (a + c) ws x mid → Advances t v s k (a + c) mid r ws' → Made t v s k a c end ws₀ ws x r ws'
   one_step {mid = mid} here last fills step =
@@ -601,7 +621,7 @@ module _ {t v s : List ℕ} {k a c end : ℕ} {ws₀ ws : List ℕ} where
 
     -- an operand is wanted: it is open, or it ran out of answers by a first step; beside it stand A, B and C, which are kept
     module _ {r : Step} (side : Side) (told : r ≡ wants side) where
-      pub wanted_open : {A B C : Type 0} → x ≡ false → A × B × C × Made t v s k a c end ws₀ ws x r ws' → Answers t v s k ws₀ Unanswered ws' × (B × C)
+      pub wanted_open : {A B C : Type 0} → x ≡ false → A × B × C × Made t v s k a c end ws₀ ws x r ws' → Answers t v s k ws₀ None ws' × (B × C)
       wanted_open e made =
           let made' = as_told told made.3 in
           (short_turn side made'.turn (made'.short e), (made.1, made.2))
@@ -617,25 +637,11 @@ module _ {t v s : List ℕ} {k a c end : ℕ} {ws₀ ws : List ℕ} where
           (made.0, made.1, made.2, rw (unchanged side turn) turn.here.stands)
 
 -- an operand's answer, as what was asked for: its words are ys now
-module _ (t v s : List ℕ) (o from to slot : ℕ) (ws ys : List ℕ) (ordered : from ≤ to) (inside : to ≤ length ws) (kept : length ys ≡ length (part from to ws)) where
-  pub asked_open : Answers t v s o (part from to ws) Unanswered ys → Asks t v s o from to slot ws false (put_back from to ys ws)
+module _ (t : List Row) (v : LogView) (s : List ℕ) (o from to slot : ℕ) (ws ys : List ℕ) (ordered : from ≤ to) (inside : to ≤ length ws) (kept : length ys ≡ length (part from to ws)) where
+  pub asked_open : Answers t v s o (part from to ws) None ys → Asks t v s o from to slot ws false (put_back from to ys ws)
   asked_open answers = (ys, kept ∙ length_part from to ws inside, answers.0, (back_from from to ys ws ordered, answers.1))
 
-  pub asked_none : (bits n : ℕ) → n ≡ 0 → Answers t v s o (part from to ws) (Answered bits n) ys →
-      Asks t v s o from to slot ws false (put_back from to ys ws)
-  asked_none bits n e answers = (
-    ys,
-    kept ∙ length_part from to ws inside,
-    answers.0,
-    (
-      back_from from to ys ws ordered,
-      λ φ L q entered never agrees state.
-          let none : ⊥ = omega (arith, (answers.1 φ L q entered never agrees state).0.some) in
-          absurd none,
-    ),
-  )
-
-  pub asked_batch : (bits n : ℕ) → (n ≡ 0 → ⊥) → Answers t v s o (part from to ws) (Answered bits n) ys → (ws' : List ℕ) →
+  pub asked_batch : (bits n : ℕ) → 0 < n → Answers t v s o (part from to ws) (Some (record { bits = bits; count = n })) ys → (ws' : List ℕ) →
       ws' ≡ stored (put_back from to ys ws) slot bits n → Asks t v s o from to slot ws true ws'
   asked_batch bits n some answers ws' e = (
     ys,
@@ -644,7 +650,7 @@ module _ (t v s : List ℕ) (o from to slot : ℕ) (ws ys : List ℕ) (ordered :
     (
       bits,
       n,
-      pos_of_ne-zero some,
+      some,
       e ∙ ap (λ (l : List ℕ). stored l slot bits n) (back_from from to ys ws ordered),
       answers.1,
     ),

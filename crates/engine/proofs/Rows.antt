@@ -1,14 +1,12 @@
 -- The table laid out for an accepted rule is the one that the engine's promise asks for.
-use Prim.Native.Nat.{ℕ, zero, suc, ◌+◌, ◌*◌, ◌-◌, ◌≤◌, ◌<◌}
+use Prim.Native.Nat.{ℕ, zero, suc, ◌+◌, ◌-◌, ◌≤◌, ◌<◌}
 use mathlib.Core.Bool.{Bool, true, false, cond}
-use mathlib.Core.Logic.{◌⊎◌, inl, inr, ⊎_elim}
+use mathlib.Core.Logic.{⊎_elim}
 use mathlib.Core.Path.{◌≡◌, refl, sym, ◌∙◌, ap, ap₂, subst}
-use mathlib.Core.List.{List, [], ◌∷◌}
-use native.Mathlib.Nat.{not-suc-le-zero}
-use native.Mathlib.Numerals.{towards_suc}
+use mathlib.Core.List.{List}
 use native.Mathlib.Omega.{arith}
-use lib.ListN.{length, get_or, set, replicate, length-set}
-use lib.Seq.{sets, get_or-set_same, get_or-set_other}
+use lib.ListN.{length, get_or, set, replicate}
+use lib.Seq.{get_or-set_same, get_or-set_other}
 use Rattle.mtl.specs.Formula.{Formula}
 use Rattle.mtl.specs.Formula.Formula.{letter, not, or, previous, next, since, until}
 use Rattle.mtl.proofs.Bounded.{true_and_false, le_or_lt}
@@ -21,8 +19,9 @@ use Rattle.rule.specs.Accepted.{WellFormed}
 use Rattle.rule.proofs.Spans.{offset_mono}
 use Rattle.engine.specs.State.{needed_words, left_words, right_words}
 use Rattle.blocks.specs.Kinds.{takes_left, takes_right, Fields}
-use Rattle.engine.specs.Table.{column, RowOk, RowsOk, Row, Has}
-use Rattle.engine.specs.Layout.{subformula_first, first_from, left_from, row_of, row, Laid}
+use Rattle.engine.specs.declared.table.Row.{Row}
+use Rattle.engine.specs.Table.{no_row, row_at, kind_at, RowOk, RowsOk, RowOf, Has}
+use Rattle.engine.specs.Layout.{subformula_first, first_from, left_from, RowOfEntry, EntryRow, Laid}
 
 -- The values that a function's loop stored one by one.
 
@@ -36,35 +35,11 @@ set_below f l k v h below e j g = ⊎_elim last earlier (le_or_lt k j)
     earlier : j < k → get_or (set l k v) j 0 ≡ f j
     earlier h' = get_or-set_other l k j v 0 (λ i. omega arith) ∙ below j h'
 
-pub sets_out : (vs l : List ℕ) (i m : ℕ) → (m < i) ⊎ (i + length vs ≤ m) → get_or (sets l i vs) m 0 ≡ get_or l m 0
-sets_out [] l i m h = refl
-sets_out (a ∷ vs) l i m h =
-    sets_out vs (set l i a) (suc i) m (⊎_elim (λ b. inl (omega arith)) (λ b. inr (omega arith)) h) ∙
-    get_or-set_other l i m a 0 (⊎_elim (λ b e. omega arith) (λ b e. omega arith) h)
-
-pub sets_in : (vs l : List ℕ) (i j : ℕ) → i + length vs ≤ length l → j < length vs → get_or (sets l i vs) (i + j) 0 ≡ get_or vs j 0
-sets_in [] l i j h g = absurd (not-suc-le-zero g)
-sets_in (a ∷ vs) l i zero h g =
-    let e : i + 0 ≡ i = omega arith in
-    rw e (sets_out vs (set l i a) (suc i) i (inl (omega arith)) ∙ get_or-set_same l i a 0 (omega arith))
-sets_in (a ∷ vs) l i (suc j) h g =
-    let e : i + suc j ≡ suc i + j = omega arith in
-    let n = length-set l i a in
-    rw e (sets_in vs (set l i a) (suc i) j (omega arith) (omega arith))
-
-pub zeros : (n i : ℕ) → ◌≡◌ {A = ℕ} (get_or (replicate n 0) i 0) 0
-zeros zero i = refl
-zeros (suc n) zero = refl
-zeros (suc n) (suc i) = zeros n i
-
--- four stores and eight one behind the other
-pub four_stores : (l : List ℕ) (at a b c d : ℕ) → set (set (set (set l at a) (at + 1) b) (at + 2) c) (at + 3) d ≡ sets l at (a ∷ b ∷ c ∷ d ∷ [])
-four_stores l at a b c d = simp towards_suc
-
-pub eight_stores : (l : List ℕ) (at a b c d e f g h : ℕ) →
-    set (set (set (set (set (set (set (set l at a) (at + 1) b) (at + 2) c) (at + 3) d) (at + 4) e) (at + 5) f) (at + 6) g) (at + 7) h ≡
-    sets l at (a ∷ b ∷ c ∷ d ∷ e ∷ f ∷ g ∷ h ∷ [])
-eight_stores l at a b c d e f g h = simp towards_suc
+-- as many as there are, and behind them the same again
+pub repeated : {A : Type 0} (n i : ℕ) (x : A) → get_or (replicate n x) i x ≡ x
+repeated zero i x = refl
+repeated (suc n) zero x = refl
+repeated (suc n) (suc i) x = repeated n i x
 
 cond_below : (b : Bool) (x m : ℕ) → x ≤ m → cond b x 0 ≤ m
 cond_below true x m h = h
@@ -106,14 +81,21 @@ module _ (t : List Entry) (n : ℕ) (ok : WellFormed t n) where
       go (one f r o) = (ok.unary k h o).below
       go (two f r o) = let b = (ok.binary k h o).below in omega arith
 
-  -- the words of row k
-  row_words : (k : ℕ) → k < n → get_or (row t k) 7 0 ≡ subformula_words t k
-  row_words k h = go (arity_at k h)
+  row_sum : (k : ℕ) → k < n →
+      cond (takes_left (entry t k).kind) (subformula_words t (left t k)) 0 + cond (takes_right (entry t k).kind) (subformula_words t (k - 1)) 0 +
+      own (entry t k) ≡ subformula_words t k
+  row_sum k h = go (arity_at k h)
     where
-      go : Arity (entry t k).kind → get_or (row t k) 7 0 ≡ subformula_words t k
+      go : Arity (entry t k).kind →
+          cond (takes_left (entry t k).kind) (subformula_words t (left t k)) 0 + cond (takes_right (entry t k).kind) (subformula_words t (k - 1)) 0 +
+          own (entry t k) ≡ subformula_words t k
       go (none f r o) = let e = (ok.leaf k h o).part_is in rw (f, r) (omega arith)
       go (one f r o) = let e = (ok.unary k h o).part_is in rw (f, r) (omega arith)
       go (two f r o) = let e = (ok.binary k h o).part_is in rw (f, r) (omega arith)
+
+  -- the words of row k
+  row_words : (k : ℕ) {r : Row} → k < n → EntryRow t k r → r.words ≡ subformula_words t k
+  row_words k h is = is.words ∙ row_sum k h
 
   part_bound : (k : ℕ) → k < n → subformula_words t k ≤ 8192
   part_bound k h =
@@ -163,17 +145,17 @@ module _ (t : List Entry) (n : ℕ) (ok : WellFormed t n) where
 
   -- THE ROWS
 
-  module _ (table : List ℕ) where
-    column_words : (m k : ℕ) → m ≤ n → Laid t m table → k < m → column 7 table k ≡ subformula_words t k
-    column_words m k h laid l = laid.rows k 7 l (omega arith) ∙ row_words k (omega arith)
+  module _ (table : List Row) where
+    column_words : (m k : ℕ) → m ≤ n → Laid t m table → k < m → (row_at table k).words ≡ subformula_words t k
+    column_words m k h laid l = row_words k (omega arith) (laid.rows k l)
 
     left_words_is : (k : ℕ) → k < n → Laid t k table →
-        cond (takes_left (entry t k).kind) (column 7 table (cond (takes_left (entry t k).kind) (left t k) 0)) 0 ≡
+        cond (takes_left (entry t k).kind) (row_at table (cond (takes_left (entry t k).kind) (left t k) 0)).words 0 ≡
         cond (takes_left (entry t k).kind) (subformula_words t (left t k)) 0
     left_words_is k h laid = go (arity_at k h)
       where
         go : Arity (entry t k).kind →
-            cond (takes_left (entry t k).kind) (column 7 table (cond (takes_left (entry t k).kind) (left t k) 0)) 0 ≡
+            cond (takes_left (entry t k).kind) (row_at table (cond (takes_left (entry t k).kind) (left t k) 0)).words 0 ≡
             cond (takes_left (entry t k).kind) (subformula_words t (left t k)) 0
         go (none f r o) = rw f
         go (one f r o) = rw f
@@ -182,22 +164,21 @@ module _ (t : List Entry) (n : ℕ) (ok : WellFormed t n) where
             rw f (column_words k (left t k) (omega arith) laid (omega arith))
 
     right_words_is : (k : ℕ) → k < n → Laid t k table →
-        cond (takes_right (entry t k).kind) (column 7 table (k - 1)) 0 ≡ cond (takes_right (entry t k).kind) (subformula_words t (k - 1)) 0
+        cond (takes_right (entry t k).kind) (row_at table (k - 1)).words 0 ≡ cond (takes_right (entry t k).kind) (subformula_words t (k - 1)) 0
     right_words_is k h laid = go (takes_right (entry t k).kind) (below_at k h)
       where
-        go : (b : Bool) → (b ≡ true → 0 < k) → cond b (column 7 table (k - 1)) 0 ≡ cond b (subformula_words t (k - 1)) 0
+        go : (b : Bool) → (b ≡ true → 0 < k) → cond b (row_at table (k - 1)).words 0 ≡ cond b (subformula_words t (k - 1)) 0
         go true below = let b = below refl in column_words k (k - 1) (omega arith) laid (omega arith)
         go false below = refl
 
-    laid_more : (k : ℕ) → k < 128 → length table ≡ 1024 → Laid t k table → Laid t (k + 1) (sets table (k * 8) (row t k))
-    laid_more k h size laid =
+    laid_more : (k : ℕ) (r : Row) → k < length table → Laid t k table → EntryRow t k r → Laid t (k + 1) (set table k r)
+    laid_more k r h laid is =
         record {
-          rows = λ i j g l. ⊎_elim
-              (λ e. subst (λ x. get_or (sets table (k * 8) (row t k)) (x * 8 + j) 0 ≡ get_or (row t x) j 0) (omega arith)
-              (sets_in (row t k) table (k * 8) j (omega arith) l))
-              (λ e. sets_out (row t k) table (k * 8) (i * 8 + j) (inl (omega arith)) ∙ laid.rows i j e l)
+          rows = λ i g. ⊎_elim
+              (λ (e : k ≤ i). let same : k ≡ i = omega arith in rw (← same) (rw (get_or-set_same table k r no_row h) is))
+              (λ (e : i < k). rw (get_or-set_other table k i r no_row (λ x. omega arith)) (laid.rows i e))
               (le_or_lt k i);
-          rest = λ i g. sets_out (row t k) table (k * 8) i (inr (omega arith)) ∙ laid.rest i (omega arith);
+          rest = λ i g. get_or-set_other table k i r no_row (λ x. omega arith) ∙ laid.rest i (omega arith);
         }
 
 -- One turn of `lay_out`: row k from the rows before it.
@@ -206,10 +187,10 @@ pub record Next (t : List Entry) (k at a c : ℕ) : Type 0 where
   pub left_is : a ≡ cond (takes_left (entry t k).kind) (subformula_words t (left t k)) 0
   pub right_is : c ≡ cond (takes_right (entry t k).kind) (subformula_words t (k - 1)) 0
 
-pub laid_next : (t : List Entry) (n : ℕ) → WellFormed t n → (table : List ℕ) (k at a c : ℕ) → k < n → k < 128 → length table ≡ 1024 →
-    Laid t k table → Next t k at a c → Laid t (k + 1) (sets table (k * 8) (row_of (entry t k) at a c))
-laid_next t n ok table k at a c h l size laid is =
-    rw (is.at_is, is.left_is, is.right_is) (laid_more t n ok table k l size laid)
+pub laid_next : (t : List Entry) (n : ℕ) → WellFormed t n → (table : List Row) (k at a c : ℕ) (r : Row) → k < length table → Laid t k table →
+    Next t k at a c → RowOfEntry (entry t k) at a c r → Laid t (k + 1) (set table k r)
+laid_next t n ok table k at a c r h laid is row =
+    laid_more t n ok table k r h laid (rw (is.at_is, is.left_is, is.right_is) at row)
 
 -- the three numbers as the code has them
 module _ (t : List Entry) (n : ℕ) (ok : WellFormed t n) (k : ℕ) (h : k < n) (l : k < 128) where
@@ -221,22 +202,22 @@ module _ (t : List Entry) (n : ℕ) (ok : WellFormed t n) (k : ℕ) (h : k < n) 
   pub left_fits : (at : ℕ) → at ≡ cond (takes_left (entry t k).kind) (left t k) 0 → at < 128
   left_fits at e = let b = cond_below (takes_left (entry t k).kind) (left t k) 127 (omega arith) in omega arith
 
-  pub next_row : (firsts table : List ℕ) (takes takes' : Bool) (at before a c : ℕ) →
+  pub next_row : (firsts : List ℕ) (table : List Row) (takes takes' : Bool) (at before a c : ℕ) →
       ((j : ℕ) → j < k → get_or firsts j 0 ≡ subformula_first t j) → Laid t k table →
       takes ≡ takes_left (entry t k).kind → takes' ≡ takes_right (entry t k).kind →
       at ≡ left_from takes k firsts → before ≡ k - 1 →
-      a ≡ cond takes (column 7 table at) 0 → c ≡ cond takes' (column 7 table before) 0 → Next t k at a c
+      a ≡ cond takes (row_at table at).words 0 → c ≡ cond takes' (row_at table before).words 0 → Next t k at a c
   next_row firsts table takes takes' at before a c begin laid e e' f f' g g' =
       let is = left_next firsts takes at begin e f in
       record {
         at_is = is;
-        left_is = g ∙ ap₂ (λ b x. cond b (column 7 table x) 0) e is ∙ left_words_is t n ok table k h laid;
-        right_is = g' ∙ ap₂ (λ b x. cond b (column 7 table x) 0) e' f' ∙ right_words_is t n ok table k h laid;
+        left_is = g ∙ ap₂ (λ b x. cond b (row_at table x).words 0) e is ∙ left_words_is t n ok table k h laid;
+        right_is = g' ∙ ap₂ (λ b x. cond b (row_at table x).words 0) e' f' ∙ right_words_is t n ok table k h laid;
       }
 
   pub next_fits : (at a c : ℕ) → Next t k at a c → a + c + own (entry t k) ≤ 8192
   next_fits at a c is =
-      rw (is.left_is, is.right_is) (subst (λ w. w ≤ 8192) (sym (row_words t n ok k h)) (part_bound t n ok k h))
+      rw (is.left_is, is.right_is) (subst (λ w. w ≤ 8192) (sym (row_sum t n ok k h)) (part_bound t n ok k h))
 
 -- THEOREMS
 
@@ -263,86 +244,85 @@ fields_of (next low high φ) = record { kind = refl; letter = refl; low = refl; 
 fields_of (since low high φ ψ) = record { kind = refl; letter = refl; low = refl; high = refl }
 fields_of (until low high φ ψ) = record { kind = refl; letter = refl; low = refl; high = refl }
 
-module _ (t : List Entry) (n : ℕ) (ok : WellFormed t n) (table : List ℕ) (laid : Laid t n table) where
-  pub column_is_part : (k : ℕ) → k < n → column 7 table k ≡ subformula_words t k
+module _ (t : List Entry) (n : ℕ) (ok : WellFormed t n) (table : List Row) (laid : Laid t n table) where
+  pub column_is_part : (k : ℕ) → k < n → (row_at table k).words ≡ subformula_words t k
   column_is_part k h = column_words t n ok table n k (omega arith) laid h
 
   pub row_ok : (k : ℕ) → k < n → RowOk table k
   row_ok k h =
-      let e : column 0 table k ≡ (entry t k).kind = laid.rows k 0 h (omega arith) in
+      let e : kind_at table k ≡ (entry t k).kind = (laid.rows k h).kind in
       let i = ok.in_range k h in
       record {
-        kind = rw e i.kind;
-        letter = let e' = laid.rows k 1 h (omega arith) in let l = i.letter in omega arith;
-        high = let e' = laid.rows k 3 h (omega arith) in ⊎_elim (λ l. omega arith) (λ l. let u = l.0 in omega arith) i.high;
+        letter = let e' = (laid.rows k h).letter in let l = i.letter in omega arith;
+        high = let e' = (laid.rows k h).high in ⊎_elim (λ l. omega arith) (λ l. let u = l.0 in omega arith) i.high;
         left = λ l.
             let l' = sym (ap takes_left e) ∙ l in
             let b = (binary_at t n ok k h l').below in
-            let at : column 4 table k ≡ left t k = laid.rows k 4 h (omega arith) ∙ (rw l') in
-            let is : column 5 table k ≡ subformula_words t (left t k) = laid.rows k 5 h (omega arith) ∙ (rw l') in
-            (omega arith, ap (column 7 table) at ∙ column_is_part (left t k) (omega arith) ∙ sym is);
+            let at : (row_at table k).left ≡ left t k = (laid.rows k h).left ∙ (rw l') in
+            let is : (row_at table k).left_words ≡ subformula_words t (left t k) = (laid.rows k h).left_is ∙ (rw l') in
+            (omega arith, ap (λ (i : ℕ). (row_at table i).words) at ∙ column_is_part (left t k) (omega arith) ∙ sym is);
         right = λ l.
             let l' = sym (ap takes_right e) ∙ l in
             let b = below_at t n ok k h l' in
-            let is : column 6 table k ≡ subformula_words t (k - 1) = laid.rows k 6 h (omega arith) ∙ (rw l') in
+            let is : (row_at table k).right_words ≡ subformula_words t (k - 1) = (laid.rows k h).right_is ∙ (rw l') in
             (b, column_is_part (k - 1) (omega arith) ∙ sym is);
-        words = rw (laid.rows k 7 h (omega arith), laid.rows k 5 h (omega arith), laid.rows k 6 h (omega arith), e, laid.rows k 3 h (omega arith));
+        words = rw ((laid.rows k h).words, (laid.rows k h).left_is, (laid.rows k h).right_is, e, (laid.rows k h).high);
         bound = rw (column_is_part k h) (part_bound t n ok k h);
       }
 
   -- row k is that of the operator whose entry it is
-  row_at : (φ : Formula) (k : ℕ) → k < n → entry t k ≡ root φ →
+  row_is : (φ : Formula) (k : ℕ) → k < n → entry t k ≡ root φ →
       cond (takes_left (root φ).kind) (subformula_words t (left t k)) 0 ≡ left_words φ →
-      cond (takes_right (root φ).kind) (subformula_words t (k - 1)) 0 ≡ right_words φ → Row φ table k
-  row_at φ k h e a c =
+      cond (takes_right (root φ).kind) (subformula_words t (k - 1)) 0 ≡ right_words φ → RowOf φ table k
+  row_is φ k h e a c =
       let f = fields_of φ in
       record {
         fields = record {
-          kind = laid.rows k 0 h (omega arith) ∙ ap (λ x. x.kind) e ∙ f.kind;
-          letter = laid.rows k 1 h (omega arith) ∙ ap (λ x. x.letter) e ∙ f.letter;
-          low = laid.rows k 2 h (omega arith) ∙ ap (λ x. x.low) e ∙ f.low;
-          high = laid.rows k 3 h (omega arith) ∙ ap (λ x. x.high) e ∙ f.high;
+          kind = (laid.rows k h).kind ∙ ap (λ x. x.kind) e ∙ f.kind;
+          letter = (laid.rows k h).letter ∙ ap (λ x. x.letter) e ∙ f.letter;
+          low = (laid.rows k h).low ∙ ap (λ x. x.low) e ∙ f.low;
+          high = (laid.rows k h).high ∙ ap (λ x. x.high) e ∙ f.high;
         };
-        left_words = laid.rows k 5 h (omega arith) ∙ ap (λ x. cond (takes_left x.kind) (subformula_words t (left t k)) 0) e ∙ a;
-        right_words = laid.rows k 6 h (omega arith) ∙ ap (λ x. cond (takes_right x.kind) (subformula_words t (k - 1)) 0) e ∙ c;
+        left_words = (laid.rows k h).left_is ∙ ap (λ x. cond (takes_left x.kind) (subformula_words t (left t k)) 0) e ∙ a;
+        right_words = (laid.rows k h).right_is ∙ ap (λ x. cond (takes_right x.kind) (subformula_words t (k - 1)) 0) e ∙ c;
       }
 
-  left_column : (k : ℕ) {e : Entry} → k < n → entry t k ≡ e → takes_left e.kind ≡ true → column 4 table k ≡ left t k
-  left_column k h e l = laid.rows k 4 h (omega arith) ∙ ap (λ x. cond (takes_left x.kind) (left t k) 0) e ∙ (rw l)
+  left_column : (k : ℕ) {e : Entry} → k < n → entry t k ≡ e → takes_left e.kind ≡ true → (row_at table k).left ≡ left t k
+  left_column k h e l = (laid.rows k h).left ∙ ap (λ x. cond (takes_left x.kind) (left t k) 0) e ∙ (rw l)
 
 -- the table has the subformula that ends at entry k
-pub has_at : (t : List Entry) (n : ℕ) → WellFormed t n → (table : List ℕ) → Laid t n table →
+pub has_at : (t : List Entry) (n : ℕ) → WellFormed t n → (table : List Row) → Laid t n table →
     (φ : Formula) (k : ℕ) → k < n → FormulaAt t k φ → Has φ table k
 unfolding FormulaAt Has
-has_at t n ok table laid (letter l) k h e = row_at t n ok table laid (letter l) k h e refl refl
+has_at t n ok table laid (letter l) k h e = row_is t n ok table laid (letter l) k h e refl refl
 has_at t n ok table laid (not φ) k h (e, b, f) = (
-  row_at t n ok table laid (not φ) k h e refl (words_at t n ok φ (k - 1) (omega arith) f),
+  row_is t n ok table laid (not φ) k h e refl (words_at t n ok φ (k - 1) (omega arith) f),
   has_at t n ok table laid φ (k - 1) (omega arith) f,
 )
 has_at t n ok table laid (previous low high φ) k h (e, b, f) = (
-  row_at t n ok table laid (previous low high φ) k h e refl (words_at t n ok φ (k - 1) (omega arith) f),
+  row_is t n ok table laid (previous low high φ) k h e refl (words_at t n ok φ (k - 1) (omega arith) f),
   has_at t n ok table laid φ (k - 1) (omega arith) f,
 )
 has_at t n ok table laid (next low high φ) k h (e, b, f) = (
-  row_at t n ok table laid (next low high φ) k h e refl (words_at t n ok φ (k - 1) (omega arith) f),
+  row_is t n ok table laid (next low high φ) k h e refl (words_at t n ok φ (k - 1) (omega arith) f),
   has_at t n ok table laid φ (k - 1) (omega arith) f,
 )
 has_at t n ok table laid (or φ ψ) k h (e, b, f, g) = (
-  row_at t n ok table laid (or φ ψ) k h e (words_at t n ok φ (left t k) (omega arith) f) (words_at t n ok ψ (k - 1) (omega arith) g),
+  row_is t n ok table laid (or φ ψ) k h e (words_at t n ok φ (left t k) (omega arith) f) (words_at t n ok ψ (k - 1) (omega arith) g),
   rw (left_column t n ok table laid k h e refl) (has_at t n ok table laid φ (left t k) (omega arith) f),
   has_at t n ok table laid ψ (k - 1) (omega arith) g,
 )
 has_at t n ok table laid (since low high φ ψ) k h (e, b, f, g) = (
-  row_at t n ok table laid (since low high φ ψ) k h e (words_at t n ok φ (left t k) (omega arith) f) (words_at t n ok ψ (k - 1) (omega arith) g),
+  row_is t n ok table laid (since low high φ ψ) k h e (words_at t n ok φ (left t k) (omega arith) f) (words_at t n ok ψ (k - 1) (omega arith) g),
   rw (left_column t n ok table laid k h e refl) (has_at t n ok table laid φ (left t k) (omega arith) f),
   has_at t n ok table laid ψ (k - 1) (omega arith) g,
 )
 has_at t n ok table laid (until low high φ ψ) k h (e, b, f, g) = (
-  row_at t n ok table laid (until low high φ ψ) k h e (words_at t n ok φ (left t k) (omega arith) f) (words_at t n ok ψ (k - 1) (omega arith) g),
+  row_is t n ok table laid (until low high φ ψ) k h e (words_at t n ok φ (left t k) (omega arith) f) (words_at t n ok ψ (k - 1) (omega arith) g),
   rw (left_column t n ok table laid k h e refl) (has_at t n ok table laid φ (left t k) (omega arith) f),
   has_at t n ok table laid ψ (k - 1) (omega arith) g,
 )
 
 -- every row up to the last is one of an accepted rule
-pub rows_ok : (t : List Entry) (n : ℕ) → WellFormed t n → (table : List ℕ) → Laid t n table → 0 < n → RowsOk table (n - 1)
+pub rows_ok : (t : List Entry) (n : ℕ) → WellFormed t n → (table : List Row) → Laid t n table → 0 < n → RowsOk table (n - 1)
 rows_ok t n ok table laid some j h = row_ok t n ok table laid j (omega arith)

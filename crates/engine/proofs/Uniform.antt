@@ -7,6 +7,7 @@ use mathlib.Core.List.{List}
 use native.Mathlib.Omega.{arith}
 use lib.ListN.{take, drop}
 use Rattle.mtl.specs.Formula.{Formula}
+use Rattle.window.specs.declared.view.View.{View as LogView}
 use Rattle.mtl.specs.Formula.Formula.{letter, not, or, previous, next, since, until}
 use Rattle.mtl.specs.Log.{Log}
 use Rattle.mtl.specs.Wanted.{depth}
@@ -16,7 +17,8 @@ use Rattle.blocks.specs.Block.{word, taken, left_count, right_count, kind_of, hi
 use Rattle.blocks.specs.Step.{Agrees, has_left, has_right, left_of, right_of, reads_from}
 use Rattle.engine.specs.State.{State, Parts, Absent, needed_words, left_words, right_words}
 use Rattle.engine.specs.Answer.{first_read}
-use Rattle.engine.specs.Table.{Has, Row, RowOk, column}
+use Rattle.engine.specs.declared.table.Row.{Row}
+use Rattle.engine.specs.Table.{Has, RowOf, RowOk, row_at}
 use Rattle.engine.proofs.Parts.{Side, by_side, slot, lent, lent_left, lent_right}
 use Rattle.engine.proofs.Parts.Side.{on_left, on_right}
 
@@ -137,7 +139,7 @@ all_buffered (since low high φ ψ) L b s = (s on_left refl, s on_right refl)
 all_buffered (until low high φ ψ) L b s = (s on_left refl, s on_right refl)
 
 -- a slice that shows a log from one position on shows it from a later one on
-pub agrees_later : {v s : List ℕ} {L : Log} {a b : ℕ} → Agrees v s L a → a ≤ b → Agrees v s L b
+pub agrees_later : {v : LogView} {s : List ℕ} {L : Log} {a b : ℕ} → Agrees v s L a → a ≤ b → Agrees v s L b
 agrees_later agrees later = record { ends = agrees.ends; size = agrees.size; shows = λ i low high. agrees.shows i (omega arith) high }
 
 -- a step reads no earlier position
@@ -170,7 +172,7 @@ operand_from (until low high φ ψ) L g b o =
     let ahead = o.1.ahead in by_side (FromOperand (until low high φ ψ) g b) on_left (omega arith) (omega arith)
 
 -- a formula's row, and its operands'
-pub row : (φ : Formula) (t : List ℕ) (k : ℕ) → Has φ t k → Row φ t k
+pub row : (φ : Formula) (t : List Row) (k : ℕ) → Has φ t k → RowOf φ t k
 unfolding Has
 row (letter c) t k h = h
 row (not φ) t k h = h.0
@@ -180,10 +182,10 @@ row (next low high φ) t k h = h.0
 row (since low high φ ψ) t k h = h.0
 row (until low high φ ψ) t k h = h.0
 
-abbrev pub HasOperand : Formula → List ℕ → ℕ → Side → Type 0
-HasOperand φ t k side = has side φ ≡ true → Has (of side φ) t (entry side (column 4 t k) k)
+abbrev pub HasOperand : Formula → List Row → ℕ → Side → Type 0
+HasOperand φ t k side = has side φ ≡ true → Has (of side φ) t (entry side (row_at t k).left k)
 
-pub operand_rows : (φ : Formula) (t : List ℕ) (k : ℕ) → Has φ t k → (side : Side) → HasOperand φ t k side
+pub operand_rows : (φ : Formula) (t : List Row) (k : ℕ) → Has φ t k → (side : Side) → HasOperand φ t k side
 unfolding Has
 operand_rows (letter c) t k h = by_side (HasOperand (letter c) t k) on_left never never
 operand_rows (not φ) t k h = by_side (HasOperand (not φ) t k) on_left never (λ e. h.1)
@@ -207,7 +209,7 @@ all_words (since low high φ ψ) = refl
 all_words (until low high φ ψ) = refl
 
 -- the row says how many words the formula has
-pub row_words : (φ : Formula) (t : List ℕ) (k : ℕ) → RowOk t k → Row φ t k → needed_words φ ≡ column 7 t k
+pub row_words : (φ : Formula) (t : List Row) (k : ℕ) → RowOk t k → RowOf φ t k → needed_words φ ≡ (row_at t k).words
 row_words φ t k ok r =
     all_words φ ∙
     rw (← r.left_words, ← r.right_words, ← r.fields.kind, ← r.fields.high) (sym ok.words)

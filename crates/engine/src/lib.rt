@@ -1,55 +1,52 @@
 // Answers a formula's positions one batch after the other, from a log's records and the lent words of a checkpoint.
 #![tactic(auto)]
 
-ghost use Rattle.std.specs.Prelude.{◌≡◌, true, false, ◌+◌, ◌≤◌, ◌<◌, length};
+ghost use Rattle.std.specs.Prelude.{◌≡◌, true, false, ◌+◌, ◌≤◌, ◌<◌, length, IfSome};
 ghost use Rattle.window.specs.View.{Views};
 ghost use Rattle.window.specs.Window.{Keeps};
 ghost use Rattle.engine.specs.Answer.{Answers};
 ghost use Rattle.engine.specs.Ask.{Advances, Refills, Fills, stored};
-ghost use Rattle.engine.specs.Table.{RowsOk, column};
+ghost use Rattle.engine.specs.Table.{RowsOk, row_at, kind_at};
 
 pub mod layout;
 pub mod table;
 pub mod tops;
 
-use blocks::{Step, word};
-
-// What an entry answers: a word of answers for count positions from its next one on, or that it is open.
-#[derive(Clone, Copy)]
-pub enum Reply {
-    Batch { bits: u64, count: u64 },
-    Open,
-}
+use blocks::{Batch, Step, word};
+use rule::Kind;
+use table::Row;
+use window::view::View;
 
 // Puts a batch into the buffer at slot.
-fn store(words: &mut [u64], slot: usize, bits: u64, count: u64)
+fn store(words: &mut [u64], slot: usize, batch: Batch)
     requires { slot + 1 < length words.old }
-    ensures { words.new ≡ stored words.old slot bits count }
+    ensures { words.new ≡ stored words.old slot batch.bits batch.count }
 {
-    words[slot] = count;
-    words[slot + 1] = bits;
+    words[slot] = batch.count;
+    words[slot + 1] = batch.bits;
 }
 
 // One step of entry k, an operator with operands, on its own block, which begins at `own`.
 fn advance(
-    table: &[u32; 1024],
+    table: &[Row; 128],
     records: &[u8],
-    view: &[u64; 66],
+    view: &View,
     copy: &mut [u8; 544],
     waiting: &mut [u8; 544],
     k: usize,
     own: usize,
     words: &mut [u64],
 ) -> Step
-    requires { (k < 128) × RowsOk table.now k × (0 < column 0 table.now k) × (own ≡ column 5 table.now k + column 6 table.now k) × (length words.old ≡ column 7 table.now k) × Keeps records.now copy.old × Keeps records.now waiting.old × Views view.now records.now }
+    requires { (k < 128) × RowsOk table.now k × (0 < kind_at table.now k) × (own ≡ (row_at table.now k).left_words + (row_at table.now k).right_words) × (length words.old ≡ (row_at table.now k).words) × Keeps records.now copy.old × Keeps records.now waiting.old × Views view.now records.now }
     ensures advances { Advances table.now view.now records.now k own words.old result words.new }
     ensures keeps { Keeps records.now copy.new × Keeps records.now waiting.new }
 {
+    let row = table[k];
     let end = words.len();
     operators::advance(
-        table::field(table, k, table::KIND),
-        table::field(table, k, table::LOW),
-        table::field(table, k, table::HIGH),
+        row.kind,
+        u64::from(row.low),
+        u64::from(row.high),
         records,
         view,
         copy,
@@ -60,51 +57,47 @@ fn advance(
 
 // A letter's next batch of answers. Its words are its own block.
 fn answer_letter(
-    table: &[u32; 1024],
+    table: &[Row; 128],
     records: &[u8],
-    view: &[u64; 66],
+    view: &View,
     copy: &mut [u8; 544],
     k: usize,
     shift: u64,
     words: &mut [u64],
-) -> Reply
-    requires { (k < 128) × RowsOk table.now k × (column 0 table.now k ≡ 0) × (length words.old ≡ column 7 table.now k) × Keeps records.now copy.old × Views view.now records.now }
+) -> Option<Batch>
+    requires { (k < 128) × RowsOk table.now k × (kind_at table.now k ≡ 0) × (length words.old ≡ (row_at table.now k).words) × Keeps records.now copy.old × Views view.now records.now }
+    ensures some { IfSome result (λ a. 0 < a.count) }
     ensures answers { Answers table.now view.now records.now k words.old result words.new }
     ensures keeps { Keeps records.now copy.new }
 {
-    let letter = table::field(table, k, table::LETTER);
-    let read = operators::letter::read_letter(letter, shift, records, view, copy, words);
-    let bits = read.bits;
-    let count = read.count;
-    if count == 0 {
-        return Reply::Open;
-    }
-    Reply::Batch { bits, count }
+    let letter = u64::from(table[k].letter);
+    operators::letter::read_letter(letter, shift, records, view, copy, words)
 }
 
 // Asks entry k for its next batch of answers, on the log that the view tells of. Its words are its operands' words, left then right, and
 // its own block. `shift` says where the batches of letters end; no answer depends on it.
 #[cycle(answer_ask_fill)]
 pub fn answer(
-    table: &[u32; 1024],
+    table: &[Row; 128],
     records: &[u8],
-    view: &[u64; 66],
+    view: &View,
     copy: &mut [u8; 544],
     waiting: &mut [u8; 544],
     k: usize,
     shift: u64,
     words: &mut [u64],
-) -> Reply
-    requires { (k < 128) × RowsOk table.now k × (length words.old ≡ column 7 table.now k) × Keeps records.now copy.old × Keeps records.now waiting.old × Views view.now records.now }
+) -> Option<Batch>
+    requires { (k < 128) × RowsOk table.now k × (length words.old ≡ (row_at table.now k).words) × Keeps records.now copy.old × Keeps records.now waiting.old × Views view.now records.now }
+    ensures some { IfSome result (λ a. 0 < a.count) }
     ensures answers { Answers table.now view.now records.now k words.old result words.new }
     ensures keeps { Keeps records.now copy.new × Keeps records.now waiting.new }
 {
-    if table::field(table, k, table::KIND) == 0 {
+    let row = table[k];
+    if !table::takes_right(row.kind) {
         return answer_letter(table, records, view, copy, k, shift, words);
     }
-    let left_words = table::field(table, k, table::LEFT_WORDS) as usize;
-    let right_words = table::field(table, k, table::RIGHT_WORDS) as usize;
-    let own = left_words + right_words;
+    let left_words = usize::from(row.left_words);
+    let own = row.own_at();
     loop {
         let filled = fill(
             table, records, view, copy, waiting, k, shift, left_words, own, words,
@@ -117,26 +110,26 @@ pub fn answer(
             }
         }
         match step {
-            Step::Batch { bits, count } => {
+            Step::Batch(Batch { bits, count }) => {
                 // One of no position, which only forged words bring about, is none. With the test the two numbers are copied one by one;
                 // a copy of both at once would wait for them.
                 if count == 0 {
-                    return Reply::Open;
+                    return None;
                 }
-                return Reply::Batch { bits, count };
+                return Some(Batch { bits, count });
             }
             Step::Open => {
-                return Reply::Open;
+                return None;
             }
             Step::Again => {}
             Step::Left => {
                 if !filled {
-                    return Reply::Open;
+                    return None;
                 }
             }
             Step::Right => {
                 if !filled {
-                    return Reply::Open;
+                    return None;
                 }
             }
         }
@@ -144,25 +137,26 @@ pub fn answer(
 }
 
 // Where the batches of an operand's letters end: previous and next answer one position apart from their operand.
-fn shifted(kind: u64, shift: u64) -> u64 {
-    if kind == 3 {
-        return shift % 64 + 1;
+fn shifted(kind: Kind, shift: u64) -> u64 {
+    match kind {
+        Kind::Previous => shift % 64 + 1,
+        Kind::Next => shift % 64 + 63,
+        _ => shift,
     }
-    if kind == 4 { shift % 64 + 63 } else { shift }
 }
 
 // Whether the operand is read one position apart, so that its batches begin at other records: with the two copies exchanged, each keeps its own.
-fn is_apart(kind: u64) -> bool {
-    (kind == 3) | (kind == 4)
+fn is_apart(kind: Kind) -> bool {
+    matches!(kind, Kind::Previous | Kind::Next)
 }
 
 // Fills the empty buffers of entry k's operands, left's first, whose words end at `split`; false where one has no more answers. Where that is
 // left, right is not asked.
 #[cycle(answer_ask_fill)]
 fn fill(
-    table: &[u32; 1024],
+    table: &[Row; 128],
     records: &[u8],
-    view: &[u64; 66],
+    view: &View,
     copy: &mut [u8; 544],
     waiting: &mut [u8; 544],
     k: usize,
@@ -171,21 +165,20 @@ fn fill(
     own: usize,
     words: &mut [u64],
 ) -> bool
-    requires { (k < 128) × RowsOk table.now k × (0 < column 0 table.now k) × (split ≡ column 5 table.now k) × (own ≡ column 5 table.now k + column 6 table.now k) × (length words.old ≡ column 7 table.now k) × Keeps records.now copy.old × Keeps records.now waiting.old × Views view.now records.now }
+    requires { (k < 128) × RowsOk table.now k × (0 < kind_at table.now k) × (split ≡ (row_at table.now k).left_words) × (own ≡ (row_at table.now k).left_words + (row_at table.now k).right_words) × (length words.old ≡ (row_at table.now k).words) × Keeps records.now copy.old × Keeps records.now waiting.old × Views view.now records.now }
     ensures refills { Refills table.now view.now records.now k own words.old result words.new }
     ensures keeps { Keeps records.now copy.new × Keeps records.now waiting.new }
 {
-    let kind = table::field(table, k, table::KIND);
-    let below = shifted(kind, shift);
-    if table::takes_left(kind) {
-        let left = table::field(table, k, table::LEFT) as usize;
+    let row = table[k];
+    let below = shifted(row.kind, shift);
+    if table::takes_left(row.kind) {
         let filled = ask(
             table,
             records,
             view,
             copy,
             waiting,
-            left,
+            usize::from(row.left),
             below,
             0,
             split,
@@ -196,7 +189,7 @@ fn fill(
             return false;
         }
     }
-    if is_apart(kind) {
+    if is_apart(row.kind) {
         return ask(
             table,
             records,
@@ -229,9 +222,9 @@ fn fill(
 // Fills an operand's buffer at `slot` by asking it, where it is empty; false where the operand is open.
 #[cycle(answer_ask_fill)]
 pub fn ask(
-    table: &[u32; 1024],
+    table: &[Row; 128],
     records: &[u8],
-    view: &[u64; 66],
+    view: &View,
     copy: &mut [u8; 544],
     waiting: &mut [u8; 544],
     operand: usize,
@@ -241,7 +234,7 @@ pub fn ask(
     slot: usize,
     words: &mut [u64],
 ) -> bool
-    requires { (operand < 128) × RowsOk table.now operand × (from + column 7 table.now operand ≡ to) × (to ≤ length words.old) × (slot + 1 < length words.old) × Keeps records.now copy.old × Keeps records.now waiting.old × Views view.now records.now }
+    requires { (operand < 128) × RowsOk table.now operand × (from + (row_at table.now operand).words ≡ to) × (to ≤ length words.old) × (slot + 1 < length words.old) × Keeps records.now copy.old × Keeps records.now waiting.old × Views view.now records.now }
     ensures fills { Fills table.now view.now records.now operand from to slot words.old result words.new }
     ensures keeps { Keeps records.now copy.new × Keeps records.now waiting.new }
 {
@@ -258,12 +251,9 @@ pub fn ask(
         shift,
         &mut words[from..to],
     );
-    let Reply::Batch { bits, count } = reply else {
+    let Some(batch) = reply else {
         return false;
     };
-    if count == 0 {
-        return false;
-    }
-    store(words, slot, bits, count);
+    store(words, slot, batch);
     true
 }

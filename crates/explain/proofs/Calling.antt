@@ -20,19 +20,22 @@ use Rattle.trace.specs.Format.{record_count, records_of, dropped, malformed}
 use Rattle.trace.specs.Order.{falls, disordered}
 use Rattle.trace.specs.Log.{log_of}
 use Rattle.window.specs.View.{Views}
+use Rattle.window.specs.declared.view.View.{View}
 use Rattle.trace.proofs.Laws.{never_falls, neither, well_formed_records}
 use Rattle.trace.proofs.Positions.{positions_keep}
 use Rattle.engine.specs.Tops.{Ended}
+use Rattle.engine.specs.declared.table.Row.{Row}
 use Rattle.engine.proofs.Rows.{row_ok}
 use Rattle.meaning.specs.Verdicts.{formulas_of, columns}
 use Rattle.decimal.specs.Text.{Writes}
 use Rattle.reasons.specs.Text.{text}
 use Rattle.reasons.specs.OfRule.{log_in, reason_in}
 use Rattle.search.proofs.Records.{WholeView, whole_log, whole_agrees}
-use Rattle.explain.specs.declared.Reason.{Reason}
-use Rattle.explain.specs.declared.Reason.TheVariants.{Ends, Missing}
-use Rattle.explain.specs.declared.Explained.{Explained}
-use Rattle.explain.specs.declared.Explained.TheVariants.{Written, Refused}
+use Rattle.std.specs.Prelude.{Option, Some, None, Result, Ok, Err}
+use Rattle.refusal.specs.declared.Refusal.{Refusal}
+use Rattle.refusal.specs.declared.Refusal.TheVariants.{NoReason}
+use Rattle.refusal.specs.Number.{number_of}
+use Rattle.refusal.proofs.Numbers.{number_positive}
 use Rattle.checks.specs.Refusal.{whole_log_refusal}
 use Rattle.explain.specs.Explain.{unexplained_in, explain_refusal, answer, Explains}
 use Rattle.sentences.specs.Said.{Ruled}
@@ -41,21 +44,16 @@ use Rattle.explain.specs.Code.{Prepared, Represents, Reasoned, EndsInside, Copie
 
 -- WHAT IS LENT
 
-module _ (e : List Entry) (n : ℕ) (ends : List ℕ) (number : ℕ) (fs : List Formula) (ended : Ended e n ends number fs) (few : n ≤ 128) (t : List ℕ) (ruled : Ruled e n t) where
-  pub prepared : (v s words : List ℕ) → 8192 ≤ length words → Views v s → record_count s ≤ 1000000 → Prepared t v s words ends number
+module _ (e : List Entry) (n : ℕ) (ends : List ℕ) (number : ℕ) (fs : List Formula) (ended : Ended e n ends number fs) (few : n ≤ 128) (t : List Row) (ruled : Ruled e n t) where
+  pub prepared : (v : View) (s words : List ℕ) → 8192 ≤ length words → Views v s → record_count s ≤ 1000000 → Prepared t v s words ends number
   unfolding start
   prepared v s words room views some =
       record {
         few = let m = ended.number in let l = ended.few in omega arith;
         some = λ k h. let (one, most) = within k h in (one, omega arith);
         rows = λ k h.
-            let (one, most) = within k h in (
-              λ j l. row_ok e n ruled.well_formed t ruled.laid j (omega arith),
-              λ j l.
-                  let is = ruled.laid.rows j 2 (omega arith) (omega arith) in
-                  let low = (ruled.well_formed.in_range j (omega arith)).low in
-                  omega arith,
-            );
+            let (one, most) = within k h in
+            λ j l. row_ok e n ruled.well_formed t ruled.laid j (omega arith);
         words_room = room;
         views = views;
         few_records = some;
@@ -70,7 +68,7 @@ module _ (e : List Entry) (n : ℕ) (ends : List ℕ) (number : ℕ) (fs : List 
           let one = some_size (formula fs k) in
           (omega arith, omega arith)
 
-  pub represented : (skips : Bool) (s v : List ℕ) → WholeView skips s v → falls s ≡ false → Represents t v s ends number fs (log_of skips s)
+  pub represented : (skips : Bool) (s : List ℕ) (v : View) → WholeView skips s v → falls s ≡ false → Represents t v s ends number fs (log_of skips s)
   represented skips s v made steady =
       let keeps = never_falls s steady in
       record {
@@ -83,15 +81,15 @@ module _ (e : List Entry) (n : ℕ) (ends : List ℕ) (number : ℕ) (fs : List 
 
 -- WHAT A REASON THAT IS MISSING OR ENDS SAYS, for any text that was lent
 
-module _ (fs : List Formula) (L : Log) (k i : ℕ) (text₀ : List ℕ) (r : Reason) (text' : List ℕ) where
-  pub reasoned_missing : r ≡ Missing → Reasoned fs L k i text₀ r text' → (columns fs ≤ k) ⊎ (joint_progress fs L ≤ i)
+module _ (fs : List Formula) (L : Log) (k i : ℕ) (text₀ : List ℕ) (r : Option ℕ) (text' : List ℕ) where
+  pub reasoned_missing : r ≡ None → Reasoned fs L k i text₀ r text' → (columns fs ≤ k) ⊎ (joint_progress fs L ≤ i)
   reasoned_missing is reasoned = rw is at reasoned
 
-  pub reasoned_ends : (end : ℕ) → r ≡ Ends end → Reasoned fs L k i text₀ r text' →
+  pub reasoned_ends : (end : ℕ) → r ≡ Some end → Reasoned fs L k i text₀ r text' →
       (k < columns fs) × (i < joint_progress fs L) × Wrote text₀ 0 (text (reason_in fs k L i)) end text'
   reasoned_ends end is reasoned = rw is at reasoned
 
-pub ends_inside : (text₀ : List ℕ) (r : Reason) (end : ℕ) → r ≡ Ends end → EndsInside text₀ r → end ≤ length text₀
+pub ends_inside : (text₀ : List ℕ) (r : Option ℕ) (end : ℕ) → r ≡ Some end → EndsInside text₀ r → end ≤ length text₀
 ends_inside text₀ r end is inside = rw is at inside
 
 -- CHECK 27
@@ -100,10 +98,10 @@ module _ (fs : List Formula) (L : Log) (k i : ℕ) (lent : List ℕ) where
   abbrev bytes : List ℕ
   bytes = text (reason_in fs k L i)
 
-  refused : unexplained_in fs L k i (length lent) ≡ true → Copies fs L k i lent (Refused 27) lent
+  refused : unexplained_in fs L k i (length lent) ≡ true → Copies fs L k i lent (Err NoReason) lent
   refused e = record { answer = rw e refl; bytes = rw e refl }
 
-  pub copies_none : (columns fs ≤ k) ⊎ (joint_progress fs L ≤ i) → Copies fs L k i lent (Refused 27) lent
+  pub copies_none : (columns fs ≤ k) ⊎ (joint_progress fs L ≤ i) → Copies fs L k i lent (Err NoReason) lent
   copies_none far =
       refused
       (⊎_elim
@@ -111,20 +109,20 @@ module _ (fs : List Formula) (L : Log) (k i : ℕ) (lent : List ℕ) where
       (λ (h : joint_progress fs L ≤ i). (or_iff (leb (columns fs) k) _).1 (inr ((or_iff (leb (joint_progress fs L) i) _).1 (inl (le-leb (joint_progress fs L) i h)))))
       far)
 
-  pub copies_short : length lent < length bytes → Copies fs L k i lent (Refused 27) lent
+  pub copies_short : length lent < length bytes → Copies fs L k i lent (Err NoReason) lent
   copies_short h =
       refused
       ((or_iff (leb (columns fs) k) _).1 (inr ((or_iff (leb (joint_progress fs L) i) (ltb (length lent) (length bytes))).1 (inr (lt-ltb (length lent) (length bytes) h)))))
 
   pub copies_all : k < columns fs → i < joint_progress fs L → (text₀ lines : List ℕ) (end : ℕ) → Wrote text₀ 0 bytes end lines → end ≤ length lent →
-      (to : ℕ) (lent' : List ℕ) → Writes lent 0 (take end lines) to lent' → Copies fs L k i lent (Written end) lent'
+      (to : ℕ) (lent' : List ℕ) → Writes lent 0 (take end lines) to lent' → Copies fs L k i lent (Ok end) lent'
   copies_all one two text₀ lines end wrote room to lent' writes =
       let all : end ≡ length bytes = let z = wrote.ends in omega arith in
       let none : unexplained_in fs L k i (length lent) ≡ false = rw (lt-leb (columns fs) k one, lt-leb (joint_progress fs L) i two, le-ltb (length lent) (length bytes) (omega arith)) refl in
       let size : length (take end lines) ≡ length bytes = ap length wrote.content in
       let ends : to ≡ length bytes = let z = writes.ends in omega arith in
       record {
-        answer = rw none (ap (λ (m : ℕ). answer (Written m)) all);
+        answer = rw none (ap (λ (m : ℕ). answer (Ok m)) all);
         bytes = rw none (writes.content ∙ ap (λ (b : List ℕ). b ++ drop to lent) wrote.content ∙ ap (λ (m : ℕ). bytes ++ drop m lent) ends);
       }
 
@@ -138,17 +136,23 @@ module _ (rule log : List ℕ) (k i : ℕ) (lent : List ℕ) where
   abbrev later : ℕ
   later = or_else (whole_log_refusal log) last
 
-  stopped : (n : ℕ) → (n ≡ 0 → ⊥) → explain_refusal rule log k i (length lent) ≡ n → Explains rule log k i lent (Refused n) lent
-  stopped n some e = let z = ne_eqb n 0 some in record { answer = rw (e, z) refl; bytes = rw (e, z) refl }
+  stopped : (e : Refusal) → explain_refusal rule log k i (length lent) ≡ number_of e → Explains rule log k i lent (Err e) lent
+  stopped e is =
+      let some = number_positive e in
+      let z = ne_eqb (number_of e) 0 (λ none. omega arith) in
+      record { answer = rw (is, z) refl; bytes = rw (is, z) refl }
 
-  pub rule_refused : (n : ℕ) → n ≡ refusal rule → (n ≡ 0 → ⊥) → Explains rule log k i lent (Refused n) lent
-  rule_refused n is some = stopped n some (ap (λ (b : Bool). cond b later (refusal rule)) (ne_eqb (refusal rule) 0 (λ z. some (is ∙ z))) ∙ sym is)
+  pub rule_refused : (e : Refusal) → number_of e ≡ refusal rule → Explains rule log k i lent (Err e) lent
+  rule_refused e is =
+      let some = number_positive e in
+      stopped e (ap (λ (b : Bool). cond b later (refusal rule)) (ne_eqb (refusal rule) 0 (λ z. omega arith)) ∙ sym is)
 
-  pub log_refused : refusal rule ≡ 0 → (n : ℕ) → n ≡ whole_log_refusal log → (n ≡ 0 → ⊥) → Explains rule log k i lent (Refused n) lent
-  log_refused fine n is some =
-      stopped n some
+  pub log_refused : refusal rule ≡ 0 → (e : Refusal) → number_of e ≡ whole_log_refusal log → Explains rule log k i lent (Err e) lent
+  log_refused fine e is =
+      let some = number_positive e in
+      stopped e
       (ap (λ (b : Bool). cond b later (refusal rule)) (eq-eqb (refusal rule) 0 fine) ∙
-      ap (λ (b : Bool). cond b last (whole_log_refusal log)) (ne_eqb (whole_log_refusal log) 0 (λ z. some (is ∙ z))) ∙ sym is)
+      ap (λ (b : Bool). cond b last (whole_log_refusal log)) (ne_eqb (whole_log_refusal log) 0 (λ z. omega arith)) ∙ sym is)
 
   -- a log that passes its checks
   pub log_passes : whole_log_refusal log ≡ 0 → (record_count (records_of log) ≤ 1000000) × (falls (records_of log) ≡ false)
@@ -161,7 +165,7 @@ module _ (rule log : List ℕ) (k i : ℕ) (lent : List ℕ) where
       by false e false true f z = absurd (omega arith)
       by false e false false f z = ((well_formed_records log e).1.few, ((neither (falls (records_of log)) _).0 f).0)
 
-  pub explained : refusal rule ≡ 0 → whole_log_refusal log ≡ 0 → (r : Explained) (lent' : List ℕ) → Copies (formulas_of rule) (log_in log) k i lent r lent' → Explains rule log k i lent r lent'
+  pub explained : refusal rule ≡ 0 → whole_log_refusal log ≡ 0 → (r : Result ℕ Refusal) (lent' : List ℕ) → Copies (formulas_of rule) (log_in log) k i lent r lent' → Explains rule log k i lent r lent'
   explained fine well r lent' copies = by (unexplained_in (formulas_of rule) (log_in log) k i (length lent)) refl
     where
       number : explain_refusal rule log k i (length lent) ≡ last

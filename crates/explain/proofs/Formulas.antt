@@ -27,13 +27,15 @@ use Rattle.search.specs.declared.Scan.{Scan}
 use Rattle.search.specs.Scan.{Scanned, Scans}
 use Rattle.search.proofs.Zeros.{zero_state}
 use Rattle.window.specs.View.{total}
+use Rattle.window.specs.declared.view.View.{View}
 use Rattle.telling.specs.declared.Told.{Told}
 use Rattle.sentences.specs.Said.{Answering}
 use Rattle.telling.specs.Lines.{Wrote, Tells}
 use Rattle.explain.specs.Code.{Represents, AllAnswered}
 use Rattle.telling.proofs.Writing.{wrote_line}
+use Rattle.engine.specs.declared.table.Row.{Row}
 
-module _ (t v s ends : List ℕ) (number : ℕ) (fs : List Formula) (L : Log) (told : Represents t v s ends number fs L) (k : ℕ) (h : k < number) where
+module _ (t : List Row) (v : View) (s ends : List ℕ) (number : ℕ) (fs : List Formula) (L : Log) (told : Represents t v s ends number fs L) (k : ℕ) (h : k < number) where
   known : k < length fs
   known = let n = told.ended.number in omega arith
 
@@ -73,10 +75,10 @@ module _ (t v s ends : List ℕ) (number : ℕ) (fs : List Formula) (L : Log) (t
       (long ∙ column_is_part told.entries told.count ok t laid (last_entry fs k) last_below) none))
 
 -- the first k formulas have answered position i
-abbrev pub Reached : (t v s ends : List ℕ) (number i k : ℕ) → Type 0
+abbrev pub Reached : (t : List Row) (v : View) (s ends : List ℕ) (number i k : ℕ) → Type 0
 Reached t v s ends number i k = (fs : List Formula) (L : Log) → Represents t v s ends number fs L → (j : ℕ) → j < k → i < settled_to (formula fs j) L
 
-module _ (t v s ends : List ℕ) (number i : ℕ) where
+module _ (t : List Row) (v : View) (s ends : List ℕ) (number i : ℕ) where
   pub reached_none : Reached t v s ends number i 0
   reached_none fs L told j h = absurd (omega arith)
 
@@ -119,7 +121,7 @@ there_text : (fs : List Formula) (k : ℕ) (L : Log) (i : ℕ) → 0 < length fs
 there_text [] k L i some = absurd (omega arith)
 there_text (φ ∷ fs) k L i some = refl
 
-module _ (t v s ends : List ℕ) (number k i : ℕ) (text₀ : List ℕ) where
+module _ (t : List Row) (v : View) (s ends : List ℕ) (number k i : ℕ) (text₀ : List ℕ) where
   -- there is no such formula, or no such position
   pub none_there : (columns_are : ℕ) → columns_are ≡ max 1 number → (columns_are ≤ k) ⊎ (total v ≤ i) →
       (fs : List Formula) (L : Log) → Represents t v s ends number fs L → (columns fs ≤ k) ⊎ (joint_progress fs L ≤ i)

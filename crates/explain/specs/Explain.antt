@@ -1,5 +1,5 @@
 -- What `explain` promises, for every rule, log, formula, position and lent text. Document 02, paper 13.
-use Rattle.std.specs.Prelude.{ℕ, Bool, cond, ◌||◌, List, ◌++◌, ◌≡◌, leb, ltb, eqb, length, drop}
+use Rattle.std.specs.Prelude.{ℕ, Bool, cond, ◌||◌, List, ◌++◌, ◌≡◌, leb, ltb, eqb, length, drop, Result, Ok, Err}
 use Rattle.mtl.specs.Formula.{Formula}
 use Rattle.mtl.specs.Log.{Log}
 use Rattle.mtl.specs.Progress.{joint_progress}
@@ -8,8 +8,8 @@ use Rattle.checks.specs.Refusal.{whole_log_refusal}
 use Rattle.meaning.specs.Verdicts.{formulas_of, columns}
 use Rattle.reasons.specs.Text.{text}
 use Rattle.reasons.specs.OfRule.{log_in, reason_in, reason_of}
-use Rattle.explain.specs.declared.Explained.{Explained}
-use Rattle.explain.specs.declared.Explained.TheVariants.{Written, Refused}
+use Rattle.refusal.specs.declared.Refusal.{Refusal}
+use Rattle.refusal.specs.Number.{number_of}
 
 -- the text of "the reason for its yes or no"
 abbrev pub reason_text : (rule log : List ℕ) (formula position : ℕ) → List ℕ
@@ -32,10 +32,10 @@ pub record Answer : Type 0 where
   pub number : ℕ
   pub length : ℕ
 
--- the paper's number and value for each case of the enum
-abbrev pub answer : Explained → Answer
-answer (Written l) = record { number = 0; length = l }
-answer (Refused n) = record { number = n; length = 0 }
+-- the paper's number and value for each case of the result
+abbrev pub answer : Result ℕ Refusal → Answer
+answer (Ok l) = record { number = 0; length = l }
+answer (Err refusal) = record { number = number_of refusal; length = 0 }
 
 module _ (rule log : List ℕ) (k i room : ℕ) where
   -- x where the call writes the text, else y
@@ -53,6 +53,6 @@ text_after rule log k i lent =
     if_written rule log k i (length lent) (reason_text rule log k i ++ drop (length (reason_text rule log k i)) lent) lent
 
 -- what the call promises
-pub record Explains (rule log : List ℕ) (k i : ℕ) (lent : List ℕ) (r : Explained) (lent' : List ℕ) : Type 0 where
+pub record Explains (rule log : List ℕ) (k i : ℕ) (lent : List ℕ) (r : Result ℕ Refusal) (lent' : List ℕ) : Type 0 where
   pub answer : answer r ≡ the_answer rule log k i (length lent)
   pub bytes : lent' ≡ text_after rule log k i lent

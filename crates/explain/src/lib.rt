@@ -8,78 +8,55 @@ ghost use Rattle.trace.specs.Format.{record_count};
 ghost use Rattle.window.specs.View.{total};
 ghost use Rattle.window.specs.Window.{Keeps};
 ghost use Rattle.engine.specs.Tops.{Ended};
+ghost use Rattle.refusal.specs.Number.{number};
 ghost use Rattle.checks.specs.Refusal.{whole_log_refusal};
 ghost use Rattle.explain.specs.Explain.{answer, Explains};
 ghost use Rattle.explain.specs.Code.{Prepared, AllAnswered, Reasons, ReasonsOf, CopiesOf};
 
-use rule::{Entry, Measured};
+use engine::table::{NO_ROW, Row};
+use refusal::Refusal;
+use rule::{Ends, Rule};
+use window::view::View;
 
-// What `explain` answers: the length of the text.
-#[derive(Clone, Copy)]
-pub enum Explained {
-    Written { length: usize },
-    Refused(u32),
-}
-
-impl Explained {
-    pub fn number(self) -> u32
-        ensures { result ≡ (answer self).number }
-    {
-        match self {
-            Explained::Written { length: _ } => 0,
-            Explained::Refused(n) => n,
-        }
-    }
-}
-
-// Where a reason ends in its text, or that there is none.
-#[derive(Clone, Copy)]
-enum Reason {
-    Ends(usize),
-    Missing,
-}
-
-// Refusals 12, 24 and 14 of the log, 14 from the first record on; 0 where none applies.
-fn check_log(log: &[u8]) -> u32
-    ensures { result ≡ whole_log_refusal log.now }
+// Refusals 12, 24 and 14 of the log, 14 from the first record on.
+fn check_log(log: &[u8]) -> Result<(), Refusal>
+    ensures { number result ≡ whole_log_refusal log.now }
 {
     if trace::is_malformed(log) {
-        return 12;
+        return Err(Refusal::LogFormat);
     }
     if 0 < trace::dropped(log) {
-        return 24;
+        return Err(Refusal::RecordDropped);
     }
     if trace::is_disordered(trace::records(log), 0, 0) {
-        return 14;
+        return Err(Refusal::TimeFalls);
     }
-    0
+    Ok(())
 }
 
 // Whether every formula has answered the position.
 fn all_answered(
-    table: &[u32; 1024],
+    table: &[Row; 128],
     records: &[u8],
-    view: &[u64; 66],
+    view: &View,
     copy: &mut [u8; 544],
     waiting: &mut [u8; 544],
     words: &mut [u64],
-    ends: &[usize; 9],
-    number: usize,
+    ends: &Ends,
     position: u64,
 ) -> bool
-    requires { Prepared table.now view.now records.now words.old ends.now number × Keeps records.now copy.old × Keeps records.now waiting.old × (position < 18446744073709551615) }
-    ensures all_answered { AllAnswered table.now view.now records.now ends.now number position result }
+    requires { Prepared table.now view.now records.now words.old ends.now.at ends.now.number × Keeps records.now copy.old × Keeps records.now waiting.old × (position < 18446744073709551615) }
+    ensures all_answered { AllAnswered table.now view.now records.now ends.now.at ends.now.number position result }
     ensures keeps { Keeps records.now copy.new × Keeps records.now waiting.new }
 {
-    let mut k: usize = 0;
-    while k < number {
+    for k in 0..ends.number {
         let scan = search::search(
             table,
             records,
             view,
             copy,
             waiting,
-            ends[k] - 1,
+            ends.at[k] - 1,
             true,
             0,
             position + 1,
@@ -88,30 +65,28 @@ fn all_answered(
         if scan.done <= position {
             return false;
         }
-        k += 1;
     }
     true
 }
 
 // Writes the reason of one formula at a position, or of the empty rule, where the formula exists and every formula has answered the position.
 fn write_reason(
-    table: &[u32; 1024],
+    table: &[Row; 128],
     records: &[u8],
-    view: &[u64; 66],
+    view: &View,
     words: &mut [u64],
-    ends: &[usize; 9],
-    number: usize,
+    ends: &Ends,
     formula: u64,
     position: u64,
     text: &mut [u8],
-) -> Reason
-    requires { Prepared table.now view.now records.now words.old ends.now number × (length text.old ≡ 24576) × (total view.now ≤ 1000000) }
-    ensures { Reasons table.now view.now records.now ends.now number formula position text.old result text.new }
+) -> Option<usize>
+    requires { Prepared table.now view.now records.now words.old ends.now.at ends.now.number × (length text.old ≡ 24576) × (total view.now ≤ 1000000) }
+    ensures { Reasons table.now view.now records.now ends.now.at ends.now.number formula position text.old result text.new }
 {
     let mut copy = [0u8; 544];
     let mut waiting = [0u8; 544];
-    if (emit::columns_of(number) as u64 <= formula) | (view[window::view::TOTAL] <= position) {
-        return Reason::Missing;
+    if (emit::columns_of(ends.number) as u64 <= formula) | (view.total <= position) {
+        return None;
     }
     let answered = all_answered(
         table,
@@ -121,14 +96,13 @@ fn write_reason(
         &mut waiting,
         words,
         ends,
-        number,
         position,
     );
     if !answered {
-        return Reason::Missing;
+        return None;
     }
-    if number == 0 {
-        return Reason::Ends(decimal::put(b"empty\n", text, 0));
+    if ends.number == 0 {
+        return Some(decimal::put(b"empty\n", text, 0));
     }
     let told = telling::tell(
         table,
@@ -137,91 +111,78 @@ fn write_reason(
         &mut copy,
         &mut waiting,
         words,
-        ends[formula as usize] - 1,
+        ends.at[formula as usize] - 1,
         position,
         text,
         0,
     );
-    Reason::Ends(told.end)
+    Some(told.end)
 }
 
 // The same of a decoded rule.
 fn reason_of(
-    entries: [Entry; 128],
-    count: usize,
-    ends: [usize; 9],
-    number: usize,
+    rule: &Rule,
+    ends: &Ends,
     records: &[u8],
     skips: bool,
     formula: u64,
     position: u64,
     text: &mut [u8],
-) -> Reason
-    requires { (count ≤ 128) × WellFormed entries count × (record_count records.now ≤ 1000000) × (length text.old ≡ 24576) × ((fs : List Formula) × Ended entries count ends number fs) }
-    ensures { ReasonsOf entries count ends number skips records.now formula position text.old result text.new }
+) -> Option<usize>
+    requires { WellFormed rule.now.entries rule.now.count × (record_count records.now ≤ 1000000) × (length text.old ≡ 24576) × ((fs : List Formula) × Ended rule.now.entries rule.now.count ends.now.at ends.now.number fs) }
+    ensures { ReasonsOf rule.now.entries rule.now.count ends.now.at ends.now.number skips records.now formula position text.old result text.new }
 {
-    let mut table = [0u32; 1024];
-    engine::layout::lay_out(entries, count, &mut table);
-    let mut view = [0u64; 66];
-    window::view::write_view(records, 0, 0, skips, false, &mut view);
+    let mut table = [NO_ROW; 128];
+    engine::layout::lay_out(rule, &mut table);
+    let view = View::of(records, 0, 0, skips, false);
     let mut words = [0u64; 8192];
     write_reason(
-        &table, records, &view, &mut words, &ends, number, formula, position, text,
+        &table, records, &view, &mut words, ends, formula, position, text,
     )
 }
 
 // Writes the reason into a text of its own, and copies it where the lent text has room for it. There is room for every reason: a rule has
-// at most 8,192 words, an entry 16 of them or more, and its line at most 34 bytes.
+// at most 8,192 words, an entry 16 of them or more, and its line at most 34 bytes. Gives the length of the text.
 fn copy_reason(
-    entries: [Entry; 128],
-    count: usize,
-    ends: [usize; 9],
-    number: usize,
+    rule: &Rule,
+    ends: &Ends,
     records: &[u8],
     skips: bool,
     formula: u64,
     position: u64,
     text: &mut [u8],
-) -> Explained
-    requires { (count ≤ 128) × WellFormed entries count × (record_count records.now ≤ 1000000) × ((fs : List Formula) × Ended entries count ends number fs) }
-    ensures { CopiesOf entries count ends number skips records.now formula position text.old result text.new }
+) -> Result<usize, Refusal>
+    requires { WellFormed rule.now.entries rule.now.count × (record_count records.now ≤ 1000000) × ((fs : List Formula) × Ended rule.now.entries rule.now.count ends.now.at ends.now.number fs) }
+    ensures { CopiesOf rule.now.entries rule.now.count ends.now.at ends.now.number skips records.now formula position text.old result text.new }
 {
     let mut lines = [0u8; 24576];
-    let reason = reason_of(
-        entries, count, ends, number, records, skips, formula, position, &mut lines,
-    );
-    let Reason::Ends(length) = reason else {
-        return Explained::Refused(27);
+    let Some(length) = reason_of(rule, ends, records, skips, formula, position, &mut lines) else {
+        return Err(Refusal::NoReason);
     };
     if text.len() < length {
-        return Explained::Refused(27);
+        return Err(Refusal::NoReason);
     }
     decimal::put(&lines[..length], text, 0);
-    Explained::Written { length }
+    Ok(length)
 }
 
-// Writes the reason for a formula's yes or no at a position of the log.
-pub fn explain(rule: &[u8], log: &[u8], formula: u64, position: u64, text: &mut [u8]) -> Explained
+// Writes the reason for a formula's yes or no at a position of the log, and gives the length of its text.
+pub fn explain(
+    rule: &[u8],
+    log: &[u8],
+    formula: u64,
+    position: u64,
+    text: &mut [u8],
+) -> Result<usize, Refusal>
     ensures { Explains rule.now log.now formula position text.old result text.new }
 {
-    let header = rule::check_header(rule);
-    let count = header.count();
-    let entries = rule::decode(rule, count);
-    let measured = rule::measure_decoded(header, entries);
-    let Measured::Words { words: _, reach: _ } = measured else {
-        return Explained::Refused(measured.number());
-    };
-    let checked = check_log(log);
-    if checked != 0 {
-        return Explained::Refused(checked);
-    }
-    let ends = rule::ends_of(entries, count);
-    let at = ends.at;
+    let rule = rule::decode(rule)?;
+    rule.measure()?;
+    check_log(log)?;
+    let ends = rule.ends();
     copy_reason(
-        entries,
-        count,
-        at,
-        ends.number,
+        &rule,
+        &ends,
         trace::records(log),
         trace::skips(log),
         formula,

@@ -1,4 +1,2 @@
 -- The laws behind the proofs of the exported functions.
-pub mod Reasons
 pub mod Outcomes
-pub mod Simulations

@@ -1,6 +1,7 @@
 -- What the exported functions promise, in terms of the calls' own definitions: the number returned, and each lent byte, word and
 -- number afterwards. Where the number is not 0, the numbers behind the pointers are kept.
-use Rattle.std.specs.Prelude.{ℕ, Bool, true, false, cond, ◌≡◌, List, eqb, ltb, length}
+use Rattle.std.specs.Prelude.{ℕ, Bool, true, false, cond, ◌≡◌, List, eqb, ltb, length, Result}
+use Rattle.refusal.specs.declared.Refusal.{Refusal}
 use Rattle.bits.specs.Packed.{number}
 use Rattle.rule.specs.Entries.{version}
 use Rattle.rule.specs.Postfix.{most_formulas}
@@ -18,7 +19,6 @@ use Rattle.monitor.specs.Trim.{trimmed_log}
 use Rattle.monitor.specs.Summary.{TellsNoes}
 use Rattle.monitor.specs.Formulas.{formula_count}
 use Rattle.monitor.specs.Status.{known}
-use Rattle.text.specs.declared.Parsed.{Parsed}
 use Rattle.text.specs.Parse.{answer, Parses}
 use Rattle.worst.specs.Call.{the_answer, buffer_after}
 use Rattle.simulation.specs.Simulate.{simulated, log_after}
@@ -91,7 +91,7 @@ pub record StatusCall (rule p : List ℕ) (d n w ended r d' n' w' ended' : ℕ) 
   pub closed : ended' ≡ or_kept r ended (flag (known rule p).facts.closed)
 
 pub record ParseCall (text rule : List ℕ) (n r : ℕ) (rule' : List ℕ) (n' : ℕ) : Type 0 where
-  pub outcome : Parsed
+  pub outcome : Result ℕ Refusal
   pub parses : Parses text rule outcome rule'
   pub number : r ≡ (answer outcome).number
   pub written : n' ≡ or_kept r n (answer outcome).written

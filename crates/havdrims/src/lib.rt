@@ -2,34 +2,38 @@
 // behind a pointer is as it was. include/havdrims.h says what a C programmer needs to know.
 #![tactic(auto)]
 
-ghost use Rattle.std.specs.Prelude.{true, false};
+ghost use Rattle.std.specs.Prelude.{◌≡◌, true, false};
+ghost use Rattle.refusal.specs.Number.{number as number_of};
 ghost use Rattle.monitor.specs.Resume.{answer as resumed_of};
 ghost use Rattle.havdrims.specs.Interface.{MeasureCall, OpenCall, HandsOver, ResumeCall, TrimCall, ExplainCall, TallyCall, SummaryCall, FormulasCall, StatusCall, ParseCall, WorstLogCall, settings, SimulateCall};
 
-use explain::Explained;
-use monitor::{FormulaCount, Opened, Resumed, Standing, Summarized, Trimmed};
-use rule::Measured;
-use simulation::{Settings, Simulated};
-use text::Parsed;
-use verdicts::Tallied;
-use worst::Made;
+use emit::Emitted;
+use refusal::Refusal;
+use simulation::Settings;
+
+// The number of a call that gives C nothing else.
+fn number<T: Copy>(outcome: Result<T, Refusal>) -> u32
+    ensures { result ≡ number_of outcome }
+{
+    match outcome {
+        Ok(_) => 0,
+        Err(refusal) => refusal.number(),
+    }
+}
 
 // Document 01's weigh.
 #[unsafe(no_mangle)]
 pub extern "C" fn havdrims_measure(rule: &[u8], words: &mut u64, reach: &mut u64) -> u32
     ensures { MeasureCall rule.now words.old reach.old result words.new reach.new }
 {
-    let measured = rule::measure(rule);
-    let Measured::Words {
-        words: need,
-        reach: most,
-    } = measured
-    else {
-        return measured.number();
-    };
-    *words = need as u64;
-    *reach = most;
-    0
+    match rule::measure(rule) {
+        Ok(measured) => {
+            *words = measured.words as u64;
+            *reach = measured.reach;
+            0
+        }
+        Err(refusal) => refusal.number(),
+    }
 }
 
 // Writes a fresh checkpoint (point).
@@ -37,23 +41,21 @@ pub extern "C" fn havdrims_measure(rule: &[u8], words: &mut u64, reach: &mut u64
 pub extern "C" fn havdrims_open(rule: &[u8], point: &mut [u64]) -> u32
     ensures { OpenCall rule.now point.old result point.new }
 {
-    let opened = monitor::open(rule, point);
-    let Opened::Done = opened else {
-        return opened.number();
-    };
-    0
+    number(monitor::open(rule, point))
 }
 
 // Hands over how many verdicts a call gave, and 1 or 0 for whether more are settled; or its refusal's number alone.
-fn hand_over(resumed: Resumed, given: &mut u64, more: &mut u64) -> u32
+fn hand_over(resumed: Result<Emitted, Refusal>, given: &mut u64, more: &mut u64) -> u32
     ensures { HandsOver (resumed_of resumed) given.old more.old result given.new more.new }
 {
-    let Resumed::Given { count, more: left } = resumed else {
-        return resumed.number();
-    };
-    *given = count as u64;
-    *more = left as u64;
-    0
+    match resumed {
+        Ok(emitted) => {
+            *given = emitted.count as u64;
+            *more = u64::from(emitted.more);
+            0
+        }
+        Err(refusal) => refusal.number(),
+    }
 }
 
 // Document 01's carry on. `more` becomes 1 or 0.
@@ -68,8 +70,7 @@ pub extern "C" fn havdrims_resume(
 ) -> u32
     ensures { ResumeCall false rule.now log.now point.old sheet.old given.old more.old result point.new sheet.new given.new more.new }
 {
-    let resumed = monitor::resume(rule, log, point, sheet);
-    hand_over(resumed, given, more)
+    hand_over(monitor::resume(rule, log, point, sheet), given, more)
 }
 
 // Says that no record will follow, and writes the verdicts on the log as it ends. `more` becomes 1 or 0.
@@ -84,8 +85,7 @@ pub extern "C" fn havdrims_close(
 ) -> u32
     ensures { ResumeCall true rule.now log.now point.old sheet.old given.old more.old result point.new sheet.new given.new more.new }
 {
-    let closed = monitor::close(rule, log, point, sheet);
-    hand_over(closed, given, more)
+    hand_over(monitor::close(rule, log, point, sheet), given, more)
 }
 
 // Document 02's trimming: writes a shorter log.
@@ -99,12 +99,13 @@ pub extern "C" fn havdrims_trim(
 ) -> u32
     ensures { TrimCall rule.now log.now point.now out.old written.old result out.new written.new }
 {
-    let trimmed = monitor::trim(rule, log, point, out);
-    let Trimmed::Written { length } = trimmed else {
-        return trimmed.number();
-    };
-    *written = length as u64;
-    0
+    match monitor::trim(rule, log, point, out) {
+        Ok(length) => {
+            *written = length as u64;
+            0
+        }
+        Err(refusal) => refusal.number(),
+    }
 }
 
 // Document 02's sentence under each no: writes the reason for a formula's yes or no at a position.
@@ -119,12 +120,13 @@ pub extern "C" fn havdrims_explain(
 ) -> u32
     ensures { ExplainCall rule.now log.now formula position text.old written.old result text.new written.new }
 {
-    let explained = explain::explain(rule, log, formula, position, text);
-    let Explained::Written { length } = explained else {
-        return explained.number();
-    };
-    *written = length as u64;
-    0
+    match explain::explain(rule, log, formula, position, text) {
+        Ok(length) => {
+            *written = length as u64;
+            0
+        }
+        Err(refusal) => refusal.number(),
+    }
 }
 
 // Counts the verdicts of a sheet: one count of no and one of yes for each formula.
@@ -137,11 +139,7 @@ pub extern "C" fn havdrims_tally(
 ) -> u32
     ensures { TallyCall formulas sheet.now «no».old «yes».old result «no».new «yes».new }
 {
-    let tallied = verdicts::tally(sheet, formulas, no, yes);
-    let Tallied::Counted = tallied else {
-        return tallied.number();
-    };
-    0
+    number(verdicts::tally(sheet, formulas, no, yes))
 }
 
 // For each formula the count of no among the verdicts given from a checkpoint (point), and the position of the latest: `u64::MAX` for
@@ -155,11 +153,7 @@ pub extern "C" fn havdrims_summary(
 ) -> u32
     ensures { SummaryCall rule.now point.now «no».old latest.old result «no».new latest.new }
 {
-    let summarized = monitor::summary(rule, point, no, latest);
-    let Summarized::Counted { formulas: _ } = summarized else {
-        return summarized.number();
-    };
-    0
+    number(monitor::summary(rule, point, no, latest))
 }
 
 // How many formulas a rule has: 1 for an empty rule too, which gives one answer at each position.
@@ -167,12 +161,13 @@ pub extern "C" fn havdrims_summary(
 pub extern "C" fn havdrims_formulas(rule: &[u8], formulas: &mut u64) -> u32
     ensures { FormulasCall rule.now formulas.old result formulas.new }
 {
-    let counted = monitor::formulas(rule);
-    let FormulaCount::Formulas(number) = counted else {
-        return counted.number();
-    };
-    *formulas = number;
-    0
+    match monitor::formulas(rule) {
+        Ok(count) => {
+            *formulas = count;
+            0
+        }
+        Err(refusal) => refusal.number(),
+    }
 }
 
 // What a card has to know of a checkpoint (point). `closed` becomes 1 or 0.
@@ -187,21 +182,16 @@ pub extern "C" fn havdrims_status(
 ) -> u32
     ensures { StatusCall rule.now point.now given.old seen.old wanted.old closed.old result given.new seen.new wanted.new closed.new }
 {
-    let standing = monitor::status(rule, point);
-    let Standing::Known {
-        given: verdicts,
-        seen: records,
-        wanted: first,
-        closed: ended,
-    } = standing
-    else {
-        return standing.number();
-    };
-    *given = verdicts;
-    *seen = records;
-    *wanted = first;
-    *closed = ended as u64;
-    0
+    match monitor::status(rule, point) {
+        Ok(standing) => {
+            *given = standing.given;
+            *seen = standing.seen;
+            *wanted = standing.wanted;
+            *closed = u64::from(standing.closed);
+            0
+        }
+        Err(refusal) => refusal.number(),
+    }
 }
 
 // Writes the rule that a text says (paper 1).
@@ -209,12 +199,13 @@ pub extern "C" fn havdrims_status(
 pub extern "C" fn havdrims_parse(text: &[u8], rule: &mut [u8], written: &mut u64) -> u32
     ensures { ParseCall text.now rule.old written.old result rule.new written.new }
 {
-    let parsed = text::parse(text, rule);
-    let Parsed::Written(size) = parsed else {
-        return parsed.number();
-    };
-    *written = size as u64;
-    0
+    match text::parse(text, rule) {
+        Ok(length) => {
+            *written = length as u64;
+            0
+        }
+        Err(refusal) => refusal.number(),
+    }
 }
 
 // Writes the log that keeps most seconds waiting.
@@ -228,12 +219,13 @@ pub extern "C" fn havdrims_worst_log(
 ) -> u32
     ensures { WorstLogCall low high records log.old written.old result log.new written.new }
 {
-    let made = worst::worst_log(low, high, records, log);
-    let Made::Length(length) = made else {
-        return made.number();
-    };
-    *written = length as u64;
-    0
+    match worst::worst_log(low, high, records, log) {
+        Ok(length) => {
+            *written = length as u64;
+            0
+        }
+        Err(refusal) => refusal.number(),
+    }
 }
 
 // Document 02's kiosk to try settings on: writes its log.
@@ -259,19 +251,14 @@ pub extern "C" fn havdrims_simulate(
         switchoff: switch_off,
         gap: mean_gap,
     };
-    let simulated = simulation::simulate(settings, seconds, seed, log);
-    let Simulated::Done {
-        written: bytes,
-        finished: done,
-        printing: busy,
-        waiting: queue,
-    } = simulated
-    else {
-        return simulated.number();
-    };
-    *written = bytes as u64;
-    *finished = done;
-    *printing = busy;
-    *waiting = queue;
-    0
+    match simulation::simulate(settings, seconds, seed, log) {
+        Ok(simulated) => {
+            *written = simulated.written as u64;
+            *finished = simulated.finished;
+            *printing = simulated.printing;
+            *waiting = simulated.waiting;
+            0
+        }
+        Err(refusal) => refusal.number(),
+    }
 }

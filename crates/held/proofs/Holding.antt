@@ -15,6 +15,7 @@ use Rattle.mtl.proofs.Bounded.{le_or_lt}
 use Rattle.mtl.proofs.Joint.{joint_le_size}
 use Rattle.rule.specs.Postfix.{formula}
 use Rattle.window.specs.View.{total}
+use Rattle.window.specs.declared.view.View.{View}
 use Rattle.blocks.specs.Block.{word}
 use Rattle.blocks.specs.Step.{Agrees, Batched}
 use Rattle.blocks.proofs.Words.{empty_buffer}
@@ -22,7 +23,9 @@ use Rattle.engine.specs.State.{needed_words, own_at, words_before, State, Onward
 use Rattle.engine.proofs.Onward.{formula_refl, formula_trans, all_formula}
 use Rattle.engine.specs.Answer.{first_read}
 use Rattle.engine.specs.Ask.{back, stored, Asks, Fills}
-use Rattle.engine.specs.Tops.{top_column}
+use Rattle.engine.specs.Tops.{top_at, held_at}
+use Rattle.engine.specs.declared.table.Row.{Row}
+use Rattle.engine.specs.declared.tops.Top.{Top as TopPlace}
 use Rattle.engine.proofs.Parts.{part_back, drop_back}
 use Rattle.engine.proofs.Held.{HeldWords, held_state, formula_held}
 use Rattle.engine.proofs.Beside.{before_grows}
@@ -52,8 +55,8 @@ same_or_not j k =
 -- ONE FORMULA
 
 -- nothing to do where it holds something
-pub already : {table tops : List ℕ} {base number : ℕ} {fs : List Formula} (v s : List ℕ) (k : ℕ) (ws : List ℕ) (r : ℕ) →
-    Fits (plan table tops number) base fs (length ws) → k < length fs → r ≡ word ws (top_column 3 tops k) → 0 < r → HeldOne base fs v s k ws r ws
+pub already : {table : List Row} {tops : List TopPlace} {base : ℕ} {fs : List Formula} (v : View) (s : List ℕ) (k : ℕ) (ws : List ℕ) (r : ℕ) →
+    Fits (plan table tops) base fs (length ws) → k < length fs → r ≡ word ws (held_at tops k) → 0 < r → HeldOne base fs v s k ws r ws
 already {base = base} {fs = fs} v s k ws r fits h is some =
     record {
       words_length = refl;
@@ -84,19 +87,19 @@ module _ (from to : ℕ) (ys ws : List ℕ) (ordered : from ≤ to) (inside : to
       (le_or_lt from i)
 
 -- formula k of formulas that fit, with its own words replaced by ys
-module _ {table tops : List ℕ} {base number : ℕ} {fs : List Formula} (v s : List ℕ) (k : ℕ) (ws : List ℕ)
-    (fits : Fits (plan table tops number) base fs (length ws)) (h : k < length fs) (empty : word ws (top_column 3 tops k) ≡ 0) where
+module _ {table : List Row} {tops : List TopPlace} {base : ℕ} {fs : List Formula} (v : View) (s : List ℕ) (k : ℕ) (ws : List ℕ)
+    (fits : Fits (plan table tops) base fs (length ws)) (h : k < length fs) (empty : word ws (held_at tops k) ≡ 0) where
   abbrev φ : Formula
   φ = formula fs k
 
   abbrev from : ℕ
-  from = top_column 1 tops k
+  from = (top_at tops k).from
 
   abbrev to : ℕ
-  to = top_column 2 tops k
+  to = (top_at tops k).to
 
   abbrev slot : ℕ
-  slot = top_column 3 tops k
+  slot = held_at tops k
 
   from_is : from ≡ base + words_before fs k
   from_is = (fits.laid.each k h).from
@@ -133,7 +136,7 @@ module _ {table tops : List ℕ} {base number : ℕ} {fs : List Formula} (v s : 
     asked_open r is goes means =
         let none : top_count φ ys ≡ 0 = kept_own φ (part_of base fs k ws) ys goes 12 (omega arith) (omega arith) ∙ count_at fits k h ws ∙ empty in
         let long = length_back from to ys ws ordered inside kept in
-        let same_fits : Fits (plan table tops number) base fs (length asked) = rw long fits in
+        let same_fits : Fits (plan table tops) base fs (length asked) = rw long fits in
         record {
           words_length = long;
           count = is ∙ sym (count_at same_fits k h asked);
@@ -155,7 +158,7 @@ module _ {table tops : List ℕ} {base number : ℕ} {fs : List Formula} (v s : 
       length_filled : length filled ≡ length ws
       length_filled = simp length-set (length_back from to ys ws ordered inside kept)
 
-      filled_fits : Fits (plan table tops number) base fs (length filled)
+      filled_fits : Fits (plan table tops) base fs (length filled)
       filled_fits = rw length_filled fits
 
       within : slot + 1 < length asked
@@ -221,7 +224,7 @@ module _ {table tops : List ℕ} {base number : ℕ} {fs : List Formula} (v s : 
           }
 
   -- what asking promises
-  asked_by : (b : Bool) (r : ℕ) (ws' : List ℕ) → r ≡ word ws' slot → Asks table v s (top_column 0 tops k) from to slot ws b ws' →
+  asked_by : (b : Bool) (r : ℕ) (ws' : List ℕ) → r ≡ word ws' slot → Asks table v s (top_at tops k).entry from to slot ws b ws' →
       HeldOne base fs v s k ws r ws'
   asked_by true r ws' is (ys, kept, goes, (bits, count, some, e, means)) =
       let has = (fits.laid.each k h).has in
@@ -233,22 +236,22 @@ module _ {table tops : List ℕ} {base number : ℕ} {fs : List Formula} (v s : 
       (λ L d never agrees state. means φ L d has never (agrees_later agrees (reads_wanted fs k d h)) (rw (lent_part fits k h ws) state)))
 
 -- what it holds already, or what asking promises
-pub filled_holds : {table tops : List ℕ} {base number : ℕ} {fs : List Formula} (v s : List ℕ) (k : ℕ) (ws : List ℕ) (b : Bool) (r : ℕ) (ws' : List ℕ) →
-    Fits (plan table tops number) base fs (length ws) → k < length fs → r ≡ word ws' (top_column 3 tops k) →
-    Fills table v s (top_column 0 tops k) (top_column 1 tops k) (top_column 2 tops k) (top_column 3 tops k) ws b ws' → HeldOne base fs v s k ws r ws'
+pub filled_holds : {table : List Row} {tops : List TopPlace} {base : ℕ} {fs : List Formula} (v : View) (s : List ℕ) (k : ℕ) (ws : List ℕ) (b : Bool) (r : ℕ) (ws' : List ℕ) →
+    Fits (plan table tops) base fs (length ws) → k < length fs → r ≡ word ws' (held_at tops k) →
+    Fills table v s (top_at tops k).entry (top_at tops k).from (top_at tops k).to (held_at tops k) ws b ws' → HeldOne base fs v s k ws r ws'
 filled_holds {tops = tops} v s k ws b r ws' fits h is fills =
     ⊎_elim
-    (λ le. let e : word ws (top_column 3 tops k) ≡ 0 = omega arith in asked_by v s k ws fits h e b r ws' is (fills.none e))
+    (λ le. let e : word ws (held_at tops k) ≡ 0 = omega arith in asked_by v s k ws fits h e b r ws' is (fills.none e))
     (λ some.
     let kept = fills.some some in
-    let same : r ≡ word ws (top_column 3 tops k) = rw kept.1 at is in
+    let same : r ≡ word ws (held_at tops k) = rw kept.1 at is in
     rw kept.1 (already v s k ws r fits h same (omega arith)))
-    (le_or_lt (word ws (top_column 3 tops k)) 0)
+    (le_or_lt (word ws (held_at tops k)) 0)
 
 -- ALL FORMULAS
 
 -- after the first n of them were asked
-pub record Asked (base : ℕ) (fs : List Formula) (v s : List ℕ) (ws : List ℕ) (n r : ℕ) (ws' : List ℕ) : Type 0 where
+pub record Asked (base : ℕ) (fs : List Formula) (v : View) (s : List ℕ) (ws : List ℕ) (n r : ℕ) (ws' : List ℕ) : Type 0 where
   pub words_length : length ws' ≡ length ws
   pub header : (i : ℕ) → i < base → word ws' i ≡ word ws i
   pub few : r ≤ 64
@@ -257,7 +260,7 @@ pub record Asked (base : ℕ) (fs : List Formula) (v s : List ℕ) (ws : List �
   pub meaning : (L : Log) (d : ℕ) → NeverFalls L → Agrees v s L (wanted fs d) → Top base fs L d ws →
       Top base fs L d ws' × (d + r ≤ L.size) × (r ≡ 0 → joint_progress fs L ≡ d)
 
-pub asked_none : (base : ℕ) (fs : List Formula) (v s : List ℕ) (ws : List ℕ) (r : ℕ) → r ≡ min (total v - given ws) 64 →
+pub asked_none : (base : ℕ) (fs : List Formula) (v : View) (s : List ℕ) (ws : List ℕ) (r : ℕ) → r ≡ min (total v - given ws) 64 →
     Asked base fs v s ws 0 r ws
 asked_none base fs v s ws r is =
     record {
@@ -277,7 +280,7 @@ asked_none base fs v s ws r is =
           );
     }
 
-module _ {base : ℕ} {fs : List Formula} {v s : List ℕ} {ws : List ℕ} {n r : ℕ} {ws₁ : List ℕ}
+module _ {base : ℕ} {fs : List Formula} {v : View} {s : List ℕ} {ws : List ℕ} {n r : ℕ} {ws₁ : List ℕ}
     (header : 16 ≤ base) (so_far : Asked base fs v s ws n r ws₁) where
   -- another formula's part
   other_part : (k : ℕ) (q : ℕ) (ws₂ : List ℕ) → k < length fs → n < length fs → (k ≡ n → ⊥) → HeldOne base fs v s n ws₁ q ws₂ →
@@ -329,7 +332,7 @@ module _ {base : ℕ} {fs : List Formula} {v s : List ℕ} {ws : List ℕ} {n r 
             );
       }
 
-module _ {base : ℕ} {fs : List Formula} {v s : List ℕ} {ws : List ℕ} {n r : ℕ} {ws' : List ℕ} (a : Asked base fs v s ws n r ws') where
+module _ {base : ℕ} {fs : List Formula} {v : View} {s : List ℕ} {ws : List ℕ} {n r : ℕ} {ws' : List ℕ} (a : Asked base fs v s ws n r ws') where
   held_by : ((k : ℕ) → k < length fs → r ≤ top_count (formula fs k) (part_of base fs k ws')) → Held base fs v s ws r ws'
   held_by least =
       record { words_length = a.words_length; header = a.header; few = a.few; least = least; onward = a.onward; meaning = a.meaning }

@@ -10,8 +10,10 @@ use Rattle.rule.specs.Postfix.{formula}
 use Rattle.blocks.specs.Block.{word}
 use Rattle.engine.specs.State.{needed_words, own_at, words_before}
 use Rattle.engine.specs.Ask.{part}
-use Rattle.engine.specs.Table.{column, RowsOk}
-use Rattle.engine.specs.Tops.{top_column, TopRow}
+use Rattle.engine.specs.Table.{row_at, RowsOk}
+use Rattle.engine.specs.Tops.{top_at, held_at, TopRow}
+use Rattle.engine.specs.declared.table.Row.{Row}
+use Rattle.engine.specs.declared.tops.Top.{Top as TopPlace}
 use Rattle.engine.proofs.Held.{own_block}
 use Rattle.engine.proofs.Beside.{before_grows, before_next}
 use Rattle.held.specs.Top.{top_count, top_bits, part_of}
@@ -45,8 +47,8 @@ pub part_same : (base : ℕ) (fs : List Formula) (k : ℕ) (ws ws' : List ℕ) �
 part_same base fs k ws ws' long same =
     same_part (base + words_before fs k) (needed_words (formula fs k)) ws ws' long (λ i l h. same i l (omega (arith, before_next fs k)))
 
-module _ {table tops : List ℕ} {base number : ℕ} {fs : List Formula} {size : ℕ} (fits : Fits (plan table tops number) base fs size) where
-  pub row_of : (k : ℕ) → k < number → TopRow table tops base fs k
+module _ {table : List Row} {tops : List TopPlace} {base : ℕ} {fs : List Formula} {size : ℕ} (fits : Fits (plan table tops) base fs size) where
+  pub row_of : (k : ℕ) → k < length tops → TopRow table tops base fs k
   row_of k h = fits.laid.each k (omega (arith, fits.laid.number))
 
   pub place_in : (k : ℕ) → k < length fs → Place base fs k size
@@ -56,32 +58,32 @@ module _ {table tops : List ℕ} {base number : ℕ} {fs : List Formula} {size :
     row : TopRow table tops base fs k
     row = fits.laid.each k h
 
-    pub lent_part : (ws : List ℕ) → part (top_column 1 tops k) (top_column 2 tops k) ws ≡ part_of base fs k ws
+    pub lent_part : (ws : List ℕ) → part (top_at tops k).from (top_at tops k).to ws ≡ part_of base fs k ws
     unfolding row
     lent_part ws =
-        let n : top_column 2 tops k - top_column 1 tops k ≡ needed_words (formula fs k) = omega (arith, row.from, row.to, (place_in k h).next) in
+        let n : (top_at tops k).to - (top_at tops k).from ≡ needed_words (formula fs k) = omega (arith, row.from, row.to, (place_in k h).next) in
         ap₂ (λ (m a : ℕ). take m (drop a ws)) n row.from
 
-    pub held_inside : (top_column 3 tops k + 1 < size) × (base + 12 ≤ top_column 3 tops k)
+    pub held_inside : (held_at tops k + 1 < size) × (base + 12 ≤ held_at tops k)
     unfolding row
     held_inside = let p = place_in k h in omega (arith, row.held, p.next, p.inside, p.block)
 
-    pub count_at : (ws : List ℕ) → top_count (formula fs k) (part_of base fs k ws) ≡ word ws (top_column 3 tops k)
+    pub count_at : (ws : List ℕ) → top_count (formula fs k) (part_of base fs k ws) ≡ word ws (held_at tops k)
     unfolding row
     count_at ws =
         let p = (place_in k h).block in
-        let e : base + words_before fs k + (own_at (formula fs k) + 12) ≡ top_column 3 tops k = omega (arith, row.held) in
+        let e : base + words_before fs k + (own_at (formula fs k) + 12) ≡ held_at tops k = omega (arith, row.held) in
         part_word base fs k ws (own_at (formula fs k) + 12) (omega arith) ∙ ap (word ws) e
 
-    pub bits_at : (ws : List ℕ) → top_bits (formula fs k) (part_of base fs k ws) ≡ word ws (top_column 3 tops k + 1)
+    pub bits_at : (ws : List ℕ) → top_bits (formula fs k) (part_of base fs k ws) ≡ word ws (held_at tops k + 1)
     unfolding row
     bits_at ws =
         let p = (place_in k h).block in
-        let e : base + words_before fs k + (own_at (formula fs k) + 13) ≡ top_column 3 tops k + 1 = omega (arith, row.held) in
+        let e : base + words_before fs k + (own_at (formula fs k) + 13) ≡ held_at tops k + 1 = omega (arith, row.held) in
         part_word base fs k ws (own_at (formula fs k) + 13) (omega arith) ∙ ap (word ws) e
 
   -- the answers of two formulas stand apart
-  pub apart : (j k : ℕ) → j < k → k < length fs → top_column 3 tops j + 2 ≤ top_column 3 tops k
+  pub apart : (j k : ℕ) → j < k → k < length fs → held_at tops j + 2 ≤ held_at tops k
   apart j k l h =
       let r = fits.laid.each j (omega arith) in
       let r' = fits.laid.each k h in
@@ -89,10 +91,10 @@ module _ {table tops : List ℕ} {base number : ℕ} {fs : List Formula} {size :
       omega (arith, r.held, r'.held, p.next, p.block, before_grows fs (suc j) k l)
 
 -- what asking formula k needs of the words, whichever the formulas are
-pub may_ask : (table tops : List ℕ) (number k size : ℕ) → k < number → Fitting (plan table tops number) size →
-    (top_column 0 tops k < 128) × RowsOk table (top_column 0 tops k) × (top_column 1 tops k + column 7 table (top_column 0 tops k) ≡ top_column 2 tops k) ×
-    (top_column 2 tops k ≤ size) × (top_column 3 tops k + 1 < size)
-may_ask table tops number k size h (base, fs, fits) =
+pub may_ask : (table : List Row) (tops : List TopPlace) (k size : ℕ) → k < length tops → Fitting (plan table tops) size →
+    ((top_at tops k).entry < 128) × RowsOk table (top_at tops k).entry × ((top_at tops k).from + (row_at table (top_at tops k).entry).words ≡ (top_at tops k).to) ×
+    ((top_at tops k).to ≤ size) × (held_at tops k + 1 < size)
+may_ask table tops k size h (base, fs, fits) =
     let row = row_of fits k h in
     let inside : k < length fs = omega (arith, fits.laid.number) in
     let p = place_in fits k inside in (

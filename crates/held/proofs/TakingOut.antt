@@ -16,7 +16,9 @@ use Rattle.rule.specs.Postfix.{formula}
 use Rattle.blocks.specs.Block.{word}
 use Rattle.blocks.proofs.Words.{later}
 use Rattle.engine.specs.State.{needed_words, own_at, words_before, OnwardFormula}
-use Rattle.engine.specs.Tops.{top_column}
+use Rattle.engine.specs.Tops.{held_at}
+use Rattle.engine.specs.declared.table.Row.{Row}
+use Rattle.engine.specs.declared.tops.Top.{Top as TopPlace}
 use Rattle.engine.proofs.Held.{HeldWords, held_state, formula_held}
 use Rattle.engine.proofs.Beside.{before_grows}
 use Rattle.checkpoint.specs.Checkpoint.{given, stored_noes}
@@ -164,19 +166,19 @@ unfolding taken_out
 taken_out_next held most d n k ws = let e : suc k ≡ k + 1 = omega arith in ap (λ (m : ℕ). taken_out held most d n m ws) e
 
 -- what taking formula k's answers needs, once those of the formulas before it are taken
-pub may_take : (tops : List ℕ) (number most n : ℕ) (ws : List ℕ) → CanTake tops number most n ws → (k : ℕ) → k < number → (held : ℕ) (ws₁ : List ℕ) →
-    held ≡ top_column 3 tops k → ws₁ ≡ taken_out (top_column 3 tops) most (given ws) n k ws →
+pub may_take : (tops : List TopPlace) (most n : ℕ) (ws : List ℕ) → CanTake tops most n ws → (k : ℕ) → k < length tops → (held : ℕ) (ws₁ : List ℕ) →
+    held ≡ held_at tops k → ws₁ ≡ taken_out (held_at tops) most (given ws) n k ws →
     (n ≤ 64) × (8 + k < length ws₁) × (8 + most + k < length ws₁) × (held + 1 < length ws₁) × (n ≤ word ws₁ held) × (word ws₁ (8 + k) + n < 2 ^ 64) × (given ws + n < 2 ^ 64)
-may_take tops number most n ws able k h held ws₁ at is =
+may_take tops most n ws able k h held ws₁ at is =
     let d = given ws in
     let row = able.row in
     let f = row.formulas in
     let a = row.above k h in
     let i = row.inside k h in
-    let long = length_taken_out (top_column 3 tops) most d n number ws row k in
-    let (x, y, z, w) = its_away (top_column 3 tops) most d n number ws row k k h (omega arith) in
-    let same_count = taken_out_away (top_column 3 tops) most d n number ws row k (omega arith) (8 + k) x in
-    let same_held = taken_out_away (top_column 3 tops) most d n number ws row k (omega arith) (top_column 3 tops k) z in
+    let long = length_taken_out (held_at tops) most d n (length tops) ws row k in
+    let (x, y, z, w) = its_away (held_at tops) most d n (length tops) ws row k k h (omega arith) in
+    let same_count = taken_out_away (held_at tops) most d n (length tops) ws row k (omega arith) (8 + k) x in
+    let same_held = taken_out_away (held_at tops) most d n (length tops) ws row k (omega arith) (held_at tops k) z in
     rw (at, is) (
       able.few,
       omega arith,
@@ -189,15 +191,12 @@ may_take tops number most n ws able k h held ws₁ at is =
 
 -- THE WORDS OF FORMULAS THAT FIT
 
-module _ {table tops : List ℕ} {base number : ℕ} {fs : List Formula} (most n : ℕ) (ws : List ℕ)
-    (fits : Fits (plan table tops number) base fs (length ws)) (counts : 8 + most + most ≤ base) (few : number ≤ most) where
-  abbrev held_at : ℕ → ℕ
-  held_at = top_column 3 tops
-
+module _ {table : List Row} {tops : List TopPlace} {base : ℕ} {fs : List Formula} (most n : ℕ) (ws : List ℕ)
+    (fits : Fits (plan table tops) base fs (length ws)) (counts : 8 + most + most ≤ base) (few : length tops ≤ most) where
   abbrev taken_out_all : List ℕ
-  taken_out_all = taken_verdicts tops most n number ws
+  taken_out_all = taken_verdicts tops most n ws
 
-  pub its_row : HeldApart (top_column 3 tops) most number (length ws)
+  pub its_row : HeldApart (held_at tops) most (length tops) (length ws)
   its_row =
       let all = fits.laid.number in
       record {
@@ -208,34 +207,34 @@ module _ {table tops : List ℕ} {base number : ℕ} {fs : List Formula} (most n
       }
 
   pub length_all : length taken_out_all ≡ length ws
-  length_all = simp length-set (length_taken_out held_at most (given ws) n number ws its_row number)
+  length_all = simp length-set (length_taken_out (held_at tops) most (given ws) n (length tops) ws its_row (length tops))
 
-  not_given_word : (i : ℕ) → (i ≡ 1 → ⊥) → word taken_out_all i ≡ word (taken_out (top_column 3 tops) most (given ws) n number ws) i
-  not_given_word i ne = get_or-set_other (taken_out (top_column 3 tops) most (given ws) n number ws) 1 i (given ws + n) 0 ne
+  not_given_word : (i : ℕ) → (i ≡ 1 → ⊥) → word taken_out_all i ≡ word (taken_out (held_at tops) most (given ws) n (length tops) ws) i
+  not_given_word i ne = get_or-set_other (taken_out (held_at tops) most (given ws) n (length tops) ws) 1 i (given ws + n) 0 ne
 
-  away_word : (i : ℕ) → (i ≡ 1 → ⊥) → Away (top_column 3 tops) most number i → word taken_out_all i ≡ word ws i
-  away_word i ne away = not_given_word i ne ∙ taken_out_away held_at most (given ws) n number ws its_row number (omega arith) i away
+  away_word : (i : ℕ) → (i ≡ 1 → ⊥) → Away (held_at tops) most (length tops) i → word taken_out_all i ≡ word ws i
+  away_word i ne away = not_given_word i ne ∙ taken_out_away (held_at tops) most (given ws) n (length tops) ws its_row (length tops) (omega arith) i away
 
   -- the header: the verdicts given, the words that stay, and the counts of the formulas
   pub now_given : given taken_out_all ≡ given ws + n
   now_given =
-      get_or-set_same (taken_out (top_column 3 tops) most (given ws) n number ws) 1 (given ws + n) 0
-      (omega (arith, length_taken_out held_at most (given ws) n number ws its_row number, fits.header, fits.all))
+      get_or-set_same (taken_out (held_at tops) most (given ws) n (length tops) ws) 1 (given ws + n) 0
+      (omega (arith, length_taken_out (held_at tops) most (given ws) n (length tops) ws its_row (length tops), fits.header, fits.all))
 
   pub now_header : (i : ℕ) → i < 8 → (i ≡ 1 → ⊥) → word taken_out_all i ≡ word ws i
   now_header i low ne = away_word i ne (λ j h. let a = its_row.above j h in omega arith)
 
-  pub now_spare : (k : ℕ) → number ≤ k → k < most → (word taken_out_all (8 + k) ≡ word ws (8 + k)) × (word taken_out_all (8 + most + k) ≡ word ws (8 + most + k))
+  pub now_spare : (k : ℕ) → length tops ≤ k → k < most → (word taken_out_all (8 + k) ≡ word ws (8 + k)) × (word taken_out_all (8 + most + k) ≡ word ws (8 + most + k))
   now_spare k late h = (
     away_word (8 + k) (λ e. omega arith) (λ j l. let a = its_row.above j l in omega arith),
     away_word (8 + most + k) (λ e. omega arith) (λ j l. let a = its_row.above j l in omega arith),
   )
 
-  pub now_noes : (k : ℕ) → k < number →
-      stored_noes most taken_out_all k ≡ laid_behind (stored_noes most ws k) (given ws) (noes_of_bits n (word ws (top_column 3 tops k + 1)))
+  pub now_noes : (k : ℕ) → k < length tops →
+      stored_noes most taken_out_all k ≡ laid_behind (stored_noes most ws k) (given ws) (noes_of_bits n (word ws (held_at tops k + 1)))
   now_noes k h =
-      let at = taken_out_at held_at most (given ws) n number ws its_row number (omega arith) k h in
-      let bits = word ws (top_column 3 tops k + 1) in
+      let at = taken_out_at (held_at tops) most (given ws) n (length tops) ws its_row (length tops) (omega arith) k h in
+      let bits = word ws (held_at tops k + 1) in
       ap₂ (λ (c a : ℕ). noes c (latest_of a)) (not_given_word (8 + k) (λ e. omega arith) ∙ at.count) (not_given_word (8 + most + k) (λ e. omega arith) ∙ at.late) ∙
       ap (noes (word ws (8 + k) + zeros n bits)) (latest_end (word ws (8 + most + k)) (given ws) (last_zero n bits))
 
@@ -244,26 +243,26 @@ module _ {table tops : List ℕ} {base number : ℕ} {fs : List Formula} (most n
     abbrev φ : Formula
     φ = formula fs k
 
-    below : k < number
+    below : k < length tops
     below = omega (arith, fits.laid.number)
 
     pub now_count : top_count φ (part_of base fs k taken_out_all) ≡ top_count φ (part_of base fs k ws) - n
     now_count =
-        let at = taken_out_at held_at most (given ws) n number ws its_row number (omega arith) k below in
+        let at = taken_out_at (held_at tops) most (given ws) n (length tops) ws its_row (length tops) (omega arith) k below in
         let a = its_row.above k below in
-        count_at fits k h taken_out_all ∙ not_given_word (top_column 3 tops k) (λ e. omega arith) ∙ at.held_count ∙
+        count_at fits k h taken_out_all ∙ not_given_word (held_at tops k) (λ e. omega arith) ∙ at.held_count ∙
         sym (ap (λ (m : ℕ). m - n) (count_at fits k h ws))
 
     pub now_bits : top_bits φ (part_of base fs k taken_out_all) ≡ top_bits φ (part_of base fs k ws) / 2 ^ n
     now_bits =
-        let at = taken_out_at held_at most (given ws) n number ws its_row number (omega arith) k below in
+        let at = taken_out_at (held_at tops) most (given ws) n (length tops) ws its_row (length tops) (omega arith) k below in
         let a = its_row.above k below in
-        bits_at fits k h taken_out_all ∙ not_given_word (top_column 3 tops k + 1) (λ e. omega arith) ∙ at.held_bits ∙
+        bits_at fits k h taken_out_all ∙ not_given_word (held_at tops k + 1) (λ e. omega arith) ∙ at.held_bits ∙
         sym (ap (λ (m : ℕ). m / 2 ^ n) (bits_at fits k h ws))
 
     -- its other words
     away_part : (i : ℕ) → i < needed_words φ → (i ≡ own_at φ + 12 → ⊥) → (i ≡ own_at φ + 13 → ⊥) →
-        Away (top_column 3 tops) most number (base + words_before fs k + i)
+        Away (held_at tops) most (length tops) (base + words_before fs k + i)
     away_part i l ne ne' j m =
         let p = place_in fits k h in
         let q = place_in fits j (omega (arith, fits.laid.number)) in
@@ -275,8 +274,8 @@ module _ {table tops : List ℕ} {base number : ℕ} {fs : List Formula} (most n
           λ e. not_its j m i l ne ne' 1 (omega arith) (omega (arith, e)),
         )
       where
-        not_its : (j : ℕ) → j < number → (i : ℕ) → i < needed_words φ → (i ≡ own_at φ + 12 → ⊥) → (i ≡ own_at φ + 13 → ⊥) → (o : ℕ) → o < 2 →
-            base + words_before fs k + i ≡ top_column 3 tops j + o → ⊥
+        not_its : (j : ℕ) → j < length tops → (i : ℕ) → i < needed_words φ → (i ≡ own_at φ + 12 → ⊥) → (i ≡ own_at φ + 13 → ⊥) → (o : ℕ) → o < 2 →
+            base + words_before fs k + i ≡ held_at tops j + o → ⊥
         not_its j m i l ne ne' o small e =
             let p = place_in fits k h in
             let q = place_in fits j (omega (arith, fits.laid.number)) in

@@ -6,101 +6,81 @@ ghost use Rattle.std.specs.Prelude.{◌≡◌, ℕ, ◌+◌, ◌-◌, ◌≤◌,
 ghost use Rattle.blocks.specs.Block.{word};
 ghost use Rattle.window.specs.View.{Views};
 ghost use Rattle.window.specs.Window.{Keeps};
-ghost use Rattle.engine.specs.Tops.{top_column};
+ghost use Rattle.engine.specs.Tops.{held_at};
 ghost use Rattle.verdicts.specs.Counts.{later_end};
 ghost use Rattle.checkpoint.specs.Checkpoint.{given};
 ghost use Rattle.held.specs.Code.{plan, Fitting, HoldsOne, HoldsAll, Answered, taken_answers, taken_verdicts, CanTake};
 
 use checkpoint::header;
-use engine::tops;
-use window::view;
-
-// a word of answers that are all yes
-const ALL_YES: u64 = 18446744073709551615;
+use engine::table::Row;
+use engine::tops::Top;
+use window::view::View;
 
 // How many positions of a log of so many have no verdict yet, as far as one word goes.
 fn not_given(given: u64, size: u64) -> u64
     ensures { result ≡ min (size - given) 64 }
 {
-    if size <= given {
-        0
-    } else if size - given < 64 {
-        size - given
-    } else {
-        64
-    }
+    size.saturating_sub(given).min(64)
 }
 
 // Asks formula k where it holds nothing, and gives how many answers it holds then.
 fn hold_one(
-    table: &[u32; 1024],
-    tops: &[usize; 32],
-    number: usize,
+    table: &[Row; 128],
+    tops: &[Top],
     k: usize,
     records: &[u8],
-    view: &[u64; 66],
+    view: &View,
     copy: &mut [u8; 544],
     waiting: &mut [u8; 544],
     shift: u64,
     words: &mut [u64],
 ) -> u64
-    requires { (k < number) × Fitting (plan table.now tops.now number) (length words.old) × Keeps records.now copy.old × Keeps records.now waiting.old × Views view.now records.now }
-    ensures holds_one { HoldsOne (plan table.now tops.now number) view.now records.now k words.old result words.new }
+    requires { (k < length tops.now) × Fitting (plan table.now tops.now) (length words.old) × Keeps records.now copy.old × Keeps records.now waiting.old × Views view.now records.now }
+    ensures holds_one { HoldsOne (plan table.now tops.now) view.now records.now k words.old result words.new }
     ensures keeps { Keeps records.now copy.new × Keeps records.now waiting.new }
 {
-    let held = tops::place(tops, k, tops::HELD);
-    let entry = tops::place(tops, k, tops::ENTRY);
-    let from = tops::place(tops, k, tops::FROM);
-    let to = tops::place(tops, k, tops::TO);
+    let top = tops[k];
     engine::ask(
-        table, records, view, copy, waiting, entry, shift, from, to, held, words,
+        table, records, view, copy, waiting, top.entry, shift, top.from, top.to, top.held, words,
     );
-    words[held]
+    words[top.held]
 }
 
 // Asks every formula that holds nothing, unless all positions have verdicts. Gives how many answers each of them holds at least: 0 where
 // nothing more is settled.
 pub fn hold(
-    table: &[u32; 1024],
-    tops: &[usize; 32],
-    number: usize,
+    table: &[Row; 128],
+    tops: &[Top],
     records: &[u8],
-    view: &[u64; 66],
+    view: &View,
     copy: &mut [u8; 544],
     waiting: &mut [u8; 544],
     shift: u64,
     words: &mut [u64],
 ) -> u64
-    requires { Fitting (plan table.now tops.now number) (length words.old) × Keeps records.now copy.old × Keeps records.now waiting.old × Views view.now records.now }
-    ensures holds_all { HoldsAll (plan table.now tops.now number) view.now records.now words.old result words.new }
+    requires { Fitting (plan table.now tops.now) (length words.old) × Keeps records.now copy.old × Keeps records.now waiting.old × Views view.now records.now }
+    ensures holds_all { HoldsAll (plan table.now tops.now) view.now records.now words.old result words.new }
     ensures keeps { Keeps records.now copy.new × Keeps records.now waiting.new }
 {
-    let mut least = not_given(words[header::GIVEN], view[view::TOTAL]);
+    let mut least = not_given(words[header::GIVEN], view.total);
     if least == 0 {
         return 0;
     }
-    let mut k: usize = 0;
-    while k < number {
-        let count = hold_one(
-            table, tops, number, k, records, view, copy, waiting, shift, words,
-        );
-        least = blocks::smaller(least, count);
-        k += 1;
+    for k in 0..tops.len() {
+        let count = hold_one(table, tops, k, records, view, copy, waiting, shift, words);
+        least = least.min(count);
     }
     least
 }
 
 // Copies the words of answers that the formulas hold; where there is no formula, one word of yes.
-pub fn copy_answers(tops: &[usize; 32], number: usize, words: &[u64], answers: &mut [u64; 8])
-    requires { (number ≤ 8) × (length answers.old ≡ 8) × ((k : ℕ) → k < number → top_column 3 tops.now k + 1 < length words.now) }
-    ensures { Answered tops.now number words.now answers.new }
+pub fn copy_answers(tops: &[Top], words: &[u64], answers: &mut [u64; 8])
+    requires { (length tops.now ≤ 8) × (length answers.old ≡ 8) × ((k : ℕ) → k < length tops.now → held_at tops.now k + 1 < length words.now) }
+    ensures { Answered tops.now words.now answers.new }
 {
-    answers[0] = ALL_YES;
-    let mut k: usize = 0;
-    while k < number {
-        let held = tops::place(tops, k, tops::HELD);
-        answers[k] = words[held + 1];
-        k += 1;
+    answers[0] = u64::MAX;
+    for k in 0..tops.len() {
+        answers[k] = words[tops[k].held + 1];
     }
 }
 
@@ -130,23 +110,20 @@ fn take_answers(words: &mut [u64], held: usize, at: usize, late: usize, given: u
 }
 
 // Takes n verdicts out of the answers of all formulas.
-pub fn take_verdicts(tops: &[usize; 32], number: usize, most: usize, words: &mut [u64], n: u64)
-    requires { CanTake tops.now number most n words.old }
-    ensures { words.new ≡ taken_verdicts tops.now most n number words.old }
+pub fn take_verdicts(tops: &[Top], most: usize, words: &mut [u64], n: u64)
+    requires { CanTake tops.now most n words.old }
+    ensures { words.new ≡ taken_verdicts tops.now most n words.old }
 {
     let given = words[header::GIVEN];
-    let mut k: usize = 0;
-    while k < number {
-        let held = tops::place(tops, k, tops::HELD);
+    for k in 0..tops.len() {
         take_answers(
             words,
-            held,
+            tops[k].held,
             header::NO_COUNT + k,
             header::NO_COUNT + most + k,
             given,
             n,
         );
-        k += 1;
     }
     words[header::GIVEN] = given + n;
 }

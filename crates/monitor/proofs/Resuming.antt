@@ -5,7 +5,6 @@ use mathlib.Core.Path.{◌≡◌, refl, sym, ap, ap₂, ◌∙◌}
 use mathlib.Core.List.{List, ◌++◌}
 use mathlib.Core.Logic.{◌⊎◌, inl, inr, ⊎_elim}
 use native.Mathlib.Omega.{arith}
-use native.Mathlib.Nat.{sub-zero}
 use borrow.Author.Tests.{le-ltb, lt-ltb, ne_eqb}
 use lib.ListN.{length, take, drop, length-append, length-drop, get_or-append}
 use lib.Seq.{length-take-le, take_at, drop_at, get_or-take, get_or-drop}
@@ -15,40 +14,38 @@ use Rattle.mtl.specs.Progress.{joint_progress}
 use Rattle.mtl.specs.Wanted.{deepest, wanted, wanted_record}
 use Rattle.mtl.proofs.Bounded.{le_or_lt}
 use Rattle.verdicts.specs.Counts.{Noes, noes_in, laid_behind}
-use Rattle.rule.specs.declared.Entry.{Entry}
 use Rattle.rule.specs.declared.measuring.Ends.{Ends}
 use Rattle.rule.specs.Entries.{version, count, decoded}
 use Rattle.rule.specs.Postfix.{most_formulas, formulas, formulas_or, formula, start}
 use Rattle.rule.specs.Refusal.{refusal}
 use Rattle.rule.specs.Words.{header_words, offset}
 use Rattle.rule.specs.Contract.{EndsOf}
-use Rattle.rule.proofs.Headers.{Decoded}
 use Rattle.rule.proofs.Acceptance.{accepted}
 use Rattle.rule.proofs.Spans.{header_least, header_most}
 use Rattle.trace.specs.Format.{record_count, time_at, skips_of, dropped, records_of, total_records, from_record}
 use Rattle.trace.specs.Order.{last_time}
 use Rattle.window.specs.View.{view_of}
 use Rattle.trace.proofs.Parts.{Cut, cut_from, time_part}
-use Rattle.window.proofs.Slices.{flag_told}
 use Rattle.blocks.specs.Block.{word, Onward}
 use Rattle.blocks.specs.Step.{Agrees}
 use Rattle.blocks.proofs.Onward.{onward_same}
-use Rattle.engine.specs.Ask.{part}
 use Rattle.engine.specs.State.{OnwardFormula, formula_words}
 use Rattle.engine.proofs.Formulas.{last_next, rule_onward, rule_others}
 use Rattle.engine.proofs.Longer.{buffer_longer, state_longer}
-use Rattle.engine.proofs.Parts.{put_back}
 use Rattle.checkpoint.specs.Checkpoint.{given, seen, last, closed_with, log_kind, kind_of_log, first_wanted, stored_noes, need, block_at, foreign, kind_in_range}
-use Rattle.checks.specs.Refusal.{point_refusal}
-use Rattle.checks.specs.Contract.{sized_of}
-use Rattle.checks.specs.declared.Sized.TheVariants.{Words}
-use Rattle.checks.proofs.Checks.{Met, passes}
+use Rattle.checks.specs.Refusal.{point_refusal, resume_refusal}
+use Rattle.checks.specs.Contract.{IsAdmitted}
+use Rattle.checks.specs.declared.Admitted.{Admitted}
+use Rattle.checks.proofs.Checks.{passes}
+use Rattle.refusal.specs.declared.Refusal.{Refusal}
+use Rattle.refusal.specs.Number.{number_of}
+use Rattle.refusal.proofs.Numbers.{number_positive}
+use Rattle.engine.specs.Tops.{Ended}
 use Rattle.checkpoint.proofs.Copies.{foreign_same}
 use Rattle.checkpoint.proofs.Offsets.{in_block, block_fits, noes_within}
-use Rattle.checks.proofs.Sizes.{enough}
 use Rattle.meaning.specs.Verdicts.{formulas_of, columns, verdicts}
 use Rattle.held.specs.Top.{top_count, top_bits, part_of, Waiting, Top}
-use Rattle.emit.specs.Code.{Giving, Brought, Emits, Emission, ReadyToEmit}
+use Rattle.emit.specs.Code.{as_decoded, Giving, Brought, Emits, Emission, ReadyToEmit}
 use Rattle.emit.specs.declared.Emitted.{Emitted}
 use Rattle.meaning.proofs.Laws.{joint_least}
 use Rattle.monitor.specs.Stands.{Stands}
@@ -57,11 +54,11 @@ use Rattle.monitor.proofs.Meaning.{most_few, rule_whole, few_formulas, few_colum
 use Rattle.monitor.proofs.VerdictBytes.{noes_more, verdicts_stay}
 
 -- where a refusal is met nothing is written
-pub resume_refused : (closing : Bool) (rule log p sheet : List ℕ) (n : ℕ) →
-    Met rule p (point_refusal closing (version rule) (decoded rule) (count rule) log p) n → Resumes closing rule log p sheet (refused_with n) p sheet
-resume_refused closing rule log p sheet n met =
+pub resume_refused : (closing : Bool) (rule log p sheet : List ℕ) (e : Refusal) → number_of e ≡ resume_refusal closing rule log p →
+    Resumes closing rule log p sheet (refused_with (number_of e)) p sheet
+resume_refused closing rule log p sheet e number =
     record {
-      outcome = rw (← met.number, ne_eqb n 0 (λ e. omega (arith, met.some)));
+      outcome = let some = number_positive e in rw (← number, ne_eqb (number_of e) 0 (λ z. omega arith));
       point_length = refl;
       sheet_length = refl;
       words = (refl, refl);
@@ -310,7 +307,7 @@ module _ (closing : Bool) (rule log p sheet : List ℕ) (ok : refusal rule ≡ 0
           own = foreign_now ∙ stands.own;
           size = seen_now;
           placed = placed;
-          closed = closed_now ∙ ap (λ (b : Bool). cond b (suc size_now) 0) (sym (agrees.ends ∙ flag_told closing));
+          closed = closed_now ∙ ap (λ (b : Bool). cond b (suc size_now) 0) (sym agrees.ends);
           wanted = now 7 (own_header 7 (omega arith)) ∙ first ∙ ap (λ (k : ℕ). wanted_record L k (wanted fs (d + r.count))) seen_is;
           top = rw (take_at ws' (drop (need rule) p) (need rule) size) giving.top;
           noes = λ k h.
@@ -358,36 +355,32 @@ module _ (closing : Bool) (rule log p sheet : List ℕ) (ok : refusal rule ≡ 0
             };
       }
 
--- the entries as they were decoded, where their formulas end, the records and the words as they were lent
-module _ (closing : Bool) (rule log p : List ℕ) (v : ℕ) (t : List Entry) (n : ℕ) (ends : Ends) (w : ℕ)
-    (sized : Words w ≡ sized_of rule (length p)) (is_version : v ≡ version rule) (d : Decoded rule t n) (ended : EndsOf t n ends)
+-- the rule as it was admitted, where its formulas end, the records and the words as they were lent
+module _ (closing : Bool) (rule log p : List ℕ) (a : Admitted) (d : IsAdmitted rule (length p) a) (ends : Ends) (ended : EndsOf a.rule.entries a.rule.count ends)
     (none : point_refusal closing (version rule) (decoded rule) (count rule) log p ≡ 0) where
-  the_words : w - 0 ≡ need rule
-  the_words = sub-zero w ∙ (enough rule (length p) w sized).words_are
+  where_ended : Ended (decoded rule) (count rule) ends.at ends.number (formulas_of rule)
+  where_ended = rule_ended rule d.accepted ends (rw (d.entries_are, d.count_is) at ended)
 
   -- the accepted rule is ready
-  pub ready_of : (deep : ℕ) → deep ≡ deepest (formulas_or (formulas v t n)) → (records : List ℕ) → records ≡ wanted_records log p →
-      ReadyToEmit (record { entries = t; count = n; ends = ends.at; number = ends.number; most = most_formulas v; base = header_words v; deep = deep }) records (part 0 w p)
-  ready_of deep deep_is records handed =
-      let e = enough rule (length p) w sized in
-      let a = accepted rule e.accepted in
-      let own_ends : EndsOf (decoded rule) (count rule) ends = rw (d.entries_are, d.count_is) at ended in
-      let where_ended = rule_ended rule e.accepted ends own_ends in
+  pub ready_of : (most base deep : ℕ) → most ≡ most_formulas a.rule.version → base ≡ header_words a.rule.version → deep ≡ deepest (formulas_or (formulas a.rule.version a.rule.entries a.rule.count)) → (records : List ℕ) →
+      records ≡ wanted_records log p → ReadyToEmit (as_decoded a.rule ends most base deep) records (take a.words p)
+  ready_of most base deep most_is base_is deep_is records handed =
+      let fine = accepted rule d.accepted in
       let checks = passes closing rule log p none in
       let least = header_least (version rule) in
       let most_words = header_most (version rule) in
       let within = noes_within (version rule) in
       let counted = length-drop ((first_wanted p - dropped log) * 8) (records_of log) in
-      rw (the_words, deep_is, handed, is_version, d.entries_are, d.count_is)
+      rw (d.words_are, most_is, base_is, deep_is, handed, d.version_is, d.entries_are, d.count_is)
       (record {
-        few = a.few_entries;
-        well_formed = a.well_formed;
+        few = fine.few_entries;
+        well_formed = fine.well_formed;
         the_formulas = formulas_of rule;
         ended = where_ended;
-        formulas = omega (arith, where_ended.number, few_formulas rule e.accepted);
+        formulas = omega (arith, where_ended.number, few_formulas rule d.accepted);
         small = most_few (version rule);
         header = (least, most_words, within);
-        size = length-take-le (need rule) p e.room;
+        size = length-take-le (need rule) p d.room;
         given = omega (arith, checks.given, get_or-take (need rule) p 1 0 (omega arith));
         noes = λ k h. omega (arith, checks.counted k h, get_or-take (need rule) p (8 + k) 0 (omega arith));
         depth = refl;
@@ -396,14 +389,11 @@ module _ (closing : Bool) (rule log p : List ℕ) (v : ℕ) (t : List Entry) (n 
       })
 
   -- the words as they came back
-  pub resume_given : (deep : ℕ) → deep ≡ deepest (formulas_or (formulas v t n)) → (sheet records : List ℕ) (skips : Bool) (r : Emitted) (ws' sheet' : List ℕ) →
-      records ≡ wanted_records log p → skips ≡ skips_of log →
-      Emission (record { entries = t; count = n; ends = ends.at; number = ends.number; most = most_formulas v; base = header_words v; deep = deep }) skips closing records (part 0 w p) sheet r ws' sheet' →
-      Resumes closing rule log p sheet (gave r.count r.more) (put_back 0 w ws' p) sheet'
-  resume_given deep deep_is sheet records skips r ws' sheet' handed kind done =
-      let e = enough rule (length p) w sized in
-      let own_ends : EndsOf (decoded rule) (count rule) ends = rw (d.entries_are, d.count_is) at ended in
-      let where_ended = rule_ended rule e.accepted ends own_ends in
-      let is_done = rw (the_words, handed, kind, is_version, d.entries_are, d.count_is) at done in
-      let depth_is : deep ≡ deepest (formulas_of rule) = rw (is_version, d.entries_are, d.count_is) at deep_is in
-      rw the_words (resumed closing rule log p sheet e.accepted e.room none r ws' sheet' (is_done (formulas_of rule) where_ended depth_is))
+  pub resume_given : (most base deep : ℕ) → most ≡ most_formulas a.rule.version → base ≡ header_words a.rule.version → deep ≡ deepest (formulas_or (formulas a.rule.version a.rule.entries a.rule.count)) → (sheet records : List ℕ)
+      (skips : Bool) (r : Emitted) (ws' sheet' : List ℕ) → records ≡ wanted_records log p → skips ≡ skips_of log →
+      Emission (as_decoded a.rule ends most base deep) skips closing records (take a.words p) sheet r ws' sheet' →
+      Resumes closing rule log p sheet (gave r.count r.more) (ws' ++ drop a.words p) sheet'
+  resume_given most base deep most_is base_is deep_is sheet records skips r ws' sheet' handed kind done =
+      let is_done = rw (d.words_are, most_is, base_is, handed, kind, d.version_is, d.entries_are, d.count_is) at done in
+      let depth_is : deep ≡ deepest (formulas_of rule) = rw (d.version_is, d.entries_are, d.count_is) at deep_is in
+      rw d.words_are (resumed closing rule log p sheet d.accepted d.room none r ws' sheet' (is_done (formulas_of rule) where_ended depth_is))

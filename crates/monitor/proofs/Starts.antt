@@ -24,12 +24,12 @@ use Rattle.engine.specs.State.{State}
 use Rattle.engine.proofs.Formulas.{last_entry, last_below, fresh_rule}
 use Rattle.checkpoint.specs.Checkpoint.{last, log_kind, need, block_at}
 use Rattle.checkpoint.specs.Fresh.{Fresh}
-use Rattle.checks.specs.Contract.{sized_number, sized_of}
 use Rattle.checks.specs.Refusal.{open_refusal}
-use Rattle.checks.specs.declared.Sized.TheVariants.{Words}
 use Rattle.checkpoint.proofs.Offsets.{in_block, block_fits, noes_within}
 use Rattle.checkpoint.proofs.Copies.{fresh_own, foreign_within}
-use Rattle.checks.proofs.Sizes.{enough, sized_refusal}
+use Rattle.refusal.specs.declared.Refusal.{Refusal}
+use Rattle.refusal.specs.Number.{number_of}
+use Rattle.refusal.proofs.Numbers.{number_positive}
 use Rattle.meaning.specs.Verdicts.{formulas_of}
 use Rattle.held.specs.Top.{top_count, top_bits, part_of, Waiting, Top}
 use Rattle.monitor.specs.Open.{done, refused_with, Opens}
@@ -122,28 +122,28 @@ module _ (rule p : List ℕ) (ok : refusal rule ≡ 0) (room : need rule ≤ len
       }
 
 -- `open`, where a refusal is met
-pub opens_refused : (rule p : List ℕ) (n : ℕ) → n ≡ open_refusal rule (length p) → 0 < n → Opens rule p (refused_with n) p
-opens_refused rule p n number some =
+pub opens_refused : (rule p : List ℕ) (e : Refusal) → number_of e ≡ open_refusal rule (length p) → Opens rule p (refused_with (number_of e)) p
+opens_refused rule p e number =
+    let some = number_positive e in
     record { outcome = rw (lt-ltb 0 (open_refusal rule (length p)) (omega arith)) (ap refused_with number); length = refl; words = refl }
 
--- and once a fresh checkpoint stands in the first k words
-pub opens_done : (rule p ws : List ℕ) (w k : ℕ) → Words w ≡ sized_of rule (length p) → k ≡ w → length ws ≡ length (take k p) →
+-- and once a fresh checkpoint stands in the first words, as many as the rule needs
+pub opens_done : (rule p ws : List ℕ) (k : ℕ) → refusal rule ≡ 0 → need rule ≤ length p → k ≡ need rule → length ws ≡ length (take k p) →
     Fresh (version rule) (decoded rule) (count rule) ws → Opens rule p done (ws ++ drop k p)
-opens_done rule p ws w k e same l f =
-    let n = enough rule (length p) w e in
+opens_done rule p ws k fine enough same l f =
     let m = length-take-le k p (omega arith) in
     let size : length ws ≡ need rule = omega arith in
     let p' = ws ++ drop k p in
     let room : need rule ≤ length p' = omega (arith, length_front p ws k l) in
     let fresh : Fresh (version rule) (decoded rule) (count rule) (take (need rule) p') = rw (take_at ws (drop k p) (need rule) size) f in
-    let noted = fresh_header rule p' n.accepted room fresh in
+    let noted = fresh_header rule p' fine room fresh in
     record {
-      outcome = rw (sym (sized_refusal rule (length p)) ∙ ap sized_number (sym e));
+      outcome = rw (fine, le-ltb (length p) (need rule) enough);
       length = length_front p ws k l;
       words = (
-        drop_at ws (drop k p) (need rule) size ∙ ap (λ (i : ℕ). drop i p) (same ∙ n.words_are),
+        drop_at ws (drop k p) (need rule) size ∙ ap (λ (i : ℕ). drop i p) same,
         noted.0,
         noted.1,
-        fresh_stands rule p' n.accepted room fresh,
+        fresh_stands rule p' fine room fresh,
       );
     }

@@ -10,11 +10,10 @@ use Rattle.verdicts.specs.Counts.{Noes}
 use Rattle.verdicts.proofs.Listed.{listed_same}
 use Rattle.rule.specs.declared.Entry.{Entry}
 use Rattle.rule.specs.declared.measuring.Ends.{Ends}
-use Rattle.rule.specs.Entries.{version}
+use Rattle.rule.specs.Entries.{version, count, decoded}
 use Rattle.rule.specs.Postfix.{most_formulas}
 use Rattle.rule.specs.Refusal.{refusal}
 use Rattle.rule.specs.Contract.{EndsOf}
-use Rattle.rule.proofs.Headers.{Decoded}
 use Rattle.checkpoint.specs.Checkpoint.{given, seen, closed_with, first_wanted, stored_noes}
 use Rattle.checks.specs.Refusal.{summary_refusal}
 use Rattle.checks.proofs.Checks.{is_accepted, has_room}
@@ -22,12 +21,12 @@ use Rattle.checkpoint.proofs.Offsets.{noes_within}
 use Rattle.meaning.specs.Verdicts.{formulas_of, columns}
 use Rattle.monitor.specs.Summary.{position_or, no_position, counts_of, latest_words, TellsNoes, counted, refused_with, Summarizes}
 use Rattle.monitor.specs.Status.{known}
-use Rattle.monitor.specs.Status.{answer as standing_of, refused_with as known_refused}
+use Rattle.monitor.specs.Status.{answer as standing_of}
 use Rattle.monitor.specs.Formulas.{answer, formula_count}
-use Rattle.monitor.specs.declared.Standing.TheVariants.{Known}
-use Rattle.monitor.specs.declared.Standing.TheVariants.{Refused as Unknown}
-use Rattle.monitor.specs.declared.FormulaCount.TheVariants.{Formulas}
-use Rattle.monitor.specs.declared.FormulaCount.TheVariants.{Refused as Uncounted}
+use Rattle.std.specs.Prelude.{Ok, Err}
+use Rattle.refusal.specs.declared.Refusal.{Refusal}
+use Rattle.refusal.specs.Number.{number_of}
+use Rattle.refusal.proofs.Numbers.{number_positive}
 use Rattle.monitor.proofs.Meaning.{most_few, few_columns, rule_ended}
 
 -- what is told of counts is told of the same counts
@@ -44,27 +43,32 @@ told_same n x y nos latest nos' latest' same (counts, ends) =
 -- WHAT IS ANSWERED
 
 module _ (rule : List ℕ) where
-  -- by where the formulas of the entries decoded end, which are the rule's
-  pub columns_are : refusal rule ≡ 0 → (t : List Entry) (n : ℕ) → Decoded rule t n → (r : Ends) → EndsOf t n r → (m : ℕ) → m ≡ max 1 r.number →
-      m ≡ columns (formulas_of rule)
-  columns_are fine t n d r ends m e =
-      omega (arith, (rule_ended rule fine r (rw (d.entries_are, d.count_is) at ends)).number)
+  -- by where the formulas of the decoded entries end, which are the rule's
+  pub columns_are : refusal rule ≡ 0 → (t : List Entry) (n : ℕ) → t ≡ decoded rule → n ≡ count rule → (r : Ends) → EndsOf t n r → (m : ℕ) →
+      m ≡ max 1 r.number → m ≡ columns (formulas_of rule)
+  columns_are fine t n entries_are count_is r ends m e =
+      omega (arith, (rule_ended rule fine r (rw (entries_are, count_is) at ends)).number)
 
-  pub formulas_refused : (n : ℕ) → n ≡ refusal rule → (n ≡ 0 → ⊥) → answer (Uncounted n) ≡ formula_count rule
-  formulas_refused n number some =
-      rw (ne_eqb (refusal rule) 0 (λ z. some (number ∙ z))) (ap (λ (k : ℕ). answer (Uncounted k)) number)
+  pub formulas_refused : (e : Refusal) → number_of e ≡ refusal rule → answer (Err e) ≡ formula_count rule
+  formulas_refused e number =
+      let some = number_positive e in
+      rw (← number, ne_eqb (number_of e) 0 (λ z. omega arith))
 
-  pub formulas_told : refusal rule ≡ 0 → (m : ℕ) → m ≡ columns (formulas_of rule) → answer (Formulas m) ≡ formula_count rule
-  formulas_told fine m is = rw (eq-eqb (refusal rule) 0 fine) (ap (λ (k : ℕ). answer (Formulas k)) is)
+  pub formulas_told : refusal rule ≡ 0 → (m : ℕ) → m ≡ columns (formulas_of rule) → answer (Ok m) ≡ formula_count rule
+  formulas_told fine m is = rw (eq-eqb (refusal rule) 0 fine) (ap (λ (k : ℕ). answer (Ok k)) is)
 
 module _ (rule p : List ℕ) where
-  pub summary_refused : (nos latest : List ℕ) (n : ℕ) → (n ≡ summary_refusal rule p) × (0 < n) → Summarizes rule p nos latest (refused_with n) nos latest
-  summary_refused nos latest n (number, some) =
-      let not_zero = ne_eqb n 0 (λ e. omega arith) in
+  pub summary_refused : (nos latest : List ℕ) (e : Refusal) → number_of e ≡ summary_refusal rule p →
+      Summarizes rule p nos latest (refused_with (number_of e)) nos latest
+  summary_refused nos latest e number =
+      let some = number_positive e in
+      let not_zero = ne_eqb (number_of e) 0 (λ z. omega arith) in
       record { outcome = rw (← number, not_zero); words = (rw not_zero, rw not_zero) }
 
-  pub status_refused : (n : ℕ) → (n ≡ summary_refusal rule p) × (0 < n) → standing_of (Unknown n) ≡ known rule p
-  status_refused n (number, some) = rw (ne_eqb (summary_refusal rule p) 0 (omega arith)) (ap known_refused number)
+  pub status_refused : (e : Refusal) → number_of e ≡ summary_refusal rule p → standing_of (Err e) ≡ known rule p
+  status_refused e number =
+      let some = number_positive e in
+      rw (← number, ne_eqb (number_of e) 0 (λ z. omega arith))
 
   -- where none of 1 to 11 is met
   module _ (none : summary_refusal rule p ≡ 0) where
@@ -81,5 +85,6 @@ module _ (rule p : List ℕ) where
         TellsNoes 0 m (stored_noes (most_formulas v) p) nos latest nos' latest' → Summarizes rule p nos latest (counted m) nos' latest'
     summary_told nos latest nos' latest' v is m e told = record { outcome = rw none (ap counted e); words = rw is at told }
 
-    pub status_told : standing_of (Known (given p) (seen p) (first_wanted p) (ltb 0 (closed_with p))) ≡ known rule p
+    pub status_told :
+        standing_of (Ok (record { given = given p; seen = seen p; wanted = first_wanted p; closed = ltb 0 (closed_with p) })) ≡ known rule p
     status_told = rw (eq-eqb (summary_refusal rule p) 0 none)

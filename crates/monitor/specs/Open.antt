@@ -1,11 +1,11 @@
 -- What `open` promises, for every rule and every lent checkpoint.
-use Rattle.std.specs.Prelude.{ℕ, Bool, true, false, ◌≡◌, List, ltb, length, drop}
+use Rattle.std.specs.Prelude.{ℕ, Bool, true, false, ◌≡◌, List, ltb, length, drop, Result, Ok, Err}
 use Rattle.mtl.specs.Log.{Log}
 use Rattle.checkpoint.specs.Checkpoint.{last, log_kind, need}
 use Rattle.checks.specs.Refusal.{open_refusal}
 use Rattle.monitor.specs.Stands.{Stands}
-use Rattle.monitor.specs.declared.Opened.{Opened}
-use Rattle.monitor.specs.declared.Opened.TheVariants.{Done, Refused}
+use Rattle.refusal.specs.declared.Refusal.{Refusal}
+use Rattle.refusal.specs.Number.{number_of}
 
 -- the paper's number for each case, 0 or the refusal's; `refused` tells the cases apart
 pub record Answer : Type 0 where
@@ -18,9 +18,9 @@ done = record { refused = false; number = 0 }
 abbrev pub refused_with : ℕ → Answer
 refused_with n = record { refused = true; number = n }
 
-abbrev pub answer : Opened → Answer
-answer Done = done
-answer (Refused n) = refused_with n
+abbrev pub answer : Result (Unit {0}) Refusal → Answer
+answer (Ok u) = done
+answer (Err refusal) = refused_with (number_of refusal)
 
 -- for a rule and so many lent words
 abbrev pub opened : (rule : List ℕ) (lent : ℕ) → Answer

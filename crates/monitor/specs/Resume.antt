@@ -1,5 +1,5 @@
 -- What `resume` (document 01's carry on) and `close` (document 02, paper 9) promise, for every rule, log, checkpoint and verdict buffer (sheet).
-use Rattle.std.specs.Prelude.{ℕ, suc, ◌+◌, ◌-◌, ◌≤◌, ◌<◌, min, Bool, true, false, cond, ◌≡◌, List, length, get_or, drop, ltb, eqb}
+use Rattle.std.specs.Prelude.{ℕ, suc, ◌+◌, ◌-◌, ◌≤◌, ◌<◌, min, Bool, true, false, cond, ◌≡◌, List, length, get_or, drop, ltb, eqb, Result, Ok, Err}
 use Rattle.mtl.specs.Log.{Log, Placed, NeverFalls, Continues}
 use Rattle.mtl.specs.Progress.{joint_progress}
 use Rattle.mtl.specs.Wanted.{wanted}
@@ -17,8 +17,9 @@ use Rattle.checkpoint.specs.Checkpoint.{given, seen, last, closed_with, log_kind
 use Rattle.checks.specs.Refusal.{resume_refusal}
 use Rattle.meaning.specs.Verdicts.{formulas_of, columns, verdict}
 use Rattle.monitor.specs.Stands.{Stands}
-use Rattle.monitor.specs.declared.Resumed.{Resumed}
-use Rattle.monitor.specs.declared.Resumed.TheVariants.{Given, Refused}
+use Rattle.emit.specs.declared.Emitted.{Emitted}
+use Rattle.refusal.specs.declared.Refusal.{Refusal}
+use Rattle.refusal.specs.Number.{number_of}
 
 -- the paper's number and values for each case: 0 or the refusal's; c; whether there is "more". `refused` tells the cases apart.
 pub record Answer : Type 0 where
@@ -34,9 +35,9 @@ gave c more = record { refused = false; number = 0; count = c; more = more }
 abbrev pub refused_with : ℕ → Answer
 refused_with n = record { refused = true; number = n; count = 0; more = false }
 
-abbrev pub answer : Resumed → Answer
-answer (Given c more) = gave c more
-answer (Refused n) = refused_with n
+abbrev pub answer : Result Emitted Refusal → Answer
+answer (Ok r) = gave r.count r.more
+answer (Err refusal) = refused_with (number_of refusal)
 
 -- "Each call yields either its result or one refusal": by the refusal's number, or 0
 abbrev pub result_or_refusal : (number c : ℕ) (more : Bool) → Answer

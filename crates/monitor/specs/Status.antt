@@ -1,9 +1,10 @@
 -- What `status` promises: what a card has to know of a checkpoint, and before which record everything may be overwritten.
-use Rattle.std.specs.Prelude.{ℕ, Bool, true, false, cond, List, eqb, ltb}
+use Rattle.std.specs.Prelude.{ℕ, Bool, true, false, cond, List, eqb, ltb, Result, Ok, Err}
 use Rattle.checkpoint.specs.Checkpoint.{given, seen, closed_with, first_wanted}
 use Rattle.checks.specs.Refusal.{summary_refusal}
 use Rattle.monitor.specs.declared.Standing.{Standing}
-use Rattle.monitor.specs.declared.Standing.TheVariants.{Known, Refused}
+use Rattle.refusal.specs.declared.Refusal.{Refusal}
+use Rattle.refusal.specs.Number.{number_of}
 
 -- the verdicts given, the records seen, the first record still wanted, and whether a closing was accepted
 pub record StatusFacts : Type 0 where
@@ -28,9 +29,9 @@ told f = record { refused = false; number = 0; facts = f }
 abbrev pub refused_with : ℕ → Answer
 refused_with n = record { refused = true; number = n; facts = record { given = 0; seen = 0; wanted = 0; closed = false } }
 
-abbrev pub answer : Standing → Answer
-answer (Known d n first closed) = told (record { given = d; seen = n; wanted = first; closed = closed })
-answer (Refused n) = refused_with n
+abbrev pub answer : Result Standing Refusal → Answer
+answer (Ok s) = told (record { given = s.given; seen = s.seen; wanted = s.wanted; closed = s.closed })
+answer (Err refusal) = refused_with (number_of refusal)
 
 -- with summary's checks, 1 to 11
 abbrev pub known : (rule point : List ℕ) → Answer

@@ -1,7 +1,7 @@
 -- What `summary` promises (document 02, papers 7 and 8): for each formula the count of no among the verdicts given from a checkpoint, and
 -- the position of the latest of them, or none.
-use Rattle.std.specs.Prelude.{ℕ, ◌-◌, ◌^◌, cond, ◌≡◌, List, eqb}
-use Rattle.std.proofs.Math.Option.{Option, none, some}
+use Rattle.std.specs.Prelude.{ℕ, ◌-◌, ◌^◌, cond, ◌≡◌, List, eqb, Result, Ok, Err, Option, Some, None}
+use Rattle.std.proofs.Math.Option.{Option as Maybe, none, some}
 use Rattle.verdicts.specs.Counts.{Noes, listed}
 use Rattle.verdicts.specs.Tally.{first_or_kept}
 use Rattle.rule.specs.Entries.{version}
@@ -9,18 +9,16 @@ use Rattle.rule.specs.Postfix.{most_formulas}
 use Rattle.checkpoint.specs.Checkpoint.{stored_noes}
 use Rattle.checks.specs.Refusal.{summary_refusal}
 use Rattle.meaning.specs.Verdicts.{formulas_of, columns}
-use Rattle.monitor.specs.declared.Latest.{Latest}
-use Rattle.monitor.specs.declared.Latest.TheVariants.{At, Never}
-use Rattle.monitor.specs.declared.Summarized.{Summarized}
-use Rattle.monitor.specs.declared.Summarized.TheVariants.{Counted, Refused}
+use Rattle.refusal.specs.declared.Refusal.{Refusal}
+use Rattle.refusal.specs.Number.{number_of}
 
 -- the latest no, as the code answers it
-abbrev pub position : Latest → Option ℕ
-position (At i) = some i
-position Never = none
+abbrev pub position : Option ℕ → Maybe ℕ
+position (Some i) = some i
+position None = none
 
 -- the position, or another number for none
-abbrev pub position_or : Option ℕ → ℕ → ℕ
+abbrev pub position_or : Maybe ℕ → ℕ → ℕ
 position_or none other = other
 position_or (some i) other = i
 
@@ -53,9 +51,9 @@ counted n = record { number = 0; formulas = n }
 abbrev pub refused_with : ℕ → Answer
 refused_with n = record { number = n; formulas = 0 }
 
-abbrev pub answer : Summarized → Answer
-answer (Counted n) = counted n
-answer (Refused n) = refused_with n
+abbrev pub answer : Result ℕ Refusal → Answer
+answer (Ok n) = counted n
+answer (Err refusal) = refused_with (number_of refusal)
 
 -- "A call with checks 1 to 11 gives both."
 abbrev pub summarized : (rule p : List ℕ) → Answer

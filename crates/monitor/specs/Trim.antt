@@ -1,11 +1,11 @@
 -- What `trim` (document 02, paper 11's trimming) promises, for every rule, log, checkpoint and lent buffer. The checkpoint is lent to be read:
 -- "The point keeps its words."
-use Rattle.std.specs.Prelude.{ℕ, Bool, true, false, cond, ◌≡◌, List, length, eqb}
+use Rattle.std.specs.Prelude.{ℕ, Bool, true, false, cond, ◌≡◌, List, length, eqb, Result, Ok, Err}
 use Rattle.trace.specs.Making.{trimmed, put}
 use Rattle.checkpoint.specs.Checkpoint.{first_wanted}
 use Rattle.checks.specs.Refusal.{trim_refusal}
-use Rattle.monitor.specs.declared.Trimmed.{Trimmed}
-use Rattle.monitor.specs.declared.Trimmed.TheVariants.{Written, Refused}
+use Rattle.refusal.specs.declared.Refusal.{Refusal}
+use Rattle.refusal.specs.Number.{number_of}
 
 -- the paper's number for each case, 0 or the refusal's, and how many bytes were written. `refused` tells the cases apart.
 pub record Answer : Type 0 where
@@ -20,9 +20,9 @@ wrote n = record { refused = false; number = 0; written = n }
 abbrev pub refused_with : ℕ → Answer
 refused_with n = record { refused = true; number = n; written = 0 }
 
-abbrev pub answer : Trimmed → Answer
-answer (Written n) = wrote n
-answer (Refused n) = refused_with n
+abbrev pub answer : Result ℕ Refusal → Answer
+answer (Ok n) = wrote n
+answer (Err refusal) = refused_with (number_of refusal)
 
 -- "writes a version 3 log into another lent buffer: .. the records from the first wanted"
 abbrev pub trimmed_log : (log p : List ℕ) → List ℕ

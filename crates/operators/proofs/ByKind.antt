@@ -6,6 +6,7 @@ use mathlib.Core.List.{List}
 use mathlib.Core.Path.{◌≡◌, refl, subst}
 use lib.Dec.{eqb}
 use Rattle.mtl.specs.Formula.{Formula}
+use Rattle.window.specs.declared.view.View.{View}
 use Rattle.mtl.specs.Formula.Formula.{letter, not, or, previous, next, since, until}
 use Rattle.rule.specs.Words.{ring_words, own_words}
 use Rattle.rule.proofs.Spans.{own_least}
@@ -32,14 +33,14 @@ rebuilt (since low high φ ψ) = refl
 rebuilt (until low high φ ψ) = refl
 
 -- what the operator of kind n promises, it promises of every formula that an entry of this kind stands for
-steps_of : (φ : Formula) {k c l h : ℕ} (n : ℕ) (v s b : List ℕ) (r : Step) (b' : List ℕ) → k ≡ n → Fields φ k c l h →
+steps_of : (φ : Formula) {k c l h : ℕ} (n : ℕ) (v : View) (s b : List ℕ) (r : Step) (b' : List ℕ) → k ≡ n → Fields φ k c l h →
     Steps (formula n c l h (left_of φ) (right_of φ)) v s b r b' → Steps φ v s b r b'
 steps_of φ {c = c} {l = l} {h = h} n v s b r b' e f steps =
     let same : formula n c l h (left_of φ) (right_of φ) ≡ φ = rw (← e, f.kind, f.letter, f.low, f.high) (rebuilt φ) in
     subst (λ (χ : Formula). Steps χ v s b r b') same steps
 
 -- what `advance` promises of an entry of kind k, from what the step of the operator of kind n ensures
-pub promised : {k l h : ℕ} (n : ℕ) {v s b : List ℕ} (r : Step) (b' : List ℕ) {Kept : Type 0} → k ≡ n →
+pub promised : {k l h : ℕ} (n : ℕ) {v : View} {s b : List ℕ} (r : Step) (b' : List ℕ) {Kept : Type 0} → k ≡ n →
     Ends (takes_left n) (takes_right n) v b r b' → ((c : ℕ) (φ ψ : Formula) → Steps (formula n c l h φ ψ) v s b r b') → Kept →
     Ends (takes_left k) (takes_right k) v b r b' × (((φ : Formula) (c : ℕ) → Fields φ k c l h → Steps φ v s b r b') × Kept)
 promised n {v} {s} {b} r b' e ends steps kept =

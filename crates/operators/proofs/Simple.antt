@@ -1,5 +1,5 @@
 -- One step of the letter, not, or, previous and next over their block's words, as the code leaves them. Assumes nothing.
-use Prim.Native.Nat.{ℕ, zero, suc, ◌+◌, ◌-◌, ◌≤◌, ◌<◌, ◌^◌}
+use Prim.Native.Nat.{ℕ, ◌+◌, ◌-◌, ◌≤◌, ◌<◌, ◌^◌}
 use native.Mathlib.Nat.{zero-add, le_refl}
 use native.Mathlib.Omega.{arith}
 use mathlib.Core.Bool.{Bool, true, false, ◌&&◌, ◌||◌, false≢true}
@@ -33,6 +33,7 @@ use Rattle.window.specs.View.{slice_first, total, skips, in_slice}
 use Rattle.window.specs.Window.{window_of, Lettered, Opened, Passed}
 use Rattle.window.specs.declared.Letters.{Letters}
 use Rattle.window.specs.declared.Window.{Window}
+use Rattle.window.specs.declared.view.View.{View}
 use Rattle.trace.proofs.Laws.{neither}
 use Rattle.blocks.specs.Block.{taken, left_count, left_bits, right_count, right_bits, answered, head, Onward, Core, Own, Heads, RightBuffer, Buffers, Ready, took_right, took_both}
 use Rattle.blocks.specs.Near.{near_after}
@@ -41,13 +42,7 @@ use Rattle.blocks.specs.declared.Step.TheVariants.{Batch, Again}
 use Rattle.blocks.proofs.Words.{Store, put, stores, word_stores, stores_onward, less_to_do, fits}
 use Rattle.blocks.proofs.Taking.{right_stores, both_stores, first_of, taken_right, taken_both}
 use Rattle.blocks.proofs.Reading.{read_time, read_letters, letters_end, head_passed}
-use Rattle.operators.specs.Letter.{stretch_step}
 use Rattle.operators.specs.Neighbour.{Gaps, TookNear}
-
--- a stretch of some positions is a batch
-pub some_step : (count bits : ℕ) → 0 < count → stretch_step count bits ≡ Batch bits count
-some_step zero bits h = absurd (omega arith)
-some_step (suc n) bits h = refl
 
 -- the stores of a letter that has read n positions, its head behind them being h
 abbrev read_stores : (n h : ℕ) → List ℕ → List Store
@@ -63,7 +58,7 @@ answered_stores n h b = right_stores n b (put 11 h ∷ put 5 (answered b + n) �
 pub answered_onward : (n h : ℕ) (b : List ℕ) → 16 ≤ length b → head b ≤ h → Onward 12 b (stores (answered_stores n h b) b)
 answered_onward n h b room later = stores_onward (answered_stores n h b) b (omega arith) (omega arith) (omega arith)
 
-module _ (v b : List ℕ) (room : 16 ≤ length b) (n : ℕ) (some : 0 < n) where
+module _ (v : View) (b : List ℕ) (room : 16 ≤ length b) (n : ℕ) (some : 0 < n) where
   right_at : taken (took_right n b) ≡ taken b + n
   right_at = word_stores (right_stores n b []) b (omega arith) 0
 
@@ -73,7 +68,7 @@ module _ (v b : List ℕ) (room : 16 ≤ length b) (n : ℕ) (some : 0 < n) wher
   module _ (L : Log) (g : ℕ) where
     pub letter_batch : {s : List ℕ} → Agrees v s L g → (k : ℕ) → taken b + n ≤ total v → {r : Letters} →
         Lettered (skips v) s k (in_slice (slice_first v) (head b)) n r → Ready (letter k) L g b →
-        Stepped (letter k) L g b (Batch r.bits n) (stores (read_stores n (slice_first v + r.end) b) b)
+        Stepped (letter k) L g b (Batch (record { bits = r.bits; count = n })) (stores (read_stores n (slice_first v + r.end) b) b)
     unfolding sat
     letter_batch agrees k inside {r} lettered ready =
         let all = settled_letter L k in
@@ -113,7 +108,7 @@ module _ (v b : List ℕ) (room : 16 ≤ length b) (n : ℕ) (some : 0 < n) wher
         right
 
     pub not_batch : (φ : Formula) → n ≤ right_count b → right_bits b < 2 ^ 64 → Ready (not φ) L g b →
-        Stepped (not φ) L g b (Batch (2 ^ 64 - 1 - right_bits b) n) (took_right n b)
+        Stepped (not φ) L g b (Batch (record { bits = 2 ^ 64 - 1 - right_bits b; count = n })) (took_right n b)
     unfolding sat
     not_batch φ h word ready =
         let all = settled_not L φ in
@@ -131,7 +126,7 @@ module _ (v b : List ℕ) (room : 16 ≤ length b) (n : ℕ) (some : 0 < n) wher
         )
 
     pub or_batch : (φ ψ : Formula) → n ≤ left_count b → n ≤ right_count b → Ready (or φ ψ) L g b →
-        Stepped (or φ ψ) L g b (Batch (bit_or (left_bits b) (right_bits b)) n) (took_both n b)
+        Stepped (or φ ψ) L g b (Batch (record { bits = bit_or (left_bits b) (right_bits b); count = n })) (took_both n b)
     unfolding sat
     or_batch φ ψ l r ready =
         let all = settled_or L φ ψ in
@@ -172,7 +167,7 @@ module _ (v b : List ℕ) (room : 16 ≤ length b) (n : ℕ) (some : 0 < n) wher
           packed_same (λ i. near_after low high L.time (p + i) && operand i) (sat χ L) 0 g n bits (λ i l. rw (zero-add i) (same i l)) (gaps.answers operand held)
 
       pub previous_batch : {s : List ℕ} {bits : ℕ} {b' : List ℕ} → TookNear low high v s b n bits b' → Agrees v s L (g - 1) → 0 < answered b → answered b + n ≤ total v →
-          Ready (previous low high φ) L g b → Stepped (previous low high φ) L g b (Batch bits n) (stores (answered_stores n (head b') b) b)
+          Ready (previous low high φ) L g b → Stepped (previous low high φ) L g b (Batch (record { bits = bits; count = n })) (stores (answered_stores n (head b') b) b)
       unfolding sat
       previous_batch {bits = bits} {b' = b'} took agrees past inside ready =
           let all = settled_previous L low high φ in
@@ -236,7 +231,7 @@ module _ (v b : List ℕ) (room : 16 ≤ length b) (n : ℕ) (some : 0 < n) wher
           (unread ∙ ready.core.heads ∙ ap (head_of L) (omega (arith, right_at)))
 
       pub next_batch : {s : List ℕ} {bits : ℕ} {b' : List ℕ} → TookNear low high v s b n bits b' → Agrees v s L g → 0 < taken b → taken b + n ≤ total v →
-          Ready (next low high φ) L g b → Stepped (next low high φ) L g b (Batch bits n) (stores (answered_stores n (head b') b) b)
+          Ready (next low high φ) L g b → Stepped (next low high φ) L g b (Batch (record { bits = bits; count = n })) (stores (answered_stores n (head b') b) b)
       unfolding sat
       next_batch {bits = bits} {b' = b'} took agrees past inside ready =
           let own = trails ready in
@@ -275,7 +270,7 @@ module _ (v b : List ℕ) (room : 16 ≤ length b) (n : ℕ) (some : 0 < n) wher
           )
 
 -- n answers taken through a window of one position more
-module _ (low high : ℕ) (v s b : List ℕ) (n : ℕ) (room : 16 ≤ length b) (w : Window) (copy : List ℕ)
+module _ (low high : ℕ) (v : View) (s b : List ℕ) (n : ℕ) (room : 16 ≤ length b) (w : Window) (copy : List ℕ)
     (opened : Opened (skips v) s (in_slice (slice_first v) (head b)) (n + 1) w copy) where
   pub took_near : (near e : ℕ) → Packed (near_after low high (time_at (window_of w s copy))) 0 n near → Passed v s (head b) n w e →
       TookNear low high v s b n (bit_and near (right_bits b)) (set (took_right n b) 11 e)
@@ -306,7 +301,7 @@ module _ (low high : ℕ) (v s b : List ℕ) (n : ℕ) (room : 16 ≤ length b) 
 module _ (b : List ℕ) (room : 16 ≤ length b) (χ φ : Formula) (L : Log) (g : ℕ) (single : has_left χ ≡ false) (ready : Ready χ L g b)
     (right : RightBuffer φ L b) (v : ℕ) (whole : RightBuffer φ L (set b 5 v) → Buffers χ L (set b 5 v)) where
   answered_no : answered b ≤ v → v ≤ L.size → g + 1 ≤ settled_to χ L → Own χ L (g + 1) (set b 5 v) → Heads χ L (g + 1) (set b 5 v) → sat χ L (g + 0) ≡ false →
-      Stepped χ L g b (Batch 0 1) (set b 5 v)
+      Stepped χ L g b (Batch (record { bits = 0; count = 1 })) (set b 5 v)
   answered_no later inside reached own heads none =
       let at = word_stores (put 5 v ∷ []) b (omega arith) in
       let range = ready.core.range in
@@ -340,7 +335,7 @@ pub not_open : (total g x y : ℕ) → leb total g || ltb x y ≡ false → (g <
 not_open total g x y e = let (some, fit) = (neither (leb total g) (ltb x y)).0 e in (leb-false total g some, ltb-false x y fit)
 
 -- a previous is open where no position is left; no later position than its own is taken
-pub previous_open : (v b : List ℕ) {s : List ℕ} (low high : ℕ) (φ : Formula) (L : Log) (g : ℕ) → Agrees v s L (g - 1) → Ready (previous low high φ) L g b →
+pub previous_open : (v : View) (b : List ℕ) {s : List ℕ} (low high : ℕ) (φ : Formula) (L : Log) (g : ℕ) → Agrees v s L (g - 1) → Ready (previous low high φ) L g b →
     leb (total v) (answered b) || ltb (answered b) (taken b) ≡ true → settled_to (previous low high φ) L ≡ g
 previous_open v b low high φ L g agrees ready e =
     let size = agrees.size in
@@ -352,8 +347,8 @@ previous_open v b low high φ L g agrees ready e =
     ((or_iff (leb (total v) (answered b)) (ltb (answered b) (taken b))).0 e)
 
 -- position 0 of a previous is no
-pub previous_first : (v b : List ℕ) → 16 ≤ length b → 0 < total v → answered b ≡ 0 → {s : List ℕ} (low high : ℕ) (φ : Formula) (L : Log) (g : ℕ) →
-    Agrees v s L (g - 1) → Ready (previous low high φ) L g b → Stepped (previous low high φ) L g b (Batch 0 1) (set b 5 1)
+pub previous_first : (v : View) (b : List ℕ) → 16 ≤ length b → 0 < total v → answered b ≡ 0 → {s : List ℕ} (low high : ℕ) (φ : Formula) (L : Log) (g : ℕ) →
+    Agrees v s L (g - 1) → Ready (previous low high φ) L g b → Stepped (previous low high φ) L g b (Batch (record { bits = 0; count = 1 })) (set b 5 1)
 unfolding sat
 previous_first v b room some slice_first low high φ L g agrees ready =
     let at = word_stores (put 5 1 ∷ []) b (omega arith) in
@@ -366,7 +361,7 @@ previous_first v b room some slice_first low high φ L g agrees ready =
     (rw (le-ltb 0 (g + 0) (omega arith)))
 
 -- next, where no position is left, at the end of a closed log, and before it
-module _ (v b : List ℕ) (room : 16 ≤ length b) {s : List ℕ} (low high : ℕ) (φ : Formula) (L : Log) (g : ℕ) (agrees : Agrees v s L g)
+module _ (v : View) (b : List ℕ) (room : 16 ≤ length b) {s : List ℕ} (low high : ℕ) (φ : Formula) (L : Log) (g : ℕ) (agrees : Agrees v s L g)
     (ready : Ready (next low high φ) L g b) where
   pub next_none : leb (total v) (answered b) || ltb (taken b) (answered b) ≡ true → settled_to (next low high φ) L ≡ g
   next_none e =
@@ -383,7 +378,7 @@ module _ (v b : List ℕ) (room : 16 ≤ length b) {s : List ℕ} (low high : �
 
   -- the last position of a closed log is no
   pub next_end : L.closed ≡ true → answered b < total v → taken b ≡ total v →
-      Stepped (next low high φ) L g b (Batch 0 1) (set b 5 (answered b + 1))
+      Stepped (next low high φ) L g b (Batch (record { bits = 0; count = 1 })) (set b 5 (answered b + 1))
   unfolding sat
   next_end c left all =
       let size = agrees.size in

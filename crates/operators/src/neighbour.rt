@@ -11,8 +11,9 @@ ghost use Rattle.blocks.specs.Near.{near_after};
 ghost use Rattle.blocks.specs.Step.{Steps, Ends};
 ghost use Rattle.operators.specs.Neighbour.{TookNear};
 
-use blocks::{Step, time, word};
-use window::{Window, view};
+use blocks::{Batch, Step, time, word};
+use window::Window;
+use window::view::View;
 
 // Behind which of the window's first n positions the next one lies in the interval, as a word of answers.
 fn read_near<'a>(
@@ -34,7 +35,7 @@ fn take_near(
     low: u64,
     high: u64,
     records: &[u8],
-    view: &[u64; 66],
+    view: &View,
     copy: &mut [u8; 544],
     block: &mut [u64],
     count: u64,
@@ -58,7 +59,7 @@ pub fn step_previous(
     low: u64,
     high: u64,
     records: &[u8],
-    view: &[u64; 66],
+    view: &View,
     copy: &mut [u8; 544],
     block: &mut [u64],
 ) -> Step
@@ -68,13 +69,13 @@ pub fn step_previous(
     ensures keeps { Keeps records.now copy.new }
 {
     let g = block[word::ANSWERED];
-    let total = view[view::TOTAL];
+    let total = view.total;
     if (total <= g) | (g < block[word::TAKEN]) {
         return Step::Open;
     }
     if g == 0 {
         block[word::ANSWERED] = 1;
-        return Step::Batch { bits: 0, count: 1 };
+        return Step::Batch(Batch { bits: 0, count: 1 });
     }
     if block[word::RIGHT_COUNT] == 0 {
         return Step::Right;
@@ -82,7 +83,7 @@ pub fn step_previous(
     let count = blocks::available(g, block[word::RIGHT_COUNT], total);
     let bits = take_near(low, high, records, view, copy, block, count);
     block[word::ANSWERED] = g + count;
-    Step::Batch { bits, count }
+    Step::Batch(Batch { bits, count })
 }
 
 // The operand's answer at position 0 is passed over; from then on its answer at i + 1 answers i. The last position of a closed log
@@ -91,7 +92,7 @@ pub fn step_next(
     low: u64,
     high: u64,
     records: &[u8],
-    view: &[u64; 66],
+    view: &View,
     copy: &mut [u8; 544],
     block: &mut [u64],
 ) -> Step
@@ -102,13 +103,13 @@ pub fn step_next(
 {
     let g = block[word::ANSWERED];
     let at = block[word::TAKEN];
-    let total = view[view::TOTAL];
+    let total = view.total;
     if (total <= g) | (at < g) {
         return Step::Open;
     }
-    if (view[view::CLOSED] == 1) & (at == total) {
+    if view.closed & (at == total) {
         block[word::ANSWERED] = g + 1;
-        return Step::Batch { bits: 0, count: 1 };
+        return Step::Batch(Batch { bits: 0, count: 1 });
     }
     if block[word::RIGHT_COUNT] == 0 {
         return Step::Right;
@@ -123,5 +124,5 @@ pub fn step_next(
     }
     let bits = take_near(low, high, records, view, copy, block, count);
     block[word::ANSWERED] = g + count;
-    Step::Batch { bits, count }
+    Step::Batch(Batch { bits, count })
 }

@@ -2,13 +2,17 @@
 -- Assumes nothing.
 use Prim.Native.Nat.{ℕ, ◌+◌, ◌-◌, ◌*◌, ◌≤◌, zero-le}
 use mathlib.Core.Bool.{Bool, true, false, cond, false≢true}
-use mathlib.Core.Path.{◌≡◌, refl, sym, ◌∙◌, ap, subst}
+use mathlib.Core.Path.{◌≡◌, refl, sym, ◌∙◌, ap}
 use mathlib.Core.List.{List, [], ◌++◌}
 use native.Mathlib.Omega.{arith}
 use lib.Dec.{eqb, ltb}
 use lib.ListN.{length, take, length-drop}
 use lib.Seq.{take_all, length-take-le}
 use borrow.Author.Tests.{le-ltb, ltb-false, eq-eqb, ne_eqb, eqb-true}
+use Rattle.std.specs.Prelude.{Ok}
+use Rattle.refusal.specs.declared.Refusal.{Refusal}
+use Rattle.refusal.specs.Number.{number_of}
+use Rattle.refusal.proofs.Numbers.{number_positive}
 use Rattle.mtl.specs.Log.{Log, NeverFalls}
 use Rattle.mtl.specs.Progress.{joint_progress}
 use Rattle.mtl.specs.Wanted.{wanted}
@@ -20,55 +24,38 @@ use Rattle.rule.proofs.Acceptance.{accepted}
 use Rattle.trace.specs.Format.{record_count, skips_of, is_trimmed, dropped, records_of, total_records, malformed}
 use Rattle.trace.specs.Log.{log_of}
 use Rattle.trace.specs.Order.{disordered}
-use Rattle.window.specs.View.{view_of, Shows}
+use Rattle.window.specs.View.{view_of}
 use Rattle.trace.proofs.Laws.{well_formed_records, ordered_iff}
 use Rattle.trace.proofs.Positions.{before_few, log_placed, positions_keep}
 use Rattle.trace.proofs.Parts.{Cut, cut_from, before_cut}
-use Rattle.window.proofs.Slices.{slice_shows, flag_told}
+use Rattle.window.proofs.Slices.{slice_shows}
 use Rattle.blocks.specs.Step.{Agrees}
 use Rattle.checkpoint.specs.Checkpoint.{first_wanted, need}
 use Rattle.checks.specs.Refusal.{open_refusal, resume_refusal}
 use Rattle.meaning.specs.Verdicts.{formulas_of, columns, verdicts, first_records, all_verdicts}
 use Rattle.monitor.specs.Stands.{Stands}
 use Rattle.monitor.specs.Open.{done, Opens}
-use Rattle.monitor.specs.Open.{answer as opened_of}
-use Rattle.monitor.specs.Resume.{gave, wanted_records, Gives, Resumes}
-use Rattle.monitor.specs.Resume.{answer as resumed_of}
+use Rattle.monitor.specs.Open.{refused_with as not_opened_with}
+use Rattle.monitor.specs.Resume.{gave, refused_with, wanted_records, Gives, Resumes}
 use Rattle.monitor.specs.Formulas.{Answer, answer, formula_count}
-use Rattle.monitor.specs.declared.Opened.{Opened}
-use Rattle.monitor.specs.declared.Opened.TheVariants.{Done}
-use Rattle.monitor.specs.declared.Opened.TheVariants.{Refused as NotOpened}
-use Rattle.monitor.specs.declared.Resumed.{Resumed}
-use Rattle.monitor.specs.declared.Resumed.TheVariants.{Given}
-use Rattle.monitor.specs.declared.Resumed.TheVariants.{Refused as NotResumed}
-use Rattle.monitor.specs.declared.FormulaCount.{FormulaCount}
-use Rattle.monitor.specs.declared.FormulaCount.TheVariants.{Formulas}
-use Rattle.monitor.specs.declared.FormulaCount.TheVariants.{Refused as NotCounted}
-use Rattle.monitor.proofs.Answers.{open_number, open_unrefused, open_refused, resume_number, resume_unrefused, resume_refused}
+use Rattle.monitor.proofs.Answers.{open_number, open_unrefused, resume_number, resume_unrefused}
 use Rattle.monitor.proofs.Meaning.{few_columns, most_few}
 use Rattle.monitor.proofs.OwnCheckpoint.{wanted_within, not_outside}
 use Rattle.monitor.proofs.VerdictBytes.{verdicts_more}
-use Rattle.report.specs.Report.{refused_text, first_line, lines, verdicts_text, run_refusal, too_long, report}
+use Rattle.report.specs.Report.{refused_text, first_line, lines, run_refusal, too_long, report}
+use Rattle.report.specs.declared.Given.{Given as Counted}
+use Rattle.report.specs.Run.{Ran}
 
--- of an accepted rule
-module _ (rule : List ℕ) (fine : refusal rule ≡ 0) where
-  -- eight words on a line are the most
-  pub eight_columns : columns (formulas_of rule) ≤ 8
-  eight_columns = omega (arith, few_columns rule fine, most_few (version rule))
+-- eight words on a line are the most that an accepted rule takes
+pub eight_columns : (rule : List ℕ) → refusal rule ≡ 0 → columns (formulas_of rule) ≤ 8
+eight_columns rule fine = omega (arith, few_columns rule fine, most_few (version rule))
 
-  module _ (r : FormulaCount) (told : answer r ≡ formula_count rule) where
-    counts : answer r ≡ record { number = 0; formulas = columns (formulas_of rule) }
-    counts = rw (eq-eqb (refusal rule) 0 fine) at told
-
-    -- `formulas` gives their number
-    pub formulas_counted : (m : ℕ) → r ≡ Formulas m → m ≡ columns (formulas_of rule)
-    formulas_counted m is = ap (λ (a : Answer). a.formulas) (sym (ap answer is) ∙ counts)
-
-    -- and does not refuse
-    pub formulas_known : (n : ℕ) → r ≡ NotCounted n → ⊥
-    formulas_known n is =
-        let none : 0 ≡ columns (formulas_of rule) = ap (λ (a : Answer). a.formulas) (sym (ap answer is) ∙ counts) in
-        omega arith
+-- and `formulas` counts them
+pub formulas_counted : (rule : List ℕ) → refusal rule ≡ 0 → (m : ℕ) → answer (Ok m) ≡ formula_count rule → (m ≡ columns (formulas_of rule)) × (m ≤ 8)
+formulas_counted rule fine m told =
+    let counts : answer (Ok m) ≡ record { number = 0; formulas = columns (formulas_of rule) } = rw (eq-eqb (refusal rule) 0 fine) at told in
+    let count = ap (λ (a : Answer). a.formulas) counts in
+    (count, omega (arith, eight_columns rule fine))
 
 -- a header has eight bytes or more
 eight_at_least : (trimmed : Bool) → 8 ≤ cond trimmed 16 8
@@ -79,20 +66,14 @@ eight_at_least false = omega arith
 abbrev none_yet : Log
 none_yet = log_of false []
 
--- what an accepted run gives
-pub record Ran (rule log : List ℕ) (c : ℕ) (sheet' : List ℕ) : Type 0 where
-  pub few_records : record_count (records_of log) ≤ 8191
-  pub few : c ≤ 8191
-  pub fits : c ≤ length sheet'
-  pub accepts : refusal rule ≡ 0
+-- what an accepted run gives, and the text that comes of it
+pub record Told (rule log sheet : List ℕ) (r : Counted) : Type 0 where
+  pub ran : Ran rule log sheet r
+  pub few : r.verdicts ≤ 8191
   pub text : report rule log ≡
-      first_line c (record_count (records_of log)) ++ lines (columns (formulas_of rule)) (take c sheet') (length (take c sheet'))
+      first_line r.verdicts (record_count (records_of log)) ++ lines r.columns (take r.verdicts sheet) (length (take r.verdicts sheet))
 
 module _ (rule log : List ℕ) (short : too_long rule log ≡ false) where
-  -- a text of a refusal
-  refused_with : (r : ℕ) → run_refusal rule log ≡ r → (r ≡ 0 → ⊥) → report rule log ≡ refused_text r
-  refused_with r e some = rw (short, ne_eqb (run_refusal rule log) 0 (λ f. some (sym e ∙ f))) (ap refused_text e)
-
   -- 8,192 words are enough for every rule that passes 8
   opens_by : open_refusal rule 8192 ≡ refusal rule
   opens_by = go (eqb (refusal rule) 0) refl
@@ -103,21 +84,31 @@ module _ (rule log : List ℕ) (short : too_long rule log ≡ false) where
           rw (le-ltb 8192 (need rule) (accepted rule fine).need) (sym fine)
       go false p = refl
 
+  -- the text of a refusal
+  refused_told : (r : Refusal) → run_refusal rule log ≡ number_of r → report rule log ≡ refused_text (number_of r)
+  refused_told r e =
+      let some = number_positive r in
+      rw (short, ne_eqb (run_refusal rule log) 0 (omega arith)) (ap refused_text e)
+
+  -- the text of a run that gave verdicts
+  pub verdicts_told : (sheet : List ℕ) (g : Counted) (n : ℕ) → Ran rule log sheet g → n ≡ record_count (records_of log) →
+      first_line g.verdicts n ++ lines g.columns (take g.verdicts sheet) (length (take g.verdicts sheet)) ≡ report rule log
+  verdicts_told sheet g n r e =
+      let size : length (take g.verdicts sheet) ≡ g.verdicts = length-take-le g.verdicts sheet r.fits in
+      rw (short, eq-eqb (run_refusal rule log) 0 r.accepts, ← r.bytes, size, r.words, e)
+
   -- `open` refuses
-  pub not_opened : (lent : List ℕ) (o : Opened) (p : List ℕ) (n r : ℕ) → length lent ≡ 8192 → Opens rule lent (opened_of o) p → o ≡ NotOpened n →
-      r ≡ (opened_of o).number → report rule log ≡ refused_text r
-  not_opened lent o p n r size opens is number =
-      let some = open_refused (subst (λ a. Opens rule lent (opened_of a) p) is opens) in
-      let same : r ≡ n = number ∙ ap (λ a. (opened_of a).number) is in
-      let by : refusal rule ≡ r = sym opens_by ∙ ap (open_refusal rule) (sym size) ∙ sym (open_number opens) ∙ sym number in
-      refused_with r (rw (ne_eqb (refusal rule) 0 (λ e. some (sym same ∙ sym by ∙ e))) by) (λ e. some (sym same ∙ e))
+  pub not_opened : (lent p : List ℕ) (r : Refusal) → length lent ≡ 8192 → Opens rule lent (not_opened_with (number_of r)) p →
+      (run_refusal rule log ≡ number_of r) × (report rule log ≡ refused_text (number_of r))
+  not_opened lent p r size opens =
+      let some = number_positive r in
+      let by : refusal rule ≡ number_of r = sym opens_by ∙ ap (open_refusal rule) (sym size) ∙ sym (open_number opens) in
+      let is : run_refusal rule log ≡ number_of r = rw (ne_eqb (refusal rule) 0 (omega arith)) by in
+      (is, refused_told r is)
 
   -- the fresh checkpoint
-  module _ (lent : List ℕ) (o : Opened) (p : List ℕ) (size : length lent ≡ 8192) (opened : Opens rule lent (opened_of o) p) (is_done : o ≡ Done) where
-    opens : Opens rule lent done p
-    opens = subst (λ a. Opens rule lent (opened_of a) p) is_done opened
-
-    fine : refusal rule ≡ 0
+  module _ (lent p : List ℕ) (size : length lent ≡ 8192) (opens : Opens rule lent done p) where
+    pub fine : refusal rule ≡ 0
     fine = sym opens_by ∙ ap (open_refusal rule) (sym size) ∙ open_unrefused opens
 
     stands : Stands rule none_yet 0 0 p
@@ -144,19 +135,16 @@ module _ (rule log : List ℕ) (short : too_long rule log ≡ false) where
           none,
         )
 
-    module _ (sheet : List ℕ) (r : Resumed) (p' sheet' : List ℕ) (resumes : Resumes false rule log p sheet (resumed_of r) p' sheet') where
+    module _ (sheet p' sheet' : List ℕ) where
       -- `resume` refuses
-      pub not_resumed : (n number : ℕ) → r ≡ NotResumed n → number ≡ (resumed_of r).number → report rule log ≡ refused_text number
-      not_resumed n number is same =
-          let some = resume_refused (subst (λ a. Resumes false rule log p sheet (resumed_of a) p' sheet') is resumes) in
-          let e : number ≡ n = same ∙ ap (λ a. (resumed_of a).number) is in
-          refused_with number (sym resumes_by ∙ sym (resume_number resumes) ∙ sym same) (λ z. some (sym e ∙ z))
+      pub not_resumed : (r : Refusal) → Resumes false rule log p sheet (refused_with (number_of r)) p' sheet' →
+          (run_refusal rule log ≡ number_of r) × (report rule log ≡ refused_text (number_of r))
+      not_resumed r resumes =
+          let is = sym resumes_by ∙ sym (resume_number resumes) in
+          (is, refused_told r is)
 
       -- `resume` gives verdicts
-      module _ (c : ℕ) (more : Bool) (is : r ≡ Given c more) (room : length sheet ≡ 8191) where
-        given : Resumes false rule log p sheet (gave c more) p' sheet'
-        given = subst (λ a. Resumes false rule log p sheet (resumed_of a) p' sheet') is resumes
-
+      module _ (c : ℕ) (more : Bool) (given : Resumes false rule log p sheet (gave c more) p' sheet') (room : length sheet ≡ 8191) where
         unrefused : run_refusal rule log ≡ 0
         unrefused = sym resumes_by ∙ resume_unrefused given
 
@@ -196,9 +184,7 @@ module _ (rule log : List ℕ) (short : too_long rule log ≡ false) where
             record {
               ends = refl;
               size = omega arith;
-              shows = λ i lo hi.
-                  subst (λ b. Shows b slice (first_wanted p) L i) (sym (flag_told skips))
-                  (slice_shows skips (records_of log) slice (first_wanted p) cut i (omega arith) hi);
+              shows = λ i lo hi. slice_shows skips (records_of log) slice (first_wanted p) cut i (omega arith) hi;
             }
 
         all_here : total_records log ≡ records
@@ -241,12 +227,16 @@ module _ (rule log : List ℕ) (short : too_long rule log ≡ false) where
             ap (λ K. verdicts (formulas_of rule) K (joint_progress (formulas_of rule) K)) whole ∙
             ap (verdicts (formulas_of rule) L) (sym all_given) ∙ sym bytes
 
-        text : report rule log ≡ first_line c records ++ lines (columns (formulas_of rule)) (take c sheet') (length (take c sheet'))
-        text =
-            let count : length (take c sheet') ≡ c = length-take-le c sheet' given_fits in
-            rw (short, eq-eqb (run_refusal rule log) 0 unrefused)
-            (ap (verdicts_text records (columns (formulas_of rule))) all ∙
-            ap (λ k. first_line k records ++ lines (columns (formulas_of rule)) (take c sheet') (length (take c sheet'))) count)
-
-        pub resumed : Ran rule log c sheet'
-        resumed = record { few_records = few_records; few = omega (arith, given.words.room); fits = given_fits; accepts = fine; text = text }
+        pub resumed : (m : ℕ) → answer (Ok m) ≡ formula_count rule → Told rule log sheet' (record { verdicts = c; columns = m })
+        resumed m counted =
+            let words = formulas_counted rule fine m counted in
+            let ran : Ran rule log sheet' (record { verdicts = c; columns = m }) =
+            record {
+              accepts = unrefused;
+              words = words.0;
+              few_words = words.1;
+              few_records = few_records;
+              fits = given_fits;
+              bytes = sym all;
+            } in
+            record { ran = ran; few = omega (arith, given.words.room); text = sym (verdicts_told sheet' _ records ran refl) }

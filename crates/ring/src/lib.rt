@@ -2,13 +2,13 @@
 // stands and how many there are; whatever they hold, only the ring's own cells are read and written.
 #![tactic(auto)]
 
-ghost use Rattle.std.specs.Prelude.{◌≡◌, List, ℕ, ◌+◌, ◌-◌, ◌≤◌, ◌<◌, ◌^◌, not as negate, eqb, ltb, length, set};
+ghost use Rattle.std.specs.Prelude.{◌≡◌, List, ℕ, ◌+◌, ◌-◌, ◌≤◌, ◌<◌, ◌^◌, not as negate, eqb, ltb, length, set, unwrap_or, is_some};
 ghost use Rattle.bits.specs.Packed.{number};
 ghost use Rattle.rule.specs.Words.{ring_words};
 ghost use Rattle.trace.specs.Format.{record_count, time_at};
 ghost use Rattle.blocks.specs.Ring.{Ring, Rings, wrap, unexpired, kept, pushed, reaches, turned, newest_of, oldest_of, one, pushes};
 
-use blocks::{time, word};
+use blocks::word;
 
 const FIRST_CELL: usize = 16;
 
@@ -35,24 +35,14 @@ fn cell(cells: u64, at: u64) -> usize
     if over < cells { 16 + over as usize } else { 16 }
 }
 
-// x, or most where x lies above it.
-fn at_most(x: u64, most: u64) -> u64
-    ensures { (result ≤ most) × (x ≤ most → result ≡ x) }
-{
-    if x <= most { x } else { most }
-}
-
 // Drops the times that lie more than high before `at`.
 fn drop_old(cells: u64, high: u64, at: u64, block: &mut [u64])
     requires { (0 < cells) × (cells < 2 ^ 32) × (16 + cells ≤ length block.old) }
     ensures { Rings cells (unexpired high at) block.old block.new }
 {
-    let mut start = at_most(block[word::RING_START], cells - 1);
-    let mut count = at_most(block[word::RING_COUNT], cells);
-    while 0 < count {
-        if time::gap(block[cell(cells, start)], at) <= high {
-            break;
-        }
+    let mut start = block[word::RING_START].min(cells - 1);
+    let mut count = block[word::RING_COUNT].min(cells);
+    while 0 < count && high < at.saturating_sub(block[cell(cells, start)]) {
         start = cell(cells, start + 1) as u64 - 16;
         count -= 1;
     }
@@ -75,8 +65,8 @@ fn push_if(cells: u64, right: bool, at: u64, block: &mut [u64])
     requires { (0 < cells) × (cells < 2 ^ 32) × (16 + cells ≤ length block.old) }
     ensures { Rings cells (pushed cells right at) block.old block.new }
 {
-    let start = at_most(block[word::RING_START], cells - 1);
-    let count = at_most(block[word::RING_COUNT], cells);
+    let start = block[word::RING_START].min(cells - 1);
+    let count = block[word::RING_COUNT].min(cells);
     if right & (count < cells) {
         if (count == 0) || (block[cell(cells, start + count - 1)] != at) {
             let end = cell(cells, start + count);
@@ -91,8 +81,8 @@ fn reaches_back(cells: u64, low: u64, at: u64, block: &[u64]) -> bool
     requires { (0 < cells) × (cells < 2 ^ 32) × (16 + cells ≤ length block.now) }
     ensures { (qs : List ℕ) → Ring cells block.now qs → result ≡ reaches low at qs }
 {
-    let start = at_most(block[word::RING_START], cells - 1);
-    (0 < block[word::RING_COUNT]) & (low <= time::gap(block[cell(cells, start)], at))
+    let start = block[word::RING_START].min(cells - 1);
+    (0 < block[word::RING_COUNT]) & (low <= at.saturating_sub(block[cell(cells, start)]))
 }
 
 // One position's turn: the times more than high before it are dropped, all of them where left fails, and its own is
@@ -116,37 +106,31 @@ pub fn turn(
     reaches_back(cells, low, at, block)
 }
 
-// Whether it has a time.
-pub fn has_some(block: &[u64]) -> bool
-    requires { 16 ≤ length block.now }
-    ensures { (cells : ℕ) (qs : List ℕ) → Ring cells block.now qs → result ≡ ltb 0 (length qs) }
-{
-    0 < block[word::RING_COUNT]
-}
-
-// The newest of its times, and `none` where there is none.
-pub fn newest(cells: u64, none: u64, block: &[u64]) -> u64
+// The newest of its times, where it has one.
+pub fn newest(cells: u64, block: &[u64]) -> Option<u64>
     requires { (0 < cells) × (cells < 2 ^ 32) × (16 + cells ≤ length block.now) }
-    ensures { (qs : List ℕ) → Ring cells block.now qs → result ≡ newest_of none qs }
+    ensures by_index { (none : ℕ) (qs : List ℕ) → Ring cells block.now qs → unwrap_or result none ≡ newest_of none qs }
+    ensures some { (qs : List ℕ) → Ring cells block.now qs → is_some result ≡ ltb 0 (length qs) }
 {
-    let held = at_most(block[word::RING_COUNT], cells);
+    let held = block[word::RING_COUNT].min(cells);
     if held == 0 {
-        return none;
+        return None;
     }
-    let start = at_most(block[word::RING_START], cells - 1);
-    block[cell(cells, start + held - 1)]
+    let start = block[word::RING_START].min(cells - 1);
+    Some(block[cell(cells, start + held - 1)])
 }
 
-// The oldest of its times, and `none` where there is none.
-pub fn oldest(cells: u64, none: u64, block: &[u64]) -> u64
+// The oldest of its times, where it has one.
+pub fn oldest(cells: u64, block: &[u64]) -> Option<u64>
     requires { (0 < cells) × (cells < 2 ^ 32) × (16 + cells ≤ length block.now) }
-    ensures { (qs : List ℕ) → Ring cells block.now qs → result ≡ oldest_of none qs }
+    ensures by_index { (none : ℕ) (qs : List ℕ) → Ring cells block.now qs → unwrap_or result none ≡ oldest_of none qs }
+    ensures some { (qs : List ℕ) → Ring cells block.now qs → is_some result ≡ ltb 0 (length qs) }
 {
     if block[word::RING_COUNT] == 0 {
-        return none;
+        return None;
     }
-    let start = at_most(block[word::RING_START], cells - 1);
-    block[cell(cells, start)]
+    let start = block[word::RING_START].min(cells - 1);
+    Some(block[cell(cells, start)])
 }
 
 // Writes `at` behind the last of count times. Gives how many they are then: as many as before where `at` is the newest of them already.
@@ -164,17 +148,15 @@ pub fn push_all(cells: u64, window: &[u8], from: usize, n: usize, right: u64, bl
     ensures { Rings cells (pushes cells (time_at window.now) right from (n - from)) block.old block.new }
 {
     let end = bits::find_last_zero(!right, n as u64) as usize;
-    let start = at_most(block[word::RING_START], cells - 1);
-    let mut count = at_most(block[word::RING_COUNT], cells);
-    let mut newest = newest(cells, NO_TIME, block);
-    let mut i = from;
-    while i < end {
+    let start = block[word::RING_START].min(cells - 1);
+    let mut count = block[word::RING_COUNT].min(cells);
+    let mut newest = newest(cells, block).unwrap_or(NO_TIME);
+    for i in from..end {
         if bits::test(right, i as u64) & (count < cells) {
             let now = trace::time(window, i);
             count = add(cells, start, count, newest, now, block);
             newest = now;
         }
-        i += 1;
     }
     block[word::RING_COUNT] = count;
 }

@@ -1,4 +1,4 @@
--- What the checks of the entries, taken in their order, say of the answer: one law for each way out of `measure_entries`.
+-- What the checks of the entries, taken in their order, say of the answer: one law for each way out of `Rule::measure`.
 use Prim.Native.Nat.{ℕ, ◌+◌, ◌≤◌, ◌<◌}
 use native.Mathlib.Omega.{arith}
 use borrow.Author.Tests.{lt-ltb, le-ltb}
@@ -10,7 +10,7 @@ use lib.ListN.{length}
 use Rattle.mtl.specs.Formula.{Formula, unbounded, largest}
 use Rattle.mtl.specs.Satisfaction.{any}
 use Rattle.rule.specs.declared.Entry.{Entry}
-use Rattle.rule.specs.declared.measuring.Reading.TheVariants.{Found, Faulty}
+use Rattle.std.specs.Prelude.{Some, None}
 use Rattle.rule.specs.declared.measuring.Quantity.TheVariants.{Reach}
 use Rattle.rule.specs.declared.measuring.Totals.{Totals}
 use Rattle.rule.specs.Words.{header_words, words, limit}
@@ -21,17 +21,17 @@ use Rattle.rule.specs.Contract.{measured_entries}
 use Rattle.rule.specs.Code.{quantity, totals, is_next, reading}
 use Rattle.rule.proofs.Nexts.{next_is}
 
-none_of : (o : Option (List Formula)) → reading Reach o ≡ Faulty → lacking o ≡ true
+none_of : (o : Option (List Formula)) → reading Reach o ≡ None → lacking o ≡ true
 none_of none p = refl
 none_of (some fs) p = cc
 
-some_of : (o : Option (List Formula)) (most : ℕ) → reading Reach o ≡ Found most → lacking o ≡ false
+some_of : (o : Option (List Formula)) (most : ℕ) → reading Reach o ≡ Some most → lacking o ≡ false
 some_of none most p = cc
 some_of (some fs) most p = refl
 
 -- the reach, once the largest of the formulas' own is known
 far_of : (o : Option (List Formula)) (most : ℕ) (next : Bool) → ((fs : List Formula) → o ≡ some fs → some_next fs ≡ next)
-    → reading Reach o ≡ Found most → reach_of o ≡ cond next unbounded most
+    → reading Reach o ≡ Some most → reach_of o ≡ cond next unbounded most
 far_of none most next h e = cc
 far_of (some fs) most next h e =
     let r : largest (quantity Reach) fs ≡ most = cc in
@@ -55,11 +55,11 @@ module _ (version : ℕ) (t : List Entry) (n : ℕ) (sums : Totals) (s : sums �
   unfolding entries_refusal
   stop6 a b = simp (shape_is false a, place_is true b)
 
-  pub stop7 : sums.misshapen ≡ false → sums.misplaced ≡ false → reading Reach (formulas version t n) ≡ Faulty → refused 7 ≡ measured_entries version t n
+  pub stop7 : sums.misshapen ≡ false → sums.misplaced ≡ false → reading Reach (formulas version t n) ≡ None → refused 7 ≡ measured_entries version t n
   unfolding entries_refusal
   stop7 a b e = simp (shape_is false a, place_is false b, none_of (formulas version t n) e)
 
-  pub stop8 : (far : ℕ) → sums.misshapen ≡ false → sums.misplaced ≡ false → reading Reach (formulas version t n) ≡ Found far
+  pub stop8 : (far : ℕ) → sums.misshapen ≡ false → sums.misplaced ≡ false → reading Reach (formulas version t n) ≡ Some far
       → limit < header_words version + sums.words → refused 8 ≡ measured_entries version t n
   unfolding entries_refusal
   stop8 far a b e l =
@@ -67,7 +67,7 @@ module _ (version : ℕ) (t : List Entry) (n : ℕ) (sums : Totals) (s : sums �
       simp (shape_is false a, place_is false b, some_of (formulas version t n) far e, o)
 
   pub passes : (far : ℕ) (next : Bool) → n ≤ length t → sums.misshapen ≡ false → sums.misplaced ≡ false
-      → reading Reach (formulas version t n) ≡ Found far → header_words version + sums.words ≤ limit → sums.next ≡ next
+      → reading Reach (formulas version t n) ≡ Some far → header_words version + sums.words ≤ limit → sums.next ≡ next
       → record { number = 0; words = header_words version + sums.words; reach = cond next unbounded far } ≡ measured_entries version t n
   unfolding entries_refusal
   passes far next h a b e l f =

@@ -1,23 +1,19 @@
 -- What an accepted header says of the bytes, and that the entries decoded once are the rule's.
 -- (Cases is named first so that the worked rows are checked before any theorem.)
 use Rattle.rule.proofs.Cases
-use Prim.Native.Nat.{ℕ, suc, ◌+◌, ◌*◌, ◌≤◌, zero-le}
+use Prim.Native.Nat.{ℕ, suc, ◌+◌, ◌*◌, ◌≤◌}
 use native.Mathlib.Omega.{arith}
 use borrow.Author.Tests.{eqb-true, eqb-false, ltb-false, not-false}
-use mathlib.Core.Path.{◌≡◌, refl, ap, ◌∙◌}
+use mathlib.Core.Path.{◌≡◌, refl}
 use mathlib.Core.Bool.{Bool, true, false, cond, ◌||◌, not}
-use mathlib.Core.Logic.{◌⊎◌, inl, inr}
+use mathlib.Core.Logic.{◌⊎◌, inl, inr, ⊎_elim}
 use mathlib.Core.List.{List}
 use lib.Dec.{eqb, ltb}
 use lib.ListN.{length}
-use Rattle.rule.specs.declared.refusals.Header.{Header}
-use Rattle.rule.specs.declared.refusals.Header.TheVariants.{Count, Stopped}
-use Rattle.rule.specs.declared.Entry.{Entry}
 use Rattle.rule.specs.Bytes.{byte}
 use Rattle.rule.specs.Entries.{version, count, decoded}
 use Rattle.rule.specs.Refusal.{first, or_else, unmarked, unknown_version, wrong_size, header_refusal}
-use Rattle.rule.specs.Measure.{measured}
-use Rattle.rule.specs.Contract.{measured_entries, header_count, header_version, filled, measured_by, header}
+use Rattle.rule.specs.Contract.{filled}
 use Rattle.rule.proofs.Decoded.{decoded_filled}
 
 -- no refusal: neither this one nor a later one
@@ -67,37 +63,8 @@ headed s e =
     either false true p q e = inr (eqb-true (version s) 2 q)
     either false false p q e = absurd (let z : ◌≡◌ {A = ℕ} 0 1 = cc in omega arith)
 
-headed_decoded : (s : List ℕ) → header_refusal s ≡ 0 → filled s (count s) ≡ decoded s
+pub headed_decoded : (s : List ℕ) → header_refusal s ≡ 0 → filled s (count s) ≡ decoded s
 headed_decoded s e = let h = headed s e in decoded_filled s (count s) h.few (omega (arith, h.size))
 
--- t and n are the decoded rule and its count
-pub record Decoded (s : List ℕ) (t : List Entry) (n : ℕ) : Type 0 where
-  pub entries_are : t ≡ decoded s
-  pub count_is : n ≡ count s
-
--- the header's answer, its count, and the entries decoded by it
-module _ (s : List ℕ) (h : Header) (is : h ≡ header s) where
-  pub few_to_decode : header_count h ≤ 128
-  few_to_decode = rw is (go (eqb (header_refusal s) 0) refl)
-    where
-      go : (b : Bool) → eqb (header_refusal s) 0 ≡ b → header_count (cond b (Count (version s) (count s)) (Stopped (header_refusal s))) ≤ 128
-      go true p = (headed s (eqb-true (header_refusal s) 0 p)).few
-      go false p = zero-le
-
-  pub decoded_once : (t : List Entry) (n : ℕ) → n ≡ header_count h → t ≡ filled s n → header_refusal s ≡ 0 → Decoded s t n
-  decoded_once t n e e' z =
-      let c : n ≡ count s = e ∙ ap header_count is ∙ simp z in
-      record { entries_are = e' ∙ ap (filled s) c ∙ headed_decoded s z; count_is = c }
-
-  pub version_once : header_refusal s ≡ 0 → header_version h ≡ version s
-  version_once z = ap header_version is ∙ simp z
-
-  -- the answer by them is the rule's
-  pub measured_once : (t : List Entry) (n : ℕ) → n ≡ header_count h → t ≡ filled s n → measured_by h t ≡ measured s
-  measured_once t n e e' = ap (λ (x : Header). measured_by x t) is ∙ go (eqb (header_refusal s) 0) refl
-    where
-      go : (b : Bool) → eqb (header_refusal s) 0 ≡ b → measured_by (header s) t ≡ measured s
-      go true p =
-          let z : header_refusal s ≡ 0 = eqb-true (header_refusal s) 0 p in
-          simp z (ap (λ (l : List Entry). measured_entries (version s) l (count s)) (decoded_once t n e e' z).entries_are)
-      go false p = simp p
+pub version_known : (s : List ℕ) → header_refusal s ≡ 0 → version s ≤ 2
+version_known s e = ⊎_elim (λ (one : version s ≡ 1). omega arith) (λ (two : version s ≡ 2). omega arith) (headed s e).one_or_two

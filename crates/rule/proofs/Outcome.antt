@@ -6,7 +6,10 @@ use mathlib.Core.Path.{◌≡◌, refl, sym, ap, ◌∙◌}
 use mathlib.Core.Bool.{Bool, true, false}
 use mathlib.Core.List.{List}
 use lib.Dec.{eqb}
-use Rattle.rule.specs.declared.Measured.TheVariants.{Words, Refused}
+use Rattle.std.specs.Prelude.{Ok, Err}
+use Rattle.refusal.specs.declared.Refusal.{Refusal}
+use Rattle.refusal.specs.Number.{number_of}
+use Rattle.rule.specs.declared.Measured.{Measured}
 use Rattle.rule.specs.Entries.{version, count, decoded}
 use Rattle.rule.specs.Words.{words}
 use Rattle.rule.specs.Postfix.{formulas}
@@ -29,31 +32,31 @@ module _ (s : List ℕ) where
   good : Answer
   good = record { number = 0; words = words (version s) (decoded s) (count s); reach = reach_of (formulas (version s) (decoded s) (count s)) }
 
-  of_words : (w far : ℕ) → answer (Words w far) ≡ good → refusal s ≡ 0 → Passes s w far
+  of_words : (m : Measured) → answer (Ok m) ≡ good → refusal s ≡ 0 → Passes s m.words m.reach
   unfolding good
-  of_words w far e z = record { accepted = z; words_are = ap (λ (a : Answer). a.words) e; reach_is = ap (λ (a : Answer). a.reach) e }
+  of_words m e z = record { accepted = z; words_are = ap (λ (a : Answer). a.words) e; reach_is = ap (λ (a : Answer). a.reach) e }
 
-  pub passes_with : (w far : ℕ) → answer (Words w far) ≡ measured s → Passes s w far
+  pub passes_with : (m : Measured) → answer (Ok m) ≡ measured s → Passes s m.words m.reach
   unfolding good
-  passes_with w far e = go (eqb (refusal s) 0) refl
+  passes_with m e = go (eqb (refusal s) 0) refl
     where
-      go : (b : Bool) → eqb (refusal s) 0 ≡ b → Passes s w far
-      go true p = of_words w far (e ∙ simp p) (eqb-true (refusal s) 0 p)
+      go : (b : Bool) → eqb (refusal s) 0 ≡ b → Passes s m.words m.reach
+      go true p = of_words m (e ∙ simp p) (eqb-true (refusal s) 0 p)
       go false p =
-          let q : answer (Words w far) ≡ refused (refusal s) = e ∙ simp p in
+          let q : answer (Ok m) ≡ refused (refusal s) = e ∙ simp p in
           absurd (eqb-false (refusal s) 0 p (sym (ap (λ (a : Answer). a.number) q)))
 
-  pub stops_with : (n : ℕ) → answer (Refused n) ≡ measured s → Stops s n
+  pub stops_with : (r : Refusal) → answer (Err r) ≡ measured s → Stops s (number_of r)
   unfolding good
-  stops_with n e = go (eqb (refusal s) 0) refl
+  stops_with r e = go (eqb (refusal s) 0) refl
     where
-      go : (b : Bool) → eqb (refusal s) 0 ≡ b → Stops s n
+      go : (b : Bool) → eqb (refusal s) 0 ≡ b → Stops s (number_of r)
       go true p =
-          let q : answer (Refused n) ≡ good = e ∙ simp p in
+          let q : answer (Err r) ≡ good = e ∙ simp p in
           absurd
           (let w : 0 ≡ words (version s) (decoded s) (count s) = ap (λ (a : Answer). a.words) q in
           omega (arith, header_least (version s)))
       go false p =
-          let q : answer (Refused n) ≡ refused (refusal s) = e ∙ simp p in
-          let r = ap (λ (a : Answer). a.number) q in
-          record { number_is = r; not_zero = λ z. eqb-false (refusal s) 0 p (sym r ∙ z) }
+          let q : answer (Err r) ≡ refused (refusal s) = e ∙ simp p in
+          let is = ap (λ (a : Answer). a.number) q in
+          record { number_is = is; not_zero = λ z. eqb-false (refusal s) 0 p (sym is ∙ z) }

@@ -14,7 +14,7 @@ use Rattle.mtl.specs.Formula.{Formula, reach, largest}
 use Rattle.mtl.specs.Formula.Formula.{letter, not, or, previous, next, since, until}
 use Rattle.mtl.specs.Wanted.{depth, deepest}
 use Rattle.rule.specs.declared.Entry.{Entry}
-use Rattle.rule.specs.declared.measuring.Reading.TheVariants.{Found, Faulty}
+use Rattle.std.specs.Prelude.{Some, None, unwrap_or}
 use Rattle.rule.specs.declared.measuring.Quantity.{Quantity}
 use Rattle.rule.specs.declared.measuring.Quantity.TheVariants.{Reach, Depth}
 use Rattle.rule.specs.Entries.{entry}
@@ -193,7 +193,7 @@ none_read of t = record { deep = zero-le; long = refl; bottom = refl; bound = λ
 
 -- an operand is lacking at entry k: there is no formula of the n entries
 pub lacks_operand : (of : Quantity) (version : ℕ) (t : List Entry) (a : List ℕ) (d k n : ℕ) → Running of t a d k → k < length t → k < n
-    → d < operands (entry t k).kind → reading of (formulas version t n) ≡ Faulty
+    → d < operands (entry t k).kind → reading of (formulas version t n) ≡ None
 lacks_operand of version t a d k n r h m l =
     let e₀ = entry t k in
     let s : push_kind e₀.kind e₀ r.formulas ≡ none =
@@ -213,24 +213,20 @@ greatest_held of (φ ∷ fs) a (suc d) e =
 
 -- the end of the loop: as many formulas as the version wants
 pub enough_formulas : (of : Quantity) (version : ℕ) (t : List Entry) (a : List ℕ) (d n : ℕ) → Running of t a d n
-    → (leb (fewest_formulas version) d && leb d (most_formulas version)) ≡ true → reading of (formulas version t n) ≡ Found (greatest a d)
+    → (leb (fewest_formulas version) d && leb d (most_formulas version)) ≡ true → reading of (formulas version t n) ≡ Some (greatest a d)
 enough_formulas of version t a d n r e =
     ap (λ (o : Option (List Formula)). reading of (left_by version o)) r.stack_is
-    ∙ simp (height_is of t a d n r, e) (ap Found (largest_reverse of r.formulas ∙ greatest_held of r.formulas a d r.measures))
+    ∙ simp (height_is of t a d n r, e) (ap Some (largest_reverse of r.formulas ∙ greatest_held of r.formulas a d r.measures))
 
 -- too few or too many
 pub other_number : (of : Quantity) (version : ℕ) (t : List Entry) (a : List ℕ) (d n : ℕ) → Running of t a d n
-    → (leb (fewest_formulas version) d && leb d (most_formulas version)) ≡ false → reading of (formulas version t n) ≡ Faulty
+    → (leb (fewest_formulas version) d && leb d (most_formulas version)) ≡ false → reading of (formulas version t n) ≡ None
 other_number of version t a d n r e =
     ap (λ (o : Option (List Formula)). reading of (left_by version o)) r.stack_is
     ∙ simp (height_is of t a d n r, e)
 
 -- the largest depth, where the entries are formulas, and 0 where not
-pub depth_found : (o : Option (List Formula)) (most_formulas : ℕ) → reading Depth o ≡ Found most_formulas → most_formulas ≡ deepest (formulas_or o)
-depth_found none most_formulas e = absurd (let z : ◌≡◌ {A = ℕ} 0 1 = cc in omega arith)
-depth_found (some fs) most_formulas e = cc
-
-pub depth_faulty : (o : Option (List Formula)) → reading Depth o ≡ Faulty → 0 ≡ deepest (formulas_or o)
+pub depth_of : (o : Option (List Formula)) → unwrap_or (reading Depth o) 0 ≡ deepest (formulas_or o)
 unfolding largest
-depth_faulty none e = refl
-depth_faulty (some fs) e = absurd (let z : ◌≡◌ {A = ℕ} 0 1 = cc in omega arith)
+depth_of none = refl
+depth_of (some fs) = refl

@@ -1,14 +1,12 @@
 -- What the crate's own functions answer, between the bytes and the answer of `measure`.
-use Rattle.std.specs.Prelude.{ℕ, zero, suc, ◌+◌, max, Bool, cond, ◌&&◌, ◌||◌, not, List, eqb, get_or}
-use Rattle.std.proofs.Math.Option.{Option, none, some}
+use Rattle.std.specs.Prelude.{ℕ, zero, suc, ◌+◌, max, Bool, cond, ◌&&◌, ◌||◌, not, List, eqb, get_or, Option, Some, None}
+use Rattle.std.proofs.Math.Option.{Option as Maybe, none, some}
 use Rattle.mtl.specs.Formula.{Formula, largest}
 use Rattle.mtl.specs.Formula.{reach as formula_reach}
 use Rattle.mtl.specs.Satisfaction.{any}
 use Rattle.mtl.specs.Wanted.{depth}
 use Rattle.rule.specs.declared.Entry.{Entry}
 use Rattle.rule.specs.declared.measuring.Totals.{Totals}
-use Rattle.rule.specs.declared.measuring.Reading.{Reading}
-use Rattle.rule.specs.declared.measuring.Reading.TheVariants.{Found, Faulty}
 use Rattle.rule.specs.declared.measuring.Quantity.{Quantity}
 use Rattle.rule.specs.declared.measuring.Quantity.TheVariants.{Reach, Depth}
 use Rattle.rule.specs.Entries.{entry}
@@ -56,6 +54,6 @@ greatest a zero = 0
 greatest a (suc n) = max (greatest a n) (get_or a (suc n) 0)
 
 -- what reading the entries answers: the largest over the formulas, whether they have next or not, where refusal 7 does not apply
-abbrev pub reading : Quantity → Option (List Formula) → Reading
-reading of none = Faulty
-reading of (some fs) = Found (largest (quantity of) fs)
+abbrev pub reading : Quantity → Maybe (List Formula) → Option ℕ
+reading of none = None
+reading of (some fs) = Some (largest (quantity of) fs)

@@ -10,4 +10,6 @@ pub mod Measure
 pub mod Contract
 pub mod Code
 pub mod Operands
+pub mod Kinds
 pub mod Accepted
+pub mod Decoded

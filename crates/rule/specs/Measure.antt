@@ -1,11 +1,12 @@
 -- What the call `measure` (document 01's weigh) answers.
-use Rattle.std.specs.Prelude.{ℕ, Bool, false, cond, ◌||◌, List, [], ◌∷◌, eqb}
+use Rattle.std.specs.Prelude.{ℕ, Bool, false, cond, ◌||◌, List, [], ◌∷◌, eqb, Result, Ok, Err}
 use Rattle.std.proofs.Math.Option.{Option, none, some}
+use Rattle.refusal.specs.declared.Refusal.{Refusal}
+use Rattle.refusal.specs.Number.{number_of}
 use Rattle.mtl.specs.Formula.{Formula, unbounded, has_next, largest}
 use Rattle.mtl.specs.Formula.{reach as formula_reach}
 use Rattle.rule.specs.declared.Entry.{Entry}
 use Rattle.rule.specs.declared.Measured.{Measured}
-use Rattle.rule.specs.declared.Measured.TheVariants.{Words, Refused}
 use Rattle.rule.specs.Entries.{version, count, decoded}
 use Rattle.rule.specs.Words.{words}
 use Rattle.rule.specs.Postfix.{formulas}
@@ -17,10 +18,10 @@ pub record Answer : Type 0 where
   pub words : ℕ
   pub reach : ℕ
 
--- the paper's number and values for each case of the enum
-abbrev pub answer : Measured → Answer
-answer (Words w r) = record { number = 0; words = w; reach = r }
-answer (Refused n) = record { number = n; words = 0; reach = 0 }
+-- the paper's number and values for each case of the result
+abbrev pub answer : Result Measured Refusal → Answer
+answer (Ok m) = record { number = 0; words = m.words; reach = m.reach }
+answer (Err refusal) = record { number = number_of refusal; words = 0; reach = 0 }
 
 -- some formula has next
 abbrev pub some_next : List Formula → Bool

@@ -3,12 +3,6 @@ ghost use Rattle.std.specs.Prelude.{◌≡◌, ◌<◌};
 ghost use Rattle.rule.specs.Bytes.{byte, word32};
 ghost use Rattle.rule.specs.Code.{lacks};
 
-pub fn wide(x: u8) -> u32
-    ensures { (result ≡ x) × (result < 256) }
-{
-    x as u32
-}
-
 // A byte past the end reads as 0, so that every read is safe and every check can be made on any bytes.
 pub fn byte_at(s: &[u8], at: usize) -> u8
     ensures { result ≡ byte s.now at }
@@ -20,10 +14,10 @@ pub fn word_at(s: &[u8], at: usize) -> u32
     requires { at < 4096 }
     ensures { result ≡ word32 s.now at }
 {
-    wide(byte_at(s, at)) * 16777216
-        + wide(byte_at(s, at + 1)) * 65536
-        + wide(byte_at(s, at + 2)) * 256
-        + wide(byte_at(s, at + 3))
+    u32::from(byte_at(s, at)) * 16777216
+        + u32::from(byte_at(s, at + 1)) * 65536
+        + u32::from(byte_at(s, at + 2)) * 256
+        + u32::from(byte_at(s, at + 3))
 }
 
 pub fn lacks_mark(s: &[u8], mark: &[u8]) -> bool

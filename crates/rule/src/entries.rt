@@ -8,6 +8,14 @@ use super::{Entry, bytes};
 // "High 4,294,967,295 means no upper end"
 pub const UNBOUNDED: u32 = 4294967295;
 
+// What stands behind a rule's last entry.
+const BLANK: Entry = Entry {
+    kind: 0,
+    letter: 0,
+    low: 0,
+    high: 0,
+};
+
 fn entry_at(rule: &[u8], k: usize) -> Entry
     requires { k < 128 }
     ensures { result ≡ entry_of rule.now k }
@@ -21,33 +29,26 @@ fn entry_at(rule: &[u8], k: usize) -> Entry
     }
 }
 
-// The first count entries, each decoded once. Behind the last of them stand blank ones.
-pub fn decode(rule: &[u8], count: usize) -> [Entry; 128]
+// The first count entries. Behind the last of them stand blank ones.
+pub fn entries_of(rule: &[u8], count: usize) -> [Entry; 128]
     requires { count ≤ 128 }
     ensures { result ≡ filled rule.now count }
 {
-    let mut table = [Entry {
-        kind: 0,
-        letter: 0,
-        low: 0,
-        high: 0,
-    }; 128];
-    let mut k: usize = 0;
-    while k < count {
-        table[k] = entry_at(rule, k);
-        k += 1;
+    let mut entries = [BLANK; 128];
+    for k in 0..count {
+        entries[k] = entry_at(rule, k);
     }
-    table
+    entries
 }
 
 pub fn version_of(rule: &[u8]) -> usize
     ensures { (result ≡ version rule.now) × (result < 65536) }
 {
-    (bytes::wide(bytes::byte_at(rule, 3)) * 256 + bytes::wide(bytes::byte_at(rule, 4))) as usize
+    usize::from(bytes::byte_at(rule, 3)) * 256 + usize::from(bytes::byte_at(rule, 4))
 }
 
 pub fn entry_count(rule: &[u8]) -> usize
     ensures { (result ≡ count rule.now) × (result < 256) }
 {
-    bytes::wide(bytes::byte_at(rule, 5)) as usize
+    usize::from(bytes::byte_at(rule, 5))
 }

@@ -6,25 +6,18 @@ ghost use Rattle.mtl.specs.Wanted.{deepest};
 ghost use Rattle.rule.specs.Words.{own, header_words};
 ghost use Rattle.rule.specs.Postfix.{fewest_formulas, most_formulas, formulas, formulas_or};
 ghost use Rattle.rule.specs.Measure.{answer};
-ghost use Rattle.rule.specs.Contract.{measured_entries, header_count, measured_by, EndsOf};
+ghost use Rattle.rule.specs.Contract.{measured_entries, EndsOf};
 ghost use Rattle.rule.specs.Code.{added_by, joined_by, is_previous, totals, with_entry, greatest, reading};
 ghost use Rattle.rule.specs.Operands.{operands};
 
-use super::refusals::Header;
-use super::{Entry, Measured, entries, refusals};
+use super::{Entry, Measured, Rule, entries, refusals};
+use refusal::Refusal;
 
 // What is read of a formula: its reach, or its depth, the most previous entries on a path from its last entry to a letter.
-#[derive(Clone, Copy)]
+#[derive(Clone, Copy, Debug, PartialEq, Eq)]
 enum Quantity {
     Reach,
     Depth,
-}
-
-// What reading the entries in postfix order answers: the largest quantity of the formulas, 0 where there is no entry.
-#[derive(Clone, Copy)]
-enum Reading {
-    Found(u64),
-    Faulty,
 }
 
 // Where each formula ends: how many there are, and for each the number of entries up to and with its last. There are at most 8 of them,
@@ -54,7 +47,7 @@ const OPERANDS: [usize; 7] = [0, 1, 2, 1, 1, 2, 2];
 pub fn own_words(e: Entry) -> u64
     ensures { (result ≡ own e) × (result ≤ 8589934610) }
 {
-    let high = e.high as u64;
+    let high = u64::from(e.high);
     if e.kind == 5 {
         if e.high == entries::UNBOUNDED {
             16 + 1
@@ -82,43 +75,18 @@ impl Totals {
     }
 }
 
-// Refusals 5 and 6 over all entries, whether there is a next, and the words.
-fn add_up(table: [Entry; 128], count: usize) -> Totals
-    requires { count ≤ 128 }
-    ensures { (result ≡ totals table count) × (result.words ≤ 1099511630080) }
-{
-    let mut sums = Totals {
-        misshapen: false,
-        misplaced: false,
-        next: false,
-        words: 0,
-    };
-    let mut k: usize = 0;
-    while k < count {
-        sums = sums.with(table[k]);
-        k += 1;
-    }
-    sums
-}
-
 fn operands_of(kind: u8) -> usize
     ensures { result ≡ operands kind }
 {
-    let k = kind as usize;
+    let k = usize::from(kind);
     if k < 7 { OPERANDS[k] } else { 200 }
-}
-
-fn larger(a: u64, b: u64) -> u64
-    ensures { result ≡ max a b }
-{
-    if a < b { b } else { a }
 }
 
 // What an entry adds to the larger of its operands' quantities.
 fn added(of: Quantity, e: Entry) -> u64
     ensures { (result ≡ added_by of e) × (result ≤ 4294967295) }
 {
-    let high = e.high as u64;
+    let high = u64::from(e.high);
     match of {
         Quantity::Reach => { if e.kind == 6 { high } else { 0 } }
         Quantity::Depth => { if e.kind == 3 { 1 } else { 0 } }
@@ -133,28 +101,8 @@ fn joined(of: Quantity, e: Entry, left: u64, right: u64) -> u64
     if e.kind == 0 {
         0
     } else {
-        added(of, e) + larger(left, right)
+        added(of, e) + left.max(right)
     }
-}
-
-// The fewest and the most formulas of a rule.
-fn fewest_of(version: usize) -> usize
-    ensures { result ≡ fewest_formulas version }
-{
-    if version == 1 { 0 } else { 1 }
-}
-
-pub fn most_of(version: usize) -> usize
-    ensures { result ≡ most_formulas version }
-{
-    if version == 1 { 1 } else { 8 }
-}
-
-// The words of a checkpoint before those of its entries.
-pub fn header_words(version: usize) -> usize
-    ensures { result ≡ header_words version }
-{
-    if version == 1 { 16 } else { 24 }
 }
 
 // The largest of the quantities from position 1 to the top, and 0 where there is none.
@@ -163,134 +111,136 @@ fn highest(stack: &[u64; 129], top: usize) -> u64
     ensures { result ≡ greatest stack.now top }
 {
     let mut most: u64 = 0;
-    let mut at: usize = 0;
-    while at < top {
-        at += 1;
-        most = larger(most, stack[at]);
+    for at in 0..top {
+        most = most.max(stack[at + 1]);
     }
     most
 }
 
-// The entries are read with a stack, which holds the quantity of each formula: position 1 is its bottom, and 0 stands below it.
-fn read(of: Quantity, version: usize, table: [Entry; 128], count: usize) -> Reading
-    requires { count ≤ 128 }
-    ensures { result ≡ reading of (formulas version table count) }
-{
-    let mut stack = [0u64; 129];
-    let mut depth: usize = 0;
-    let mut k: usize = 0;
-    while k < count {
-        let e = table[k];
-        let taken = operands_of(e.kind);
-        if depth < taken {
-            return Reading::Faulty;
-        }
-        let at = depth + 1 - taken;
-        stack[at] = joined(of, e, stack[at], stack[depth]);
-        depth = at;
-        k += 1;
-    }
-    if (fewest_of(version) <= depth) & (depth <= most_of(version)) {
-        Reading::Found(highest(&stack, depth))
-    } else {
-        Reading::Faulty
-    }
-}
-
-// The place in `Ends` of a place of the stack.
-fn mark_place(top: usize) -> usize
-    ensures { result ≡ min top 8 }
-{
-    if top < 8 { top } else { 8 }
-}
-
-// Where each formula ends: the same stack, which holds for each formula the number of entries up to and with its last.
-pub fn ends_of(table: [Entry; 128], count: usize) -> Ends
-    requires { count ≤ 128 }
-    ensures { EndsOf table count result }
-{
-    let mut at = [0usize; 9];
-    let mut depth: usize = 0;
-    let mut k: usize = 0;
-    while k < count {
-        let taken = operands_of(table[k].kind);
-        if depth < taken {
-            return Ends { number: 0, at };
-        }
-        let top = depth - taken;
-        at[mark_place(top)] = k + 1;
-        depth = top + 1;
-        k += 1;
-    }
-    Ends { number: depth, at }
-}
-
-// Whether some entry is a previous.
-fn has_previous(table: [Entry; 128], count: usize) -> bool
-    requires { count ≤ 128 }
-    ensures { result ≡ any count (is_previous table) }
-{
-    let mut found = false;
-    let mut k: usize = 0;
-    while k < count {
-        found = found | (table[k].kind == 3);
-        k += 1;
-    }
-    found
-}
-
-// The depth of the entries' formulas; 0 where they are none. Few rules have a previous, and without one no stack is needed.
-pub fn depth(version: usize, table: [Entry; 128], count: usize) -> u64
-    requires { count ≤ 128 }
-    ensures { result ≡ deepest (formulas_or (formulas version table count)) }
-{
-    if !has_previous(table, count) {
-        return 0;
-    }
-    let Reading::Found(most) = read(Quantity::Depth, version, table, count) else {
-        return 0;
-    };
-    most
-}
-
-// Refusals 5 to 8, or the words and the reach.
-fn measure_entries(version: usize, table: [Entry; 128], count: usize) -> Measured
-    requires { count ≤ 128 }
-    ensures { answer result ≡ measured_entries version table count }
-{
-    let sums = add_up(table, count);
-    if sums.misshapen {
-        return Measured::Refused(5);
-    }
-    if sums.misplaced {
-        return Measured::Refused(6);
-    }
-    let Reading::Found(reach) = read(Quantity::Reach, version, table, count) else {
-        return Measured::Refused(7);
-    };
-    let words = header_words(version) as u64 + sums.words;
-    if words > LIMIT {
-        return Measured::Refused(8);
-    }
-    if sums.next {
-        return Measured::Words {
-            words: words as usize,
-            reach: entries::UNBOUNDED as u64,
+impl Rule {
+    // Refusals 5 and 6 over all entries, whether there is a next, and the words.
+    fn add_up(&self) -> Totals
+        ensures { (result ≡ totals self.now.entries self.now.count) × (result.words ≤ 1099511630080) }
+    {
+        let mut sums = Totals {
+            misshapen: false,
+            misplaced: false,
+            next: false,
+            words: 0,
         };
+        for k in 0..self.count {
+            sums = sums.with(self.entries[k]);
+        }
+        sums
     }
-    Measured::Words {
-        words: words as usize,
-        reach,
-    }
-}
 
-// The header's refusal, or what comes of the entries.
-pub fn measure_decoded(header: Header, table: [Entry; 128]) -> Measured
-    requires { header_count header ≤ 128 }
-    ensures { answer result ≡ measured_by header table }
-{
-    let Header::Count { version, count } = header else {
-        return Measured::Refused(header.number());
-    };
-    measure_entries(version, table, count)
+    // The fewest and the most formulas of a rule of this version.
+    fn fewest_formulas(&self) -> usize
+        ensures { result ≡ fewest_formulas self.now.version }
+    {
+        if self.version == 1 { 0 } else { 1 }
+    }
+
+    pub fn most_formulas(&self) -> usize
+        ensures { result ≡ most_formulas self.now.version }
+    {
+        if self.version == 1 { 1 } else { 8 }
+    }
+
+    // The words of a checkpoint before those of its entries.
+    pub fn header_words(&self) -> usize
+        ensures { result ≡ header_words self.now.version }
+    {
+        if self.version == 1 { 16 } else { 24 }
+    }
+
+    // The largest quantity of the formulas, 0 where there is no entry; none where the entries are no formulas. They are read in postfix order
+    // with a stack, which holds the quantity of each formula: position 1 is its bottom, and 0 stands below it.
+    fn read(&self, of: Quantity) -> Option<u64>
+        ensures { result ≡ reading of (formulas self.now.version self.now.entries self.now.count) }
+    {
+        let mut stack = [0u64; 129];
+        let mut depth: usize = 0;
+        for k in 0..self.count {
+            let e = self.entries[k];
+            let taken = operands_of(e.kind);
+            if depth < taken {
+                return None;
+            }
+            let at = depth + 1 - taken;
+            stack[at] = joined(of, e, stack[at], stack[depth]);
+            depth = at;
+        }
+        if (self.fewest_formulas() <= depth) & (depth <= self.most_formulas()) {
+            Some(highest(&stack, depth))
+        } else {
+            None
+        }
+    }
+
+    // Where each formula ends: the same stack, which holds for each formula the number of entries up to and with its last.
+    pub fn ends(&self) -> Ends
+        ensures { EndsOf self.now.entries self.now.count result }
+    {
+        let mut at = [0usize; 9];
+        let mut depth: usize = 0;
+        for k in 0..self.count {
+            let taken = operands_of(self.entries[k].kind);
+            if depth < taken {
+                return Ends { number: 0, at };
+            }
+            let top = depth - taken;
+            at[top.min(8)] = k + 1;
+            depth = top + 1;
+        }
+        Ends { number: depth, at }
+    }
+
+    // Whether some entry is a previous.
+    fn has_previous(&self) -> bool
+        ensures { result ≡ any self.now.count (is_previous self.now.entries) }
+    {
+        let mut found = false;
+        for k in 0..self.count {
+            found = found | (self.entries[k].kind == 3);
+        }
+        found
+    }
+
+    // The depth of the entries' formulas; 0 where they are none. Few rules have a previous, and without one no stack is needed.
+    pub fn depth(&self) -> u64
+        ensures { result ≡ deepest (formulas_or (formulas self.now.version self.now.entries self.now.count)) }
+    {
+        if !self.has_previous() {
+            return 0;
+        }
+        self.read(Quantity::Depth).unwrap_or(0)
+    }
+
+    // Refusals 5 to 8, or the words and the reach.
+    pub fn measure(&self) -> Result<Measured, Refusal>
+        ensures { answer result ≡ measured_entries self.now.version self.now.entries self.now.count }
+    {
+        let sums = self.add_up();
+        if sums.misshapen {
+            return Err(Refusal::EntryField);
+        }
+        if sums.misplaced {
+            return Err(Refusal::Interval);
+        }
+        let reach = self.read(Quantity::Reach).ok_or(Refusal::Shape)?;
+        let words = self.header_words() as u64 + sums.words;
+        if words > LIMIT {
+            return Err(Refusal::TooManyWords);
+        }
+        let reach = if sums.next {
+            u64::from(entries::UNBOUNDED)
+        } else {
+            reach
+        };
+        Ok(Measured {
+            words: words as usize,
+            reach,
+        })
+    }
 }

@@ -2,118 +2,91 @@
 // each call answers. The file stdin has every way of meeting each refusal, and stdout what document 01 says of it.
 #![tactic(auto)]
 
-ghost use Rattle.std.specs.Prelude.{◌<◌, ◌≤◌, length};
+ghost use Rattle.std.specs.Prelude.{◌<◌, ◌≤◌, length, IfSome};
+ghost use Rattle.std.proofs.Props.{props};
 
 use rule::Measured;
 use std::io;
 use std::io::Read;
 
-// What has been read of a line: whether its name is still going on, the bytes of its rule so far, a first digit that waits
-// for its second (16: none), and the byte that the last character completed.
-#[derive(Clone, Copy)]
-struct Scan {
-    name: bool,
+// What has been read of a line: whether its name is still going on, the first bytes of its rule, as many as have room, and a first
+// digit that waits for its second.
+#[derive(Drop)]
+struct Line {
+    is_name: bool,
+    rule: [u8; 4096],
     len: usize,
-    first: u8,
-    byte: u8,
+    first: Option<u8>,
+    ghost within: { len ≤ 4096 },
+    ghost digit: { IfSome first (λ d. d < 16) } by { Prim.hlevel props },
 }
 
-// 16 for what is no digit
-fn digit(c: u8) -> u8
-    ensures { result < 17 }
+// The value of a digit in hexadecimal.
+fn digit(c: u8) -> Option<u8>
+    ensures { IfSome result (λ d. d < 16) }
 {
-    if c < b'0' {
-        16
-    } else if c <= b'9' {
-        c - b'0'
-    } else if c < b'a' {
-        16
-    } else if c <= b'f' {
-        c - b'a' + 10
-    } else {
-        16
+    match c {
+        b'0'..=b'9' => Some(c - b'0'),
+        b'a'..=b'f' => Some(c - b'a' + 10),
+        _ => None,
     }
 }
 
-fn room(len: usize) -> usize
-    ensures { result < 4096 }
-{
-    if len < 4095 { len + 1 } else { 4095 }
-}
-
-impl Scan {
-    fn line() -> Scan
-        ensures { result.len < 4096 }
-    {
-        Scan {
-            name: true,
+impl Line {
+    fn new() -> Line {
+        Line {
+            is_name: true,
+            rule: [0; 4096],
             len: 0,
-            first: 16,
-            byte: 0,
+            first: None,
         }
     }
 
-    fn next(self, c: u8) -> Scan
-        requires { self.len < 4096 }
-        ensures { result.len < 4096 }
-    {
-        if c == b'\n' {
-            return Scan::line();
+    fn push(&mut self, byte: u8) {
+        if self.len < 4096 {
+            self.rule[self.len] = byte;
+            self.len += 1;
         }
-        if self.name {
-            return Scan {
-                name: c != b':',
-                len: 0,
-                first: 16,
-                byte: 0,
-            };
+    }
+
+    // Takes the next character; what is no digit in hexadecimal is passed over.
+    fn take(&mut self, c: u8) {
+        if self.is_name {
+            self.is_name = c != b':';
+            return;
         }
-        let d = digit(c);
-        if d > 15 {
-            return self;
-        }
-        let first = self.first;
-        if first > 15 {
-            return Scan {
-                name: false,
-                len: self.len,
-                first: d,
-                byte: 0,
-            };
-        }
-        Scan {
-            name: false,
-            len: room(self.len),
-            first: 16,
-            byte: first * 16 + d,
+        let Some(d) = digit(c) else {
+            return;
+        };
+        match self.first {
+            Some(first) => {
+                self.first = None;
+                self.push(first * 16 + d);
+            }
+            None => self.first = Some(d),
         }
     }
 }
 
 fn show(rt: &impl Print, rule: &[u8]) -> io::Result<()> {
-    let measured = rule::measure(rule);
-    let Measured::Words { words, reach } = measured else {
-        let number = measured.number();
-        println!(rt; " refused {number}")?;
-        return Ok(());
-    };
-    println!(rt; " words {words}, reach {reach}")
+    match rule::measure(rule) {
+        Ok(Measured { words, reach }) => println!(rt; " words {words}, reach {reach}"),
+        Err(refusal) => println!(rt; " {refusal}"),
+    }
 }
 
 fn run(rt: &impl Print, text: &[u8]) -> io::Result<()> {
-    let mut rule = [0u8; 4096];
-    let mut scan = Scan::line();
-    let mut i: usize = 0;
-    while i < text.len() {
-        let at = scan.len;
-        if text[i] == b'\n' {
-            show(rt, &rule[..at])?;
-        } else if scan.name {
-            rt.write_all(&text[i..i + 1])?;
+    let mut line = Line::new();
+    for c in text {
+        if *c == b'\n' {
+            show(rt, &line.rule[..line.len])?;
+            line = Line::new();
+        } else {
+            if line.is_name {
+                rt.write_all(&[*c])?;
+            }
+            line.take(*c);
         }
-        scan = scan.next(text[i]);
-        rule[at] = scan.byte;
-        i += 1;
     }
     Ok(())
 }
@@ -124,13 +97,10 @@ fn read_full(input: &mut impl Read, buf: &mut [u8]) -> usize
 {
     let mut done = 0;
     while done < buf.len() {
-        let Ok(n) = input.read(&mut buf[done..]) else {
-            break;
-        };
-        if n == 0 {
-            break;
+        match input.read(&mut buf[done..]) {
+            Ok(0) | Err(_) => break,
+            Ok(n) => done += n,
         }
-        done += n;
     }
     done
 }

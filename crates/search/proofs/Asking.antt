@@ -7,31 +7,33 @@ use mathlib.Core.List.{List}
 use native.Mathlib.Omega.{arith}
 use lib.ListN.{length, get_or}
 use Rattle.mtl.specs.Formula.{Formula}
+use Rattle.window.specs.declared.view.View.{View}
 use Rattle.mtl.specs.Log.{Log, NeverFalls}
 use Rattle.mtl.specs.Satisfaction.{sat}
 use Rattle.mtl.specs.Progress.{run, settled_to}
 use Rattle.bits.specs.Packed.{Packed}
 use Rattle.bits.proofs.Laws.{packed_first}
 use Rattle.blocks.specs.Step.{Agrees}
-use Rattle.engine.specs.Table.{Has, column}
+use Rattle.engine.specs.Table.{Has, row_at}
 use Rattle.engine.specs.State.{State}
 use Rattle.engine.specs.Answer.{first_read, Answers}
-use Rattle.engine.specs.declared.Reply.TheVariants.{Batch, Open}
+use Rattle.std.specs.Prelude.{Some, None}
+use Rattle.engine.specs.declared.table.Row.{Row}
 use Rattle.reasons.specs.Search.{first_where, after_last}
 use Rattle.search.specs.Scan.{sought, Starts, Scans}
 
-agrees_later : (v s : List ℕ) (L : Log) (g : ℕ) → Agrees v s L 0 → Agrees v s L g
+agrees_later : (v : View) (s : List ℕ) (L : Log) (g : ℕ) → Agrees v s L 0 → Agrees v s L g
 agrees_later v s L g a = record { ends = a.ends; size = a.size; shows = λ i b h. a.shows i (omega arith) h }
 
 -- what is known when `done` positions are passed; the words stand for the next while there is one to ask for
-abbrev pub Going : (t v s : List ℕ) (k : ℕ) (want : Bool) (from to : ℕ) (ws : List ℕ) (done first after : ℕ) → Type 0
+abbrev pub Going : (t : List Row) (v : View) (s : List ℕ) (k : ℕ) (want : Bool) (from to : ℕ) (ws : List ℕ) (done first after : ℕ) → Type 0
 Going t v s k want from to ws done first after =
     (φ : Formula) (L : Log) → Has φ t k → NeverFalls L → Agrees v s L 0 → Starts t k φ L →
     (done < to → State φ L done ws) × (done ≤ settled_to φ L) × (first ≡ first_where done (sought want from (sat φ L))) ×
     (after ≡ after_last done (λ (q : ℕ). negate (sat φ L q)))
 
-module _ (t v s : List ℕ) (k : ℕ) (want : Bool) (from to : ℕ) where
-  pub going_none : (ws : List ℕ) → length ws ≡ column 7 t k → ((i : ℕ) → get_or ws i 0 ≡ 0) → Going t v s k want from to ws 0 0 0
+module _ (t : List Row) (v : View) (s : List ℕ) (k : ℕ) (want : Bool) (from to : ℕ) where
+  pub going_none : (ws : List ℕ) → length ws ≡ (row_at t k).words → ((i : ℕ) → get_or ws i 0 ≡ 0) → Going t v s k want from to ws 0 0 0
   unfolding run after_last
   going_none ws long zeros φ L has falls agrees starts = (λ h. starts ws long zeros, omega arith, refl, refl)
 
@@ -44,14 +46,14 @@ module _ (t v s : List ℕ) (k : ℕ) (want : Bool) (from to : ℕ) where
         rw n (record { all = refl; found = found; last = last })
 
     module _ (more : done < to) where
-      pub going_open : (ws' : List ℕ) → Answers t v s k ws Open ws' → Scans t v s k want from to (record { done = done; first = first; after = after })
+      pub going_open : (ws' : List ℕ) → Answers t v s k ws None ws' → Scans t v s k want from to (record { done = done; first = first; after = after })
       going_open ws' answers φ L has falls agrees starts =
           let (state, most, found, last) = going φ L has falls agrees starts in
           let (ends, after-it) = answers.1 φ L done has falls (agrees_later v s L (first_read φ done) agrees) (state more) in
           let n : min to (settled_to φ L) ≡ done = omega arith in
           rw n (record { all = refl; found = found; last = last })
 
-      module _ (bits count n : ℕ) (ws' : List ℕ) (answers : Answers t v s k ws (Batch bits count) ws') (taken : n ≡ min (min count (to - done)) 64) where
+      module _ (bits count n : ℕ) (ws' : List ℕ) (answers : Answers t v s k ws (Some (record { bits = bits; count = count })) ws') (taken : n ≡ min (min count (to - done)) 64) where
         -- a batch has an answer
         pub going_some : n ≡ 0 → Scans t v s k want from to (record { done = done; first = first; after = after })
         going_some none φ L has falls agrees starts =

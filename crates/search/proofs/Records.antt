@@ -15,7 +15,7 @@ use Rattle.trace.proofs.Counting.{count_position, count_grows, spot_holds}
 use Rattle.trace.proofs.Positions.{log_placed, wanted_counts}
 use Rattle.trace.proofs.Parts.{Cut}
 use Rattle.window.proofs.Slices.{served_before, served_place, served_shows, slice_shows}
-use Rattle.window.proofs.Marks.{first_told, total_told, skips_told, closed_told}
+use Rattle.window.specs.declared.view.View.{View}
 use Rattle.blocks.specs.Step.{Agrees}
 use Rattle.search.specs.Times.{WholeLog}
 
@@ -28,16 +28,16 @@ before_next true s i h = let at = spot_holds s i h in count_position s (place tr
 before_next false s i h = omega arith
 
 -- the view of all records, open
-abbrev pub WholeView : (skips : Bool) → (s v : List ℕ) → Type 0
+abbrev pub WholeView : (skips : Bool) → (s : List ℕ) (v : View) → Type 0
 WholeView skips s v = ViewOf 0 0 skips false s v
 
 -- it tells of all positions
-size_told : (b : Bool) (s v : List ℕ) → WholeView b s v → total v ≡ (log_of b s).size
-size_told b s v made = total_told made ∙ zero-add (before b s (record_count s))
+size_told : (b : Bool) (s : List ℕ) (v : View) → WholeView b s v → total v ≡ (log_of b s).size
+size_told b s v made = made.total ∙ zero-add (before b s (record_count s))
 
-module _ (b : Bool) (s v : List ℕ) (made : WholeView b s v) (keeps : Keeps s) where
+module _ (b : Bool) (s : List ℕ) (v : View) (made : WholeView b s v) (keeps : Keeps s) where
   flag : skips v ≡ served b s
-  flag = skips_told made
+  flag = made.skips
 
   size : before (served b s) s (record_count s) ≡ before b s (record_count s)
   size = served_before b s
@@ -80,12 +80,12 @@ unfolding positions
 nothing_before true s = refl
 nothing_before false s = refl
 
-pub whole_agrees : (b : Bool) (s v : List ℕ) → WholeView b s v → Agrees v s (log_of b s) 0
+pub whole_agrees : (b : Bool) (s : List ℕ) (v : View) → WholeView b s v → Agrees v s (log_of b s) 0
 whole_agrees b s v made =
     record {
-      ends = sym (closed_told made);
+      ends = sym (made.closed);
       size = size_told b s v made;
       shows = λ i low high.
-          rw (skips_told made, first_told made)
+          rw (made.skips, made.first)
           (served_shows b s 0 (log_of b s) i (slice_shows b s s 0 (all_of s) i (let none = nothing_before b s in omega arith) high));
     }

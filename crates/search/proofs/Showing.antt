@@ -12,10 +12,11 @@ use Rattle.trace.specs.Format.{record_count, time_at}
 use Rattle.trace.specs.Positions.{place, before}
 use Rattle.window.specs.View.{total, skips}
 use Rattle.window.specs.Window.{Found}
+use Rattle.window.specs.declared.view.View.{View}
 use Rattle.search.specs.Times.{WholeLog, first_record, first_time}
 use Rattle.search.proofs.Finding.{first_most, none_before, first_holds, first_unique}
 
-module _ (v s : List ℕ) (L : Log) (whole : WholeLog v s L) where
+module _ (v : View) (s : List ℕ) (L : Log) (whole : WholeLog v s L) where
   pub found_place : (i n r : ℕ) → i < L.size → n ≡ total v - i → Found (skips v) s n r → (r ≡ L.place i) × (r < record_count s)
   found_place i n r h e found =
       let all = whole.all in

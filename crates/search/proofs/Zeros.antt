@@ -15,7 +15,7 @@ use Rattle.rule.specs.Operands.{subformula_words, FormulaAt}
 use Rattle.rule.specs.Accepted.{WellFormed}
 use Rattle.engine.specs.State.{State}
 use Rattle.engine.specs.Layout.{subformula_first}
-use Rattle.engine.proofs.Rows.{zeros}
+use Rattle.engine.proofs.Rows.{repeated}
 use Rattle.engine.proofs.Entries.{part_words, part_ends, fresh_state}
 use Rattle.rule.proofs.Spans.{offset_mono}
 
@@ -24,7 +24,7 @@ module _ (t : List Entry) (n : ℕ) (ok : WellFormed t n) (φ : Formula) (k : �
   W = replicate (offset t n) 0
 
   all_zero : (m i : ℕ) → get_or (drop m W) i 0 ≡ 0
-  all_zero m i = get_or-drop m W i 0 ∙ zeros (offset t n) (m + i)
+  all_zero m i = get_or-drop m W i 0 ∙ repeated (offset t n) (m + i) 0
 
   long : length W ≡ offset t n
   long = length-replicate (offset t n) 0

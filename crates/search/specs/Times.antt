@@ -4,10 +4,11 @@ use Rattle.mtl.specs.Log.{Log}
 use Rattle.trace.specs.Format.{record_count, time_at, has_letter}
 use Rattle.trace.specs.Positions.{place, before}
 use Rattle.window.specs.View.{total, skips}
+use Rattle.window.specs.declared.view.View.{View}
 use Rattle.reasons.specs.Search.{first_where}
 
 -- the view v and the records s are the whole log L
-pub record WholeLog (v s : List ℕ) (L : Log) : Type 0 where
+pub record WholeLog (v : View) (s : List ℕ) (L : Log) : Type 0 where
   -- the view counts the positions, and so do the records
   pub size : total v ≡ L.size
   pub all : before (skips v) s (record_count s) ≡ L.size

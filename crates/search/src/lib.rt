@@ -5,13 +5,14 @@ ghost use Rattle.std.specs.Prelude.{◌≡◌, Bool, ◌&&◌, not as negate, �
 ghost use Rattle.bits.specs.Packed.{bit, Packed};
 ghost use Rattle.window.specs.View.{Views};
 ghost use Rattle.window.specs.Window.{Keeps};
-ghost use Rattle.engine.specs.Table.{RowsOk, column};
+ghost use Rattle.engine.specs.Table.{RowsOk, row_at};
 ghost use Rattle.reasons.specs.Search.{first_where, after_last};
 ghost use Rattle.search.specs.Scan.{is, sought, sought_bit, Scans, Bounded};
 
 pub mod times;
 
-use engine::{Reply, table};
+use engine::table::Row;
+use window::view::View;
 
 // What the answers of an entry at the positions up to an end came to: how many of them there are, where the first that was looked for
 // stands, or their number where none does, and one more than the position of the last no, 0 where there is none.
@@ -20,17 +21,6 @@ pub struct Scan {
     pub done: u64,
     pub first: u64,
     pub after: u64,
-}
-
-// Sets all words to 0.
-fn clear(words: &mut [u64])
-    ensures { (i : ℕ) → get_or words.new i 0 ≡ 0 }
-{
-    let mut i: usize = 0;
-    while i < words.len() {
-        words[i] = 0;
-        i += 1;
-    }
 }
 
 // Whether bit i, the answer at position `at`, is `want`, and the position at or behind `from`.
@@ -50,12 +40,10 @@ fn find_in(bits: u64, n: u64, done: u64, want: bool, from: u64) -> u64
     requires { (n ≤ 64) × (done + n < 2 ^ 64) }
     ensures { (result ≡ done + first_where n (sought_bit bits done want from)) × (result ≤ done + n) }
 {
-    let mut i: u64 = 0;
-    while i < n {
+    for i in 0..n {
         if hits(bits, i, want, done + i, from) {
             return done + i;
         }
-        i += 1;
     }
     done + n
 }
@@ -83,9 +71,9 @@ fn after_no(after: u64, bits: u64, n: u64, done: u64) -> u64
 
 // Asks entry k, on cleared words, for its answers at the positions up to `to`, and looks for the first at or behind `from` that is `want`.
 fn ask_all(
-    table: &[u32; 1024],
+    table: &[Row; 128],
     records: &[u8],
-    view: &[u64; 66],
+    view: &View,
     copy: &mut [u8; 544],
     waiting: &mut [u8; 544],
     k: usize,
@@ -94,25 +82,25 @@ fn ask_all(
     to: u64,
     words: &mut [u64],
 ) -> Scan
-    requires { (k < 128) × RowsOk table.now k × (length words.old ≡ column 7 table.now k) × Keeps records.now copy.old × Keeps records.now waiting.old × Views view.now records.now }
+    requires { (k < 128) × RowsOk table.now k × (length words.old ≡ (row_at table.now k).words) × Keeps records.now copy.old × Keeps records.now waiting.old × Views view.now records.now }
     ensures bounded { Bounded to result × Scans table.now view.now records.now k want from to result }
     ensures keeps { Keeps records.now copy.new × Keeps records.now waiting.new }
 {
-    clear(words);
+    words.fill(0);
     let mut done: u64 = 0;
     let mut first: u64 = 0;
     let mut after: u64 = 0;
     while done < to {
         let reply = engine::answer(table, records, view, copy, waiting, k, 0, words);
-        let Reply::Batch { bits, count } = reply else {
+        let Some(batch) = reply else {
             return Scan { done, first, after };
         };
-        let n = blocks::available(done, count, to);
+        let n = blocks::available(done, batch.count, to);
         if n == 0 {
             return Scan { done, first, after };
         }
-        first = first_of(first, bits, n, done, want, from);
-        after = after_no(after, bits, n, done);
+        first = first_of(first, batch.bits, n, done, want, from);
+        after = after_no(after, batch.bits, n, done);
         done += n;
     }
     Scan { done, first, after }
@@ -120,9 +108,9 @@ fn ask_all(
 
 // The same on as many of the lent words as the entry needs.
 pub fn search(
-    table: &[u32; 1024],
+    table: &[Row; 128],
     records: &[u8],
-    view: &[u64; 66],
+    view: &View,
     copy: &mut [u8; 544],
     waiting: &mut [u8; 544],
     k: usize,
@@ -135,7 +123,7 @@ pub fn search(
     ensures bounded { Bounded to result × Scans table.now view.now records.now k want from to result }
     ensures keeps { Keeps records.now copy.new × Keeps records.now waiting.new }
 {
-    let end = table::field(table, k, table::WORDS) as usize;
+    let end = usize::from(table[k].words);
     ask_all(
         table,
         records,

@@ -4,18 +4,18 @@ ghost use Rattle.mtl.specs.Log.{Log};
 ghost use Rattle.trace.specs.Format.{record_count};
 ghost use Rattle.search.specs.Times.{WholeLog, first_record, first_time};
 
-use window::view;
+use window::view::View;
 
 // The record that holds position i; the end of the records or one of them where there is no such position.
-fn record_of(records: &[u8], view: &[u64; 66], i: u64) -> usize
+fn record_of(records: &[u8], view: &View, i: u64) -> usize
     ensures { (L : Log) → WholeLog view.now records.now L → i < L.size → (result ≡ L.place i) × (result < record_count records.now) }
 {
-    let behind = blocks::time::gap(i, view[view::TOTAL]);
-    window::find(records, view[view::SKIPS] == 1, behind) as usize
+    let behind = blocks::time::gap(i, view.total);
+    window::find(records, view.skips, behind) as usize
 }
 
 // The time of position i; 0 where there is no such position.
-pub fn time_of(records: &[u8], view: &[u64; 66], i: u64) -> u64
+pub fn time_of(records: &[u8], view: &View, i: u64) -> u64
     ensures { (result < 4294967296) × ((L : Log) → WholeLog view.now records.now L → i < L.size → result ≡ L.time i) }
 {
     let r = record_of(records, view, i);
@@ -27,7 +27,7 @@ pub fn time_of(records: &[u8], view: &[u64; 66], i: u64) -> u64
 }
 
 // Whether a letter stands at position i.
-pub fn has_letter(records: &[u8], view: &[u64; 66], i: u64, letter: u64) -> bool
+pub fn has_letter(records: &[u8], view: &View, i: u64, letter: u64) -> bool
     requires { letter < 32 }
     ensures { (L : Log) → WholeLog view.now records.now L → i < L.size → result ≡ L.letters i letter }
 {
@@ -44,20 +44,18 @@ fn first_record(records: &[u8], bound: u64) -> usize
     ensures { (result ≡ first_record records.now bound) × (result ≤ record_count records.now) }
 {
     let end = trace::count(records);
-    let mut r: usize = 0;
-    while r < end {
+    for r in 0..end {
         if bound <= trace::time(records, r) {
             return r;
         }
-        r += 1;
     }
     end
 }
 
 // The first position whose time is not below `bound`; the number of positions where there is none.
-pub fn first_at(records: &[u8], view: &[u64; 66], bound: u64) -> u64
+pub fn first_at(records: &[u8], view: &View, bound: u64) -> u64
     ensures { (result ≤ record_count records.now) × ((L : Log) → WholeLog view.now records.now L → result ≡ first_time L bound) }
 {
     let end = first_record(records, bound) * 8;
-    window::positions(&records[..end], view[view::SKIPS] == 1)
+    window::positions(&records[..end], view.skips)
 }

@@ -6,6 +6,7 @@ use mathlib.Core.Path.{◌≡◌, refl, sym, ◌∙◌, ap}
 use mathlib.Core.List.{List}
 use native.Mathlib.Omega.{arith}
 use Rattle.mtl.specs.Formula.{Formula, unbounded}
+use Rattle.window.specs.declared.view.View.{View}
 use Rattle.mtl.specs.Formula.Formula.{letter, not, or, previous, next, since, until}
 use Rattle.mtl.specs.Log.{Log}
 use Rattle.mtl.specs.Progress.{progress, settled_to}
@@ -17,7 +18,8 @@ use Rattle.rule.specs.Operands.{left, FormulaAt}
 use Rattle.rule.proofs.Subformulas.{span_size}
 use Rattle.blocks.specs.Block.{kind_of}
 use Rattle.blocks.specs.Kinds.{takes_left, Fields}
-use Rattle.engine.specs.Table.{Has, column}
+use Rattle.engine.specs.Table.{Has, row_at, kind_at}
+use Rattle.engine.specs.declared.table.Row.{Row}
 use Rattle.engine.proofs.Rows.{has_at, column_is_part}
 use Rattle.search.specs.Scan.{Starts}
 use Rattle.search.proofs.Zeros.{zero_state}
@@ -29,7 +31,7 @@ unfolding settled_to
 open_settled φ L e = rw e refl
 
 -- the columns of the entry at which a formula ends
-fields_at : (t : List ℕ) (k : ℕ) (φ : Formula) → Has φ t k → Fields φ (column 0 t k) (column 1 t k) (column 2 t k) (column 3 t k)
+fields_at : (t : List Row) (k : ℕ) (φ : Formula) → Has φ t k → Fields φ (kind_at t k) (row_at t k).letter (row_at t k).low (row_at t k).high
 unfolding Has
 fields_at t k (letter c) h = h.fields
 fields_at t k (not φ) h = h.0.fields
@@ -39,12 +41,12 @@ fields_at t k (next low high φ) h = h.0.fields
 fields_at t k (since low high φ ψ) h = h.0.fields
 fields_at t k (until low high φ ψ) h = h.0.fields
 
-module _ (t v s : List ℕ) (L : Log) where
+module _ (t : List Row) (v : View) (s : List ℕ) (L : Log) where
   module _ (φ : Formula) (k i : ℕ) (an : Answering φ t v s k L i) where
     pub has_here : Has φ t k
     has_here = has_at an.entries an.count an.ruled.well_formed t an.ruled.laid φ k an.below an.formula
 
-    pub fields_here : Fields φ (column 0 t k) (column 1 t k) (column 2 t k) (column 3 t k)
+    pub fields_here : Fields φ (kind_at t k) (row_at t k).letter (row_at t k).low (row_at t k).high
     fields_here = fields_at t k φ has_here
 
     pub starts_here : Starts t k φ L
@@ -59,12 +61,12 @@ module _ (t v s : List ℕ) (L : Log) where
     answered_here = let e = open_settled φ L an.shown.unclosed in let a = an.answered in omega arith
 
     kind_here : (entry an.entries k).kind ≡ kind_of φ
-    kind_here = sym (an.ruled.laid.rows k 0 an.below (omega arith)) ∙ fields_here.kind
+    kind_here = sym (an.ruled.laid.rows k an.below).kind ∙ fields_here.kind
 
     -- the entry's left operand stands where the column says
-    left_here : takes_left (kind_of φ) ≡ true → column 4 t k ≡ left an.entries k
+    left_here : takes_left (kind_of φ) ≡ true → (row_at t k).left ≡ left an.entries k
     left_here takes =
-        an.ruled.laid.rows k 4 an.below (omega arith) ∙ ap (λ (b : Bool). cond b (left an.entries k) 0) (ap takes_left kind_here ∙ takes)
+        (an.ruled.laid.rows k an.below).left ∙ ap (λ (b : Bool). cond b (left an.entries k) 0) (ap takes_left kind_here ∙ takes)
 
   -- an operand answers at its entry, where it has answered
   pub one_answers : (φ χ : Formula) (k i p : ℕ) (an : Answering φ t v s k L i) → FormulaAt an.entries (k - 1) χ → p < settled_to χ L → Answering χ t v s (k - 1) L p
@@ -72,7 +74,7 @@ module _ (t v s : List ℕ) (L : Log) where
       record { entries = an.entries; count = an.count; ruled = an.ruled; below = let b = an.below in omega arith; formula = is; shown = an.shown; answered = h }
 
   pub left_answers : (φ χ : Formula) (k i p : ℕ) (an : Answering φ t v s k L i) → takes_left (kind_of φ) ≡ true → FormulaAt an.entries (left an.entries k) χ → p < settled_to χ L →
-      Answering χ t v s (column 4 t k) L p
+      Answering χ t v s (row_at t k).left L p
   left_answers φ χ k i p an takes is h =
       let e = left_here φ k i an takes in
       record {
@@ -86,7 +88,7 @@ module _ (t v s : List ℕ) (L : Log) where
       }
 
   -- the left operand's entry is the one that the reason names
-  pub left_number : (φ χ : Formula) (k i : ℕ) (an : Answering φ t v s k L i) → takes_left (kind_of φ) ≡ true → FormulaAt an.entries (k - 1) χ → column 4 t k ≡ k - 1 - size χ
+  pub left_number : (φ χ : Formula) (k i : ℕ) (an : Answering φ t v s k L i) → takes_left (kind_of φ) ≡ true → FormulaAt an.entries (k - 1) χ → (row_at t k).left ≡ k - 1 - size χ
   left_number φ χ k i an takes is = left_here φ k i an takes ∙ ap (λ (m : ℕ). k - 1 - m) (span_size an.entries χ (k - 1) is)
 
   -- an until has an upper end
@@ -95,13 +97,13 @@ module _ (t v s : List ℕ) (L : Log) where
       let χ : Formula = until low high φ ψ in
       let r = an.ruled.well_formed.in_range k an.below in
       let kind = kind_here χ k i an in
-      let is = sym (an.ruled.laid.rows k 3 an.below (omega arith)) ∙ (fields_here χ k i an).high in
+      let is = sym (an.ruled.laid.rows k an.below).high ∙ (fields_here χ k i an).high in
       ⊎_elim (λ few. omega arith) (λ endless. let most = endless.2 in omega arith) r.high
 
   -- the operands of an entry with two, at their entries: the table has them, and zeros stand for them
   pub operands_of : (χ φ ψ : Formula) (k i : ℕ) (an : Answering χ t v s k L i) → takes_left (kind_of χ) ≡ true →
       FormulaAt an.entries (left an.entries k) φ × FormulaAt an.entries (k - 1) ψ →
-      (Has φ t (column 4 t k) × Starts t (column 4 t k) φ L) × (Has ψ t (k - 1) × Starts t (k - 1) ψ L)
+      (Has φ t (row_at t k).left × Starts t (row_at t k).left φ L) × (Has ψ t (k - 1) × Starts t (k - 1) ψ L)
   operands_of χ φ ψ k i an takes (is-left, is_right) =
       let e = left_here χ k i an takes in
       let ok = an.ruled.well_formed in

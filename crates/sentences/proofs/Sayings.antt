@@ -7,18 +7,20 @@ use mathlib.Core.List.{List}
 use native.Mathlib.Omega.{arith}
 use borrow.Author.Tests.{ne_eqb}
 use Rattle.mtl.specs.Formula.{Formula}
+use Rattle.window.specs.declared.view.View.{View}
 use Rattle.mtl.specs.Formula.Formula.{letter, not, or, previous, next, since, until}
 use Rattle.mtl.specs.Log.{Log}
 use Rattle.mtl.proofs.Until.{progress_le_size, progress_next}
 use Rattle.blocks.specs.Kinds.{takes_right}
-use Rattle.engine.specs.Table.{column}
+use Rattle.engine.specs.Table.{row_at, kind_at}
+use Rattle.engine.specs.declared.table.Row.{Row}
 use Rattle.search.specs.Times.{WholeLog}
 use Rattle.sentences.specs.declared.saying.Saying.{Saying}
 use Rattle.sentences.specs.Said.{saying_of, joining, Answering, Shape, Saids}
 use Rattle.sentences.proofs.Operands.{fields_here, inside_here, answered_here}
 
-module _ (t v s : List ℕ) (k i : ℕ) (r : Saying) where
-  pub said_letter : (c : ℕ) → c ≡ column 1 t k → column 0 t k ≡ 0 → Shape 0 i r → ((L : Log) → WholeLog v s L → i < L.size → r ≡ saying_of (letter c) L i) → Saids t v s k i r
+module _ (t : List Row) (v : View) (s : List ℕ) (k i : ℕ) (r : Saying) where
+  pub said_letter : (c : ℕ) → c ≡ (row_at t k).letter → kind_at t k ≡ 0 → Shape 0 i r → ((L : Log) → WholeLog v s L → i < L.size → r ≡ saying_of (letter c) L i) → Saids t v s k i r
   said_letter c at kind shape means = record { shape = rw kind shape; meaning = by }
     where
       by : (φ : Formula) (L : Log) → Answering φ t v s k L i → r ≡ saying_of φ L i
@@ -33,7 +35,7 @@ module _ (t v s : List ℕ) (k i : ℕ) (r : Saying) where
       by (since low high φ ψ) L an = absurd (omega (arith, (fields_here t v s L (since low high φ ψ) k i an).kind))
       by (until low high φ ψ) L an = absurd (omega (arith, (fields_here t v s L (until low high φ ψ) k i an).kind))
 
-  pub said_connective : (kind : ℕ) → column 0 t k ≡ kind → (kind ≡ 0 → ⊥) → kind < 3 → r ≡ joining kind i → Saids t v s k i r
+  pub said_connective : (kind : ℕ) → kind_at t k ≡ kind → (kind ≡ 0 → ⊥) → kind < 3 → r ≡ joining kind i → Saids t v s k i r
   said_connective kind is some few e =
       rw e (record {
         shape = record {
@@ -57,7 +59,7 @@ module _ (t v s : List ℕ) (k i : ℕ) (r : Saying) where
       by (since low high φ ψ) L an = absurd (omega (arith, (fields_here t v s L (since low high φ ψ) k i an).kind))
       by (until low high φ ψ) L an = absurd (omega (arith, (fields_here t v s L (until low high φ ψ) k i an).kind))
 
-  pub said_previous : (l h : ℕ) → l ≡ column 2 t k → h ≡ column 3 t k → column 0 t k ≡ 3 → Shape 3 i r →
+  pub said_previous : (l h : ℕ) → l ≡ (row_at t k).low → h ≡ (row_at t k).high → kind_at t k ≡ 3 → Shape 3 i r →
       ((φ : Formula) (L : Log) → WholeLog v s L → i < L.size → r ≡ saying_of (previous l h φ) L i) → Saids t v s k i r
   said_previous l h low_is high_is kind shape means = record { shape = rw kind shape; meaning = by }
     where
@@ -73,7 +75,7 @@ module _ (t v s : List ℕ) (k i : ℕ) (r : Saying) where
       by (since low high φ ψ) L an = absurd (omega (arith, (fields_here t v s L (since low high φ ψ) k i an).kind))
       by (until low high φ ψ) L an = absurd (omega (arith, (fields_here t v s L (until low high φ ψ) k i an).kind))
 
-  pub said_next : (l h : ℕ) → l ≡ column 2 t k → h ≡ column 3 t k → column 0 t k ≡ 4 → Shape 4 i r →
+  pub said_next : (l h : ℕ) → l ≡ (row_at t k).low → h ≡ (row_at t k).high → kind_at t k ≡ 4 → Shape 4 i r →
       ((φ : Formula) (L : Log) → WholeLog v s L → i + 1 < L.size → r ≡ saying_of (next l h φ) L i) → Saids t v s k i r
   said_next l h low_is high_is kind shape means = record { shape = rw kind shape; meaning = by }
     where
@@ -92,7 +94,7 @@ module _ (t v s : List ℕ) (k i : ℕ) (r : Saying) where
       by (until low high φ ψ) L an = absurd (omega (arith, (fields_here t v s L (until low high φ ψ) k i an).kind))
 
   -- since and until
-  pub said_search : (kind : ℕ) → column 0 t k ≡ kind → 5 ≤ kind → Shape kind i r →
+  pub said_search : (kind : ℕ) → kind_at t k ≡ kind → 5 ≤ kind → Shape kind i r →
       (kind ≡ 5 → (low high : ℕ) (φ ψ : Formula) (L : Log) → Answering (since low high φ ψ) t v s k L i → r ≡ saying_of (since low high φ ψ) L i) →
       (kind ≡ 6 → (low high : ℕ) (φ ψ : Formula) (L : Log) → Answering (until low high φ ψ) t v s k L i → r ≡ saying_of (until low high φ ψ) L i) →
       Saids t v s k i r

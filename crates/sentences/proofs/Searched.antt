@@ -8,6 +8,7 @@ use mathlib.Core.List.{List}
 use native.Mathlib.Omega.{arith}
 use lib.Dec.{ltb}
 use Rattle.mtl.specs.Formula.{Formula, unbounded}
+use Rattle.window.specs.declared.view.View.{View}
 use Rattle.mtl.specs.Formula.Formula.{since, until}
 use Rattle.mtl.specs.Log.{Log}
 use Rattle.mtl.specs.Satisfaction.{sat}
@@ -21,8 +22,9 @@ use Rattle.sentences.specs.Said.{saying_of, found_saying, Answering}
 use Rattle.sentences.proofs.Operands.{open_settled, inside_here, answered_here, until_finite}
 use Rattle.sentences.proofs.SinceFound.{since_said}
 use Rattle.sentences.proofs.UntilFound.{yes_said, no_said}
+use Rattle.engine.specs.declared.table.Row.{Row}
 
-module _ (low high : ℕ) (φ ψ : Formula) (t v s : List ℕ) (k i : ℕ) (L : Log) where
+module _ (low high : ℕ) (φ ψ : Formula) (t : List Row) (v : View) (s : List ℕ) (k i : ℕ) (L : Log) where
   pub since_told : Answering (since low high φ ψ) t v s k L i → L.time i ≤ unbounded →
       (near late from to : ℕ) (l r : Scan) →
       near ≡ first_time L (L.time i - high) → late ≡ first_time L (L.time i + 1 - low) →

@@ -11,10 +11,12 @@ use Rattle.rule.specs.Accepted.{WellFormed}
 use Rattle.trace.specs.Format.{record_count}
 use Rattle.window.specs.View.{Views}
 use Rattle.window.specs.Window.{Keeps}
+use Rattle.window.specs.declared.view.View.{View}
 use Rattle.blocks.specs.Kinds.{takes_right}
 use Rattle.blocks.specs.Step.{Agrees}
-use Rattle.engine.specs.Table.{RowsOk, column}
+use Rattle.engine.specs.Table.{RowsOk, kind_at}
 use Rattle.engine.specs.Layout.{Laid}
+use Rattle.engine.specs.declared.table.Row.{Row}
 use Rattle.reasons.specs.Reason.{Says, since_says, until_says}
 use Rattle.reasons.specs.Reason.Says.{stands, not, or, prev, next, prev_none}
 use Rattle.search.specs.Times.{WholeLog}
@@ -59,15 +61,10 @@ saying_of (Formula.until low high φ ψ) L i = alone (until_says low high φ ψ 
 
 -- THE FUNCTIONS' PREMISES
 
--- the lows of the rows, like the highs, are numbers of 32 bits
-abbrev pub Lows : List ℕ → ℕ → Type 0
-Lows t k = (j : ℕ) → j ≤ k → column 2 t j < 2 ^ 32
-
 -- what is lent to the functions that tell of entry k
-pub record Lent (t v s words copy waiting : List ℕ) (k : ℕ) : Type 0 where
+pub record Lent (t : List Row) (v : View) (s words copy waiting : List ℕ) (k : ℕ) : Type 0 where
   pub entry : k < 128
   pub rows : RowsOk t k
-  pub lows : Lows t k
   pub words_room : 8192 ≤ length words
   pub copy_keeps : Keeps s copy
   pub waiting_keeps : Keeps s waiting
@@ -75,19 +72,19 @@ pub record Lent (t v s words copy waiting : List ℕ) (k : ℕ) : Type 0 where
   pub few : record_count s ≤ 1000000
 
 -- the table is that of an accepted rule's entries
-pub record Ruled (e : List Entry) (n : ℕ) (t : List ℕ) : Type 0 where
+pub record Ruled (e : List Entry) (n : ℕ) (t : List Row) : Type 0 where
   pub well_formed : WellFormed e n
   pub laid : Laid e n t
 
 -- the view and the records are the log, open
-pub record OpenLog (v s : List ℕ) (L : Log) : Type 0 where
+pub record OpenLog (v : View) (s : List ℕ) (L : Log) : Type 0 where
   pub whole : WholeLog v s L
   pub falls : NeverFalls L
   pub agrees : Agrees v s L 0
   pub unclosed : L.closed ≡ false
 
 -- entry k of the table is the formula's last, and the formula has answered position i of the log
-pub record Answering (φ : Formula) (t v s : List ℕ) (k : ℕ) (L : Log) (i : ℕ) : Type 0 where
+pub record Answering (φ : Formula) (t : List Row) (v : View) (s : List ℕ) (k : ℕ) (L : Log) (i : ℕ) : Type 0 where
   pub entries : List Entry
   pub count : ℕ
   pub ruled : Ruled entries count t
@@ -104,6 +101,6 @@ pub record Shape (kind i : ℕ) (r : Saying) : Type 0 where
   pub two : (r.operands ≡ 0 → ⊥) → (r.operands ≡ 1 → ⊥) → kind ≡ 2
 
 -- what entry k says, whatever formula ends there
-pub record Saids (t v s : List ℕ) (k i : ℕ) (r : Saying) : Type 0 where
-  pub shape : Shape (column 0 t k) i r
+pub record Saids (t : List Row) (v : View) (s : List ℕ) (k i : ℕ) (r : Saying) : Type 0 where
+  pub shape : Shape (kind_at t k) i r
   pub meaning : (φ : Formula) (L : Log) → Answering φ t v s k L i → r ≡ saying_of φ L i

@@ -3,14 +3,16 @@ ghost use Rattle.std.specs.Prelude.{◌≡◌, cond, ℕ, ◌+◌, ◌-◌, ◌�
 ghost use Rattle.mtl.specs.Formula.{Formula};
 ghost use Rattle.mtl.specs.Log.{Log};
 ghost use Rattle.window.specs.Window.{Keeps};
-ghost use Rattle.engine.specs.Table.{column};
+ghost use Rattle.engine.specs.Table.{kind_at};
 ghost use Rattle.search.specs.Times.{WholeLog};
 ghost use Rattle.sentences.specs.Said.{saying_of, joining, gap_saying, found_saying, Lent, Answering, Shape, Saids};
 
 use super::sentence;
 use super::sentence::Sentence;
-use engine::table::field;
+use engine::table::Row;
+use rule::Kind;
 use search::times;
+use window::view::View;
 
 // A sentence, the number of operands whose sentences follow it, their position, and whether the entry holds there; of one operand: whether
 // the operand's answer is turned.
@@ -30,7 +32,7 @@ fn choose(first: bool, a: u64, b: u64) -> u64
 }
 
 // A letter: yes or no.
-fn say_letter(records: &[u8], view: &[u64; 66], letter: u64, i: u64) -> Saying
+fn say_letter(records: &[u8], view: &View, letter: u64, i: u64) -> Saying
     requires { letter < 32 }
     ensures { Shape 0 i result × ((L : Log) → WholeLog view.now records.now L → i < L.size → result ≡ saying_of (Formula.letter letter) L i) }
 {
@@ -80,7 +82,7 @@ fn say_gap(kind: u64, low: u64, high: u64, earlier: u64, later: u64, beside: u64
     }
 }
 
-fn say_previous(records: &[u8], view: &[u64; 66], low: u64, high: u64, i: u64) -> Saying
+fn say_previous(records: &[u8], view: &View, low: u64, high: u64, i: u64) -> Saying
     ensures { Shape 3 i result × ((φ : Formula) (L : Log) → WholeLog view.now records.now L → i < L.size → result ≡ saying_of (Formula.previous low high φ) L i) }
 {
     if i == 0 {
@@ -101,7 +103,7 @@ fn say_previous(records: &[u8], view: &[u64; 66], low: u64, high: u64, i: u64) -
     say_gap(3, low, high, earlier, later, before)
 }
 
-fn say_next(records: &[u8], view: &[u64; 66], low: u64, high: u64, i: u64) -> Saying
+fn say_next(records: &[u8], view: &View, low: u64, high: u64, i: u64) -> Saying
     requires { i ≤ 2000000 }
     ensures { Shape 4 i result × ((φ : Formula) (L : Log) → WholeLog view.now records.now L → i + 1 < L.size → result ≡ saying_of (Formula.next low high φ) L i) }
 {
@@ -131,27 +133,26 @@ fn say_search(kind: u64, holds: bool, j: u64, p: u64, by_left: bool) -> Saying
 // "the latest where left fails, or the first at most high before if none does from there on"; the earliest fitting j lies not before it,
 // and at least low before i.
 fn say_since(
-    table: &[u32; 1024],
+    table: &[Row; 128],
     records: &[u8],
-    view: &[u64; 66],
+    view: &View,
     copy: &mut [u8; 544],
     waiting: &mut [u8; 544],
     words: &mut [u64],
     k: usize,
     i: u64,
 ) -> Saying
-    requires { Lent table.now view.now records.now words.old copy.old waiting.old k × (i ≤ 2000000) × (column 0 table.now k ≡ 5) }
+    requires { Lent table.now view.now records.now words.old copy.old waiting.old k × (i ≤ 2000000) × ((kind_at table.now k) ≡ 5) }
     ensures shape { Shape 5 i result × ((low high : ℕ) (φ ψ : Formula) (L : Log) → Answering (Formula.since low high φ ψ) table.now view.now records.now k L i → result ≡ saying_of (Formula.since low high φ ψ) L i) }
     ensures keeps { Keeps records.now copy.new × Keeps records.now waiting.new }
 {
+    let row = table[k];
+    let low = u64::from(row.low);
+    let high = u64::from(row.high);
+    let operand = usize::from(row.left);
     let now = times::time_of(records, view, i);
-    let near = times::first_at(records, view, blocks::time::gap(field(table, k, 3), now));
-    let late = times::first_at(
-        records,
-        view,
-        blocks::time::gap(field(table, k, 2), now + 1),
-    );
-    let operand = field(table, k, 4) as usize;
+    let near = times::first_at(records, view, blocks::time::gap(high, now));
+    let late = times::first_at(records, view, blocks::time::gap(low, now + 1));
     let left = search::search(
         table,
         records,
@@ -181,26 +182,36 @@ fn say_since(
     say_search(5, right.first < right.done, right.first, from, by_left)
 }
 
+// The interval's lower end. It has 32 bits, so that behind a time it fits.
+fn low_of(row: Row) -> u64
+    ensures { (result ≡ row.low) × (result < 4294967296) }
+{
+    u64::from(row.low)
+}
+
 // "the first position where left is answered no or which lies more than high later, left's if both"; the earliest fitting j lies not behind
 // it, at least low after i and at most high after i.
 fn say_until(
-    table: &[u32; 1024],
+    table: &[Row; 128],
     records: &[u8],
-    view: &[u64; 66],
+    view: &View,
     copy: &mut [u8; 544],
     waiting: &mut [u8; 544],
     words: &mut [u64],
     k: usize,
     i: u64,
 ) -> Saying
-    requires { Lent table.now view.now records.now words.old copy.old waiting.old k × (i ≤ 2000000) × (column 0 table.now k ≡ 6) }
+    requires { Lent table.now view.now records.now words.old copy.old waiting.old k × (i ≤ 2000000) × ((kind_at table.now k) ≡ 6) }
     ensures shape { Shape 6 i result × ((low high : ℕ) (φ ψ : Formula) (L : Log) → Answering (Formula.until low high φ ψ) table.now view.now records.now k L i → result ≡ saying_of (Formula.until low high φ ψ) L i) }
     ensures keeps { Keeps records.now copy.new × Keeps records.now waiting.new }
 {
+    let row = table[k];
+    let low = low_of(row);
+    let high = u64::from(row.high);
+    let operand = usize::from(row.left);
     let now = times::time_of(records, view, i);
-    let over = times::first_at(records, view, now + field(table, k, 3) + 1);
-    let soon = times::first_at(records, view, now + field(table, k, 2));
-    let operand = field(table, k, 4) as usize;
+    let over = times::first_at(records, view, now + high + 1);
+    let soon = times::first_at(records, view, now + low);
     let left = search::search(
         table,
         records,
@@ -233,9 +244,9 @@ fn say_until(
 
 // What entry k says at position i.
 pub fn say(
-    table: &[u32; 1024],
+    table: &[Row; 128],
     records: &[u8],
-    view: &[u64; 66],
+    view: &View,
     copy: &mut [u8; 544],
     waiting: &mut [u8; 544],
     words: &mut [u64],
@@ -246,21 +257,17 @@ pub fn say(
     ensures saids { Saids table.now view.now records.now k i result }
     ensures keeps { Keeps records.now copy.new × Keeps records.now waiting.new }
 {
-    let kind = field(table, k, 0);
-    if kind == 0 {
-        return say_letter(records, view, field(table, k, 1), i);
+    let row = table[k];
+    let letter = u64::from(row.letter);
+    let low = u64::from(row.low);
+    let high = u64::from(row.high);
+    match row.kind {
+        Kind::Letter => say_letter(records, view, letter, i),
+        Kind::Not => say_connective(1, i),
+        Kind::Or => say_connective(2, i),
+        Kind::Previous => say_previous(records, view, low, high, i),
+        Kind::Next => say_next(records, view, low, high, i),
+        Kind::Since => say_since(table, records, view, copy, waiting, words, k, i),
+        Kind::Until => say_until(table, records, view, copy, waiting, words, k, i),
     }
-    if kind < 3 {
-        return say_connective(kind, i);
-    }
-    if kind == 3 {
-        return say_previous(records, view, field(table, k, 2), field(table, k, 3), i);
-    }
-    if kind == 4 {
-        return say_next(records, view, field(table, k, 2), field(table, k, 3), i);
-    }
-    if kind == 5 {
-        return say_since(table, records, view, copy, waiting, words, k, i);
-    }
-    say_until(table, records, view, copy, waiting, words, k, i)
 }

@@ -4,9 +4,13 @@ use mathlib.Core.Bool.{Bool, true, false, cond, ◌||◌, true≢false}
 use mathlib.Core.List.{List}
 use mathlib.Core.Path.{◌≡◌, ap, ◌∙◌}
 use native.Mathlib.Omega.{arith}
+use native.Mathlib.Nat.{pos_of_ne-zero}
 use lib.Dec.{ltb, eqb}
 use lib.ListN.{length}
 use borrow.Author.Tests.{ltb-false, eqb-false}
+use Rattle.std.specs.Prelude.{Ok, Err}
+use Rattle.refusal.specs.declared.Refusal.{Refusal}
+use Rattle.refusal.specs.Number.{number_of}
 use Rattle.bits.specs.Packed.{number}
 use Rattle.trace.specs.Making.{log_header, records_bytes, put, log_length}
 use Rattle.trace.proofs.Laws.{neither}
@@ -14,7 +18,6 @@ use Rattle.trace.proofs.Making.{put_log}
 use Rattle.simulation.specs.Kiosk.{is_printing, kiosk_after}
 use Rattle.simulation.specs.Simulate.{outside, wrong_settings, out_of_range, time_of, events_in, simulation_answer, answer, Answer, simulated, Simulates}
 use Rattle.simulation.specs.declared.Settings.{Settings}
-use Rattle.simulation.specs.declared.Simulated.TheVariants.{Refused, Done}
 use Rattle.simulation.specs.declared.kiosk.Kiosk.{Kiosk}
 
 -- what every run relies on
@@ -37,28 +40,25 @@ in_range s seconds seed room e =
     record {
       gap = omega (arith, ltb-false s.gap 1 gap.0);
       few = ltb-false 3600 seconds seconds_and.0;
-      seeded = positive seed not_zero;
+      seeded = pos_of_ne-zero not_zero;
       fits = ltb-false room (log_length seconds) seed_and.1;
     }
-  where
-    positive : (n : ℕ) → (n ≡ 0 → ⊥) → 0 < n
-    positive n h = omega (arith, h)
 
 -- the one number with which a call can be refused
-pub refused_with : (s : Settings) (seconds seed room n : ℕ) → answer (Refused n) ≡ simulated s seconds seed room → n ≡ 26
-refused_with s seconds seed room n e = by (out_of_range s seconds seed room) e
+pub refused_with : (s : Settings) (seconds seed room : ℕ) (refusal : Refusal) → answer (Err refusal) ≡ simulated s seconds seed room → number_of refusal ≡ 26
+refused_with s seconds seed room refusal e = by (out_of_range s seconds seed room) e
   where
-    by : (b : Bool) → answer (Refused n) ≡ cond b (record { refused = true; number = 26; written = 0; finished = 0; printing = 0; waiting = 0 }) (simulation_answer s seconds seed) → n ≡ 26
+    by : (b : Bool) → answer (Err refusal) ≡ cond b (record { refused = true; number = 26; written = 0; finished = 0; printing = 0; waiting = 0 }) (simulation_answer s seconds seed) → number_of refusal ≡ 26
     by true e = ap (λ (a : Answer). a.number) e
     by false e = absurd (true≢false (ap (λ (a : Answer). a.refused) e))
 
 module _ (s : Settings) (seconds seed : ℕ) (log : List ℕ) where
-  pub refuses : out_of_range s seconds seed (length log) ≡ true → Simulates s seconds seed log (Refused 26) log
+  pub refuses : out_of_range s seconds seed (length log) ≡ true → Simulates s seconds seed log (Err Refusal.Settings) log
   refuses e = record { outcome = rw e; bytes = rw e }
 
   pub accepts : (k : Kiosk) (log' : List ℕ) (printing : ℕ) → out_of_range s seconds seed (length log) ≡ false → k ≡ kiosk_after s seed seconds →
       printing ≡ number (is_printing k.head) → log' ≡ put (put log 0 (log_header 1)) 8 (records_bytes time_of (events_in s seed) seconds) →
-      Simulates s seconds seed log (Done (8 + seconds * 8) k.finished printing k.waiting) log'
+      Simulates s seconds seed log (Ok (record { written = 8 + seconds * 8; finished = k.finished; printing = printing; waiting = k.waiting })) log'
   accepts k log' printing e is prints bytes =
       let fine = in_range s seconds seed (length log) e in
       record {

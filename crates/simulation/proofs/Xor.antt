@@ -1,6 +1,6 @@
 -- `xor` is the exclusive or of the machine, and no step of the generator leads to 0. Assumes nothing.
 use Prim.Native.Nat.{ℕ, zero, suc, ◌+◌, ◌*◌, ◌/◌, ◌%◌, ◌^◌, ◌<◌}
-use native.Mathlib.Nat.{pow-suc}
+use native.Mathlib.Nat.{pos_of_ne-zero, pow-suc}
 use native.Mathlib.Omega.{arith}
 use mathlib.Core.Path.{◌≡◌, refl, sym, ap₂, ◌∙◌}
 use lib.Bits.{differ, bit_xor, xor_step}
@@ -47,10 +47,7 @@ multiple x a b e small = omega arith
 
 module _ (x : ℕ) (small : x < 2 ^ 32) (some : 0 < x) where
   not_zero : (y : ℕ) → y < 2 ^ 32 → (x ≡ y → ⊥) → 0 < xor 32 x y
-  not_zero y h differ = positive (xor 32 x y) (λ e. differ (xor_zero 32 x y small h e))
-    where
-      positive : (n : ℕ) → (n ≡ 0 → ⊥) → 0 < n
-      positive n h = omega (arith, h)
+  not_zero y h differ = pos_of_ne-zero (λ e. differ (xor_zero 32 x y small h e))
 
   -- 8191 and 31 are odd: they have inverses
   left_13 : 0 < shift_left x 13

@@ -1,11 +1,12 @@
 -- What `simulate` promises: the log that it writes, the numbers that it gives, and refusal 26.
-use Rattle.std.specs.Prelude.{ℕ, suc, Bool, true, false, cond, ◌||◌, List, ◌++◌, ◌≡◌, ltb, eqb, length, drop}
+use Rattle.std.specs.Prelude.{ℕ, suc, Bool, true, false, cond, ◌||◌, List, ◌++◌, ◌≡◌, ltb, eqb, length, drop, Result, Ok, Err}
+use Rattle.refusal.specs.declared.Refusal.{Refusal}
+use Rattle.refusal.specs.Number.{number_of}
 use Rattle.bits.specs.Packed.{number}
 use Rattle.trace.specs.Making.{log_length, log_bytes}
 use Rattle.simulation.specs.Kiosk.{is_printing, events_of, kiosk_after}
 use Rattle.simulation.specs.declared.Settings.{Settings}
 use Rattle.simulation.specs.declared.Simulated.{Simulated}
-use Rattle.simulation.specs.declared.Simulated.TheVariants.{Refused, Done}
 
 -- x lies outside low to high
 abbrev pub outside : (low high x : ℕ) → Bool
@@ -44,9 +45,16 @@ pub record Answer : Type 0 where
   pub printing : ℕ
   pub waiting : ℕ
 
-abbrev pub answer : Simulated → Answer
-answer (Refused n) = record { refused = true; number = n; written = 0; finished = 0; printing = 0; waiting = 0 }
-answer (Done w f p q) = record { refused = false; number = 0; written = w; finished = f; printing = p; waiting = q }
+abbrev pub answer : Result Simulated Refusal → Answer
+answer (Err refusal) = record { refused = true; number = number_of refusal; written = 0; finished = 0; printing = 0; waiting = 0 }
+answer (Ok given) = record {
+  refused = false;
+  number = 0;
+  written = given.written;
+  finished = given.finished;
+  printing = given.printing;
+  waiting = given.waiting;
+}
 
 -- "The call gives the numbers finished, printing and waiting", "its length too"
 abbrev pub simulation_answer : Settings → (seconds seed : ℕ) → Answer
@@ -74,6 +82,6 @@ log_after s seconds seed log =
     cond (out_of_range s seconds seed (length log)) log (simulated_log s seed seconds ++ drop (log_length seconds) log)
 
 -- what the call promises
-pub record Simulates (s : Settings) (seconds seed : ℕ) (log : List ℕ) (r : Simulated) (log' : List ℕ) : Type 0 where
+pub record Simulates (s : Settings) (seconds seed : ℕ) (log : List ℕ) (r : Result Simulated Refusal) (log' : List ℕ) : Type 0 where
   pub outcome : answer r ≡ simulated s seconds seed (length log)
   pub bytes : log' ≡ log_after s seconds seed log

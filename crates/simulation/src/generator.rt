@@ -7,6 +7,7 @@ pub struct Generator {
     pub state: u32,
 }
 
+#[tactic(auto, using(crate::proofs::Xor::xor_is))]
 fn left(x: u32, by: u32) -> u32
     requires { by < 32 }
     ensures { result ≡ shift_left x by }
@@ -14,6 +15,7 @@ fn left(x: u32, by: u32) -> u32
     x ^ (x << by)
 }
 
+#[tactic(auto, using(crate::proofs::Xor::xor_is))]
 fn right(x: u32, by: u32) -> u32
     requires { by < 32 }
     ensures { result ≡ shift_right x by }
@@ -28,19 +30,12 @@ fn step(x: u32) -> u32
     left(right(left(x, 13), 17), 5)
 }
 
-// A draw moves the generator on by one step, and is its new state.
-pub fn draw(g: &mut Generator) -> u32
-    ensures { (result ≡ xorshift g.old.state) × (g.new.state ≡ result) }
-{
-    let next = step(g.state);
-    g.state = next;
-    next
-}
-
-// The draw that a generator in this state makes. Who calls this needs no reference to a generator.
-pub fn drawn(state: u32) -> u32
-    ensures { result ≡ xorshift state }
-{
-    let mut g = Generator { state: state };
-    draw(&mut g)
+impl Generator {
+    // A draw moves the generator on by one step, and is its new state.
+    pub fn draw(&mut self) -> u32
+        ensures { (result ≡ xorshift self.old.state) × (self.new.state ≡ result) }
+    {
+        self.state = step(self.state);
+        self.state
+    }
 }

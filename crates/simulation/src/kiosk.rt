@@ -1,6 +1,6 @@
 // A second of the kiosk: the six steps of document 02's paper 12, in its order.
-ghost use Rattle.std.specs.Prelude.{cond, ◌≡◌, ◌+◌, ◌≤◌, ◌<◌, leb};
-ghost use Rattle.simulation.specs.Kiosk.{is_off, is_warming, is_free, is_printing, since_of, with_head, started, end_print, join, end_warming, switch_off, begin_print, begin_warming, second_of, letter, events_of};
+ghost use Rattle.std.specs.Prelude.{◌≡◌, ◌+◌, ◌<◌, leb};
+ghost use Rattle.simulation.specs.Kiosk.{is_warm, is_printing, started, end_print, join, end_warming, switch_off, begin_print, begin_warming, second_of, events_of};
 
 use super::Settings;
 
@@ -11,6 +11,20 @@ pub enum Head {
     Warming(u32),
     Idle(u32),
     Printing(u32),
+}
+
+impl Head {
+    fn is_warm(self) -> bool
+        ensures { result ≡ is_warm self }
+    {
+        matches!(self, Head::Idle(_) | Head::Printing(_))
+    }
+
+    pub fn is_printing(self) -> bool
+        ensures { result ≡ is_printing self }
+    {
+        matches!(self, Head::Printing(_))
+    }
 }
 
 #[derive(Clone, Copy)]
@@ -24,210 +38,145 @@ pub struct Kiosk {
     pub ended: bool,
 }
 
-// The second in which the head began what it does; 0 where it is off.
-fn since(head: Head) -> u32
-    ensures { result ≡ since_of head }
-{
-    match head {
-        Head::Off => 0,
-        Head::Warming(t) => t,
-        Head::Idle(t) => t,
-        Head::Printing(t) => t,
-    }
-}
-
 // Whether `time` seconds have passed.
 fn is_over(since: u32, time: u32, now: u32) -> bool
     ensures { result ≡ leb (since + time) now }
 {
-    since as u64 + time as u64 <= now as u64
+    u64::from(since) + u64::from(time) <= u64::from(now)
 }
 
-fn is_off(head: Head) -> bool
-    ensures { result ≡ is_off head }
-{
-    match head {
-        Head::Off => true,
-        Head::Warming(_) => false,
-        Head::Idle(_) => false,
-        Head::Printing(_) => false,
+impl Kiosk {
+    // The head off and nobody there.
+    pub fn start() -> Kiosk
+        ensures { result ≡ started }
+    {
+        Kiosk {
+            head: Head::Off,
+            finished: 0,
+            waiting: 0,
+            began: false,
+            joined: false,
+            ended: false,
+        }
     }
-}
 
-fn is_warming(head: Head) -> bool
-    ensures { result ≡ is_warming head }
-{
-    match head {
-        Head::Off => false,
-        Head::Warming(_) => true,
-        Head::Idle(_) => false,
-        Head::Printing(_) => false,
+    // A due print ends.
+    #[tactic(auto, unfolding(crate::specs::Kiosk::end_print))]
+    fn end_print(self, time: u32, now: u32) -> Kiosk
+        requires { self.finished < 3600 }
+        ensures { result ≡ end_print time now self }
+    {
+        match self.head {
+            Head::Printing(since) if is_over(since, time, now) => Kiosk {
+                head: Head::Idle(now),
+                finished: self.finished + 1,
+                ended: true,
+                ..self
+            },
+            _ => Kiosk {
+                ended: false,
+                ..self
+            },
+        }
     }
-}
 
-fn is_free(head: Head) -> bool
-    ensures { result ≡ is_free head }
-{
-    match head {
-        Head::Off => false,
-        Head::Warming(_) => false,
-        Head::Idle(_) => true,
-        Head::Printing(_) => false,
+    // A customer joins if the draw says so.
+    #[tactic(auto, unfolding(crate::specs::Kiosk::join))]
+    fn join(self, gap: u32, draw: u32) -> Kiosk
+        requires { (self.waiting < 3600) × (0 < gap) }
+        ensures { result ≡ join gap draw self }
+    {
+        let joined = draw % gap == 0;
+        Kiosk {
+            waiting: self.waiting + u64::from(joined),
+            joined,
+            ..self
+        }
     }
-}
 
-pub fn is_printing(head: Head) -> bool
-    ensures { result ≡ is_printing head }
-{
-    match head {
-        Head::Off => false,
-        Head::Warming(_) => false,
-        Head::Idle(_) => false,
-        Head::Printing(_) => true,
+    // Due warming ends.
+    #[tactic(auto, unfolding(crate::specs::Kiosk::end_warming))]
+    fn end_warming(self, time: u32, now: u32) -> Kiosk
+        ensures { result ≡ end_warming time now self }
+    {
+        match self.head {
+            Head::Warming(since) if is_over(since, time, now) => Kiosk {
+                head: Head::Idle(now),
+                ..self
+            },
+            _ => self,
+        }
     }
-}
 
-fn either(test: bool, new: Head, old: Head) -> Head
-    ensures { result ≡ cond test new old }
-{
-    if test { new } else { old }
-}
-
-fn with_head(k: Kiosk, head: Head) -> Kiosk
-    ensures { result ≡ with_head k head }
-{
-    Kiosk {
-        head,
-        finished: k.finished,
-        waiting: k.waiting,
-        began: k.began,
-        joined: k.joined,
-        ended: k.ended,
+    // A warm head that has been idle for long goes off.
+    #[tactic(auto, unfolding(crate::specs::Kiosk::switch_off))]
+    fn switch_off(self, time: u32, now: u32) -> Kiosk
+        ensures { result ≡ switch_off time now self }
+    {
+        match self.head {
+            Head::Idle(since) if is_over(since, time, now) => Kiosk {
+                head: Head::Off,
+                ..self
+            },
+            _ => self,
+        }
     }
-}
 
-// The head off and nobody there.
-pub fn start() -> Kiosk
-    ensures { result ≡ started }
-{
-    Kiosk {
-        head: Head::Off,
-        finished: 0,
-        waiting: 0,
-        began: false,
-        joined: false,
-        ended: false,
+    // A print begins if the head is warm and free and someone waits.
+    #[tactic(auto, unfolding(crate::specs::Kiosk::begin_print))]
+    fn begin_print(self, now: u32) -> Kiosk
+        ensures { result ≡ begin_print now self }
+    {
+        match self.head {
+            Head::Idle(_) if 0 < self.waiting => Kiosk {
+                head: Head::Printing(now),
+                waiting: self.waiting - 1,
+                began: true,
+                ..self
+            },
+            _ => Kiosk {
+                began: false,
+                ..self
+            },
+        }
     }
-}
 
-// A due print ends.
-fn end_print(k: Kiosk, time: u32, now: u32) -> Kiosk
-    requires { k.finished < 3600 }
-    ensures { result ≡ end_print time now k }
-{
-    let head = k.head;
-    let began = since(head);
-    let ended = is_printing(head) & is_over(began, time, now);
-    let finished = k.finished + bits::flag(ended);
-    Kiosk {
-        head: either(ended, Head::Idle(now), head),
-        finished,
-        waiting: k.waiting,
-        began: k.began,
-        joined: k.joined,
-        ended,
+    // Warming begins if the head is off and someone waits.
+    #[tactic(auto, unfolding(crate::specs::Kiosk::begin_warming))]
+    fn begin_warming(self, now: u32) -> Kiosk
+        ensures { result ≡ begin_warming now self }
+    {
+        match self.head {
+            Head::Off if 0 < self.waiting => Kiosk {
+                head: Head::Warming(now),
+                ..self
+            },
+            _ => self,
+        }
     }
-}
 
-// A customer joins if the draw says so.
-fn join(k: Kiosk, gap: u32, draw: u32) -> Kiosk
-    requires { (k.waiting < 3600) × (0 < gap) }
-    ensures { result ≡ join gap draw k }
-{
-    let head = k.head;
-    let joined = draw % gap == 0;
-    let waiting = k.waiting + bits::flag(joined);
-    Kiosk {
-        head,
-        finished: k.finished,
-        waiting,
-        began: k.began,
-        joined,
-        ended: k.ended,
+    // A second of the kiosk.
+    #[tactic(auto, unfolding(crate::specs::Kiosk::second_of, crate::specs::Kiosk::end_print))]
+    pub fn second(self, s: Settings, now: u32, draw: u32) -> Kiosk
+        requires { (self.finished < 3600) × (self.waiting < 3600) × (0 < s.gap) }
+        ensures { result ≡ second_of s now draw self }
+    {
+        self.end_print(s.print, now)
+            .join(s.gap, draw)
+            .end_warming(s.warmup, now)
+            .switch_off(s.switchoff, now)
+            .begin_print(now)
+            .begin_warming(now)
     }
-}
 
-// Due warming ends.
-fn end_warming(k: Kiosk, time: u32, now: u32) -> Kiosk
-    ensures { result ≡ end_warming time now k }
-{
-    let head = k.head;
-    let began = since(head);
-    let due = is_warming(head) & is_over(began, time, now);
-    with_head(k, either(due, Head::Idle(now), head))
-}
-
-// A warm head that has been idle for long goes off.
-fn switch_off(k: Kiosk, time: u32, now: u32) -> Kiosk
-    ensures { result ≡ switch_off time now k }
-{
-    let head = k.head;
-    let idle = since(head);
-    let due = is_free(head) & is_over(idle, time, now);
-    with_head(k, either(due, Head::Off, head))
-}
-
-// A print begins if the head is warm and free and someone waits.
-fn begin_print(k: Kiosk, now: u32) -> Kiosk
-    ensures { result ≡ begin_print now k }
-{
-    let head = k.head;
-    let began = is_free(head) & (0 < k.waiting);
-    let waiting = k.waiting - bits::flag(began);
-    Kiosk {
-        head: either(began, Head::Printing(now), head),
-        finished: k.finished,
-        waiting,
-        began,
-        joined: k.joined,
-        ended: k.ended,
+    // The event set of the last second.
+    #[tactic(auto, unfolding(crate::specs::Kiosk::events_of))]
+    pub fn events(self) -> u32
+        ensures { result ≡ events_of self }
+    {
+        u32::from(self.head.is_warm())
+            + 2 * u32::from(self.began)
+            + 4 * u32::from(self.joined)
+            + 8 * u32::from(self.ended)
     }
-}
-
-// Warming begins if the head is off and someone waits.
-fn begin_warming(k: Kiosk, now: u32) -> Kiosk
-    ensures { result ≡ begin_warming now k }
-{
-    let head = k.head;
-    let begins = is_off(head) & (0 < k.waiting);
-    with_head(k, either(begins, Head::Warming(now), head))
-}
-
-// A second of the kiosk.
-pub fn second(s: Settings, now: u32, draw: u32, k: Kiosk) -> Kiosk
-    requires { (k.finished < 3600) × (k.waiting < 3600) × (0 < s.gap) }
-    ensures { result ≡ second_of s now draw k }
-{
-    let a = end_print(k, s.print, now);
-    let b = join(a, s.gap, draw);
-    let c = end_warming(b, s.warmup, now);
-    let d = switch_off(c, s.switchoff, now);
-    let e = begin_print(d, now);
-    begin_warming(e, now)
-}
-
-// A letter's bit, where it stands.
-fn letter(stands: bool, worth: u32) -> u32
-    ensures { (result ≡ letter stands worth) × (result ≤ worth) }
-{
-    if stands { worth } else { 0 }
-}
-
-// The event set of the last second.
-pub fn events(k: Kiosk) -> u32
-    ensures { result ≡ events_of k }
-{
-    let head = k.head;
-    let warm = is_free(head) | is_printing(head);
-    letter(warm, 1) + letter(k.began, 2) + letter(k.joined, 4) + letter(k.ended, 8)
 }

@@ -4,9 +4,11 @@
 ghost use Rattle.std.specs.Prelude.{◌≡◌, ◌≤◌, ◌<◌, length};
 ghost use Rattle.trace.specs.Making.{records_bytes, put, log_length};
 ghost use Rattle.simulation.specs.Kiosk.{kiosk_after};
-ghost use Rattle.simulation.specs.Simulate.{outside, wrong_settings, out_of_range, time_of, events_in, answer, Simulates};
+ghost use Rattle.simulation.specs.Simulate.{wrong_settings, out_of_range, time_of, events_in, Simulates};
 
+use generator::Generator;
 use kiosk::Kiosk;
+use refusal::Refusal;
 
 mod generator;
 mod kiosk;
@@ -20,53 +22,31 @@ pub struct Settings {
     pub gap: u32,
 }
 
-// What `simulate` answers: how many bytes the log has, and how many customers are where.
+// What an accepted call gives: how many bytes the log has, and how many customers are where.
 #[derive(Clone, Copy)]
-pub enum Simulated {
-    Refused(u32),
-    Done {
-        written: usize,
-        finished: u64,
-        printing: u64,
-        waiting: u64,
-    },
+pub struct Simulated {
+    pub written: usize,
+    pub finished: u64,
+    pub printing: u64,
+    pub waiting: u64,
 }
 
-impl Simulated {
-    pub fn number(self) -> u32
-        ensures { result ≡ (answer self).number }
+impl Settings {
+    fn are_wrong(self) -> bool
+        ensures { result ≡ wrong_settings self }
     {
-        match self {
-            Simulated::Refused(n) => n,
-            Simulated::Done {
-                written: _,
-                finished: _,
-                printing: _,
-                waiting: _,
-            } => 0,
-        }
+        !(1..=600).contains(&self.warmup)
+            | !(1..=600).contains(&self.print)
+            | !(1..=3600).contains(&self.switchoff)
+            | !(1..=3600).contains(&self.gap)
     }
-}
-
-fn is_outside(low: u32, high: u32, x: u32) -> bool
-    ensures { result ≡ outside low high x }
-{
-    (x < low) | (high < x)
-}
-
-fn are_wrong(s: Settings) -> bool
-    ensures { result ≡ wrong_settings s }
-{
-    is_outside(1, 600, s.warmup)
-        | (is_outside(1, 600, s.print)
-            | (is_outside(1, 3600, s.switchoff) | is_outside(1, 3600, s.gap)))
 }
 
 // Refusal 26.
 fn is_refused(s: Settings, seconds: u32, seed: u32, room: usize) -> bool
     ensures { result ≡ out_of_range s seconds seed room }
 {
-    are_wrong(s) | ((3600 < seconds) | ((seed == 0) | (room < 8 + seconds as usize * 8)))
+    s.are_wrong() | (3600 < seconds) | (seed == 0) | (room < 8 + seconds as usize * 8)
 }
 
 // Writes a record for each second behind the header, and gives the kiosk as it is at the end.
@@ -75,33 +55,34 @@ fn run(s: Settings, seconds: usize, seed: u32, log: &mut [u8]) -> Kiosk
     ensures value { result ≡ kiosk_after s seed seconds }
     ensures log_after { log.new ≡ put log.old 8 (records_bytes time_of (events_in s seed) seconds) }
 {
-    let mut state = seed;
-    let mut k = kiosk::start();
-    let mut t: usize = 0;
-    while t < seconds {
-        state = generator::drawn(state);
-        k = kiosk::second(s, t as u32, state, k);
-        trace::write_record(log, 8 + t * 8, t as u32, kiosk::events(k));
-        t += 1;
+    let mut generator = Generator { state: seed };
+    let mut kiosk = Kiosk::start();
+    for t in 0..seconds {
+        kiosk = kiosk.second(s, t as u32, generator.draw());
+        trace::write_record(log, 8 + t * 8, t as u32, kiosk.events());
     }
-    k
+    kiosk
 }
 
 // Simulates `seconds` seconds of a kiosk, from time 0, with the head off and nobody there, and writes its log.
-pub fn simulate(settings: Settings, seconds: u32, seed: u32, log: &mut [u8]) -> Simulated
+pub fn simulate(
+    settings: Settings,
+    seconds: u32,
+    seed: u32,
+    log: &mut [u8],
+) -> Result<Simulated, Refusal>
     ensures { Simulates settings seconds seed log.old result log.new }
 {
     if is_refused(settings, seconds, seed, log.len()) {
-        return Simulated::Refused(26);
+        return Err(Refusal::Settings);
     }
     let count = seconds as usize;
     trace::write_header(log, 1);
-    let k = run(settings, count, seed, log);
-    let head = k.head;
-    Simulated::Done {
+    let kiosk = run(settings, count, seed, log);
+    Ok(Simulated {
         written: 8 + count * 8,
-        finished: k.finished,
-        printing: bits::flag(kiosk::is_printing(head)),
-        waiting: k.waiting,
-    }
+        finished: kiosk.finished,
+        printing: u64::from(kiosk.head.is_printing()),
+        waiting: kiosk.waiting,
+    })
 }

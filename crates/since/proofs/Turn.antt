@@ -22,6 +22,7 @@ use Rattle.window.specs.View.{slice_first, total, skips, in_slice}
 use Rattle.window.specs.Window.{window_of, Opened, Passed}
 use Rattle.window.specs.declared.Window.{Window}
 use Rattle.window.proofs.Reading.{shown_time_bound}
+use Rattle.window.specs.declared.view.View.{View}
 use Rattle.blocks.specs.Block.{word, taken, left_count, left_bits, right_count, right_bits, head, Onward, Ready, took_both}
 use Rattle.blocks.specs.Ring.{Ring, Rings, Witnesses, Turns, turned, turns, reaches, reached, Shown, Takes}
 use Rattle.blocks.specs.Step.{Agrees, Stepped, Steps}
@@ -115,7 +116,7 @@ turns_take {low} {high} {at} {left} {right} {n} {b} {answers} {d} t =
           ((_, t.rings.ring times ring, later), packed);
     }
 
-module _ (low high : ℕ) (v s b : List ℕ) where
+module _ (low high : ℕ) (v : View) (s b : List ℕ) where
   pub since_left : (φ ψ : Formula) → Steps (since low high φ ψ) v s b Left b
   since_left φ ψ L g falls agrees ready = (
     refl,
@@ -198,7 +199,7 @@ module _ (low high : ℕ) (v s b : List ℕ) where
           time_here : (i : ℕ) → i < n → time_at (window_of w s copy) i ≡ L.time (taken b + i)
           time_here = read_time agrees (taken b) heads (omega arith) inside_log opened
 
-          at_taken : Stepped (since low high φ ψ) L (taken b) b (Batch answers n) passed
+          at_taken : Stepped (since low high φ ψ) L (taken b) b (Batch (record { bits = answers; count = n })) passed
           unfolding sat
           at_taken =
               let core = ready.core in
@@ -242,6 +243,6 @@ module _ (low high : ℕ) (v s b : List ℕ) where
               left right
               in (record { some = some; buffer = record { within = within_settled; packed = answer } }, moved.0, moved.1)
 
-        pub since_batch : ((i : ℕ) → get_or s i 0 < 256) → (φ ψ : Formula) → Steps (since low high φ ψ) v s b (Batch answers n) passed
+        pub since_batch : ((i : ℕ) → get_or s i 0 < 256) → (φ ψ : Formula) → Steps (since low high φ ψ) v s b (Batch (record { bits = answers; count = n })) passed
         since_batch byte φ ψ L g falls agrees ready =
             let at = ready.core.own.at in rw (← at) (at_taken byte φ ψ L falls (rw (← at) at agrees) (rw (← at) at ready))

@@ -1,7 +1,7 @@
 // since: the times of the witnesses still alive, in a ring.
 #![tactic(auto)]
 
-ghost use Rattle.std.specs.Prelude.{◌≡◌, true, cond, ◌&&◌, ℕ, ◌+◌, ◌-◌, ◌*◌, ◌≤◌, ◌<◌, ◌^◌, List, length};
+ghost use Rattle.std.specs.Prelude.{◌≡◌, true, cond, ◌&&◌, ℕ, ◌+◌, ◌-◌, ◌*◌, ◌≤◌, ◌<◌, ◌^◌, ltb, List, length, unwrap_or, is_some};
 ghost use Rattle.std.specs.Int.Bits.{bit_and, bit_or};
 ghost use Rattle.mtl.specs.Formula.{Formula};
 ghost use Rattle.mtl.specs.Formula.Formula.{since};
@@ -15,18 +15,12 @@ ghost use Rattle.blocks.specs.Ring.{Ring, Rings, Turns, newest_at, oldest_of, in
 ghost use Rattle.since.specs.Old.{old_enough, FirstOld};
 ghost use Rattle.bits.specs.Packed.{bit, Packed, FilledUp};
 
-use blocks::{Step, time, word};
-use window::{Window, view};
+use blocks::{Batch, Step, word};
+use window::Window;
+use window::view::View;
 
 // Up to so many runs are gone through one by one.
 const FEW_RUNS: u64 = 6;
-
-// a where it is told so, else b.
-fn choose(yes: bool, a: u64, b: u64) -> u64
-    ensures { result ≡ cond yes a b }
-{
-    if yes { a } else { b }
-}
 
 // The turns of n positions of a window, where left and right are the operands' words of answers; gives the since's.
 fn turn_all(
@@ -43,14 +37,12 @@ fn turn_all(
 {
     let cells = ring::cells_for(high);
     let mut answers: u64 = 0;
-    let mut i: usize = 0;
-    while i < n {
+    for i in 0..n {
         let now = trace::time(window, i);
         let left_holds = bits::test(left, i as u64);
         let right_holds = bits::test(right, i as u64);
         let holds = ring::turn(cells, low, high, left_holds, right_holds, now, block);
         answers = bits::push(answers, i as u64, holds);
-        i += 1;
     }
     answers
 }
@@ -74,12 +66,12 @@ fn find_group(low: u64, window: &[u8], from: usize, n: usize, marks: u64, last: 
 {
     let mut due = last + low;
     let mut answers: u64 = 0;
-    let mut i: usize = 0;
-    while i < n {
+    for i in 0..n {
         let now = trace::time(window, from + i);
-        due = choose(bits::test(marks, i as u64), now + low, due);
+        if bits::test(marks, i as u64) {
+            due = now + low;
+        }
         answers = bits::push(answers, i as u64, due <= now);
-        i += 1;
     }
     answers
 }
@@ -91,16 +83,16 @@ fn find_by_groups(low: u64, window: &[u8], n: usize, marks: u64, first: u64) -> 
     ensures { Packed (old_enough low (time_at window.now) marks first) 0 n result }
 {
     let mut answers: u64 = 0;
-    let mut i: usize = 0;
-    while i + 8 <= n {
-        let last = newest_marked(window, i, marks, first);
-        answers = answers + (find_group(low, window, i, 8, marks >> i as u64, last) << i as u64);
-        i += 8;
+    for group in 0..n / 8 {
+        let from = group * 8;
+        let last = newest_marked(window, from, marks, first);
+        answers += find_group(low, window, from, 8, marks >> from as u64, last) << from as u64;
     }
-    if i < n {
-        let last = newest_marked(window, i, marks, first);
-        answers = answers
-            + (find_group(low, window, i, n - i, marks >> i as u64, last) << i as u64);
+    let rest = n % 8;
+    if rest != 0 {
+        let from = n - rest;
+        let last = newest_marked(window, from, marks, first);
+        answers += find_group(low, window, from, rest, marks >> from as u64, last) << from as u64;
     }
     answers
 }
@@ -110,14 +102,12 @@ fn find_old(low: u64, window: &[u8], from: usize, end: usize, last: u64) -> usiz
     requires { (from ≤ end) × (end ≤ record_count window.now) }
     ensures { FirstOld low last (time_at window.now) from end result }
 {
-    let mut i = from;
-    while i < end {
-        if low <= time::gap(last, trace::time(window, i)) {
-            break;
+    for i in from..end {
+        if low <= trace::time(window, i).saturating_sub(last) {
+            return i;
         }
-        i += 1;
     }
-    i
+    end
 }
 
 // As find_by_groups, from one run of positions without a mark to the one before it. Times never fall, so that those of a run that are old
@@ -155,7 +145,7 @@ fn keep_reached(high: u64, window: &[u8], n: usize, right: u64, first: u64, aliv
     requires { (high < 2 ^ 32) × (0 < n) × (n ≤ record_count window.now) × (n ≤ 64) }
     ensures { Rises (time_at window.now) n first → Packed (λ i. bit alive i && in_reach 0 high (time_at window.now) right first i) 0 n result }
 {
-    if time::gap(first, trace::time(window, n - 1)) <= high {
+    if trace::time(window, n - 1).saturating_sub(first) <= high {
         return alive;
     }
     alive & !find_late(high + 1, window, n, right, first)
@@ -173,8 +163,9 @@ fn take_word(high: u64, window: &[u8], n: usize, left: u64, right: u64, block: &
     requires { (high < 2 ^ 32) × (16 + ring_words high ≤ length block.old) × (0 < n) × (n ≤ record_count window.now) × (n ≤ 64) }
     ensures { Takes 0 high (time_at window.now) left right n block.old result block.new }
 {
-    let first = ring::newest(ring::cells_for(high), trace::time(window, 0), block);
-    let begun = bits::flag(ring::has_some(block));
+    let newest = ring::newest(ring::cells_for(high), block);
+    let first = newest.unwrap_or(trace::time(window, 0));
+    let begun = bits::flag(newest.is_some());
     let alive = find_alive(left, right, begun);
     let answers = keep_reached(high, window, n, right, first, alive);
     let last = bits::test(answers, n as u64 - 1);
@@ -189,7 +180,7 @@ fn turn_word(high: u64, window: &[u8], n: usize, left: u64, right: u64, block: &
 {
     let after = bits::find_last_zero(left, n as u64);
     ring::keep_if(after == 0, block);
-    let from = time::gap(1, after) as usize;
+    let from = after.saturating_sub(1) as usize;
     ring::push_all(ring::cells_for(high), window, from, n, right, block);
 }
 
@@ -202,13 +193,14 @@ fn take_inside(
     n: usize,
     left: u64,
     right: u64,
-    first: u64,
+    oldest: Option<u64>,
     block: &mut [u64],
 ) -> u64
-    requires { (0 < low) × (high < 2 ^ 32) × (16 + ring_words high ≤ length block.old) × (0 < n) × (n ≤ record_count window.now) × (n ≤ 64) × (time_at window.now (n - 1) - first ≤ high) }
-    ensures { ((qs : List ℕ) → Ring (ring_words high) block.old qs → first ≡ oldest_of (time_at window.now 0) qs) → Takes low high (time_at window.now) left right n block.old result block.new }
+    requires { (0 < low) × (high < 2 ^ 32) × (16 + ring_words high ≤ length block.old) × (0 < n) × (n ≤ record_count window.now) × (n ≤ 64) × (time_at window.now (n - 1) - unwrap_or oldest (time_at window.now 0) ≤ high) }
+    ensures { ((qs : List ℕ) → Ring (ring_words high) block.old qs → (unwrap_or oldest (time_at window.now 0) ≡ oldest_of (time_at window.now 0) qs) × (is_some oldest ≡ ltb 0 (length qs))) → Takes low high (time_at window.now) left right n block.old result block.new }
 {
-    let begun = bits::flag(ring::has_some(block));
+    let first = oldest.unwrap_or(trace::time(window, 0));
+    let begun = bits::flag(oldest.is_some());
     let alive = find_alive(left, right, begun);
     let marks = !(left & ((alive << 1) | begun));
     let old = find_late(low, window, n, marks, first);
@@ -229,9 +221,10 @@ fn take_late(
     requires { (0 < low) × (high < 2 ^ 32) × (16 + ring_words high ≤ length block.old) × (0 < n) × (n ≤ record_count window.now) × (n ≤ 64) }
     ensures { Takes low high (time_at window.now) left right n block.old result block.new }
 {
-    let first = ring::oldest(ring::cells_for(high), trace::time(window, 0), block);
-    if time::gap(first, trace::time(window, n - 1)) <= high {
-        return take_inside(low, high, window, n, left, right, first, block);
+    let oldest = ring::oldest(ring::cells_for(high), block);
+    let first = oldest.unwrap_or(trace::time(window, 0));
+    if trace::time(window, n - 1).saturating_sub(first) <= high {
+        return take_inside(low, high, window, n, left, right, oldest, block);
     }
     turn_all(low, high, window, n, left, right, block)
 }
@@ -279,7 +272,7 @@ pub fn step_since(
     low: u64,
     high: u64,
     records: &[u8],
-    view: &[u64; 66],
+    view: &View,
     copy: &mut [u8; 544],
     block: &mut [u64],
 ) -> Step
@@ -295,8 +288,8 @@ pub fn step_since(
     if block[word::RIGHT_COUNT] == 0 {
         return Step::Right;
     }
-    let both = blocks::smaller(block[word::LEFT_COUNT], block[word::RIGHT_COUNT]);
-    let count = blocks::available(at, both, view[view::TOTAL]);
+    let both = block[word::LEFT_COUNT].min(block[word::RIGHT_COUNT]);
+    let count = blocks::available(at, both, view.total);
     if count == 0 {
         return Step::Open;
     }
@@ -305,5 +298,5 @@ pub fn step_since(
     let bits = take_window(low, high, window, records, copy, count, block);
     blocks::take_both(block, count);
     block[word::HEAD] = window::pass(head, window, records, view, count);
-    Step::Batch { bits, count }
+    Step::Batch(Batch { bits, count })
 }

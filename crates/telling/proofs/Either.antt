@@ -13,7 +13,9 @@ use Rattle.mtl.proofs.Until.{progress_or}
 use Rattle.rule.specs.Postfix.{size}
 use Rattle.rule.specs.Operands.{FormulaAt}
 use Rattle.window.specs.Window.{Keeps}
-use Rattle.engine.specs.Table.{column}
+use Rattle.window.specs.declared.view.View.{View}
+use Rattle.engine.specs.Table.{row_at}
+use Rattle.engine.specs.declared.table.Row.{Row}
 use Rattle.reasons.specs.Reason.{Line, reason}
 use Rattle.reasons.specs.Text.{spaced_line, parts, text}
 use Rattle.sentences.specs.Said.{Answering}
@@ -28,22 +30,22 @@ unfolding text
 text_both [] ms = refl
 text_both (l ∷ ls) ms = ap (λ (x : List ℕ). spaced_line (parts l) ++ x) (text_both ls ms) ∙ sym (append_assoc (spaced_line (parts l)) (text ls) (text ms))
 
-module _ {t v s words copy waiting : List ℕ} {k i : ℕ} {text₀ : List ℕ} {at : ℕ} (p : TellingEither t v s words copy waiting k i text₀ at) where
+module _ {t : List Row} {v : View} {s words copy waiting : List ℕ} {k i : ℕ} {text₀ : List ℕ} {at : ℕ} (p : TellingEither t v s words copy waiting k i text₀ at) where
   -- LEFT
 
-  pub may_left : (j : ℕ) → j ≡ column 4 t k → Telling t v s words copy waiting j i text₀ at
+  pub may_left : (j : ℕ) → j ≡ (row_at t k).left → Telling t v s words copy waiting j i text₀ at
   may_left j is =
       let (below, same) = or_left p.lent p.kind in
-      let words_there = ap (column 7 t) is in
+      let words_there = ap (λ (q : ℕ). (row_at t q).words) is in
       let far = p.far in
       let space = p.space in
       record { lent = lent_below p.lent j (omega arith) refl (p.lent.copy_keeps, p.lent.waiting_keeps); far = omega arith; space = omega arith }
 
-  module _ {j : ℕ} (is : j ≡ column 4 t k) {first : Told} {text₁ : List ℕ} (firsts : Tells t v s j i text₀ at first text₁) where
-    left_ends : first.end ≤ at + 3 * column 5 t k
+  module _ {j : ℕ} (is : j ≡ (row_at t k).left) {first : Told} {text₁ : List ℕ} (firsts : Tells t v s j i text₀ at first text₁) where
+    left_ends : first.end ≤ at + 3 * (row_at t k).left_words
     left_ends =
         let (below, same) = or_left p.lent p.kind in
-        let words_there = ap (column 7 t) is in
+        let words_there = ap (λ (q : ℕ). (row_at t q).words) is in
         let room = firsts.room in
         omega arith
 
@@ -83,7 +85,7 @@ module _ {t v s words copy waiting : List ℕ} {k i : ℕ} {text₀ : List ℕ} 
         record { lent = lent_below p.lent (k - 1) (omega arith) kept copies; far = omega arith; space = omega arith }
 
     module _ (fails : first.holds ≡ false) {second : Told} {text₂ : List ℕ} (seconds : Tells t v s (k - 1) i text₁ first.end second text₂) where
-      right_ends : second.end ≤ at + 3 * (column 5 t k + column 6 t k)
+      right_ends : second.end ≤ at + 3 * ((row_at t k).left_words + (row_at t k).right_words)
       right_ends =
           let (below, same) = or_right p.lent p.kind in
           let ends = left_ends in

@@ -18,6 +18,7 @@ use Rattle.bits.specs.Packed.{number}
 use Rattle.rule.specs.declared.Entry.{Entry}
 use Rattle.rule.specs.Operands.{FormulaAt}
 use Rattle.window.specs.Window.{Keeps}
+use Rattle.window.specs.declared.view.View.{View}
 use Rattle.decimal.specs.Text.{Writes}
 use Rattle.reasons.specs.Reason.{Says, Line, if_within, reason}
 use Rattle.reasons.specs.Reason.Line.{sentence}
@@ -32,6 +33,7 @@ use Rattle.sentences.proofs.Lines.{line_is}
 use Rattle.sentences.proofs.Operands.{open_settled, answered_here, one_answers}
 use Rattle.telling.proofs.Rooms.{own_room, right_room, lent_below}
 use Rattle.telling.proofs.Writing.{wrote_line, wrote_more}
+use Rattle.engine.specs.declared.table.Row.{Row}
 
 -- TEXTS
 
@@ -166,7 +168,7 @@ two_follow (until low high φ ψ) L k i y z = absurd (y refl)
 
 -- THE FUNCTION `tell`, from what its calls do
 
-module _ {t v s words copy waiting : List ℕ} {k i : ℕ} {text₀ : List ℕ} {at : ℕ} (p : Telling t v s words copy waiting k i text₀ at) where
+module _ {t : List Row} {v : View} {s words copy waiting : List ℕ} {k i : ℕ} {text₀ : List ℕ} {at : ℕ} (p : Telling t v s words copy waiting k i text₀ at) where
   pub may_say : Lent t v s words copy waiting k × (i ≤ 2000000)
   may_say = let far = p.far in (p.lent, omega arith)
 

@@ -7,23 +7,25 @@ use native.Mathlib.Omega.{arith}
 use lib.ListN.{length}
 use Rattle.rule.proofs.Spans.{own_least}
 use Rattle.window.specs.Window.{Keeps}
+use Rattle.window.specs.declared.view.View.{View}
 use Rattle.blocks.specs.Kinds.{takes_right}
-use Rattle.engine.specs.Table.{column}
+use Rattle.engine.specs.Table.{row_at, kind_at}
+use Rattle.engine.specs.declared.table.Row.{Row}
 use Rattle.sentences.specs.Said.{Lent}
 
-module _ {t v s words copy waiting : List ℕ} {k : ℕ} (lent : Lent t v s words copy waiting k) where
+module _ {t : List Row} {v : View} {s words copy waiting : List ℕ} {k : ℕ} (lent : Lent t v s words copy waiting k) where
   -- an entry has words of its own besides its operands'
-  pub own_room : column 5 t k + column 6 t k + 16 ≤ column 7 t k
-  own_room = let all = (lent.rows k (omega arith)).words in let least = own_least (column 0 t k) (column 3 t k) in omega arith
+  pub own_room : (row_at t k).left_words + (row_at t k).right_words + 16 ≤ (row_at t k).words
+  own_room = let all = (lent.rows k (omega arith)).words in let least = own_least (kind_at t k) (row_at t k).high in omega arith
 
   -- the right operand, or the only one, and the left one of an or
-  pub right_room : takes_right (column 0 t k) ≡ true → (0 < k) × (column 7 t (k - 1) ≡ column 6 t k)
+  pub right_room : takes_right (kind_at t k) ≡ true → (0 < k) × ((row_at t (k - 1)).words ≡ (row_at t k).right_words)
   right_room takes = (lent.rows k (omega arith)).right takes
 
-  pub or_right : column 0 t k ≡ 2 → (0 < k) × (column 7 t (k - 1) ≡ column 6 t k)
+  pub or_right : kind_at t k ≡ 2 → (0 < k) × ((row_at t (k - 1)).words ≡ (row_at t k).right_words)
   or_right kind = right_room (rw kind refl)
 
-  pub or_left : column 0 t k ≡ 2 → (column 4 t k < k) × (column 7 t (column 4 t k) ≡ column 5 t k)
+  pub or_left : kind_at t k ≡ 2 → ((row_at t k).left < k) × ((row_at t (row_at t k).left).words ≡ (row_at t k).left_words)
   or_left kind = (lent.rows k (omega arith)).left (rw kind refl)
 
   pub lent_below : {words' copy' waiting' : List ℕ} (j : ℕ) → j ≤ k → length words' ≡ length words → Keeps s copy' × Keeps s waiting' → Lent t v s words' copy' waiting' j
@@ -33,7 +35,6 @@ module _ {t v s words copy waiting : List ℕ} {k : ℕ} (lent : Lent t v s word
       record {
         entry = omega arith;
         rows = λ q h. lent.rows q (omega arith);
-        lows = λ q h. lent.lows q (omega arith);
         words_room = omega arith;
         copy_keeps = copies.0;
         waiting_keeps = copies.1;

@@ -1,10 +1,10 @@
--- Bytes written one after the other into a text whose rest is free, and bytes moved forward. Assumes nothing.
-use Prim.Native.Nat.{ℕ, ◌+◌, ◌-◌, ◌≤◌, ◌<◌}
+-- Bytes written one after the other into a text whose rest is free. Assumes nothing.
+use Prim.Native.Nat.{ℕ, ◌+◌, ◌-◌, ◌≤◌}
 use mathlib.Core.Path.{◌≡◌, sym, ◌∙◌, ap, ap₂}
 use mathlib.Core.List.{List, ◌++◌, append_assoc}
 use native.Mathlib.Omega.{arith}
-use lib.ListN.{length, get_or, take, drop, length-append, length-drop}
-use lib.Seq.{paste, drop-paste, take_at, drop_at, take-add, take-take, get_or-drop, length-take-le}
+use lib.ListN.{length, take, drop, length-append}
+use lib.Seq.{take_at, drop_at, take-add, take-take, length-take-le}
 use Rattle.decimal.specs.Text.{Writes}
 use Rattle.telling.specs.Lines.{Wrote, Shifts}
 
@@ -52,14 +52,3 @@ wrote_shift {t} {t'} {t''} {t'''} {xs} {ys} {at} {m} {e} {r} v w room a b s =
       ends = let x = s.ends in let y = w.ends in omega arith;
       content = s.content ∙ ap₂ (λ x y. x ++ y) first part;
     }
-
--- a turn of the loop that moves bytes forward reads a byte that stands as it stood
-pub moved_byte : (t : List ℕ) (from at i : ℕ) → at ≤ from → from + i < length t → get_or (paste t at (drop from t) i) (from + i) 0 ≡ get_or (drop from t) i 0
-moved_byte t from at i a h =
-    let e : at + i + (from - at) ≡ from + i = omega arith in
-    let l = length-drop from t in
-    ap (λ n. get_or (paste t at (drop from t) i) n 0) (sym e) ∙
-    sym (get_or-drop (at + i) (paste t at (drop from t) i) (from - at) 0) ∙
-    ap (λ s. get_or s (from - at) 0) (drop-paste t at (drop from t) i (omega arith) (omega arith)) ∙
-    get_or-drop (at + i) t (from - at) 0 ∙
-    ap (λ n. get_or t n 0) e ∙ sym (get_or-drop from t i 0)

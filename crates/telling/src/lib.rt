@@ -5,7 +5,9 @@ ghost use Rattle.std.specs.Prelude.{◌≡◌, cond, not as negate, ◌≤◌, l
 ghost use Rattle.window.specs.Window.{Keeps};
 ghost use Rattle.telling.specs.Lines.{Shifts, Telling, Tells, TellingEither, TellsEither};
 
+use engine::table::Row;
 use sentences::{saying, sentence};
+use window::view::View;
 
 // Where the lines end, and whether the entry holds.
 #[derive(Clone, Copy)]
@@ -19,12 +21,8 @@ fn shift(text: &mut [u8], from: usize, to: usize, at: usize) -> usize
     requires { (at ≤ from) × (from ≤ to) × (to ≤ length text.old) }
     ensures { Shifts text.old from to at result text.new }
 {
-    let mut i: usize = 0;
-    while i < to - from {
-        text[at + i] = text[from + i];
-        i += 1;
-    }
-    at + i
+    text.copy_within(from..to, at);
+    at + (to - from)
 }
 
 // The operand's answer, turned or not.
@@ -37,9 +35,9 @@ fn turned(turn: bool, holds: bool) -> bool
 // Writes the lines of entry k at position i into the text from `at` on.
 #[cycle(tell_tell_either)]
 pub fn tell(
-    table: &[u32; 1024],
+    table: &[Row; 128],
     records: &[u8],
-    view: &[u64; 66],
+    view: &View,
     copy: &mut [u8; 544],
     waiting: &mut [u8; 544],
     words: &mut [u64],
@@ -86,9 +84,9 @@ pub fn tell(
 // Behind the line of an or: its left operand's lines if that is yes, else its right's; both where neither is.
 #[cycle(tell_tell_either)]
 fn tell_either(
-    table: &[u32; 1024],
+    table: &[Row; 128],
     records: &[u8],
-    view: &[u64; 66],
+    view: &View,
     copy: &mut [u8; 544],
     waiting: &mut [u8; 544],
     words: &mut [u64],
@@ -101,7 +99,7 @@ fn tell_either(
     ensures tells_either { TellsEither table.now view.now records.now k i text.old at result text.new }
     ensures keeps { Keeps records.now copy.new × Keeps records.now waiting.new }
 {
-    let left = engine::table::field(table, k, 4) as usize;
+    let left = usize::from(table[k].left);
     let first = tell(
         table, records, view, copy, waiting, words, left, i, text, at,
     );

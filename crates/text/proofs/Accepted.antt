@@ -5,15 +5,16 @@ use borrow.Author.Tests.{ltb-false, eqb-true, eqb-false, eq-eqb}
 use mathlib.Core.Path.{◌≡◌, refl, sym, ap, ◌∙◌}
 use mathlib.Core.Bool.{true, false}
 use mathlib.Core.List.{List, [], ◌∷◌, ◌++◌}
-use mathlib.Core.Option.{Option, none, some}
+use mathlib.Core.Option.{some}
 use lib.Dec.{ltb, eqb}
 use lib.ListN.{length, take, drop}
 use lib.Seq.{take-append_seam}
+use Rattle.std.specs.Prelude.{Option, None, Some, Ok}
 use Rattle.mtl.specs.Formula.{Formula}
 use Rattle.mtl.specs.Satisfaction.{any}
 use Rattle.rule.specs.Words.{words}
 use Rattle.rule.specs.Postfix.{postfix}
-use Rattle.rule.specs.Encoding.{encoded, rule_of}
+use Rattle.rule.specs.Encoding.{rule_of}
 use Rattle.rule.specs.Refusal.{misplaced_at, over_limit, first}
 use Rattle.rule.specs.Measure.{reach_of, measured}
 use Rattle.rule.proofs.Headers.{first_zero}
@@ -21,7 +22,6 @@ use Rattle.rule.proofs.Encoded.{weighed}
 use Rattle.text.specs.Tokens.{tokens, unreadable}
 use Rattle.text.specs.Grammar.{Level, Derives, Derived}
 use Rattle.text.specs.Parse.{Answer, parsed_refusal, text_refusal, bytes, parsed, rule_buffer_after, Parses}
-use Rattle.text.specs.declared.Parsed.TheVariants.{Written, Refused}
 use Rattle.text.proofs.Cases.{by}
 use Rattle.text.proofs.Small.{none_misshapen}
 
@@ -58,28 +58,11 @@ weigh text rule rule' n φ d z l is =
     weighed es (ltb-false 128 (length es) a.0) φ refl (none_misshapen text φ d) ∙ simp (b.0, c.0) in
     record { formula = φ; derived = d; written = w; weighs = ap measured w ∙ m }
 
-pub accepted_by_measure : (text rule rule' : List ℕ) (n : ℕ) → Parses text rule (Written n) rule' → Weighed text rule' n
+pub accepted_by_measure : (text rule rule' : List ℕ) (n : ℕ) → Parses text rule (Ok n) rule' → Weighed text rule' n
 accepted_by_measure text rule rule' n p =
     let (z, l) = accepted text p.derives (length rule) n p.answers in go p.derives p.derived z l p.leaves
   where
     go : (o : Option Formula) → Derived (tokens text) o → text_refusal text o (length rule) ≡ 0 → n ≡ length (bytes o) → rule' ≡ rule_buffer_after text o rule
         → Weighed text rule' n
-    go none d z l is = let a = first_zero 15 (unreadable text) (first 17 true (parsed_refusal [] (length rule))) z in let b = first_zero 16 true (parsed_refusal [] (length rule)) a.1 in absurd (let w : ◌≡◌ {A = ℕ} 0 1 = cc in omega arith)
-    go (some φ) d z l is = weigh text rule rule' n φ d (first_zero 16 false (parsed_refusal (postfix φ) (length rule)) (first_zero 15 (unreadable text) (first 17 false (parsed_refusal (postfix φ) (length rule))) z).1).1 l (is ∙ simp (eq-eqb (text_refusal text (some φ) (length rule)) 0 z))
-
--- no refusal has the number 0: a text that is accepted has a rule's bytes
-some_bytes : (text : List ℕ) (o : Option Formula) (room : ℕ) → text_refusal text o room ≡ 0 → 0 ≡ length (bytes o) → ⊥
-unfolding encoded
-some_bytes text none room a l =
-    let b = first_zero 15 (unreadable text) (first 17 true (parsed_refusal [] room)) a in
-    let c = first_zero 16 true (parsed_refusal [] room) b.1 in
-    let w : ◌≡◌ {A = ℕ} 0 1 = cc in
-    omega arith
-some_bytes text (some φ) room a l = omega arith
-
-pub refused_not_zero : (text rule rule' : List ℕ) (n : ℕ) → Parses text rule (Refused n) rule' → n ≡ 0 → ⊥
-refused_not_zero text rule rule' n p z =
-    let e : record { number = 0; written = 0 } ≡ parsed text p.derives (length rule) =
-    ap (λ (k : ℕ). record { number = k; written = 0 }) (sym z) ∙ p.answers in
-    let (a, l) = accepted text p.derives (length rule) 0 e in
-    some_bytes text p.derives (length rule) a l
+    go None d z l is = let a = first_zero 15 (unreadable text) (first 17 true (parsed_refusal [] (length rule))) z in let b = first_zero 16 true (parsed_refusal [] (length rule)) a.1 in absurd (let w : ◌≡◌ {A = ℕ} 0 1 = cc in omega arith)
+    go (Some φ) d z l is = weigh text rule rule' n φ d (first_zero 16 false (parsed_refusal (postfix φ) (length rule)) (first_zero 15 (unreadable text) (first 17 false (parsed_refusal (postfix φ) (length rule))) z).1).1 l (is ∙ simp (eq-eqb (text_refusal text (Some φ) (length rule)) 0 z))

@@ -1,11 +1,10 @@
 -- Laws of tokens, of the grammar and of the buffer that the functions' proofs cite.
 pub mod Cases
-pub mod TokenNumbers
-pub mod Words
 pub mod Lexing
 pub mod Buffer
 pub mod Grammar
 pub mod Complete
+pub mod Intervals
 pub mod Levels
 pub mod Small
 pub mod Outcome

@@ -3,12 +3,12 @@ use Prim.Native.Nat.{◌*◌}
 use native.Mathlib.Omega.{arith}
 use mathlib.Core.Path.{◌≡◌, refl, subst}
 use mathlib.Core.List.{List, [], ◌∷◌}
-use mathlib.Core.Option.{none}
 use lib.ListN.{length}
+use Rattle.std.specs.Prelude.{None}
 use Rattle.mtl.specs.Formula.Formula.{letter, until}
 use Rattle.rule.specs.Postfix.{postfix}
 use Rattle.rule.specs.Encoding.{body, encoded, rule_of}
-use Rattle.text.specs.Tokens.{token_of, sign, tokens_from, tokens}
+use Rattle.text.specs.Tokens.{numeral_from, token_of, sign, tokens_from, tokens}
 use Rattle.text.specs.Grammar.{Level, meaning, Derived}
 use Rattle.text.specs.Reader.{timing, phrase}
 use Rattle.text.specs.Ascii.{ascii}
@@ -18,7 +18,7 @@ use Rattle.text.proofs.Complete.{found, decides}
 pub record IsDerived (r : Row) : Type 0 where
   pub is : Derived (tokens r.text) r.derives
 
-derived : (r : Row) → found (phrase (4 * length (tokens r.text)) Level.ors none (tokens r.text)) ≡ r.derives → IsDerived r
+derived : (r : Row) → found (phrase (4 * length (tokens r.text)) Level.ors None (tokens r.text)) ≡ r.derives → IsDerived r
 derived r e =
     let ts = tokens r.text in
     record { is = subst (Derived ts) e (decides ts (4 * length ts) (omega arith) _ refl) }
@@ -28,7 +28,7 @@ AllDerived [] = Unit {0}
 AllDerived (r ∷ rs) = IsDerived r × AllDerived rs
 
 pub every_text : AllDerived rows
-unfolding AllDerived rows repeated nots ascii tokens_from token_of sign phrase timing meaning
+unfolding AllDerived rows repeated nots ascii tokens_from numeral_from token_of sign phrase timing meaning
 every_text = (derived _ refl, (derived _ refl, (derived _ refl, (derived _ refl, (derived _ refl, (derived _ refl, (derived _ refl, (derived _ refl, (derived _ refl, (derived _ refl, (derived _ refl, (derived _ refl, (derived _ refl, (derived _ refl, (derived _ refl, (derived _ refl, (derived _ refl, (derived _ refl, (derived _ refl, (derived _ refl, (derived _ refl, (derived _ refl, (derived _ refl, (derived _ refl, (derived _ refl, (derived _ refl, (derived _ refl, (derived _ refl, (derived _ refl, (derived _ refl, (derived _ refl, (derived _ refl, (derived _ refl, (derived _ refl, (derived _ refl, (derived _ refl, (derived _ refl, (derived _ refl, (derived _ refl, (derived _ refl, (derived _ refl, (derived _ refl, tt))))))))))))))))))))))))))))))))))))))))))
 
 -- the bytes of document 01's full run

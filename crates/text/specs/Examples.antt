@@ -1,15 +1,14 @@
 -- Worked texts: the precedence of the words, and every refusal, in their order: what `refusal` gives where the grammar derives what a row
 -- says. That it derives that, and nothing else, is shown in proofs/Texts.
-use Rattle.std.specs.Prelude.{ℕ, zero, suc, cond, ◌≡◌, refl, List, [], ◌∷◌, ◌++◌, eqb}
+use Rattle.std.specs.Prelude.{ℕ, zero, suc, cond, ◌≡◌, refl, List, [], ◌∷◌, ◌++◌, eqb, Option, None, Some}
 use Prim.Native.String.{String}
-use Rattle.std.proofs.Math.Option.{Option, none, some}
 use Rattle.mtl.specs.Formula.{Formula}
 use Rattle.mtl.specs.Formula.Formula.{letter, not, or, previous, next, since, until}
 use Rattle.mtl.specs.Satisfaction.{any}
 use Rattle.rule.specs.Words.{offset}
 use Rattle.rule.specs.Postfix.{postfix}
 use Rattle.text.specs.Ascii.{ascii}
-use Rattle.text.specs.Tokens.{token_of, sign, tokens_from, some_unknown}
+use Rattle.text.specs.Tokens.{numeral_from, token_of, sign, tokens_from, some_unknown}
 use Rattle.text.specs.Parse.{parsed_refusal, text_refusal}
 
 -- a text, the bytes of the lent buffer, the number of the refusal that it meets or 0, and what the grammar derives from it
@@ -21,15 +20,15 @@ pub record Row : Type 0 where
 
 -- a text that is read, with a buffer that holds every rule
 abbrev accepted : String → Formula → Row
-accepted s φ = record { text = ascii s; room = 1288; number = 0; derives = some φ }
+accepted s φ = record { text = ascii s; room = 1288; number = 0; derives = Some φ }
 
 -- one from which the grammar derives nothing: 16 or 17
 abbrev unread : String → (number : ℕ) → Row
-unread s number = record { text = ascii s; room = 1288; number = number; derives = none }
+unread s number = record { text = ascii s; room = 1288; number = number; derives = None }
 
 -- one whose formula is refused
 abbrev stopped : String → (room number : ℕ) → Formula → Row
-stopped s room number φ = record { text = ascii s; room = room; number = number; derives = some φ }
+stopped s room number φ = record { text = ascii s; room = room; number = number; derives = Some φ }
 
 -- one that begins with the same bytes so many times
 unfoldable pub repeated : ℕ → (s behind : String) → List ℕ
@@ -37,7 +36,7 @@ repeated zero s behind = ascii behind
 repeated (suc n) s behind = ascii s ++ repeated n s behind
 
 abbrev long : ℕ → (s behind : String) (number : ℕ) → Formula → Row
-long n s behind number φ = record { text = repeated n s behind; room = 1288; number = number; derives = some φ }
+long n s behind number φ = record { text = repeated n s behind; room = 1288; number = number; derives = Some φ }
 
 -- so many not, and then a formula
 unfoldable pub nots : ℕ → Formula → Formula
@@ -113,5 +112,5 @@ Right n (r ∷ rs) = (wrong n r ≡ 0) × Right (suc n) rs
 
 -- every row computes; an edit of the definitions that breaks a row has its number in an error
 pub every_row : Right 1 rows
-unfolding Right wrong rows repeated nots ascii tokens_from token_of sign some_unknown postfix parsed_refusal any offset
+unfolding Right wrong rows repeated nots ascii tokens_from numeral_from token_of sign some_unknown postfix parsed_refusal any offset
 every_row = (refl, (refl, (refl, (refl, (refl, (refl, (refl, (refl, (refl, (refl, (refl, (refl, (refl, (refl, (refl, (refl, (refl, (refl, (refl, (refl, (refl, (refl, (refl, (refl, (refl, (refl, (refl, (refl, (refl, (refl, (refl, (refl, (refl, (refl, (refl, (refl, (refl, (refl, (refl, (refl, (refl, (refl, tt))))))))))))))))))))))))))))))))))))))))))

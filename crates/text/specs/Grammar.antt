@@ -1,10 +1,10 @@
 -- The grammar of a rule typed as text. Paper 1: "The words not, prev, next bind tightest, then since and until, grouping to
 -- the right, then or, grouping to the left; round brackets override. The four timed words carry [low,high], each end one to
 -- four digits without needless leading zeros, or inf as high."
-use Rattle.std.specs.Prelude.{ℕ, ◌≡◌, List, [], ◌∷◌, ◌++◌}
-use Rattle.std.proofs.Math.Option.{Option, none, some}
+use Rattle.std.specs.Prelude.{ℕ, ◌≡◌, List, [], ◌∷◌, ◌++◌, Option, None, Some}
 use Rattle.mtl.specs.Formula.{Formula, unbounded}
-use Rattle.text.specs.Tokens.{Token}
+use Rattle.text.specs.declared.token.Token.{Token}
+use Rattle.text.specs.declared.token.Token.TheVariants.{Letter, Number, Not, Or, Prev, Next, Since, Until, Inf, Opening, Closing, From, To, Comma}
 
 -- the levels of precedence, the loosest first
 pub data Level : Type 0 where
@@ -38,31 +38,31 @@ pub data Tree : Level → Type 0 where
 
 -- the tokens that a derivation derives
 abbrev pub end_token : End → Token
-end_token (at n) = Token.number n
-end_token inf = Token.inf
+end_token (at n) = Number n
+end_token inf = Inf
 
 -- [low,high]
 abbrev pub interval : ℕ → End → List Token
-interval low high = Token.from ∷ Token.number low ∷ Token.comma ∷ end_token high ∷ Token.to ∷ []
+interval low high = From ∷ Number low ∷ Comma ∷ end_token high ∷ To ∷ []
 
 abbrev pub spell_prefix : Prefix → List Token
-spell_prefix not = Token.not ∷ []
-spell_prefix (prev low high) = Token.prev ∷ interval low high
-spell_prefix (next low high) = Token.next ∷ interval low high
+spell_prefix not = Not ∷ []
+spell_prefix (prev low high) = Prev ∷ interval low high
+spell_prefix (next low high) = Next ∷ interval low high
 
 abbrev pub spell_infix : Infix → List Token
-spell_infix (since low high) = Token.since ∷ interval low high
-spell_infix (until low high) = Token.until ∷ interval low high
+spell_infix (since low high) = Since ∷ interval low high
+spell_infix (until low high) = Until ∷ interval low high
 
 unfoldable pub spell : {l : Level} → Tree l → List Token
-spell (letter k) = Token.letter k ∷ []
-spell (brackets t) = Token.opening ∷ spell t ++ (Token.closing ∷ [])
+spell (letter k) = Letter k ∷ []
+spell (brackets t) = Opening ∷ spell t ++ (Closing ∷ [])
 spell (tight t) = spell t
 spell (one o t) = spell_prefix o ++ spell t
 spell (untimed t) = spell t
 spell (two t o u) = spell t ++ (spell_infix o ++ spell u)
 spell (sole t) = spell t
-spell (or t u) = spell t ++ (Token.or ∷ spell u)
+spell (or t u) = spell t ++ (Or ∷ spell u)
 
 -- the formula that a derivation stands for
 abbrev pub bound : End → ℕ
@@ -96,8 +96,8 @@ pub record Derives (l : Level) (ts : List Token) (φ : Formula) : Type 0 where
 
 -- what the grammar derives from the tokens of a whole text: a formula, or none
 abbrev pub Derived : List Token → Option Formula → Type 0
-Derived ts none = (φ : Formula) → Derives ors ts φ → ⊥
-Derived ts (some φ) = Derives ors ts φ
+Derived ts None = (φ : Formula) → Derives ors ts φ → ⊥
+Derived ts (Some φ) = Derives ors ts φ
 
 -- "in one way only": what is proved of the tokens of every text (proofs/Complete)
 pub record InOneWay (ts : List Token) : Type 0 where

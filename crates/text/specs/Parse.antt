@@ -1,7 +1,8 @@
 -- What `parse` promises. Paper 1: "16 when a word, sign or form of number is unknown or the text is too long; 17 when the grammar
 -- does not derive it; then 4 for more than 128 entries, then 6 and 8; last 18 when the lent rule buffer is short."
-use Rattle.std.specs.Prelude.{ℕ, ◌+◌, ◌*◌, Bool, true, false, cond, ◌≡◌, List, [], ◌++◌, ltb, eqb, length, drop}
-use Rattle.std.proofs.Math.Option.{Option, none, some}
+use Rattle.std.specs.Prelude.{ℕ, ◌+◌, ◌*◌, Bool, true, false, cond, ◌≡◌, List, [], ◌++◌, ltb, eqb, length, drop, Option, None, Some, Result, Ok, Err}
+use Rattle.refusal.specs.declared.Refusal.{Refusal}
+use Rattle.refusal.specs.Number.{number_of}
 use Rattle.mtl.specs.Formula.{Formula}
 use Rattle.mtl.specs.Satisfaction.{any}
 use Rattle.rule.specs.declared.Entry.{Entry}
@@ -10,23 +11,21 @@ use Rattle.rule.specs.Encoding.{rule_of}
 use Rattle.rule.specs.Refusal.{misplaced_at, over_limit, first}
 use Rattle.text.specs.Tokens.{tokens, unreadable}
 use Rattle.text.specs.Grammar.{Derived}
-use Rattle.text.specs.declared.Parsed.{Parsed}
-use Rattle.text.specs.declared.Parsed.TheVariants.{Written, Refused}
 
 -- the number of bytes written, or a refusal's number
 pub record Answer : Type 0 where
   pub number : ℕ
   pub written : ℕ
 
--- the paper's number and value for each case of the enum
-abbrev pub answer : Parsed → Answer
-answer (Written n) = record { number = 0; written = n }
-answer (Refused n) = record { number = n; written = 0 }
+-- the paper's number and value for each case of the result
+abbrev pub answer : Result ℕ Refusal → Answer
+answer (Ok n) = record { number = 0; written = n }
+answer (Err refusal) = record { number = number_of refusal; written = 0 }
 
 -- 17: the grammar derives nothing
 abbrev pub underived : Option Formula → Bool
-underived none = true
-underived (some φ) = false
+underived None = true
+underived (Some φ) = false
 
 -- 4, 6, 8 and 18, of the entries of a formula and a lent buffer of `room` bytes
 unfoldable pub parsed_refusal : List Entry → ℕ → ℕ
@@ -37,8 +36,8 @@ parsed_refusal es room =
 
 -- the entries, in postfix order, of what the grammar derives
 abbrev pub entries_of : Option Formula → List Entry
-entries_of none = []
-entries_of (some φ) = postfix φ
+entries_of None = []
+entries_of (Some φ) = postfix φ
 
 -- the number with which reading the text stops, by what the grammar derives from it; 0 where it is accepted
 abbrev pub text_refusal : List ℕ → Option Formula → ℕ → ℕ
@@ -46,8 +45,8 @@ text_refusal text o room = first 16 (unreadable text) (first 17 (underived o) (p
 
 -- the rule's bytes
 abbrev pub bytes : Option Formula → List ℕ
-bytes none = []
-bytes (some φ) = rule_of φ
+bytes None = []
+bytes (Some φ) = rule_of φ
 
 -- what the call answers, by what the grammar derives
 abbrev pub parsed : List ℕ → Option Formula → ℕ → Answer
@@ -59,7 +58,7 @@ abbrev pub rule_buffer_after : List ℕ → Option Formula → List ℕ → List
 rule_buffer_after text o rule = cond (eqb (text_refusal text o (length rule)) 0) (bytes o ++ drop (length (bytes o)) rule) rule
 
 -- what the grammar derives from the text's tokens, a formula or none, settles the rest
-pub record Parses (text rule : List ℕ) (r : Parsed) (rule' : List ℕ) : Type 0 where
+pub record Parses (text rule : List ℕ) (r : Result ℕ Refusal) (rule' : List ℕ) : Type 0 where
   pub derives : Option Formula
   pub derived : Derived (tokens text) derives
   pub answers : answer r ≡ parsed text derives (length rule)

@@ -1,53 +1,45 @@
 // The buffer in which a rule grows while its text is read.
-ghost use Rattle.std.specs.Prelude.{◌≡◌, ◌++◌, ◌≤◌, length, take, drop};
-ghost use Rattle.rule.specs.Encoding.{rule_header};
-ghost use Rattle.text.specs.Reader.{Puts};
+ghost use Rattle.std.specs.Prelude.{[]};
+ghost use Rattle.text.specs.Reader.{Contains, Puts};
+
+use rule::Entry;
 
 // the most entries of a rule
-const MOST: usize = 128;
+pub const MOST: usize = 128;
 
-// A buffer with a rule's header, the count still 0.
-pub fn begin() -> [u8; 1288]
-    ensures { (length result ≡ 1288) × (take 8 result ≡ rule_header 0) }
-{
-    let mark = b"KRL";
-    let mut out = [0u8; 1288];
-    out[0] = mark[0];
-    out[1] = mark[1];
-    out[2] = mark[2];
-    out[4] = 1;
-    out
+// The bytes of a rule whose count is still 0, and the number of its entries: 129 stands for more than 128, which are not written.
+#[derive(Clone, Copy)]
+pub struct Buffer {
+    pub bytes: [u8; 1288],
+    pub count: usize,
 }
 
-// Writes an entry behind the first `count`. Beyond 128 they are no longer written, nor counted one by one: 129 stands for more.
-pub fn put(out: &mut [u8; 1288], count: usize, kind: u8, letter: u8, low: u32, high: u32) -> usize
-    ensures { Puts out.old count (record { kind = kind; letter = letter; low = low; high = high }) result out.new }
-{
-    if count >= MOST {
-        return 129;
+impl Buffer {
+    #[tactic(auto, unfolding(rule::specs::Encoding::body))]
+    pub fn new() -> Buffer
+        ensures { Contains result [] }
+    {
+        let mut bytes = [0u8; 1288];
+        bytes[0] = b'K';
+        bytes[1] = b'R';
+        bytes[2] = b'L';
+        bytes[4] = 1;
+        Buffer { bytes, count: 0 }
     }
-    let at = 8 + count * 10;
-    out[at] = kind;
-    out[at + 1] = letter;
-    out[at + 2] = (low / 16777216) as u8;
-    out[at + 3] = (low / 65536 % 256) as u8;
-    out[at + 4] = (low / 256 % 256) as u8;
-    out[at + 5] = (low % 256) as u8;
-    out[at + 6] = (high / 16777216) as u8;
-    out[at + 7] = (high / 65536 % 256) as u8;
-    out[at + 8] = (high / 256 % 256) as u8;
-    out[at + 9] = (high % 256) as u8;
-    count + 1
-}
 
-// Copies bytes to the front of others.
-pub fn copy(from: &[u8], to: &mut [u8])
-    requires { length from.now ≤ length to.old }
-    ensures { to.new ≡ from.now ++ drop (length from.now) to.old }
-{
-    let mut i: usize = 0;
-    while i < from.len() {
-        to[i] = from[i];
-        i += 1;
+    // Writes an entry behind the others.
+    pub fn put(&mut self, e: Entry)
+        ensures { Puts self.old e self.new }
+    {
+        if self.count >= MOST {
+            self.count = MOST + 1;
+            return;
+        }
+        let at = 8 + self.count * 10;
+        self.bytes[at] = e.kind;
+        self.bytes[at + 1] = e.letter;
+        self.bytes[at + 2..at + 6].copy_from_slice(&e.low.to_be_bytes());
+        self.bytes[at + 6..at + 10].copy_from_slice(&e.high.to_be_bytes());
+        self.count += 1;
     }
 }

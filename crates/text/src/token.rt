@@ -1,303 +1,193 @@
 // The tokens of a text, one at a time.
-ghost use Rattle.std.specs.Prelude.{◌≡◌, cond, ◌+◌, ◌*◌, ◌≤◌, ◌<◌, ltb};
-ghost use Rattle.text.specs.Tokens.{runs, single, extended, longer, numeral, lettered, numbered, letter_or_number, token_of, tokens, some_unknown};
+ghost use Rattle.std.specs.Prelude.{◌≡◌, ◌<◌, IfSome};
+ghost use Rattle.text.specs.Tokens.{runs, digit, extended, numeral, lettered, letter_or_number, token_of, tokens, some_unknown};
 ghost use Rattle.text.specs.Tokens.{sign as sign_of};
-ghost use Rattle.text.specs.Reader.{kind, Marks, Skips, RunsTo, Lexed};
+ghost use Rattle.text.specs.Reader.{Skips, RunsTo, Lexed};
 
-// The kinds of token. Those of words that have entries are the kinds of entries.
-pub const LETTER: u8 = 0;
-
-pub const NOT: u8 = 1;
-
-pub const OR: u8 = 2;
-
-pub const PREV: u8 = 3;
-
-pub const NEXT: u8 = 4;
-
-pub const SINCE: u8 = 5;
-
-pub const UNTIL: u8 = 6;
-
-pub const NUMBER: u8 = 7;
-
-pub const INF: u8 = 8;
-
-pub const OPENING: u8 = 9;
-
-pub const CLOSING: u8 = 10;
-
-pub const FROM: u8 = 11;
-
-pub const TO: u8 = 12;
-
-pub const COMMA: u8 = 13;
-
-pub const UNKNOWN: u8 = 14;
-
-pub const END: u8 = 15;
-
-// What no number of four digits reaches.
-const NO_NUMBER: u32 = 10000;
-
-// A word, with the letter's number or the number's value.
-#[derive(Clone, Copy)]
-pub struct Mark {
-    pub kind: u8,
-    pub letter: u8,
-    pub value: u32,
-}
-
-// A longest run of small letters and digits: its bytes as one number, and the place behind it.
-#[derive(Clone, Copy)]
-pub struct Run {
-    pub code: u64,
-    pub next: usize,
+// The words and numbers, the signs ( ) [ ] and the comma; `Unknown` is any other run or sign.
+#[derive(Clone, Copy, PartialEq, Eq)]
+pub enum Token {
+    Letter(u8),
+    Number(u32),
+    Not,
+    Or,
+    Prev,
+    Next,
+    Since,
+    Until,
+    Inf,
+    Opening,
+    Closing,
+    From,
+    To,
+    Comma,
+    Unknown,
 }
 
 // A token, and the place behind it.
 #[derive(Clone, Copy)]
 pub struct Lexeme {
-    pub kind: u8,
-    pub letter: u8,
-    pub value: u32,
+    pub token: Token,
     pub next: usize,
 }
 
 fn is_run(b: u8) -> bool
     ensures { result ≡ runs b }
 {
-    ((b >= 97) & (b <= 122)) | ((b >= 48) & (b <= 57))
+    matches!(b, b'a'..=b'z' | b'0'..=b'9')
 }
 
-fn single_digit(b: u64) -> u32
-    ensures { (result ≡ single b) × (result ≤ 10000) }
+fn digit(b: u8) -> Option<u32>
+    ensures { (result ≡ digit b) × IfSome result (λ v. v < 10) }
 {
-    if b < 48 {
-        NO_NUMBER
-    } else if b > 57 {
-        NO_NUMBER
+    match b {
+        b'0'..=b'9' => Some(u32::from(b - b'0')),
+        _ => None,
+    }
+}
+
+// A number with one digit more: at most four digits, and nothing stands behind a leading zero.
+fn extend(front: u32, b: u8) -> Option<u32>
+    ensures { (result ≡ extended (Some front) b) × IfSome result (λ v. v < 10000) }
+{
+    let last = digit(b)?;
+    if (front == 0) | (front >= 1000) {
+        None
     } else {
-        (b - 48) as u32
+        Some(front * 10 + last)
     }
 }
 
-fn extend(front: u32, b: u64) -> u32
-    ensures { (result ≡ extended front b) × (result ≤ 10000) }
+#[tactic(auto, using(crate::proofs::Lexing::none_from), unfolding(crate::specs::Tokens::numeral_from))]
+fn number(run: &[u8]) -> Option<u32>
+    ensures { result ≡ numeral run.now }
 {
-    let digit = single_digit(b);
-    if front == 0 {
-        NO_NUMBER
-    } else if front >= 1000 {
-        NO_NUMBER
-    } else if digit >= 10 {
-        NO_NUMBER
-    } else {
-        front * 10 + digit
+    let (first, rest) = run.split_first()?;
+    let mut value = digit(*first)?;
+    for b in rest {
+        value = extend(value, *b)?;
+    }
+    Some(value)
+}
+
+fn letter(value: Option<u32>) -> Token
+    ensures { result ≡ lettered value }
+{
+    match value {
+        Some(k) if k < 32 => Token::Letter(k as u8),
+        _ => Token::Unknown,
     }
 }
 
-fn lengthen(run: u64, front: u32) -> u32
-    ensures { (result ≡ longer run front) × (result ≤ 10000) }
+fn letter_or_number(run: &[u8]) -> Token
+    ensures { result ≡ letter_or_number run.now }
 {
-    if run < 256 {
-        single_digit(run)
-    } else {
-        extend(front, run % 256)
+    match run {
+        [b'e', digits @ ..] => letter(number(digits)),
+        _ => match number(run) {
+            Some(value) => Token::Number(value),
+            None => Token::Unknown,
+        },
     }
 }
 
-fn number(run: u64) -> u32
-    ensures { (result ≡ numeral run) × (result ≤ 10000) }
+// The word that a run is, or a letter or a number.
+#[tactic(auto, unfolding(crate::specs::Tokens::token_of, crate::specs::Ascii::ascii))]
+fn word(run: &[u8]) -> Token
+    ensures { result ≡ token_of run.now }
 {
-    lengthen(
-        run,
-        lengthen(
-            run / 256,
-            lengthen(run / 65536, single_digit(run / 16777216)),
-        ),
-    )
-}
-
-fn letter_mark(value: u32) -> Mark
-    ensures { Marks (lettered value) result }
-{
-    if value < 32 {
-        Mark {
-            kind: LETTER,
-            letter: value as u8,
-            value: 0,
-        }
-    } else {
-        Mark {
-            kind: UNKNOWN,
-            letter: 0,
-            value: 0,
-        }
-    }
-}
-
-fn number_mark(value: u32) -> Mark
-    ensures { Marks (numbered value) result }
-{
-    if value < NO_NUMBER {
-        Mark {
-            kind: NUMBER,
-            letter: 0,
-            value,
-        }
-    } else {
-        Mark {
-            kind: UNKNOWN,
-            letter: 0,
-            value: 0,
-        }
-    }
-}
-
-fn letter_or_number(run: u64) -> Mark
-    ensures { Marks (letter_or_number run) result }
-{
-    if run / 256 == 0x65 {
-        letter_mark(number(run % 256))
-    } else if run / 65536 == 0x65 {
-        letter_mark(number(run % 65536))
-    } else {
-        number_mark(number(run))
-    }
-}
-
-fn bare(kind: u8) -> Mark
-    ensures { (result.kind ≡ kind) × (result.letter ≡ 0) × (result.value ≡ 0) }
-{
-    Mark {
-        kind,
-        letter: 0,
-        value: 0,
-    }
-}
-
-// The word that a run is: its bytes are those of not, or, prev, next, since, until, inf in ASCII, or a letter's or a number's.
-fn word_mark(run: u64) -> Mark
-    ensures { Marks (token_of run) result }
-{
-    if run == 0x6E6F74 {
-        bare(NOT)
-    } else if run == 0x6F72 {
-        bare(OR)
-    } else if run == 0x70726576 {
-        bare(PREV)
-    } else if run == 0x6E657874 {
-        bare(NEXT)
-    } else if run == 0x73696E6365 {
-        bare(SINCE)
-    } else if run == 0x756E74696C {
-        bare(UNTIL)
-    } else if run == 0x696E66 {
-        bare(INF)
+    if run == b"not".as_slice() {
+        Token::Not
+    } else if run == b"or".as_slice() {
+        Token::Or
+    } else if run == b"prev".as_slice() {
+        Token::Prev
+    } else if run == b"next".as_slice() {
+        Token::Next
+    } else if run == b"since".as_slice() {
+        Token::Since
+    } else if run == b"until".as_slice() {
+        Token::Until
+    } else if run == b"inf".as_slice() {
+        Token::Inf
     } else {
         letter_or_number(run)
     }
 }
 
-fn sign(b: u8) -> u8
-    ensures { (result ≡ kind (sign_of b)) × (result < 15) }
+#[tactic(auto, unfolding(crate::specs::Tokens::sign))]
+fn sign(b: u8) -> Token
+    ensures { result ≡ sign_of b }
 {
-    if b == 40 {
-        OPENING
-    } else if b == 41 {
-        CLOSING
-    } else if b == 91 {
-        FROM
-    } else if b == 93 {
-        TO
-    } else if b == 44 {
-        COMMA
-    } else {
-        UNKNOWN
+    match b {
+        b'(' => Token::Opening,
+        b')' => Token::Closing,
+        b'[' => Token::From,
+        b']' => Token::To,
+        b',' => Token::Comma,
+        _ => Token::Unknown,
     }
 }
 
 // The place of the next byte that is no space.
+#[tactic(auto, using(crate::proofs::Lexing::space, crate::proofs::Lexing::space_inside))]
 fn skip(text: &[u8], at: usize) -> usize
     ensures { Skips text.now at result }
 {
     let mut i = at;
-    while rule::byte_at(text, i) == 32 {
+    while rule::byte_at(text, i) == b' ' {
         i += 1;
     }
     i
 }
 
-// A run with one byte more. One that is longer than every word stays as it is: it is unknown already.
-fn grow(code: u64, b: u8) -> u64
-    ensures { result ≡ cond (ltb code 1099511627776) (code * 256 + b) code }
-{
-    if code < 1099511627776 {
-        code * 256 + b as u64
-    } else {
-        code
-    }
-}
-
-fn run_at(text: &[u8], at: usize) -> Run
+// The place behind the run of small letters and digits at a place.
+#[tactic(auto, using(crate::proofs::Lexing::run_inside, crate::proofs::Lexing::run_more))]
+fn run_end(text: &[u8], at: usize) -> usize
     ensures { RunsTo text.now at result }
 {
-    let mut code: u64 = 0;
     let mut i = at;
     while is_run(rule::byte_at(text, i)) {
-        code = grow(code, rule::byte_at(text, i));
         i += 1;
     }
-    Run { code, next: i }
+    i
 }
 
-// The next token from a place of the text on.
-pub fn token_at(text: &[u8], at: usize) -> Lexeme
+// The next token from a place of the text on; none behind the last.
+#[tactic(auto, using(crate::proofs::Lexing::lexed_run, crate::proofs::Lexing::lexed_end))]
+pub fn token_at(text: &[u8], at: usize) -> Option<Lexeme>
     ensures { Lexed text.now at result }
 {
     let from = skip(text, at);
-    let b = rule::byte_at(text, from);
-    if is_run(b) {
-        let run = run_at(text, from);
-        let mark = word_mark(run.code);
-        return Lexeme {
-            kind: mark.kind,
-            letter: mark.letter,
-            value: mark.value,
-            next: run.next,
-        };
+    if from >= text.len() {
+        return None;
     }
-    if from < text.len() {
-        Lexeme {
-            kind: sign(b),
-            letter: 0,
-            value: 0,
-            next: from + 1,
-        }
+    let b = text[from];
+    if is_run(b) {
+        let next = run_end(text, from);
+        Some(Lexeme {
+            token: word(&text[from..next]),
+            next,
+        })
     } else {
-        Lexeme {
-            kind: END,
-            letter: 0,
-            value: 0,
-            next: from,
-        }
+        Some(Lexeme {
+            token: sign(b),
+            next: from + 1,
+        })
     }
 }
 
 // Whether some token of the text is unknown.
+#[tactic(auto, using(crate::proofs::Lexing::unknown_here, crate::proofs::Lexing::unknown_later, crate::proofs::Lexing::none_unknown))]
 pub fn any_unknown(text: &[u8]) -> bool
     ensures { result ≡ some_unknown (tokens text.now) }
 {
     let mut at: usize = 0;
-    loop {
-        let token = token_at(text, at);
-        if token.kind == UNKNOWN {
+    while let Some(lexeme) = token_at(text, at) {
+        if lexeme.token == Token::Unknown {
             return true;
         }
-        if token.kind == END {
-            return false;
-        }
-        at = token.next;
+        at = lexeme.next;
     }
+    false
 }

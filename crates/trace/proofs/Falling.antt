@@ -14,9 +14,6 @@ use Rattle.trace.specs.Format.{time_at}
 use Rattle.trace.specs.Order.{falls_at, FallsBetween}
 
 module _ (s : List ℕ) where
-  pub none_between : (at : ℕ) → FallsBetween s at at 0
-  none_between at = (omega arith, λ z i low high. absurd (omega arith), λ some. absurd (omega arith))
-
   one_told : (at : ℕ) (b : Bool) → falls_at s at ≡ b → FallsBetween s at (at + 1) (number b)
   one_told at true e = (omega arith, λ z. absurd (omega arith), λ some. (at, omega arith, omega arith, e))
   one_told at false e =

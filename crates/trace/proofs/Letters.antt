@@ -61,10 +61,6 @@ module _ (s : List ℕ) (bytes : (i : ℕ) → get_or s i 0 < 256) where
       ∙ ap (λ (v : ℕ). bit v (k % 8)) (whole_byte i (k / 8) (omega arith))
       ∙ bit_of i k h
 
--- no position yet
-pub raised_none : (f : ℕ → Bool) (up : ℕ) → Raised f 0 up 0
-raised_none f up = record { answers = 0; small = omega arith; packed = packed_none f 0 0; told = omega arith }
-
 doubled : (a q : ℕ) → a * 2 * q ≡ a * q * 2
 doubled a q = mul_assoc a 2 q ∙ ap (λ (k : ℕ). a * k) (mul_comm 2 q) ∙ sym (mul_assoc a q 2)
 

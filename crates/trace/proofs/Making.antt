@@ -28,6 +28,12 @@ length_put buffer at bytes fits = ap length (sym (stored buffer at bytes fits)) 
 pub put_nothing : (buffer : List ℕ) (at : ℕ) → at ≤ length buffer → buffer ≡ put buffer at []
 put_nothing buffer at fits = stored buffer at [] (omega arith)
 
+-- a part written at once
+pub put_part : (buffer : List ℕ) (at n : ℕ) (part bytes : List ℕ) → part ≡ bytes → length bytes ≡ n → take at buffer ++ (part ++ drop n (drop at buffer)) ≡ put buffer at bytes
+put_part buffer at n part bytes same long =
+    ap (λ (l : List ℕ). take at buffer ++ (l ++ drop n (drop at buffer))) same ∙
+    ap (λ (l : List ℕ). take at buffer ++ (bytes ++ l)) (ap (λ (k : ℕ). drop k (drop at buffer)) (sym long) ∙ drop-drop (length bytes) at buffer)
+
 -- bytes written behind bytes that were written: both at once
 module _ (buffer : List ℕ) (at : ℕ) (first second : List ℕ) (fits : at + (length first + length second) ≤ length buffer) where
   front : length (take at buffer ++ first) ≡ at + length first
@@ -134,9 +140,6 @@ module _ (time events : ℕ → ℕ) where
       let long = length-append (log_header 1) (records_bytes time events n) in
       (well_formed_iff (log_bytes time events n)).1
       (record { long = le-ltb (length (log_bytes time events n)) 8 (omega arith); header = refl; whole = omega arith; few = omega arith })
-
-  pub made_records : (n : ℕ) → records_of (log_bytes time events n) ≡ records_bytes time events n
-  made_records n = refl
 
   -- version 1 has no service records
   pub made_plain : (n : ℕ) → skips_of (log_bytes time events n) ≡ false

@@ -13,32 +13,28 @@ fn word(bytes: &[u8], at: usize) -> u64
     requires { at + 4 ≤ length bytes.now }
     ensures { (result ≡ word_at bytes.now at) × (result < 4294967296) }
 {
-    bits::bytes::wide(bytes[at]) * 16777216
-        + bits::bytes::wide(bytes[at + 1]) * 65536
-        + bits::bytes::wide(bytes[at + 2]) * 256
-        + bits::bytes::wide(bytes[at + 3])
+    u64::from(u32::from_be_bytes([bytes[at], bytes[at + 1], bytes[at + 2], bytes[at + 3]]))
 }
 
 fn has_wrong_mark(log: &[u8]) -> bool
     requires { 8 ≤ length log.now }
     ensures { result ≡ wrong_mark log.now }
 {
-    let mark = b"KLG";
-    (log[0] != mark[0]) | ((log[1] != mark[1]) | (log[2] != mark[2]))
+    !log.starts_with(b"KLG")
 }
 
 fn version(log: &[u8]) -> u64
     requires { 8 ≤ length log.now }
     ensures { result ≡ version_of log.now }
 {
-    bits::bytes::wide(log[3]) * 256 + bits::bytes::wide(log[4])
+    u64::from(u16::from_be_bytes([log[3], log[4]]))
 }
 
 fn has_wrong_spare(log: &[u8]) -> bool
     requires { 8 ≤ length log.now }
     ensures { result ≡ wrong_spare log.now }
 {
-    (log[5] != 0) | ((log[6] != 0) | (log[7] != 0))
+    log[5..8] != [0, 0, 0]
 }
 
 // Versions 1 to 3 are known.
@@ -46,30 +42,21 @@ fn has_wrong_version(log: &[u8]) -> bool
     requires { 8 ≤ length log.now }
     ensures { result ≡ wrong_version log.now }
 {
-    let found = version(log);
-    (found < 1) | (3 < found)
+    !matches!(version(log), 1..=3)
 }
 
 // Whether the log's version has service records: from version 2 on.
 pub fn skips(log: &[u8]) -> bool
     ensures { result ≡ skips_of log.now }
 {
-    if log.len() < 8 {
-        false
-    } else {
-        2 <= version(log)
-    }
+    8 <= log.len() && 2 <= version(log)
 }
 
 // Whether the log has a count of records dropped behind its header: version 3 does.
 fn is_trimmed(log: &[u8]) -> bool
     ensures { result ≡ is_trimmed log.now }
 {
-    if log.len() < 16 {
-        false
-    } else {
-        version(log) == 3
-    }
+    16 <= log.len() && version(log) == 3
 }
 
 // How many records were dropped before those of the log.
@@ -105,11 +92,7 @@ pub fn total_records(log: &[u8]) -> usize
 fn is_too_short(log: &[u8]) -> bool
     ensures { result ≡ too_short log.now }
 {
-    if log.len() < 8 {
-        true
-    } else {
-        (log.len() < 16) & (version(log) == 3)
-    }
+    log.len() < 8 || (log.len() < 16) & (version(log) == 3)
 }
 
 // Whether there are more than 1,000,000 records, dropped ones included, whose count may be any number.
@@ -117,11 +100,7 @@ fn has_too_many(log: &[u8]) -> bool
     ensures { result ≡ ltb 1000000 (total_records log.now) }
 {
     let here = count(records(log)) as u64;
-    if 1000000 < here {
-        true
-    } else {
-        1000000 - here < dropped(log)
-    }
+    1000000 < here || 1000000 - here < dropped(log)
 }
 
 // Check 12.
@@ -179,23 +158,25 @@ fn letter_bit(records: &[u8], i: usize, letter: u64) -> u64
     ensures { (result ≡ number (has_letter records.now letter i) * 2 ^ (letter % 8)) × (result < 256) }
 {
     let byte = records[i * 8 + (7 - (letter / 8) as usize)];
-    bits::bytes::wide(byte) & (1 << (letter % 8))
+    u64::from(byte) & (1 << (letter % 8))
 }
 
 // Record i as one number, its first byte the least: it is compiled as one load.
-fn whole(records: &[u8], i: usize) -> u64
+pub fn whole(records: &[u8], i: usize) -> u64
     requires { i < record_count records.now }
     ensures { result ≡ whole_at records.now i }
 {
     let at = i * 8;
-    bits::bytes::wide(records[at])
-        + bits::bytes::wide(records[at + 1]) * 256
-        + bits::bytes::wide(records[at + 2]) * 65536
-        + bits::bytes::wide(records[at + 3]) * 16777216
-        + bits::bytes::wide(records[at + 4]) * 4294967296
-        + bits::bytes::wide(records[at + 5]) * 1099511627776
-        + bits::bytes::wide(records[at + 6]) * 281474976710656
-        + bits::bytes::wide(records[at + 7]) * 72057594037927936
+    u64::from_le_bytes([
+        records[at],
+        records[at + 1],
+        records[at + 2],
+        records[at + 3],
+        records[at + 4],
+        records[at + 5],
+        records[at + 6],
+        records[at + 7],
+    ])
 }
 
 // The place of a letter's bit in a record as one number.
@@ -220,9 +201,7 @@ pub fn letter_group(records: &[u8], from: usize, n: usize, letter: u64) -> u64
     ensures { (result < 2 ^ n) × Packed (has_letter records.now letter) from n result }
 {
     let mut answers: u64 = 0;
-    let mut i = n;
-    while 0 < i {
-        i -= 1;
+    for i in (0..n).rev() {
         answers = answers * 2 + letter_bit(records, from + i, letter);
     }
     answers >> (letter % 8)
@@ -235,10 +214,8 @@ fn alternate_eight(records: &[u8], from: usize, letter: u64) -> u64
     ensures { Raised (every_other (has_letter records.now letter) from) 8 (place_of letter - 6) result }
 {
     let mut answers: u64 = 0;
-    let mut i: usize = 0;
-    while i < 4 {
+    for i in 0..4 {
         answers = (answers >> 2) + letter_mark(records, from + i * 2, letter);
-        i += 1;
     }
     answers
 }
@@ -249,10 +226,8 @@ fn alternate(records: &[u8], from: usize, letter: u64) -> u64
     ensures { Raised (every_other (has_letter records.now letter) from) 32 (place_of letter - 30) result }
 {
     let mut answers: u64 = 0;
-    let mut i: usize = 0;
-    while i < 4 {
+    for i in 0..4 {
         answers = (answers >> 8) + alternate_eight(records, from + i * 8, letter);
-        i += 1;
     }
     answers
 }
@@ -273,13 +248,13 @@ pub fn letter_bits(records: &[u8], from: usize, n: usize, letter: u64) -> u64
     ensures { Packed (has_letter records.now letter) from n result }
 {
     let mut answers: u64 = 0;
-    let mut i: usize = 0;
-    while i + 32 <= n {
-        answers = answers + (letter_many(records, from + i, letter) << i as u64);
-        i += 32;
+    for group in 0..n / 32 {
+        let i = group * 32;
+        answers += letter_many(records, from + i, letter) << i as u64;
     }
+    let i = n / 32 * 32;
     if i < n {
-        answers = answers + (letter_group(records, from + i, n - i, letter) << i as u64);
+        answers += letter_group(records, from + i, n - i, letter) << i as u64;
     }
     answers
 }
@@ -290,11 +265,8 @@ fn count_falls(records: &[u8], from: usize, n: usize) -> u64
     ensures { FallsBetween records.now from (from + n) result }
 {
     let mut falls: u64 = 0;
-    let mut i: usize = 0;
-    while i < n {
-        let at = from + i;
-        falls += bits::flag(time(records, at) < time(records, at - 1));
-        i += 1;
+    for i in from..from + n {
+        falls += bits::flag(time(records, i) < time(records, i - 1));
     }
     falls
 }
@@ -309,23 +281,18 @@ fn times_fall(records: &[u8]) -> bool
         return false;
     }
     let mut falls: u64 = 0;
-    let mut i: usize = 1;
-    while i + 8 <= end {
-        falls += count_falls(records, i, 8);
-        i += 8;
+    for group in 0..(end - 1) / 8 {
+        falls += count_falls(records, 1 + group * 8, 8);
     }
-    0 < falls + count_falls(records, i, end - i)
+    let left = (end - 1) % 8;
+    0 < falls + count_falls(records, end - left, left)
 }
 
 // Whether the first new record's time is below the last time seen.
 fn begins_below(records: &[u8], seen: usize, last: u64) -> bool
     ensures { result ≡ starts_below records.now seen last }
 {
-    if seen < count(records) {
-        time(records, seen) < last
-    } else {
-        false
-    }
+    seen < count(records) && time(records, seen) < last
 }
 
 // Check 14 on the records from the first wanted on, of which `seen` were seen before.
@@ -352,15 +319,7 @@ pub fn write_header(log: &mut [u8], version: u8)
     requires { 8 ≤ length log.old }
     ensures { log.new ≡ put log.old 0 (log_header version) }
 {
-    let mark = b"KLG";
-    log[0] = mark[0];
-    log[1] = mark[1];
-    log[2] = mark[2];
-    log[3] = 0;
-    log[4] = version;
-    log[5] = 0;
-    log[6] = 0;
-    log[7] = 0;
+    log[0..8].copy_from_slice(&[b'K', b'L', b'G', 0, version, 0, 0, 0]);
 }
 
 // Writes a record into the eight bytes from `at` on: two numbers, big-endian.
@@ -368,18 +327,8 @@ pub fn write_record(log: &mut [u8], at: usize, time: u32, events: u32)
     requires { at + 8 ≤ length log.old }
     ensures { log.new ≡ put log.old at (record_bytes time events) }
 {
-    bits::bytes::write_eight(
-        log,
-        at,
-        (time / 16777216 % 256) as u8,
-        (time / 65536 % 256) as u8,
-        (time / 256 % 256) as u8,
-        (time % 256) as u8,
-        (events / 16777216 % 256) as u8,
-        (events / 65536 % 256) as u8,
-        (events / 256 % 256) as u8,
-        (events % 256) as u8,
-    );
+    log[at..at + 4].copy_from_slice(&time.to_be_bytes());
+    log[at + 4..at + 8].copy_from_slice(&events.to_be_bytes());
 }
 
 // Writes a version 3 log of these records, before which so many were dropped, and gives its length.
@@ -396,6 +345,7 @@ pub fn write_trimmed(dropped: u64, records: &[u8], log: &mut [u8]) -> usize
         (dropped / 4294967296) as u32,
         (dropped % 4294967296) as u32,
     );
-    bits::bytes::copy(records, log, 16);
-    16 + records.len()
+    let end = 16 + records.len();
+    log[16..end].copy_from_slice(records);
+    end
 }

@@ -24,15 +24,16 @@ use Rattle.trace.specs.Positions.{place}
 use Rattle.window.specs.Window.{window_of, Opened, Windowed, Passed, FirstTime}
 use Rattle.window.specs.declared.Window.{Window}
 use Rattle.window.proofs.Reading.{shown_time_bound}
+use Rattle.window.specs.declared.view.View.{View}
 use Rattle.blocks.specs.Block.{word, taken, left_count, left_bits, right_count, right_bits, answered, last_left, last_right, head, waiting_head, Onward, Heads, Until, Buffer, Ready}
 use Rattle.blocks.specs.Step.{Agrees, Moved, Stepped, Ends}
-use Rattle.walks.specs.Settle.{pick, settle_spec, time_of_none, next_of, ReadsTimes, Reached, StillWaits, Walk}
+use Rattle.walks.specs.Settle.{settle_spec, time_of_none, next_of, ReadsTimes, Reached, StillWaits, Walk}
 use Rattle.until.specs.Code.{HasRecords, starts_of, ahead_of, last_taken, walked, FitsRoom, OpensAhead, Waiting, Strides, Stuck, Wants}
 use Rattle.walks.specs.declared.Last.{Last}
 use Rattle.until.specs.declared.Room.{Room}
 use Rattle.until.specs.declared.Stride.{Stride}
 use Rattle.walks.specs.declared.Walked.{Walked}
-use Rattle.walks.specs.declared.Settled.TheVariants.{Unknown}
+use Rattle.std.specs.Prelude.{None}
 use Rattle.blocks.specs.declared.Step.{Step}
 use Rattle.blocks.specs.declared.Step.TheVariants.{Batch, Left, Right, Again, Open}
 use Rattle.blocks.proofs.Words.{Store, put, after, word_stores, stores_onward, fits, less_to_do, available}
@@ -77,7 +78,7 @@ waiting_fits : (g at take answer : ℕ) → g ≤ at → answer ≡ min (at - g 
     (g + answer ≤ at + take) × ((i : ℕ) → i ≤ 64 → g + i ≤ at + take → i ≤ answer)
 waiting_fits g at take answer h e = (omega arith, λ i few l. omega arith)
 
-module _ {v s b : List ℕ} {r : Room} {ahead : Window} {copy : List ℕ} (opens : OpensAhead v s b r ahead copy) where
+module _ {v : View} {s b : List ℕ} {r : Room} {ahead : Window} {copy : List ℕ} (opens : OpensAhead v s b r ahead copy) where
   looks : (r.take ≤ r.look) × (taken b + r.look ≤ total v) × (taken b + r.take < total v → r.take < r.look) × (taken b + r.take ≡ total v → r.look ≤ r.take)
   looks = ahead_fits (taken b) r.take r.look (total v) opens.fits.inside opens.fits.ahead
 
@@ -226,8 +227,8 @@ walked_stores w head waiting_head b =
     put 16 waiting_head ∷ [])
 
 -- an operand is wanted, and the block is as it was
-pub wanted_ends : (v b : List ℕ) (r : Step) → Wants b r → Ends true true v b r b
-wanted_ends v b (Batch bits count) t = absurd t
+pub wanted_ends : (v : View) (b : List ℕ) (r : Step) → Wants b r → Ends true true v b r b
+wanted_ends v b (Batch a) t = absurd t
 wanted_ends v b Again t = absurd t
 wanted_ends v b Left t = (refl, refl, t)
 wanted_ends v b Right t = (refl, refl, t.1, λ e. t.0)
@@ -244,7 +245,7 @@ stands_inside total at g e = let t = logic.neither (ltb total at) (ltb at g) e i
 module _ {low high most : ℕ} (clamp : most ≡ min high unbounded) (φ ψ : Formula) (L : Log) (falls : NeverFalls L) {g p start next : ℕ} {fresh : Bool}
     (sees : Sees L g p start next fresh) (behind : p ≤ both_settled φ ψ L) (last : Last)
     (u : Until low high L.time (sat φ L) (sat ψ L) g p (number last.left) (number last.right) last.time)
-    (unknown : pick fresh Unknown (settle_spec low most start last next) ≡ Unknown) (reached : g ≤ settled_to (until low high φ ψ) L) where
+    (unknown : cond fresh None (settle_spec low most start last next) ≡ None) (reached : g ≤ settled_to (until low high φ ψ) L) where
   -- on a closed log it is the end
   at_last : both_settled φ ψ L ≡ p → L.closed ≡ true → settled_to (until low high φ ψ) L ≡ g
   at_last e c =
@@ -257,7 +258,7 @@ module _ {low high most : ℕ} (clamp : most ≡ min high unbounded) (φ ψ : Fo
   -- on an open one it waits
   not_yet : both_settled φ ψ L ≡ p → L.closed ≡ false → settled_to (until low high φ ψ) L ≡ g
   not_yet e o =
-      let finding = finds low high most clamp φ ψ L falls sees behind last u Unknown unknown in
+      let finding = finds low high most clamp φ ψ L falls sees behind last u None unknown in
       let never : g < settled_to (until low high φ ψ) L → ⊥ =
       λ l. logic.stuck (both_fit φ ψ L) falls behind finding (omega arith) (until_open low high φ ψ L falls g o l) in
       omega arith
@@ -280,10 +281,10 @@ module _ {low high : ℕ} {φ ψ : Formula} {L : Log} {g : ℕ} {b : List ℕ} (
   stands_at = let range = ready.core.range in rw (number_is (last_left b) range.last_left, number_is (last_right b) range.last_right) ready.core.own.1
 
   -- an operand is wanted where none can be taken
-  pub wants_more : {v s : List ℕ} {r : Room} → Agrees v s L g → FitsRoom b (total v) r → r.take ≡ 0 →
+  pub wants_more : {v : View} {s : List ℕ} {r : Room} → Agrees v s L g → FitsRoom b (total v) r → r.take ≡ 0 →
       ((settled_to φ L ≡ taken b) ⊎ (settled_to ψ L ≡ taken b) → settled_to (until low high φ ψ) L ≡ g) → (t : Step) → Wants b t →
       Stepped (until low high φ ψ) L g b t b
-  wants_more agrees room none open' (Batch bits count) t = absurd t
+  wants_more agrees room none open' (Batch a) t = absurd t
   wants_more agrees room none open' Again t = absurd t
   wants_more agrees room none open' Left t = (refl, λ e. open' (inl e))
   wants_more agrees room none open' Right t = (refl, λ e. open' (inr e))
@@ -294,7 +295,7 @@ module _ {low high : ℕ} {φ ψ : Formula} {L : Log} {g : ℕ} {b : List ℕ} (
       absurd (omega arith)
 
 -- none waits
-pub stuck_fresh : (low most : ℕ) (v s b : List ℕ) → ((i : ℕ) → get_or s i 0 < 256) → taken b ≡ answered b → Stuck low most v s b
+pub stuck_fresh : (low most : ℕ) (v : View) (s b : List ℕ) → ((i : ℕ) → get_or s i 0 < 256) → taken b ≡ answered b → Stuck low most v s b
 stuck_fresh low most v s b byte e high φ ψ L g clamp falls agrees ready d =
     let at = ready.core.own.0 in
     ⊎_elim
@@ -317,7 +318,7 @@ stuck_fresh low most v s b byte e high φ ψ L g clamp falls agrees ready d =
         none_left clamp φ ψ L falls sees (taken_behind ready) (last_taken b) (stands_at ready) refl ready.core.reached (both_taken ready d)
 
 -- the first that waits is not settled by the windows' first records
-pub record First (low most : ℕ) (v s b : List ℕ) (end : ℕ) (ahead : Window) (copy : List ℕ) (first : ℕ) : Type 0 where
+pub record First (low most : ℕ) (v : View) (s b : List ℕ) (end : ℕ) (ahead : Window) (copy : List ℕ) (first : ℕ) : Type 0 where
   pub byte : (i : ℕ) → get_or s i 0 < 256
   pub some : answered b < taken b
   pub inside : taken b ≤ total v
@@ -325,9 +326,9 @@ pub record First (low most : ℕ) (v s b : List ℕ) (end : ℕ) (ahead : Window
   pub next : Opened (skips v) s (in_slice (slice_first v) (head b)) end ahead copy
   pub start : FirstTime v s (waiting_head b) first
   pub unknown :
-      settle_spec low most first (last_taken b) (next_of (time_at (window_of ahead s copy)) end (time_of_none (closed v)) 0) ≡ Unknown
+      settle_spec low most first (last_taken b) (next_of (time_at (window_of ahead s copy)) end (time_of_none (closed v)) 0) ≡ None
 
-pub stuck_first : {low most : ℕ} {v s b : List ℕ} {end : ℕ} {ahead : Window} {copy : List ℕ} {first : ℕ} →
+pub stuck_first : {low most : ℕ} {v : View} {s b : List ℕ} {end : ℕ} {ahead : Window} {copy : List ℕ} {first : ℕ} →
     First low most v s b end ahead copy first → Stuck low most v s b
 stuck_first {low} {most} {v} {s} {b} {end} {ahead} {copy} {first} f high φ ψ L g clamp falls agrees ready d =
     let at = ready.core.own.0 in
@@ -349,13 +350,13 @@ stuck_first {low} {most} {v} {s} {b} {end} {ahead} {copy} {first} f high φ ψ L
     none_left clamp φ ψ L falls sees (taken_behind ready) (last_taken b) (stands_at ready) f.unknown ready.core.reached (both_taken ready d)
 
 -- a step on block b that has walked over the window ahead
-pub record Went (low high most : ℕ) (v s b : List ℕ) (r : Room) (ahead : Window) (copy : List ℕ) (t : Stride) : Type 0 where
+pub record Went (low high most : ℕ) (v : View) (s b : List ℕ) (r : Room) (ahead : Window) (copy : List ℕ) (t : Stride) : Type 0 where
   pub opens : OpensAhead v s b r ahead copy
   pub byte : (i : ℕ) → get_or s i 0 < 256
   pub clamp : most ≡ min high unbounded
   pub strides : Strides low most v s b r ahead copy t
 
-module _ {low high most : ℕ} {v s b : List ℕ} {r : Room} {ahead : Window} {copy : List ℕ} {t : Stride} (went : Went low high most v s b r ahead copy t) where
+module _ {low high most : ℕ} {v : View} {s b : List ℕ} {r : Room} {ahead : Window} {copy : List ℕ} {t : Stride} (went : Went low high most v s b r ahead copy t) where
   abbrev opens : OpensAhead v s b r ahead copy
   opens = went.opens
 
@@ -482,7 +483,7 @@ module _ {low high most : ℕ} {v s b : List ℕ} {r : Room} {ahead : Window} {c
           ready.buffers.0
           ready.buffers.1
 
-      pub answers_some : 0 < w.count → Stepped (until low high φ ψ) L g b (Batch w.bits w.count) b''
+      pub answers_some : 0 < w.count → Stepped (until low high φ ψ) L g b (Batch (record { bits = w.bits; count = w.count })) b''
       answers_some some = (record { some = some; buffer = reached.answers }, stands.0, stands.1)
 
       pub takes_some : w.count ≡ 0 → Stepped (until low high φ ψ) L g b Again b''

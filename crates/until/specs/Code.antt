@@ -9,6 +9,7 @@ use Rattle.trace.specs.Format.{record_count, time_at}
 use Rattle.window.specs.View.{slice_first, total, skips, closed, in_slice}
 use Rattle.window.specs.Window.{window_of, Opened}
 use Rattle.window.specs.declared.Window.{Window}
+use Rattle.window.specs.declared.view.View.{View}
 use Rattle.blocks.specs.Block.{taken, left_count, left_bits, right_count, right_bits, answered, last_left, last_right, last_taken_time, head, waiting_head, took_both, Ready}
 use Rattle.blocks.specs.Step.{Agrees}
 use Rattle.walks.specs.declared.Last.{Last}
@@ -66,19 +67,19 @@ pub record FitsRoom (b : List ℕ) (total : ℕ) (r : Room) : Type 0 where
   pub waiting : r.answer ≡ min (taken b - answered b + r.take) 64
 
 -- the window ahead, opened from a block's head
-pub record OpensAhead (v s b : List ℕ) (r : Room) (ahead : Window) (copy : List ℕ) : Type 0 where
+pub record OpensAhead (v : View) (s b : List ℕ) (r : Room) (ahead : Window) (copy : List ℕ) : Type 0 where
   pub room : 17 ≤ length b
   pub behind : answered b ≤ taken b
   pub fits : FitsRoom b (total v) r
   pub next : Opened (skips v) s (in_slice (slice_first v) (head b)) r.look ahead copy
 
 -- the times of those that wait, where view and slice tell a log in which the block stands
-abbrev pub Waiting : (v s b : List ℕ) → Room → (start : ℕ → ℕ) → Type 0
+abbrev pub Waiting : (v : View) (s b : List ℕ) → Room → (start : ℕ → ℕ) → Type 0
 Waiting v s b r start =
     (L : Log) (g : ℕ) → Agrees v s L g → answered b ≡ g → waiting_head b ≡ head_of L g → (i : ℕ) → i < r.answer → start i ≡ L.time (g + i)
 
 -- a walk over the window ahead, by the times of those that wait, and their head behind those that it answers
-pub record Strides (low most : ℕ) (v s b : List ℕ) (r : Room) (ahead : Window) (copy : List ℕ) (t : Stride) : Type 0 where
+pub record Strides (low most : ℕ) (v : View) (s b : List ℕ) (r : Room) (ahead : Window) (copy : List ℕ) (t : Stride) : Type 0 where
   pub start : ℕ → ℕ
   pub waits : Waiting v s b r start
   pub walk :
@@ -88,14 +89,14 @@ pub record Strides (low most : ℕ) (v s b : List ℕ) (r : Room) (ahead : Windo
       t.head ≡ head_of L (g + t.walked.count)
 
 -- the next position to answer waits for one to be taken: where an operand has no more answers, neither has the until; `most` as in `Walks`
-abbrev pub Stuck : (low most : ℕ) (v s b : List ℕ) → Type 0
+abbrev pub Stuck : (low most : ℕ) (v : View) (s b : List ℕ) → Type 0
 Stuck low most v s b =
     (high : ℕ) (φ ψ : Formula) (L : Log) (g : ℕ) → most ≡ min high unbounded → NeverFalls L → Agrees v s L g →
     Ready (until_formula low high φ ψ) L g b → (settled_to φ L ≡ taken b) ⊎ (settled_to ψ L ≡ taken b) → settled_to (until_formula low high φ ψ) L ≡ g
 
 -- the operand whose buffer is empty; Open where neither is, which only forged words bring about
 abbrev pub Wants : List ℕ → Step → Type 0
-Wants b (Batch bits count) = ⊥
+Wants b (Batch a) = ⊥
 Wants b Again = ⊥
 Wants b Left = left_count b ≡ 0
 Wants b Right = (0 < left_count b) × (right_count b ≡ 0)

@@ -1,7 +1,7 @@
 // until: two reading heads and no history.
 #![tactic(auto)]
 
-ghost use Rattle.std.specs.Prelude.{◌≡◌, true, false, ◌⊎◌, ℕ, ◌+◌, ◌-◌, ◌≤◌, ◌<◌, ◌^◌, min, length};
+ghost use Rattle.std.specs.Prelude.{◌≡◌, true, false, ◌⊎◌, ℕ, ◌+◌, ◌-◌, ◌≤◌, ◌<◌, ◌^◌, min, length, None};
 ghost use Rattle.mtl.specs.Formula.{Formula};
 ghost use Rattle.mtl.specs.Formula.Formula.{until};
 ghost use Rattle.trace.specs.Format.{time_at};
@@ -12,11 +12,11 @@ ghost use Rattle.blocks.specs.Step.{Steps, Ends};
 ghost use Rattle.walks.specs.Settle.{settle_spec, time_of_none, next_of, Walk, ByWords};
 ghost use Rattle.walks.specs.declared.Last.{Last};
 ghost use Rattle.until.specs.Code.{HasRecords, starts_of, ahead_of, last_taken, walked, Wants, Stuck, FitsRoom, OpensAhead, Strides};
-ghost use Rattle.walks.specs.declared.Settled.TheVariants.{Unknown};
 
-use blocks::{Step, time, word};
-use walks::{Last, Settled, Walked};
-use window::{Window, view};
+use blocks::{Batch, Step, word};
+use walks::{Last, Walked};
+use window::Window;
+use window::view::View;
 
 // How far a step may go: how many positions it may take, how many it looks at ahead, which is one more where the log has it, and how many
 // of those that wait it may answer.
@@ -100,7 +100,7 @@ fn walk_windows<'a>(
         high,
         window::read(starts, records, window::either(starts, copy, waiting)),
         next,
-        time::gap(block[word::ANSWERED], block[word::TAKEN]),
+        block[word::TAKEN].saturating_sub(block[word::ANSWERED]),
         n,
         after,
         block[word::LEFT_BITS],
@@ -115,12 +115,12 @@ fn room_of(block: &[u64], total: u64) -> Room
     ensures { FitsRoom block.now total result }
 {
     let at = block[word::TAKEN];
-    let both = blocks::smaller(block[word::LEFT_COUNT], block[word::RIGHT_COUNT]);
+    let both = block[word::LEFT_COUNT].min(block[word::RIGHT_COUNT]);
     let take = blocks::available(at, both, total);
     Room {
         take,
-        look: blocks::smaller(take + 1, total - at),
-        answer: blocks::smaller(at - block[word::ANSWERED] + take, 64),
+        look: (take + 1).min(total - at),
+        answer: (at - block[word::ANSWERED] + take).min(64),
     }
 }
 
@@ -138,14 +138,11 @@ fn first_waits<'a>(
     block: &[u64],
 ) -> bool
     requires { (16 ≤ length block.now) × HasRecords ahead records.now copy.now end }
-    ensures { result ≡ true → settle_spec low high start (last_taken block.now) (next_of (time_at (window_of ahead records.now copy.now)) end (time_of_none closed) 0) ≡ Unknown }
+    ensures { result ≡ true → settle_spec low high start (last_taken block.now) (next_of (time_at (window_of ahead records.now copy.now)) end (time_of_none closed) 0) ≡ None }
 {
     let next = window::read(ahead, records, copy);
     let next_at = walks::next_time(next, 0, end, walks::time_of_none(closed));
-    match walks::settle(low, high, start, last_of(block), next_at) {
-        Settled::Known(holds) => false,
-        Settled::Unknown => true,
-    }
+    walks::settle(low, high, start, last_of(block), next_at).is_none()
 }
 
 // Whether nothing can be answered before an operand has answered more: nothing can be taken, and none waits or the first that does is not
@@ -154,7 +151,7 @@ fn must_wait(
     low: u64,
     high: u64,
     records: &[u8],
-    view: &[u64; 66],
+    view: &View,
     copy: &mut [u8; 544],
     block: &[u64],
     room: Room,
@@ -171,7 +168,7 @@ fn must_wait(
     }
     let ahead = window::open(records, view, block[word::HEAD], room.look, copy);
     let start = window::first_time(records, view, block[word::WAITING_HEAD]);
-    let closed = view[view::CLOSED] == 1;
+    let closed = view.closed;
     first_waits(
         low, high, start, records, ahead, copy, room.look, closed, block,
     )
@@ -195,7 +192,7 @@ fn tells<'a>(
         high,
         start,
         window::read(ahead, records, copy),
-        time::gap(block[word::ANSWERED], block[word::TAKEN]),
+        block[word::TAKEN].saturating_sub(block[word::ANSWERED]),
         n,
         last_of(block),
     )
@@ -209,7 +206,7 @@ fn walk_ahead<'a>(records: &'a [u8], ahead: Window, copy: &'a [u8], n: u64, bloc
 {
     walks::walk_inside(
         window::read(ahead, records, copy),
-        time::gap(block[word::ANSWERED], block[word::TAKEN]),
+        block[word::TAKEN].saturating_sub(block[word::ANSWERED]),
         n,
         block[word::LEFT_BITS],
         block[word::RIGHT_BITS],
@@ -222,7 +219,7 @@ fn walk_on<'a>(
     low: u64,
     high: u64,
     records: &'a [u8],
-    view: &[u64; 66],
+    view: &View,
     ahead: Window,
     copy: &'a [u8; 544],
     waiting: &mut [u8; 544],
@@ -243,11 +240,11 @@ fn walk_on<'a>(
                 return Stride { walked, head };
             }
             // All that wait are answered: their head stands among those ahead then.
-            let some = walked.count - time::gap(block[word::ANSWERED], block[word::TAKEN]);
+            let some = walked.count - block[word::TAKEN].saturating_sub(block[word::ANSWERED]);
             let head = window::pass(block[word::HEAD], ahead, records, view, some);
             return Stride { walked, head };
         }
-        let lead = time::gap(block[word::ANSWERED], block[word::TAKEN]);
+        let lead = block[word::TAKEN].saturating_sub(block[word::ANSWERED]);
         let last = last_of(block);
         if (lead <= 64) & walks::is_told(0, lead, last) {
             let walked = walks::answer_told(lead, last);
@@ -267,7 +264,7 @@ fn walk_on<'a>(
         copy,
         room.take,
         room.look,
-        view[view::CLOSED] == 1,
+        view.closed,
         block,
     );
     let head = window::pass(waiting_head, starts, records, view, walked.count);
@@ -279,7 +276,7 @@ pub fn step_until(
     low: u64,
     high: u64,
     records: &[u8],
-    view: &[u64; 66],
+    view: &View,
     copy: &mut [u8; 544],
     waiting: &mut [u8; 544],
     block: &mut [u64],
@@ -290,12 +287,12 @@ pub fn step_until(
     ensures keeps { Keeps records.now copy.new × Keeps records.now waiting.new }
 {
     let at = block[word::TAKEN];
-    let total = view[view::TOTAL];
+    let total = view.total;
     if (total < at) | (at < block[word::ANSWERED]) {
         return Step::Open;
     }
     let room = room_of(block, total);
-    let most = blocks::smaller(high, walks::LONGEST_GAP);
+    let most = high.min(walks::LONGEST_GAP);
     if must_wait(low, most, records, view, copy, block, room) {
         return wanted(block);
     }
@@ -318,8 +315,8 @@ pub fn step_until(
     if w.count == 0 {
         return Step::Again;
     }
-    Step::Batch {
+    Step::Batch(Batch {
         bits: w.bits,
         count: w.count,
-    }
+    })
 }

@@ -1,12 +1,14 @@
--- Bytes of a word, stored one behind the other. Assumes nothing.
-use Prim.Native.Nat.{ℕ, zero, suc, ◌+◌, ◌*◌, ◌/◌, ◌%◌, ◌^◌}
-use native.Mathlib.Numerals.{add-one}
+-- The first bytes of a word, stored at once. Assumes nothing.
+use Prim.Native.Nat.{ℕ, zero, suc, ◌+◌, ◌*◌, ◌/◌, ◌%◌, ◌≤◌, ◌<◌, ◌^◌}
 use native.Mathlib.Omega.{arith}
-use mathlib.Core.List.{List, [], ◌∷◌, ◌++◌}
-use mathlib.Core.Path.{◌≡◌, refl, sym, ap, ap₂, ◌∙◌}
-use lib.ListN.{length, set, length-append}
-use lib.Pow.{shr-shr}
-use lib.Seq.{sets}
+use mathlib.Core.List.{List, [], ◌∷◌, ◌++◌, append_assoc}
+use mathlib.Core.Logic.{⊎_elim}
+use mathlib.Core.Path.{◌≡◌, refl, sym, ap, ◌∙◌}
+use lib.ListN.{length, take, drop, length-append}
+use lib.Seq.{sets, sets-eq, drop-drop, take_all}
+use Rattle.std.proofs.lemmas.List.{take-append-le}
+use Rattle.std.specs.Int.{w64, to_le_bytes}
+use Rattle.mtl.proofs.Bounded.{le_or_lt}
 use Rattle.verdicts.specs.Code.{first_bytes}
 
 pub length_first : (n word : ℕ) → length (first_bytes n word) ≡ n
@@ -17,38 +19,30 @@ length_first (suc n) word =
     let sum = length-append (first_bytes n word) (word / 2 ^ (8 * n) % 256 ∷ []) in
     omega arith
 
-sets_snoc : (l : List ℕ) (at : ℕ) (vs : List ℕ) (v : ℕ) → set (sets l at vs) (at + length vs) v ≡ sets l at (vs ++ (v ∷ []))
-sets_snoc l at [] v = let place : at + 0 ≡ at = omega arith in rw place
-sets_snoc l at (a ∷ vs) v =
-    let place : at + suc (length vs) ≡ suc at + length vs = omega arith in
-    rw place (sets_snoc (set l at a) (suc at) vs v)
-
-pub no_store : (l : List ℕ) (at word : ℕ) → (l ≡ sets l at (first_bytes 0 word)) × (word ≡ word / 2 ^ (8 * 0))
+few_bytes : (m n word : ℕ) → n ≤ m → take n (first_bytes m word) ≡ first_bytes n word
 unfolding first_bytes
-no_store l at word = (refl, omega arith)
+few_bytes zero n word h = let none : n ≡ 0 = omega arith in rw none refl
+few_bytes (suc m) n word h =
+    let before = first_bytes m word in
+    ⊎_elim
+    (λ l. let all : suc m ≡ n = omega arith in ap (λ (k : ℕ). take n (first_bytes k word)) all ∙ take_all n (first_bytes n word) (omega (arith, length_first n word)))
+    (λ l. take-append-le n before (word / 2 ^ (8 * m) % 256 ∷ []) (omega (arith, length_first m word)) ∙ few_bytes m n word (omega arith))
+    (le_or_lt (suc m) n)
 
--- one byte more
-pub one_store : (l : List ℕ) (at word i rest : ℕ) (l' : List ℕ) → l' ≡ sets l at (first_bytes i word) → rest ≡ word / 2 ^ (8 * i) →
-    (set l' (at + i) (rest % 256) ≡ sets l at (first_bytes (i + 1) word)) × (rest / 256 ≡ word / 2 ^ (8 * (i + 1)))
+all_bytes : (word : ℕ) → to_le_bytes w64 word ≡ first_bytes 8 word
 unfolding first_bytes
-one_store l at word i rest l' e r =
-    let place : at + i ≡ at + length (first_bytes i word) = ap (λ (k : ℕ). at + k) (sym (length_first i word)) in
-    let more : 8 * (i + 1) ≡ 8 * i + 8 = omega arith in (
-      ap₂ (λ (x : List ℕ) (v : ℕ). set x (at + i) (v % 256)) e r
-          ∙ ap (λ (k : ℕ). set (sets l at (first_bytes i word)) k (word / 2 ^ (8 * i) % 256)) place
-          ∙ sets_snoc l at (first_bytes i word) (word / 2 ^ (8 * i) % 256)
-          ∙ ap (λ (k : ℕ). sets l at (first_bytes k word)) (sym (add-one i)),
-      ap (λ (v : ℕ). v / 2 ^ 8) r ∙ shr-shr word (8 * i) 8 ∙ ap (λ (k : ℕ). word / 2 ^ k) (sym more),
-    )
+all_bytes word =
+    let rest = drop 1 (to_le_bytes w64 word) in
+    let first : word % 256 ≡ word / 1 % 256 = omega arith in
+    ap (λ (v : ℕ). v ∷ rest) first
 
--- the eight bytes of a word, as they are computed
-abbrev shifted : (word k : ℕ) → ℕ
-shifted word k = word / 2 ^ k % 256
-
-pub eight_bytes : (l : List ℕ) (at word : ℕ) →
-    sets l at (word % 256 ∷ shifted word 8 ∷ shifted word 16 ∷ shifted word 24 ∷ shifted word 32 ∷ shifted word 40 ∷ shifted word 48 ∷ shifted word 56 ∷ []) ≡
-    sets l at (first_bytes 8 word)
-unfolding first_bytes
-eight_bytes l at word =
-    let whole : word % 256 ≡ word / 1 % 256 = omega arith in
-    ap (λ (v : ℕ). sets l at (v ∷ shifted word 8 ∷ shifted word 16 ∷ shifted word 24 ∷ shifted word 32 ∷ shifted word 40 ∷ shifted word 48 ∷ shifted word 56 ∷ [])) whole
+-- a part of the sheet, written over with the first n bytes of a word
+pub stored : (sheet : List ℕ) (at n k word : ℕ) (part : List ℕ) → k ≡ n → n ≤ 8 → at + n ≤ length sheet → part ≡ take n (to_le_bytes w64 word) →
+    take at sheet ++ (part ++ drop k (drop at sheet)) ≡ sets sheet at (first_bytes n word)
+stored sheet at n k word part same few fits told =
+    let bytes = first_bytes n word in
+    let size = length_first n word in
+    let is : part ≡ bytes = told ∙ ap (take n) (all_bytes word) ∙ few_bytes 8 n word few in
+    ap (λ (l : List ℕ). take at sheet ++ (l ++ drop k (drop at sheet))) is
+    ∙ ap (λ (l : List ℕ). take at sheet ++ (bytes ++ l)) (ap (λ (j : ℕ). drop j (drop at sheet)) (same ∙ sym size) ∙ drop-drop (length bytes) at sheet)
+    ∙ sym (sets-eq bytes sheet at (omega arith) ∙ append_assoc (take at sheet) bytes (drop (at + length bytes) sheet))

@@ -15,8 +15,7 @@ use Rattle.mtl.proofs.Bounded.{true_and_false}
 use Rattle.bits.specs.Packed.{bit, number}
 use Rattle.bits.proofs.Laws.{number_bit}
 use Rattle.verdicts.specs.Counts.{count_of, counts}
-use Rattle.verdicts.specs.Tally.{formulas_outside, beyond, answer, Tallies}
-use Rattle.verdicts.specs.declared.Tallied.TheVariants.{Counted, Refused}
+use Rattle.verdicts.specs.Tally.{formulas_outside, beyond, Tallies}
 
 -- BITS BEYOND THE FORMULAS', of all bytes taken together
 
@@ -92,18 +91,5 @@ inside formulas e =
 
 -- 15, and nothing is written
 pub refuses : (formulas : ℕ) (s nos yeses : List ℕ) → formulas_outside formulas || any (length s) (beyond formulas s) ≡ true →
-    Tallies formulas s nos yeses (answer (Refused 15)) nos yeses
+    Tallies formulas s nos yeses 15 nos yeses
 refuses formulas s nos yeses e = record { outcome = rw e; no_counts = refl; yes_counts = refl }
-
-pub refuses_number : (formulas : ℕ) (s nos yeses : List ℕ) → formulas_outside formulas ≡ true → Tallies formulas s nos yeses (answer (Refused 15)) nos yeses
-refuses_number formulas s nos yeses e = refuses formulas s nos yeses (rw e)
-
-pub refuses_byte : (formulas : ℕ) (s nos yeses : List ℕ) → formulas_outside formulas ≡ false → any (length s) (beyond formulas s) ≡ true →
-    Tallies formulas s nos yeses (answer (Refused 15)) nos yeses
-refuses_byte formulas s nos yeses within e = refuses formulas s nos yeses (rw (within, e))
-
-pub tallies : (formulas : ℕ) (s nos yeses nos' yeses' : List ℕ) → formulas_outside formulas ≡ false → any (length s) (beyond formulas s) ≡ false →
-    (nos' ≡ counts false formulas s ++ drop formulas nos) × (yeses' ≡ counts true formulas s ++ drop formulas yeses) →
-    Tallies formulas s nos yeses (answer Counted) nos' yeses'
-tallies formulas s nos yeses nos' yeses' within none (no_counts, yes_counts) =
-    record { outcome = rw (within, none); no_counts = no_counts; yes_counts = yes_counts }

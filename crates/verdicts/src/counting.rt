@@ -10,12 +10,10 @@ pub fn has_bit_beyond(sheet: &[u8], formulas: u64) -> bool
     ensures { result ≡ any (length sheet.now) (beyond formulas sheet.now) }
 {
     let mut all: u8 = 0;
-    let mut i: usize = 0;
-    while i < sheet.len() {
-        all = all | sheet[i];
-        i += 1;
+    for verdict in sheet {
+        all |= *verdict;
     }
-    0 < (bits::bytes::wide(all) >> formulas)
+    0 < (u64::from(all) >> formulas)
 }
 
 // How often formula k says yes.
@@ -24,10 +22,8 @@ fn count_yes(sheet: &[u8], k: u64) -> u64
     ensures { (result ≡ count_of true k sheet.now (length sheet.now)) × (result ≤ length sheet.now) }
 {
     let mut count: u64 = 0;
-    let mut i: usize = 0;
-    while i < sheet.len() {
-        count += (bits::bytes::wide(sheet[i]) >> k) % 2;
-        i += 1;
+    for verdict in sheet {
+        count += (u64::from(*verdict) >> k) % 2;
     }
     count
 }
@@ -38,11 +34,9 @@ pub fn write_counts(sheet: &[u8], formulas: usize, no: &mut [u64], yes: &mut [u6
     ensures no_after { «no».new ≡ counts false formulas sheet.now ++ drop formulas «no».old }
     ensures yes_after { «yes».new ≡ counts true formulas sheet.now ++ drop formulas «yes».old }
 {
-    let mut k: usize = 0;
-    while k < formulas {
+    for k in 0..formulas {
         let count = count_yes(sheet, k as u64);
         yes[k] = count;
         no[k] = sheet.len() as u64 - count;
-        k += 1;
     }
 }

@@ -19,32 +19,10 @@ pub fn verdicts_at(answers: &[u64], columns: usize, i: u64) -> u64
     ensures { result ≡ eight_verdicts (take columns answers.now) i }
 {
     let mut word: u64 = 0;
-    let mut left = columns;
-    while 0 < left {
-        let column = left - 1;
+    for column in (0..columns).rev() {
         word = word * 2 + spread((answers[column] >> i) % 256);
-        left -= 1;
     }
     word
-}
-
-// Writes the eight bytes of a word.
-pub fn write_all(sheet: &mut [u8], at: usize, word: u64)
-    requires { at + 8 ≤ length sheet.old }
-    ensures { sheet.new ≡ sets sheet.old at (first_bytes 8 word) }
-{
-    bits::bytes::write_eight(
-        sheet,
-        at,
-        (word % 256) as u8,
-        ((word >> 8) % 256) as u8,
-        ((word >> 16) % 256) as u8,
-        ((word >> 24) % 256) as u8,
-        ((word >> 32) % 256) as u8,
-        ((word >> 40) % 256) as u8,
-        ((word >> 48) % 256) as u8,
-        ((word >> 56) % 256) as u8,
-    );
 }
 
 // Writes the first n bytes of a word.
@@ -52,13 +30,7 @@ pub fn write_first(sheet: &mut [u8], at: usize, n: usize, word: u64)
     requires { (at + n ≤ length sheet.old) × (n ≤ 8) }
     ensures { sheet.new ≡ sets sheet.old at (first_bytes n word) }
 {
-    let mut rest = word;
-    let mut i: usize = 0;
-    while i < n {
-        sheet[at + i] = (rest % 256) as u8;
-        rest = rest / 256;
-        i += 1;
-    }
+    sheet[at..at + n].copy_from_slice(&word.to_le_bytes()[..n]);
 }
 
 // Writes 64 verdicts of the first column alone.
@@ -67,11 +39,9 @@ pub fn write_word(sheet: &mut [u8], from: usize, answers: &[u64])
     ensures { sheet.new ≡ take from sheet.old ++ (bytes_of (take 1 answers.now) 64 ++ drop (from + 64) sheet.old) }
 {
     let bits = answers[0];
-    let mut group: usize = 0;
-    while group < 8 {
+    for group in 0..8 {
         let i = 8 * group;
         let word = spread((bits >> i as u64) % 256);
-        write_all(sheet, from + i, word);
-        group += 1;
+        write_first(sheet, from + i, 8, word);
     }
 }

@@ -3,29 +3,14 @@
 #![tactic(auto)]
 
 ghost use Rattle.std.specs.Prelude.{◌≡◌, ◌++◌, ◌+◌, ◌≤◌, length, take, drop};
+ghost use Rattle.refusal.specs.Number.{number};
 ghost use Rattle.verdicts.specs.Bytes.{bytes_of};
-ghost use Rattle.verdicts.specs.Tally.{answer, Tallies};
+ghost use Rattle.verdicts.specs.Tally.{Tallies};
 
 mod counting;
 mod eight;
 
-// What `tally` answers.
-#[derive(Clone, Copy)]
-pub enum Tallied {
-    Counted,
-    Refused(u32),
-}
-
-impl Tallied {
-    pub fn number(self) -> u32
-        ensures { result ≡ (answer self).number }
-    {
-        match self {
-            Tallied::Counted => 0,
-            Tallied::Refused(n) => n,
-        }
-    }
-}
+use refusal::Refusal;
 
 // Writes n verdicts from `from` on, from as many words of answers as there are columns: eight positions at a time. A full word of one column is written by
 // itself, which is what a rule of one formula mostly gives.
@@ -37,29 +22,33 @@ pub fn write_answers(sheet: &mut [u8], from: usize, n: usize, answers: &[u64; 8]
         eight::write_word(sheet, from, answers);
         return;
     }
-    let mut i: usize = 0;
-    while i + 8 <= n {
+    for group in 0..n / 8 {
+        let i = 8 * group;
         let word = eight::verdicts_at(answers, columns, i as u64);
-        eight::write_all(sheet, from + i, word);
-        i += 8;
+        eight::write_first(sheet, from + i, 8, word);
     }
-    if n <= i {
-        return;
+    let i = n / 8 * 8;
+    if i < n {
+        let word = eight::verdicts_at(answers, columns, i as u64);
+        eight::write_first(sheet, from + i, n - i, word);
     }
-    let word = eight::verdicts_at(answers, columns, i as u64);
-    eight::write_first(sheet, from + i, n - i, word);
 }
 
 // Writes the counts of no and of yes into the first words, one of each a formula; or refusal 15.
-pub fn tally(sheet: &[u8], formulas: u64, no: &mut [u64; 8], yes: &mut [u64; 8]) -> Tallied
-    ensures { Tallies formulas sheet.now «no».old «yes».old (answer result) «no».new «yes».new }
+pub fn tally(
+    sheet: &[u8],
+    formulas: u64,
+    no: &mut [u64; 8],
+    yes: &mut [u64; 8],
+) -> Result<(), Refusal>
+    ensures { Tallies formulas sheet.now «no».old «yes».old (number result) «no».new «yes».new }
 {
     if (formulas < 1) | (8 < formulas) {
-        return Tallied::Refused(15);
+        return Err(Refusal::SheetByte);
     }
     if counting::has_bit_beyond(sheet, formulas) {
-        return Tallied::Refused(15);
+        return Err(Refusal::SheetByte);
     }
     counting::write_counts(sheet, formulas as usize, no, yes);
-    Tallied::Counted
+    Ok(())
 }

@@ -1,5 +1,5 @@
 -- until with low 0 by whole words, where those to take reach further than high: a position is yes where its first right lies within high.
-use Prim.Native.Nat.{ℕ, zero, suc, ◌+◌, ◌-◌, ◌≤◌, ◌<◌, ◌^◌, min}
+use Prim.Native.Nat.{ℕ, zero, suc, ◌+◌, ◌-◌, ◌≤◌, ◌<◌, ◌^◌, min, max}
 use native.Mathlib.Nat.{zero-add, lt_of_lt_of_le}
 use native.Mathlib.Omega.{arith}
 use mathlib.Core.Bool.{Bool, true, false, cond, ◌&&◌, ◌||◌}
@@ -9,7 +9,7 @@ use mathlib.Core.Path.{◌≡◌, refl, sym, ◌∙◌, ap}
 use lib.Bits.{bit_and}
 use lib.Dec.{eqb, leb, ltb}
 use lib.Pow.{pow_mono}
-use borrow.Author.Tests.{leb-true, leb-false, le-leb, lt-leb, ltb-true, ltb-false, lt-ltb, ne_eqb}
+use borrow.Author.Tests.{leb-true, leb-false, le-leb, lt-leb, ltb-true, lt-ltb, ne_eqb}
 use Rattle.mtl.specs.Formula.{Formula, unbounded}
 use Rattle.mtl.specs.Formula.Formula.{until}
 use Rattle.mtl.specs.Log.{Log, NeverFalls}
@@ -388,12 +388,8 @@ far_walk {lead = lead} {known = known} far some most words count took e t last i
     reached_full clamp behind falls reads a b begun far (words (times clamp behind falls reads a b begun far)) h)
 
 -- how many are told
-pub which_known : (event far known : ℕ) → known ≡ cond (ltb event far) far event → ((known ≡ far) × (event ≤ far)) ⊎ ((known ≡ event) × (far ≤ event))
-which_known event far known e = by (ltb event far) refl e
-  where
-    by : (x : Bool) → ltb event far ≡ x → known ≡ cond x far event → ((known ≡ far) × (event ≤ far)) ⊎ ((known ≡ event) × (far ≤ event))
-    by true q r = let l = ltb-true event far q in inl (r, omega arith)
-    by false q r = let l = ltb-false event far q in inr (r, omega arith)
+pub which_known : (event far known : ℕ) → known ≡ max event far → ((known ≡ far) × (event ≤ far)) ⊎ ((known ≡ event) × (far ≤ event))
+which_known event far known e = ⊎_elim (λ l. inl (omega arith, l)) (λ l. inr (omega arith, omega arith)) (le_or_lt event far)
 
 -- the tests of `outreaches`
 pub reaches : (high lead n gap : ℕ) (from : Last) (time : ℕ → ℕ) → (0 < n) × (lead < 64) → gap ≡ time (n - 1) - time 0 → time (n - 1) < 4294967296 →

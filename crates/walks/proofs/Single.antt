@@ -1,6 +1,6 @@
 -- until's walk: what the last position taken and the next one settle, and how a turn of the walk goes on from there.
 use Prim.Native.Nat.{ℕ, ◌+◌, ◌-◌, ◌≤◌, ◌<◌, ◌^◌, min}
-use mathlib.Core.Bool.{Bool, true, false, ◌||◌, true≢false}
+use mathlib.Core.Bool.{Bool, true, false, cond, ◌||◌, true≢false}
 use mathlib.Core.Logic.{◌⊎◌, inl, inr, ⊎_elim}
 use mathlib.Core.Path.{◌≡◌, refl, sym, ◌∙◌, ap}
 use native.Mathlib.Omega.{arith}
@@ -16,10 +16,9 @@ use Rattle.mtl.proofs.Closing.{settled_closed, by_closed, both_settled, both_fit
 use Rattle.bits.specs.Packed.{number, with_bit}
 use Rattle.bits.proofs.Laws.{packed_push}
 use Rattle.blocks.specs.Block.{Until, Buffer}
-use Rattle.walks.specs.Settle.{pick, is_met, is_over, settle_spec, time_of_none, look_spec, take_spec, ReadsTimes, Walks}
+use Rattle.walks.specs.Settle.{is_met, is_over, settle_spec, time_of_none, look_spec, take_spec, ReadsTimes, Walks}
 use Rattle.walks.specs.declared.Last.{Last}
-use Rattle.walks.specs.declared.Settled.{Settled}
-use Rattle.walks.specs.declared.Settled.TheVariants.{Known, Unknown}
+use Rattle.std.specs.Prelude.{Option, None, Some}
 use Rattle.blocks.proofs.Words.{fits}
 use Rattle.walks.proofs.Logic as logic
 
@@ -29,15 +28,15 @@ is_number true = refl
 is_number false = refl
 
 -- what was found, by the tests of `look_spec`
-abbrev Because : (fresh met over : Bool) → Settled → Type 0
-Because fresh met over (Known true) = (fresh ≡ false) × (met ≡ true)
-Because fresh met over (Known false) = (fresh ≡ false) × (met ≡ false) × (over ≡ true)
-Because fresh met over Unknown = (fresh ≡ true) ⊎ ((fresh ≡ false) × (met ≡ false) × (over ≡ false))
+abbrev Because : (fresh met over : Bool) → Option Bool → Type 0
+Because fresh met over (Some true) = (fresh ≡ false) × (met ≡ true)
+Because fresh met over (Some false) = (fresh ≡ false) × (met ≡ false) × (over ≡ true)
+Because fresh met over None = (fresh ≡ true) ⊎ ((fresh ≡ false) × (met ≡ false) × (over ≡ false))
 
-because : (fresh met over : Bool) (r : Settled) → pick fresh Unknown (pick (met || over) (Known met) Unknown) ≡ r → Because fresh met over r
+because : (fresh met over : Bool) (r : Option Bool) → cond fresh None (cond (met || over) (Some met) None) ≡ r → Because fresh met over r
 because fresh met over r e = rw e at (all fresh met over)
   where
-    all : (fresh met over : Bool) → Because fresh met over (pick fresh Unknown (pick (met || over) (Known met) Unknown))
+    all : (fresh met over : Bool) → Because fresh met over (cond fresh None (cond (met || over) (Some met) None))
     all true met over = inl refl
     all false true over = (refl, refl)
     all false false true = (refl, refl, refl)
@@ -45,14 +44,14 @@ because fresh met over r e = rw e at (all fresh met over)
 
 -- a position is known only behind those taken
 pub known_behind : (low most : ℕ) (start next : ℕ → ℕ) (lead waiting at : ℕ) (last : Last) (v : Bool) →
-    look_spec low most start next lead waiting at last ≡ Known v → waiting < lead + at
+    look_spec low most start next lead waiting at last ≡ Some v → waiting < lead + at
 known_behind low most start next lead waiting at last v e =
     leb-false (lead + at) waiting
     (not_fresh (leb (lead + at) waiting) (is_met low (start waiting) last) (is_over most (start waiting) last (next at)) v e)
   where
-    not_fresh : (fresh met over v : Bool) → pick fresh Unknown (pick (met || over) (Known met) Unknown) ≡ Known v → fresh ≡ false
-    not_fresh fresh met over true e = (because fresh met over (Known true) e).0
-    not_fresh fresh met over false e = (because fresh met over (Known false) e).0
+    not_fresh : (fresh met over v : Bool) → cond fresh None (cond (met || over) (Some met) None) ≡ Some v → fresh ≡ false
+    not_fresh fresh met over true e = (because fresh met over (Some true) e).0
+    not_fresh fresh met over false e = (because fresh met over (Some false) e).0
 
 -- what is seen of the log where g waits and p is the next to take: their times, and whether g is behind all that are taken
 pub record Sees (L : Log) (g p start next : ℕ) (fresh : Bool) : Type 0 where
@@ -68,9 +67,9 @@ module _ (low high most : ℕ) (clamp : most ≡ min high unbounded) (φ ψ : Fo
     (sees : Sees L g p start next fresh) (behind : p ≤ both_settled φ ψ L) (last : Last)
     (u : Until low high L.time (sat φ L) (sat ψ L) g p (number last.left) (number last.right) last.time) where
   -- what each finding says of g
-  abbrev pub Means : Settled → Type 0
-  Means (Known v) = (g < settled_to (until low high φ ψ) L) × (sat (until low high φ ψ) L g ≡ v)
-  Means Unknown = logic.Waits low high L.time (sat φ L) (sat ψ L) L.size g p
+  abbrev pub Means : Option Bool → Type 0
+  Means (Some v) = (g < settled_to (until low high φ ψ) L) × (sat (until low high φ ψ) L g ≡ v)
+  Means None = logic.Waits low high L.time (sat φ L) (sat ψ L) L.size g p
 
   -- the log is closed and has no position p
   abbrev Ended : Type 0
@@ -127,7 +126,7 @@ module _ (low high most : ℕ) (clamp : most ≡ min high unbounded) (φ ψ : Fo
         let b = sees.here some in
         omega (arith, leb-false)
 
-    yes : is_met low start last ≡ true → Means (Known true)
+    yes : is_met low start last ≡ true → Means (Some true)
     yes e =
         let both = (and_iff last.right (leb low (last.time - start))).0 e in
         let h = both.1 in
@@ -136,46 +135,46 @@ module _ (low high most : ℕ) (clamp : most ≡ min high unbounded) (φ ψ : Fo
         let k : g < both_settled φ ψ L = omega arith in
         (until_settles low high φ ψ L falls g k (inl y), until_met low high φ ψ L falls g k y)
 
-    no : is_met low start last ≡ false → is_over most start last next ≡ true → Means (Known false)
+    no : is_met low start last ≡ false → is_over most start last next ≡ true → Means (Some false)
     no e d = ⊎_elim over ended (late d)
       where
-        over : Late → Means (Known false)
+        over : Late → Means (Some false)
         over l =
             let y = logic.over (both_fit φ ψ L) falls behind u some (unmet e) l in
             let k : g < both_settled φ ψ L = omega arith in
             (until_settles low high φ ψ L falls g k (inr y), until_unmet low high φ ψ L falls g k y)
 
         -- no position follows the last one taken: what waits is no
-        ended : (last.left ≡ true) × Ended → Means (Known false)
+        ended : (last.left ≡ true) × Ended → Means (Some false)
         ended (l, (c, end)) =
             let whole = settled_closed (until low high φ ψ) L c in
             let fit = both_fit φ ψ L in
             let waits = logic.waits fit falls behind u some (unmet e) (is_number last.left ∙ l) (λ h. absurd (omega arith)) in
             (omega arith, until_ends low high φ ψ L falls g c (λ y. logic.stuck fit falls behind waits (omega arith) (inl y)))
 
-    waits : is_met low start last ≡ false → is_over most start last next ≡ false → Means Unknown
+    waits : is_met low start last ≡ false → is_over most start last next ≡ false → Means None
     waits e d = let s = soon d in logic.waits (both_fit φ ψ L) falls behind u some (unmet e) s.0 s.1
 
-  pub finds : (r : Settled) → pick fresh Unknown (settle_spec low most start last next) ≡ r → Means r
-  finds (Known true) e =
-      let b = because fresh (is_met low start last) (is_over most start last next) (Known true) e in
+  pub finds : (r : Option Bool) → cond fresh None (settle_spec low most start last next) ≡ r → Means r
+  finds (Some true) e =
+      let b = because fresh (is_met low start last) (is_over most start last next) (Some true) e in
       yes (sees.some_taken b.0) b.1
-  finds (Known false) e =
-      let b = because fresh (is_met low start last) (is_over most start last next) (Known false) e in
+  finds (Some false) e =
+      let b = because fresh (is_met low start last) (is_over most start last next) (Some false) e in
       no (sees.some_taken b.0) b.1 b.2
-  finds Unknown e =
+  finds None e =
       ⊎_elim
       (λ b. let a = u.ahead in let h = sees.none_taken b in logic.waits_fresh (both_fit φ ψ L) falls behind (omega arith))
       (λ b. waits (sees.some_taken b.0) b.1 b.2)
-      (because fresh (is_met low start last) (is_over most start last next) Unknown e)
+      (because fresh (is_met low start last) (is_over most start last next) None e)
 
   -- behind the end of a closed log every position is known
-  pub none_waits : pick fresh Unknown (settle_spec low most start last next) ≡ Unknown → Ended → p ≤ g
+  pub none_waits : cond fresh None (settle_spec low most start last next) ≡ None → Ended → p ≤ g
   none_waits e end =
       ⊎_elim
       sees.none_taken
       (λ b. absurd ((soon (sees.some_taken b.0) b.2).2 end))
-      (because fresh (is_met low start last) (is_over most start last next) Unknown e)
+      (because fresh (is_met low start last) (is_over most start last next) None e)
 
 -- what a walk sees
 pub sees_log : (start next : ℕ → ℕ) (lead n count took : ℕ) → count < 64 → took ≤ n → {L : Log} {g at : ℕ} → at ≡ g + lead → at + n ≤ L.size →
@@ -196,12 +195,12 @@ module _ (low most : ℕ) (start next : ℕ → ℕ) (lead n left right : ℕ) (
   operands : {φ ψ : Formula} {L : Log} {at : ℕ} → Buffer φ L at n left → Buffer ψ L at n right → at + took ≤ both_settled φ ψ L
   operands a b = let x = a.within in let y = b.within in omega arith
 
-  pub walks_known : (v : Bool) → look_spec low most start next lead count took last ≡ Known v → bits < 2 ^ count →
+  pub walks_known : (v : Bool) → look_spec low most start next lead count took last ≡ Some v → bits < 2 ^ count →
       Walks low most start next lead n left right from bits count took last →
       Walks low most start next lead n left right from (with_bit bits count v) (count + 1) took last
   walks_known v e small walks high φ ψ L g at clamp behind falls reads a b begun =
       let r = walks high φ ψ L g at clamp behind falls reads a b begun in
-      let m = finds low high most clamp φ ψ L falls (sees_log start next lead n count took few all behind (fits a) reads) (operands a b) last r.heads (Known v) e in
+      let m = finds low high most clamp φ ψ L falls (sees_log start next lead n count took few all behind (fits a) reads) (operands a b) last r.heads (Some v) e in
       let some = known_behind low most start next lead count took last v e in
       let inside = m.0 in
       record {
@@ -213,12 +212,12 @@ module _ (low most : ℕ) (start next : ℕ → ℕ) (lead n left right : ℕ) (
             };
       }
 
-  pub walks_unknown : look_spec low most start next lead count took last ≡ Unknown → took < n →
+  pub walks_unknown : look_spec low most start next lead count took last ≡ None → took < n →
       Walks low most start next lead n left right from bits count took last →
       Walks low most start next lead n left right from bits count (took + 1) (take_spec next took left right)
   walks_unknown e h walks high φ ψ L g at clamp behind falls reads a b begun =
       let r = walks high φ ψ L g at clamp behind falls reads a b begun in
-      let w = finds low high most clamp φ ψ L falls (sees_log start next lead n count took few all behind (fits a) reads) (operands a b) last r.heads Unknown e in
+      let w = finds low high most clamp φ ψ L falls (sees_log start next lead n count took few all behind (fits a) reads) (operands a b) last r.heads None e in
       let x = a.within in
       let y = b.within in
       let z = w.ahead in

@@ -12,9 +12,9 @@ use Rattle.mtl.proofs.Bounded.{and_iff, or_iff, le_or_lt}
 use Rattle.mtl.proofs.Closing.{both_settled, both_fit}
 use Rattle.bits.specs.Packed.{bit}
 use Rattle.bits.proofs.Filling.{no_bit, ones_bit}
-use Rattle.walks.specs.Settle.{pick, is_met, is_over, settle_spec, is_told, Met, Walk}
+use Rattle.walks.specs.Settle.{is_met, is_over, settle_spec, is_told, Met, Walk}
 use Rattle.walks.specs.declared.Last.{Last}
-use Rattle.walks.specs.declared.Settled.TheVariants.{Known, Unknown}
+use Rattle.std.specs.Prelude.{None, Some}
 use Rattle.walks.proofs.Logic as logic
 use Rattle.walks.proofs.Single.{finds, sees_log}
 use Rattle.walks.proofs.Log.{on_log, waiting_rise, untaken}
@@ -43,9 +43,9 @@ module _ (low lead : ℕ) (last : Last) where
       by false r x y e = absurd (true≢false e)
 
 -- nothing more is needed to know a position that waits
-known : {low lead : ℕ} {last : Last} → Tells low lead last → (most start next : ℕ) → settle_spec low most start last next ≡ Known (is_met low start last)
+known : {low lead : ℕ} {last : Last} → Tells low lead last → (most start next : ℕ) → settle_spec low most start last next ≡ Some (is_met low start last)
 known {low} {last = last} t most start next =
-    ap (λ (x : Bool). pick x (Known (is_met low start last)) Unknown)
+    ap (λ (x : Bool). cond x (Some (is_met low start last)) None)
     ((or_iff (is_met low start last) (is_over most start last next)).1
     (⊎_elim
     (λ f. inr ((or_iff (negate last.left) (ltb most (next - start))).1 (inl f)))
@@ -61,6 +61,17 @@ module _ (low : ℕ) (start : ℕ → ℕ) (last : Last) (count met : ℕ) where
 
   abbrev pub Found : Type 0
   Found = FoundBy last.right
+
+  pub none_found : last.right ≡ false → met ≡ 0 → Found
+  none_found r z =
+      rw r
+      (⊎_elim
+      (λ none. inl (omega arith, z))
+      (λ some. inr (some, record { most = omega arith; far = λ i h. absurd (omega arith); next = λ h. omega arith }))
+      (le_or_lt low 0))
+
+  pub found_by : last.right ≡ true → ((low ≡ 0) × (met ≡ count)) ⊎ ((0 < low) × Met low start last.time count met) → Found
+  found_by r f = rw r f
 
   pub found_most : Found → met ≤ count
   found_most = by last.right
@@ -104,6 +115,6 @@ told_walk {low} {lead = lead} {n = n} {met = met} {count = count} {start = start
           rw (found_bit low start from count met (λ i j a b. waiting_rise behind falls log i j a (omega arith) (omega arith)) i h from.right found)
           (finds low high _ clamp φ ψ L falls (sees_log start next lead n i 0 (omega arith) (omega arith) behind log.inside reads) operands from
           (logic.answered_later (both_fit φ ψ L) falls operands begun.heads (omega arith) (g + i) (omega arith) (omega arith))
-          (Known (is_met low (start i) from))
+          (Some (is_met low (start i) from))
           (rw (lt-leb (lead + 0) i (omega arith)) (known t _ (start i) (next 0)))));
     }

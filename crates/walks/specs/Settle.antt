@@ -1,6 +1,6 @@
 -- until's parts: what settles the next position to answer, and a walk that answers and takes many of them. Positions are counted here from
 -- the first that waits and from the first to take, which lies `lead` behind that; start and next are their times.
-use Rattle.std.specs.Prelude.{ℕ, zero, suc, ◌+◌, ◌-◌, ◌≤◌, ◌<◌, ◌^◌, min, max, Bool, true, false, cond, ◌&&◌, ◌||◌, not as negate, ◌≡◌, leb, ltb, eqb}
+use Rattle.std.specs.Prelude.{ℕ, zero, suc, ◌+◌, ◌-◌, ◌≤◌, ◌<◌, ◌^◌, min, max, Bool, true, false, cond, ◌&&◌, ◌||◌, not as negate, ◌≡◌, leb, ltb, eqb, Option, None, Some}
 use Rattle.mtl.specs.Formula.{Formula, unbounded}
 use Rattle.mtl.specs.Formula.Formula.{until as until_formula}
 use Rattle.mtl.specs.Log.{Log, NeverFalls}
@@ -9,12 +9,6 @@ use Rattle.bits.specs.Packed.{bit, number}
 use Rattle.blocks.specs.Block.{Until, Buffer}
 use Rattle.walks.specs.declared.Last.{Last}
 use Rattle.walks.specs.declared.Walked.{Walked}
-use Rattle.walks.specs.declared.Settled.{Settled}
-use Rattle.walks.specs.declared.Settled.TheVariants.{Known, Unknown}
-
-abbrev pub pick : Bool → Settled → Settled → Settled
-pick true a b = a
-pick false a b = b
 
 -- right holds at the last position taken, at least low after the start
 abbrev pub is_met : (low start : ℕ) → Last → Bool
@@ -24,9 +18,9 @@ is_met low start last = last.right && leb low (last.time - start)
 abbrev pub is_over : (high start : ℕ) → Last → (next : ℕ) → Bool
 is_over high start last next = negate last.left || ltb high (next - start)
 
-abbrev pub settle_spec : (low high start : ℕ) → Last → (next : ℕ) → Settled
+abbrev pub settle_spec : (low high start : ℕ) → Last → (next : ℕ) → Option Bool
 settle_spec low high start last next =
-    pick (is_met low start last || is_over high start last next) (Known (is_met low start last)) Unknown
+    cond (is_met low start last || is_over high start last next) (Some (is_met low start last)) None
 
 -- the time that stands for the next position's where there is none: later than all where the log is closed, else not later than any
 abbrev pub time_of_none : (closed : Bool) → ℕ
@@ -37,9 +31,9 @@ abbrev pub next_of : (time : ℕ → ℕ) (n after i : ℕ) → ℕ
 next_of time n after i = cond (ltb i n) (time i) after
 
 -- what is known of a position that waits, where the one `at` is the next to take
-abbrev pub look_spec : (low high : ℕ) (start next : ℕ → ℕ) (lead waiting at : ℕ) → Last → Settled
+abbrev pub look_spec : (low high : ℕ) (start next : ℕ → ℕ) (lead waiting at : ℕ) → Last → Option Bool
 look_spec low high start next lead waiting at last =
-    pick (leb (lead + at) waiting) Unknown (settle_spec low high (start waiting) last (next at))
+    cond (leb (lead + at) waiting) None (settle_spec low high (start waiting) last (next at))
 
 -- position i out of the operands' words
 abbrev pub take_spec : (next : ℕ → ℕ) (i left right : ℕ) → Last
@@ -76,7 +70,7 @@ pub record Limits (lead n bits count took : ℕ) (from last : Last) : Type 0 whe
 -- where a walk answers none and takes none: there is none to take, and the next to answer waits
 pub record StillWaits (low most : ℕ) (start next : ℕ → ℕ) (lead n count took : ℕ) (last : Last) : Type 0 where
   pub all : took ≡ n
-  pub unknown : look_spec low most start next lead count took last ≡ Unknown
+  pub unknown : look_spec low most start next lead count took last ≡ None
 
 -- a whole walk
 pub record Walk (low most : ℕ) (start next : ℕ → ℕ) (lead n left right : ℕ) (from : Last) (w : Walked) : Type 0 where

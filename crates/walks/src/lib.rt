@@ -1,23 +1,13 @@
 // The walks of an until: from words of its operands' answers to a word of its own, by whole words where that can be.
 #![tactic(auto)]
 
-ghost use Rattle.std.specs.Prelude.{◌≡◌, ◌⊎◌, true, false, cond, ℕ, ◌+◌, ◌-◌, ◌%◌, ◌≤◌, ◌<◌, ◌^◌, min};
+ghost use Rattle.std.specs.Prelude.{◌≡◌, ◌⊎◌, true, false, ℕ, ◌+◌, ◌-◌, ◌%◌, ◌≤◌, ◌<◌, ◌^◌, min};
 ghost use Rattle.trace.specs.Format.{record_count, time_at};
 ghost use Rattle.bits.specs.Packed.{bit, Packed};
 ghost use Rattle.walks.specs.Settle.{settle_spec, time_of_none, next_of, look_spec, take_spec, Rising, latest_right, is_late, Words, LastMet, first_right, is_soon, Met, Far, Walk, ByWords, Outreaches, is_told, Calm};
-ghost use Rattle.walks.specs.declared.Settled.TheVariants.{Unknown};
-
-use blocks::time;
 
 // Up to so many stretches are gone through one by one.
 const FEW_STRETCHES: u64 = 4;
-
-// What is known of the next position to answer.
-#[derive(Clone, Copy)]
-pub enum Settled {
-    Known(bool),
-    Unknown,
-}
 
 // The last position taken: the operands' answers there, and its time.
 #[derive(Clone, Copy)]
@@ -61,17 +51,13 @@ const TIME_OF_NO_RIGHT: u64 = 8589934592;
 // A word of yes.
 const ALL_YES: u64 = 18446744073709551615;
 
-// Whether the last position taken or the time of the next settles the position whose time is `start`.
-pub fn settle(low: u64, high: u64, start: u64, last: Last, next: u64) -> Settled
+// The answer at the position whose time is `start`, if the last position taken or the time of the next settles it.
+pub fn settle(low: u64, high: u64, start: u64, last: Last, next: u64) -> Option<bool>
     ensures { result ≡ settle_spec low high start last next }
 {
-    let met = last.right & (low <= time::gap(start, last.time));
-    let over = !last.left | (high < time::gap(start, next));
-    if met | over {
-        Settled::Known(met)
-    } else {
-        Settled::Unknown
-    }
+    let met = last.right & (low <= last.time.saturating_sub(start));
+    let over = !last.left | (high < next.saturating_sub(start));
+    if met | over { Some(met) } else { None }
 }
 
 // The time that stands for the next position's where there is none: later than all where the log is closed, else not later than any.
@@ -105,8 +91,8 @@ fn take(ahead: &[u8], i: u64, left: u64, right: u64) -> Last
     }
 }
 
-// What is known of the position at record `waiting` of `starts`, where the one at record `at` of `ahead` is the next to take; `ahead`
-// begins `lead` positions behind, and behind its first n comes the time `after`.
+// The answer at record `waiting` of `starts`, if it is known where the one at record `at` of `ahead` is the next to take; `ahead` begins
+// `lead` positions behind, and behind its first n comes the time `after`.
 fn look(
     low: u64,
     high: u64,
@@ -118,12 +104,12 @@ fn look(
     n: u64,
     after: u64,
     last: Last,
-) -> Settled
+) -> Option<bool>
     requires { (n ≤ record_count ahead.now) × (lead + at < 2 ^ 64) × (waiting < lead + at → waiting < record_count starts.now) }
     ensures { result ≡ look_spec low high (time_at starts.now) (next_of (time_at ahead.now) n after) lead waiting at last }
 {
     if lead + at <= waiting {
-        return Settled::Unknown;
+        return None;
     }
     let start = trace::time(starts, waiting as usize);
     settle(low, high, start, last, next_time(ahead, at, n, after))
@@ -152,11 +138,11 @@ fn walk(
     let mut took: u64 = 0;
     while count < 64 {
         match look(low, high, starts, count, ahead, took, lead, n, after, last) {
-            Settled::Known(holds) => {
+            Some(holds) => {
                 bits = bits::push(bits, count, holds);
                 count += 1;
             }
-            Settled::Unknown => {
+            None => {
                 if took == n {
                     break;
                 }
@@ -202,24 +188,10 @@ pub fn walk_inside(ahead: &[u8], lead: u64, n: u64, left: u64, right: u64) -> Wa
     let front = bits::repeat(bits::test(own, 0), lead);
     Walked {
         bits: bits::prolong(own, front, lead),
-        count: blocks::smaller(lead + known, 64),
+        count: (lead + known).min(64),
         took,
         last: take(ahead, took - 1, left, right),
     }
-}
-
-// x where it is told so, else 0.
-fn keep_if(yes: bool, x: u64) -> u64
-    ensures { result ≡ cond yes x 0 }
-{
-    if yes { x } else { 0 }
-}
-
-// One of two, the first where it is told so.
-fn pick(first: bool, a: u64, b: u64) -> u64
-    ensures { result ≡ cond first a b }
-{
-    if first { a } else { b }
 }
 
 // The first n bits.
@@ -235,14 +207,12 @@ fn find_met(low: u64, ahead: &[u8], from: u64, end: u64, to: u64) -> u64
     requires { (low ≤ 2 ^ 32) × (from ≤ end) × (end ≤ record_count ahead.now) }
     ensures { LastMet low to (time_at ahead.now) from end result }
 {
-    let mut i = end;
-    while from < i {
-        if trace::time(ahead, i as usize - 1) + low <= to {
-            break;
+    for i in (from..end).rev() {
+        if trace::time(ahead, i as usize) + low <= to {
+            return i + 1;
         }
-        i -= 1;
     }
-    i
+    from
 }
 
 // As `find_late`, from one stretch of positions that lead on to the one before it. They have the right of the one behind them, and times never
@@ -259,12 +229,14 @@ fn find_by_stretches(low: u64, ahead: &[u8], n: u64, leads: u64, own: u64) -> La
         let to = trace::time(ahead, end as usize);
         let met = find_met(low, ahead, from, end, to);
         bits = bits | bits::ones_between(from, met);
-        latest = pick(from == 0, to, latest);
+        if from == 0 {
+            latest = to;
+        }
         end = bits::find_last_zero(!leads, from);
     }
     Late {
         bits,
-        right: keep_if(bits::test(own, 0), latest),
+        right: if bits::test(own, 0) { latest } else { 0 },
     }
 }
 
@@ -280,18 +252,19 @@ fn find_late(low: u64, ahead: &[u8], n: u64, left: u64, right: u64) -> Late
     if bits::count_zeros(!leads | (leads << 1), n) <= FEW_STRETCHES {
         return find_by_stretches(low, ahead, n, leads, own);
     }
-    let mut i = bits::find_last_zero(!leads, n);
-    let mut latest = trace::time(ahead, i as usize);
+    let end = bits::find_last_zero(!leads, n);
+    let mut latest = trace::time(ahead, end as usize);
     let mut bits: u64 = 0;
-    while 0 < i {
-        i -= 1;
+    for i in (0..end).rev() {
         let now = trace::time(ahead, i as usize);
-        latest = pick(bits::test(leads, i), latest, now);
+        if !bits::test(leads, i) {
+            latest = now;
+        }
         bits = bits * 2 + bits::flag(now + low <= latest);
     }
     Late {
         bits,
-        right: keep_if(bits::test(own, 0), latest),
+        right: if bits::test(own, 0) { latest } else { 0 },
     }
 }
 
@@ -300,14 +273,12 @@ fn count_met(low: u64, starts: &[u8], n: u64, to: u64) -> u64
     requires { (low ≤ 2 ^ 32) × (n ≤ record_count starts.now) }
     ensures { Met low (time_at starts.now) to n result }
 {
-    let mut i: u64 = 0;
-    while i < n {
+    for i in 0..n {
         if to < trace::time(starts, i as usize) + low {
-            break;
+            return i;
         }
-        i += 1;
     }
-    i
+    n
 }
 
 // As `walk_inside`, where low is above 0: a position is yes where the latest right that left leads to lies at least low after it.
@@ -338,7 +309,7 @@ fn walk_late(
     let took = taken_for(lead, known, n);
     Walked {
         bits: bits::prolong(late.bits, front, lead),
-        count: blocks::smaller(lead + known, 64),
+        count: (lead + known).min(64),
         took,
         last: take(ahead, took - 1, left, right),
     }
@@ -351,11 +322,11 @@ fn find_soon(high: u64, ahead: &[u8], n: u64, right: u64) -> Soon
 {
     let mut next = TIME_OF_NO_RIGHT;
     let mut bits: u64 = 0;
-    let mut i = n;
-    while 0 < i {
-        i -= 1;
+    for i in (0..n).rev() {
         let now = trace::time(ahead, i as usize);
-        next = pick(bits::test(right, i), now, next);
+        if bits::test(right, i) {
+            next = now;
+        }
         bits = bits * 2 + bits::flag(next <= now + high);
     }
     Soon { bits, right: next }
@@ -367,14 +338,12 @@ fn count_far(high: u64, ahead: &[u8], n: u64) -> u64
     ensures { Far high (time_at ahead.now) n result }
 {
     let last = trace::time(ahead, n as usize - 1);
-    let mut i = n - 1;
-    while 0 < i {
-        if trace::time(ahead, i as usize - 1) + high < last {
-            break;
+    for i in (0..n - 1).rev() {
+        if trace::time(ahead, i as usize) + high < last {
+            return i + 1;
         }
-        i -= 1;
     }
-    i
+    0
 }
 
 // As `walk_inside`, where those to take reach further than high: a position is yes where its first right lies at most high after it, and
@@ -397,11 +366,11 @@ fn walk_far(
     let front = bits::repeat(bits::test(own, 0), lead) & !bits::repeat(true, over);
     let event = bits::find_last_zero(left & !right, n);
     let far = count_far(high, ahead, n);
-    let known = pick(event < far, far, event);
+    let known = event.max(far);
     let took = taken_for(lead, known, n);
     Walked {
         bits: bits::prolong(own & soon.bits, front, lead),
-        count: blocks::smaller(lead + known, 64),
+        count: (lead + known).min(64),
         took,
         last: take(ahead, took - 1, left, right),
     }
@@ -418,7 +387,7 @@ fn outreaches(high: u64, ahead: &[u8], lead: u64, n: u64, from: Last) -> bool
     let quiet = (lead == 0) | (from.left & !from.right);
     let first = trace::time(ahead, 0);
     let last = trace::time(ahead, n as usize - 1);
-    quiet & (high < time::gap(first, last))
+    quiet & (high < last.saturating_sub(first))
 }
 
 // Whether a walk can go by whole words, where the first that waits has this time: of the others none need be read for it. No rule has a low
@@ -438,10 +407,10 @@ pub fn by_first(
     if (n == 0) | (64 <= lead) | (LONGEST_GAP < low) {
         return false;
     }
-    let met = from.right & (low <= time::gap(start, from.time));
+    let met = from.right & (low <= from.time.saturating_sub(start));
     let quiet = (lead == 0) | (from.left & !met);
     let last = trace::time(ahead, n as usize - 1);
-    quiet & (time::gap(start, last) <= high)
+    quiet & (last.saturating_sub(start) <= high)
 }
 
 // Whether a walk can go by whole words.
@@ -476,11 +445,12 @@ fn walk_told(low: u64, starts: &[u8], lead: u64, from: Last) -> Walked
     requires { (is_told low lead from ≡ true) × (min lead 64 ≤ record_count starts.now) }
     ensures { (high n left right : ℕ) (next : ℕ → ℕ) → Walk low high (time_at starts.now) next lead n left right from result }
 {
-    let count = blocks::smaller(lead, 64);
+    let count = lead.min(64);
+    let most = if from.right { count } else { 0 };
     let met = if low == 0 {
-        keep_if(from.right, count)
+        most
     } else {
-        count_met(low, starts, count, keep_if(from.right, from.time))
+        count_met(low, starts, most, from.time)
     };
     Walked {
         bits: yes_for(met),
@@ -496,8 +466,9 @@ pub fn answer_told(lead: u64, from: Last) -> Walked
     ensures walk { (high n left right : ℕ) (start next : ℕ → ℕ) → Walk 0 high start next lead n left right from result }
     ensures count_value { result.count ≡ lead }
 {
+    let met = if from.right { lead } else { 0 };
     Walked {
-        bits: yes_for(keep_if(from.right, lead)),
+        bits: yes_for(met),
         count: lead,
         took: 0,
         last: from,
@@ -525,7 +496,7 @@ fn is_calm(
     let start = trace::time(starts, 0);
     let last = trace::time(ahead, n as usize - 1);
     let quiet = from.left & !from.right & (bits::find_first_zero(left & !right, n) == n);
-    quiet & (time::gap(start, last) <= high)
+    quiet & (last.saturating_sub(start) <= high)
 }
 
 // Takes n positions that settle none of those that wait.
@@ -557,10 +528,10 @@ fn walk_over(
     requires { (high < 2 ^ 32) × (0 < lead) × (0 < n) × (n ≤ 64) × (n ≤ record_count ahead.now) × (min lead 64 ≤ record_count starts.now) × (from.left ≡ true) × (from.right ≡ false) }
     ensures { (after : ℕ) → Walk 0 high (time_at starts.now) (next_of (time_at ahead.now) n after) lead n left right from result }
 {
-    let most = blocks::smaller(lead, 64);
+    let most = lead.min(64);
     let event = bits::find_first_zero(left & !right, n);
     let reach = trace::time(starts, most as usize - 1) + high;
-    let took = count_met(0, ahead, blocks::smaller(event + 1, n), reach);
+    let took = count_met(0, ahead, (event + 1).min(n), reach);
     if took == 0 {
         return Walked {
             bits: 0,

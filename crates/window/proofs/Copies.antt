@@ -27,12 +27,12 @@ pub keeps_none : (s : List ℕ) → Keeps s (replicate 544 0)
 keeps_none s = record { long = refl; holds = λ some. absurd (omega arith) }
 
 -- a number written as a time
-pub noted : (copy : List ℕ) (i x : ℕ) → i * 8 + 8 ≤ length copy → {after : List ℕ} → after ≡ sets copy (i * 8) (word_bytes (x % 4294967296)) → Noted copy i x after
+pub noted : (copy : List ℕ) (i x : ℕ) → i * 8 + 8 ≤ length copy → {after : List ℕ} → after ≡ put copy (i * 8) (word_bytes (x % 4294967296)) → Noted copy i x after
 noted copy i x room is =
     let y = x % 4294967296 in
     let bytes = word_bytes y in
     let here = written_here copy bytes i (omega arith) room in
-    rw (is ∙ stored copy (i * 8) bytes (omega arith))
+    rw is
     record {
       long = written_long copy bytes i (omega arith) room;
       number =
@@ -58,10 +58,6 @@ module _ (copy : List ℕ) (r : Kept) (room : length copy ≡ 544) {first : List
 
   count_before : (j : ℕ) → j < 67 → SameRecord first j copy j
   count_before j h = rw is_put (written_before copy byte 67 (omega arith) (omega arith) j h)
-
-  pub said_none : r.count ≡ 0 → Said copy r first
-  said_none none =
-      record { long = count_long; count = count_here; end = λ some. absurd (omega arith); before = λ j h. count_before j (omega arith) }
 
   pub said_some : {next : List ℕ} → Noted first 66 r.end next → Said copy r next
   said_some end =

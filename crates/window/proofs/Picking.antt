@@ -88,11 +88,6 @@ module _ (s : List ℕ) (letter from : ℕ) where
           let none : some_service s from 1 ≡ false = rw (add-zero from) plain in
           rw (one, mul-one bits) (picks_plain 1 bits (omega arith) none gave)
 
-  pub picks_fit : (n : ℕ) (r : Picked) → n ≤ 64 → Picks s letter from n r → r.bits < 2 ^ 64
-  picks_fit n r few picks =
-      let most : r.count ≤ 64 = omega (arith, picks.counted.few) in
-      lt_of_lt_of_le picks.small (pow_mono most)
-
   -- all that are there are picked
   pub lettered : (n k at bits : ℕ) → Picking n k at bits → (n ≤ k) ⊎ (record_count s ≤ at) → Lettered true s letter from n (record { bits = bits; end = at })
   lettered n k at bits (g, pushed) ended =

@@ -12,6 +12,8 @@ use lib.Dec.{ltb, leb, eqb}
 use lib.ListN.{length, get_or, take, drop, length-drop, get_or-append}
 use lib.Seq.{sets, get_or-take, get_or-drop, drop-cons, length-take-le}
 use borrow.Author.Tests.{lt-ltb, ltb-true, le-leb, not-true}
+use Rattle.std.specs.Int.{w64, to_le_bytes}
+use Rattle.std.proofs.lemmas.Nat.{le_bytes_8}
 use Rattle.mtl.proofs.Bounded.{le_or_lt, true_or_false, true_and_false, and_iff, leb_iff, any_false_iff}
 use Rattle.mtl.specs.Satisfaction.{any}
 use Rattle.bits.specs.Packed.{number, Packed}
@@ -19,11 +21,13 @@ use Rattle.bits.proofs.Laws.{number_bit, packed_none, packed_same}
 use Rattle.trace.specs.Format.{record_count, events_at, has_letter, SameRecord}
 use Rattle.trace.specs.Positions.{is_service, spot, place, moved, positions, Inside}
 use Rattle.trace.specs.Making.{put}
+use Rattle.trace.specs.Letters.{whole_at}
 use Rattle.window.specs.View.{slice_first, skips, in_slice}
 use Rattle.window.specs.Window.{some_service, dense, own_part, copied, record_of, letter_at, Counted, Transcribed, Copied, Mixed, Lettered, Keeps, Held, Opened, Behind, BehindBut, BehindSome, Gathered, Windowed, Passed, Found}
 use Rattle.window.specs.declared.Kept.{Kept}
 use Rattle.window.specs.declared.Letters.{Letters}
 use Rattle.window.specs.declared.Window.{Window}
+use Rattle.window.specs.declared.view.View.{View}
 use Rattle.trace.proofs.Making.{stored, byte_behind, length_put}
 use Rattle.trace.proofs.Counting.{spot_last, head_finds, count_one, count_grows, count_most}
 use Rattle.trace.proofs.Positions.{seek_position, spot_service, spot_position, spot_past, spot_plain}
@@ -252,8 +256,21 @@ module _ (s : List ℕ) (i k : ℕ) (copy : List ℕ) (inside : i < record_count
   unfolding bytes
   record_is = sym (rw (add-zero (i * 8)) at (listed s (i * 8) 8 0 (omega arith)))
 
-  pub copied_by : {after : List ℕ} → after ≡ sets copy (k * 8) its_bytes → after ≡ put copy (k * 8) (record_of s i)
-  copied_by e = e ∙ stored copy (k * 8) its_bytes (omega arith) ∙ ap (put copy (k * 8)) record_is
+  module _ (byte : (j : ℕ) → get_or s j 0 < 256) where
+    byte_is : (b : ℕ) → get_or its_bytes b 0 < 256
+    byte_is zero = byte (i * 8)
+    byte_is (suc zero) = byte (i * 8 + 1)
+    byte_is (suc (suc zero)) = byte (i * 8 + 2)
+    byte_is (suc (suc (suc zero))) = byte (i * 8 + 3)
+    byte_is (suc (suc (suc (suc zero)))) = byte (i * 8 + 4)
+    byte_is (suc (suc (suc (suc (suc zero))))) = byte (i * 8 + 5)
+    byte_is (suc (suc (suc (suc (suc (suc zero)))))) = byte (i * 8 + 6)
+    byte_is (suc (suc (suc (suc (suc (suc (suc zero))))))) = byte (i * 8 + 7)
+    byte_is (suc (suc (suc (suc (suc (suc (suc (suc b)))))))) = omega arith
+
+    -- the record, read as one number and written
+    pub copied_by : {word : ℕ} {after : List ℕ} → word ≡ whole_at s i → after ≡ put copy (k * 8) (to_le_bytes w64 word) → after ≡ put copy (k * 8) (record_of s i)
+    copied_by {word} read e = e ∙ ap (put copy (k * 8)) (le_bytes_8 its_bytes word refl byte_is read ∙ record_is)
 
   pub copied_long : length (put copy (k * 8) (record_of s i)) ≡ length copy
   copied_long = written_long copy (record_of s i) k record_few room
@@ -268,9 +285,9 @@ module _ (s : List ℕ) (i k : ℕ) (copy : List ℕ) (inside : i < record_count
   pub copied_after : (j : ℕ) → k < j → SameRecord (put copy (k * 8) (record_of s i)) j copy j
   copied_after = written_after copy (record_of s i) k record_few room
 
-  pub transcribed_one : {after : List ℕ} → after ≡ sets copy (k * 8) its_bytes → Transcribed s i 1 copy k after
+  pub transcribed_one : {after : List ℕ} → after ≡ put copy (k * 8) (record_of s i) → Transcribed s i 1 copy k after
   transcribed_one e =
-      rw (copied_by e)
+      rw e
       record {
         long = copied_long;
         before = copied_before;
@@ -308,29 +325,8 @@ module _ (s : List ℕ) (from n : ℕ) {copy : List ℕ} (k : ℕ) {now : List �
         after = whole.after;
       }
 
-  -- else they are copied again
-  pub copied_again : {next : List ℕ} {r : ℕ} → Copied s from n now k next r → Copied s from n copy k next r
-  copied_again again =
-      record {
-        counted = again.counted;
-        long = again.long ∙ whole.long;
-        before = λ j h b byte. again.before j h b byte ∙ whole.before j h b byte;
-        here = again.here;
-        after = λ j h b byte. again.after j h b byte ∙ whole.after j h b byte;
-      }
-
 -- i of a few records from `from` on are copied, from number k on
 module _ (s : List ℕ) (from : ℕ) (copy : List ℕ) (k : ℕ) where
-  pub copied_none : Copied s from 0 copy k copy 0
-  copied_none =
-      record {
-        counted = counted_none s from;
-        long = refl;
-        before = λ j h b byte. refl;
-        here = λ j h. absurd (omega arith);
-        after = λ j h b byte. refl;
-      }
-
   -- one more, as number k + r: it stays if it is a position
   pub copied_on : (i r x : ℕ) (now next : List ℕ) → from + i < record_count s → (k + r) * 8 + 8 ≤ length now → x ≡ number (is_service s (from + i)) →
       next ≡ put now ((k + r) * 8) (record_of s (from + i)) → Copied s from i copy k now r → Copied s from (i + 1) copy k next (r + (1 - x))
@@ -366,16 +362,6 @@ pub record Gathering (s : List ℕ) (from : ℕ) (copy₀ : List ℕ) (k at : �
   pub after : (j : ℕ) → 65 ≤ j → SameRecord copy j copy₀ j
 
 module _ (s : List ℕ) (from : ℕ) (copy₀ : List ℕ) where
-  pub gathering_none : length copy₀ ≡ 544 → Gathering s from copy₀ 0 from copy₀
-  gathering_none long =
-      record {
-        going = going_none s from 65;
-        counted = add-zero (positions s from);
-        long = long;
-        done = λ j h. absurd (omega arith);
-        after = λ j h b byte. refl;
-      }
-
   pub gathering_group : (k at m r : ℕ) (copy copy' : List ℕ) → Gathering s from copy₀ k at copy → k + m ≤ 65 → at + m ≤ record_count s → Copied s at m copy k copy' r →
       Gathering s from copy₀ (k + r) (at + m) copy'
   gathering_group k at m r copy copy' g few inside copied =
@@ -392,11 +378,6 @@ module _ (s : List ℕ) (from : ℕ) (copy₀ : List ℕ) where
           let same : k + (j - k) ≡ j = omega arith in
           let place = rw same at (g.going.left (j - k)) in
           rw place (rw same at (copied.here (j - k) (omega arith)))
-
-  -- from here on, whatever was written before
-  pub gathering_anew : {k at : ℕ} {copy : List ℕ} → Gathering s from copy₀ k at copy → Gathering s from copy k at copy
-  gathering_anew g =
-      record { going = g.going; counted = g.counted; long = g.long; done = g.done; after = λ j h b byte. refl }
 
   pub gathered : (k at : ℕ) (now copy : List ℕ) → ((j : ℕ) → 65 ≤ j → SameRecord now j copy₀ j) → Gathering s from now k at copy → (65 ≤ k) ⊎ (record_count s ≤ at) → Gathered s from copy₀ copy (record { end = at; count = k })
   gathered k at now copy same g ended =
@@ -432,9 +413,6 @@ pub record Down (s : List ℕ) (from end n left at : ℕ) : Type 0 where
   pub counted : positions s at + (n - left) ≡ positions s end
 
 module _ (s : List ℕ) (from end n : ℕ) where
-  pub down_none : from ≤ end → Down s from end n n end
-  down_none h = record { few = omega arith; low = h; high = omega arith; counted = omega arith }
-
   module _ (left at : ℕ) (d : Down s from end n left at) where
     pub down_on : (x : ℕ) → from < at → x ≡ number (is_service s (at - 1)) → x ≤ 1 → 1 - x ≤ left → Down s from end n (left - (1 - x)) (at - 1)
     down_on x inside is small some =
@@ -444,17 +422,6 @@ module _ (s : List ℕ) (from end n : ℕ) where
         let here : (at - 1) + 1 ≡ at = omega arith in
         let one = rw here at (count_one s (at - 1) x is) in
         record { few = omega arith; low = omega arith; high = omega arith; counted = omega arith }
-
-    -- nothing before it is left
-    pub down_all : at ≤ from → BehindBut s from end n at
-    down_all none =
-        record {
-          onward = d.low;
-          bounded = d.high;
-          at = λ m some sum.
-              let here : at ≡ from = omega (arith, d.low) in
-              absurd (omega (arith, sum, rw here at d.counted));
-        }
 
     -- the record before it is a position, and none is left to pass
     pub down_here : end ≤ max from (record_count s) → (x : ℕ) → from < at → x ≡ number (is_service s (at - 1)) → x ≤ 1 → left < 1 - x → BehindBut s from end n at
@@ -477,17 +444,6 @@ module _ (s : List ℕ) (from end n : ℕ) where
               let last : m ≡ suc j = omega arith in
               rw last (omega arith);
         }
-
--- where a record stands behind some positions, from whichever side it was found
-module _ (s : List ℕ) (from end n more r : ℕ) where
-  pub some_but : end ≤ max from (record_count s) → BehindBut s from end more r → BehindSome s from end n more r
-  some_but bound but =
-      let bounded = but.bounded in
-      record { onward = but.onward; bounded = omega arith; at = λ some inside sum. but.at n some sum }
-
-  pub some_behind : Behind s from n r → BehindSome s from end n more r
-  some_behind behind =
-      record { onward = behind.onward; bounded = behind.bounded; at = λ some inside sum. behind.end inside }
 
 -- OPENING
 
@@ -515,16 +471,6 @@ module _ (skips : Bool) (s : List ℕ) (at n : ℕ) where
   unfolding moved
   moved_dense e zero h = sym (add-zero at)
   moved_dense e (suc m) h = let here = place_dense skips refl e m h in omega arith
-
-  -- where the records are not all there, a log in which all are positions has not so many
-  pub short_mixed : leb (at + n) (record_count s) ≡ false → Mixed skips s at n
-  short_mixed e inside some = by skips refl
-    where
-      by : (kind : Bool) → skips ≡ kind → skips ≡ true
-      by true kind = kind
-      by false kind =
-          let last : at + (n - 1) < record_count s = rw kind at (inside (n - 1) (omega arith)) in
-          absurd (true_and_false (le-leb (at + n) (record_count s) (omega arith)) e)
 
   -- records that are there, of which none is passed over or none is marked
   pub clear_dense : leb (at + n) (record_count s) ≡ true → (skips ≡ true → some_service s at n ≡ false) → dense skips s at n ≡ true
@@ -615,23 +561,13 @@ module _ (skips : Bool) (s : List ℕ) (letter at n : ℕ) where
 
 -- AFTER SOME OF ITS POSITIONS
 
-module _ (v s : List ℕ) (head n : ℕ) (w : Window) where
-  pub passed_none : n ≡ 0 → Passed v s head n w head
-  passed_none none =
-      record { onward = omega arith; still = λ e. refl; behind = λ m copy few opened inside some. absurd (omega arith) }
-
+module _ (v : View) (s : List ℕ) (head n : ℕ) (w : Window) where
   module _ (windowed : Windowed v s head n w) (some : 0 < n) where
     abbrev at : ℕ
     at = in_slice (slice_first v) head
 
     pub begins : w.at ≡ at
     begins = windowed.3.start
-
-    pub passed_fits : w.dense ≡ true → w.at + n ≤ record_count s
-    passed_fits e =
-        let m = windowed.0 in
-        let start = begins in
-        omega (arith, windowed.2, dense_fits (skips v) s at m (windowed.3.own e))
 
     pub passed_dense : w.dense ≡ true → Passed v s head n w (slice_first v + w.at + n)
     passed_dense e =
@@ -644,49 +580,7 @@ module _ (v s : List ℕ) (head n : ℕ) (w : Window) where
               omega arith;
         }
 
-    -- a copy has at least as many
-    pub passed_few : w.at ≤ w.end × w.end ≤ max w.at (record_count s) × n ≤ w.count
-    passed_few =
-        let start = begins in
-        let size = windowed.3.size in
-        (omega (arith, windowed.3.onward), omega (arith, windowed.3.bounded), omega (arith, windowed.2))
-
-    pub passed_some : w.dense ≡ false → (r : ℕ) → BehindSome s w.at w.end n (w.count - n) r → Passed v s head n w (slice_first v + r)
-    passed_some e r found =
-        let start = begins in
-        let low = found.onward in
-        record {
-          onward = omega arith;
-          still = λ none. absurd (omega arith);
-          behind = λ m copy few opened inside more.
-              let kind = opened.mixed e inside (omega arith) in
-              let sum = opened.counted e inside (omega arith) in
-              let all : n + (w.count - n) ≡ w.count = omega (arith, opened.size) in
-              let from : BehindSome s at w.end n (w.count - n) r = rw begins at found in
-              rw kind (ap (λ (x : ℕ). slice_first v + x) (from.at more (λ i h. (rw kind at inside) i (omega arith)) (rw all sum)));
-        }
-
 -- THE FIRST POSITION FROM A HEAD ON
-
-module _ (skips : Bool) (s : List ℕ) (at : ℕ) where
-  -- where no service record is passed over it is the record at the head
-  pub first_plain : negate skips && leb (at + 1) (record_count s) ≡ true → (at < record_count s) × (place skips s at 0 ≡ at)
-  first_plain e =
-      let both = (and_iff (negate skips) (leb (at + 1) (record_count s))).0 e in
-      let room = (leb_iff (at + 1) (record_count s)).0 both.1 in
-      (omega arith, rw (not-true skips both.0) (add-zero at))
-
-  -- else it is the one before the record behind it
-  pub first_mixed : negate skips && leb (at + 1) (record_count s) ≡ false → (end : ℕ) → Behind s at 1 end → Inside skips s at 1 →
-      (0 < end) × (end ≤ record_count s) × (end - 1 ≡ place skips s at 0)
-  unfolding moved
-  first_mixed e end behind inside = by skips e inside
-    where
-      by : (b : Bool) → negate b && leb (at + 1) (record_count s) ≡ false → Inside b s at 1 → (0 < end) × (end ≤ record_count s) × (end - 1 ≡ place b s at 0)
-      by true f here = let is = behind.end here in let room = here 0 (omega arith) in (omega arith, omega arith, omega arith)
-      by false f here =
-          let room = here 0 (omega arith) in
-          absurd (true_and_false ((leb_iff (at + 1) (record_count s)).1 (omega arith)) f)
 
 module _ (skips : Bool) (s : List ℕ) (at : ℕ) where
   -- whether the record at the head is a position, as the code tests it
@@ -723,10 +617,6 @@ pub record Back (s : List ℕ) (n left p : ℕ) : Type 0 where
   pub inside : p ≤ record_count s
   pub counted : positions s p + (n - left) ≡ positions s (record_count s)
   pub plain : left ≡ 0 → p < record_count s → is_service s p ≡ false
-
-pub back_none : (s : List ℕ) (n : ℕ) → Back s n n (record_count s)
-back_none s n =
-    record { few = omega arith; inside = omega arith; counted = omega arith; plain = λ none h. absurd (omega arith) }
 
 pub back_on : (s : List ℕ) (n left p x : ℕ) → Back s n left p → 0 < left → 0 < p → x ≡ number (is_service s (p - 1)) → x ≤ 1 →
     Back s n (left - (1 - x)) (p - 1)

@@ -9,6 +9,7 @@ use Rattle.window.specs.declared.Kept.{Kept}
 use Rattle.window.specs.declared.Letters.{Letters}
 use Rattle.window.specs.declared.Picked.{Picked}
 use Rattle.window.specs.declared.Window.{Window}
+use Rattle.window.specs.declared.view.View.{View}
 
 -- one of the n records from `from` on is a service record
 abbrev pub some_service : List ℕ → (from n : ℕ) → Bool
@@ -172,12 +173,12 @@ pub record BehindSome (s : List ℕ) (from end n more r : ℕ) : Type 0 where
   pub at : 0 < n → Inside true s from n → positions s from + (n + more) ≡ positions s end → r ≡ moved true s from n
 
 -- a window opened from this head on, of n positions at least
-abbrev pub Windowed : (v s : List ℕ) (head n : ℕ) → Window → Type 0
+abbrev pub Windowed : (v : View) (s : List ℕ) (head n : ℕ) → Window → Type 0
 Windowed v s head n w =
     (m : ℕ) × (copy : List ℕ) × (n ≤ m) × Opened (skips v) s (in_slice (slice_first v) head) m w copy
 
 -- the head after n of its positions
-pub record Passed (v s : List ℕ) (head n : ℕ) (w : Window) (r : ℕ) : Type 0 where
+pub record Passed (v : View) (s : List ℕ) (head n : ℕ) (w : Window) (r : ℕ) : Type 0 where
   pub onward : head ≤ r
   pub still : n ≡ 0 → r ≡ head
   pub behind : (m : ℕ) (copy : List ℕ) → n ≤ m → Opened (skips v) s (in_slice (slice_first v) head) m w copy →
@@ -189,6 +190,6 @@ pub record Found (skips : Bool) (s : List ℕ) (n r : ℕ) : Type 0 where
   pub at : n ≤ before skips s (record_count s) → r ≡ place skips s 0 (before skips s (record_count s) - n)
 
 -- the time of the first position from this head on, where the slice has one
-abbrev pub FirstTime : (v s : List ℕ) (head r : ℕ) → Type 0
+abbrev pub FirstTime : (v : View) (s : List ℕ) (head r : ℕ) → Type 0
 FirstTime v s head r =
     Inside (skips v) s (in_slice (slice_first v) head) 1 → r ≡ time_at s (place (skips v) s (in_slice (slice_first v) head) 0)

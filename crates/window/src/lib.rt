@@ -4,6 +4,7 @@
 #![tactic(auto)]
 
 ghost use Rattle.std.specs.Prelude.{◌≡◌, true, false, ◌&&◌, not as negate, ◌⊎◌, ◌+◌, ◌*◌, ◌≤◌, ◌<◌, ◌^◌, max, leb, length};
+ghost use Rattle.std.specs.Int.{w64, to_le_bytes};
 ghost use Rattle.bits.specs.Packed.{number};
 ghost use Rattle.trace.specs.Format.{record_count};
 ghost use Rattle.trace.specs.Positions.{is_service, before};
@@ -12,6 +13,8 @@ ghost use Rattle.window.specs.View.{slice_first, skips, in_slice, Views};
 ghost use Rattle.window.specs.Window.{some_service, dense, window_of, own_part, copied, either_of, record_of, kept_of, is_kept, Counted, Transcribed, Copied, Picks, Lettered, Gathered, Noted, Said, Keeps, Held, Mixed, Opened, Behind, BehindBut, BehindSome, Windowed, Passed, Found, FirstTime};
 
 pub mod view;
+
+use view::View;
 
 // Where a window begins in the slice of records, a record behind its last, how many positions it has, whether their records stand there one
 // after the other, and whether they are in a copy that was made for another window.
@@ -66,10 +69,8 @@ fn count_mixed(records: &[u8], from: usize, n: usize) -> usize
     ensures { Counted records.now from n result }
 {
     let mut found: usize = 0;
-    let mut i: usize = 0;
-    while i < n {
+    for i in 0..n {
         found += 1 - service(records, from + i);
-        i += 1;
     }
     found
 }
@@ -80,10 +81,8 @@ fn group_has_service(records: &[u8], from: usize, n: usize) -> bool
     ensures { result ≡ some_service records.now from n }
 {
     let mut joined: u8 = 0;
-    let mut i: usize = 0;
-    while i < n {
-        joined = joined | records[(from + i) * 8 + 4];
-        i += 1;
+    for i in 0..n {
+        joined |= records[(from + i) * 8 + 4];
     }
     128 <= joined
 }
@@ -106,12 +105,10 @@ pub fn count_many(records: &[u8], from: usize, n: usize) -> usize
     ensures { Counted records.now from n result }
 {
     let mut found: usize = 0;
-    let mut i: usize = 0;
-    while i + 8 <= n {
-        found += count_group(records, from + i, 8);
-        i += 8;
+    for group in 0..n / 8 {
+        found += count_group(records, from + group * 8, 8);
     }
-    found + count_mixed(records, from + i, n - i)
+    found + count_mixed(records, from + n / 8 * 8, n % 8)
 }
 
 // Where a head at this record stands in a slice that begins with record `first`.
@@ -125,51 +122,31 @@ fn in_slice(first: u64, head: u64) -> usize
     }
 }
 
-// Copies record i, as number k of the copy. All bytes are read before the first is written: it is compiled as one word then.
+// Writes record k of a copy, given as one number: it is compiled as one word.
+fn put_record(copy: &mut [u8; 544], k: usize, word: u64)
+    requires { (k < 65) × (length copy.old ≡ 544) }
+    ensures { copy.new ≡ put copy.old (k * 8) (to_le_bytes w64 word) }
+{
+    copy[k * 8..k * 8 + 8].copy_from_slice(&word.to_le_bytes());
+}
+
+// Copies record i, as number k of the copy.
 fn copy_record(records: &[u8], i: usize, copy: &mut [u8; 544], k: usize)
     requires { (i < record_count records.now) × (k < 65) × (length copy.old ≡ 544) }
     ensures { copy.new ≡ put copy.old (k * 8) (record_of records.now i) }
 {
-    let from = i * 8;
-    bits::bytes::write_eight(
-        copy,
-        k * 8,
-        records[from],
-        records[from + 1],
-        records[from + 2],
-        records[from + 3],
-        records[from + 4],
-        records[from + 5],
-        records[from + 6],
-        records[from + 7],
-    );
+    put_record(copy, k, trace::whole(records, i));
 }
 
-// Copies records i and i + 1, as numbers k and k + 1. All bytes are read before the first is written: it is compiled as one move of sixteen.
+// Copies records i and i + 1, as numbers k and k + 1. Both are read before the first is written: it is compiled as one move of sixteen.
 fn copy_pair(records: &[u8], i: usize, copy: &mut [u8; 544], k: usize)
     requires { (i + 2 ≤ record_count records.now) × (k + 2 ≤ 65) × (length copy.old ≡ 544) }
     ensures { Transcribed records.now i 2 copy.old k copy.new }
 {
-    let from = i * 8;
-    let a0 = records[from];
-    let a1 = records[from + 1];
-    let a2 = records[from + 2];
-    let a3 = records[from + 3];
-    let a4 = records[from + 4];
-    let a5 = records[from + 5];
-    let a6 = records[from + 6];
-    let a7 = records[from + 7];
-    let next = (i + 1) * 8;
-    let b0 = records[next];
-    let b1 = records[next + 1];
-    let b2 = records[next + 2];
-    let b3 = records[next + 3];
-    let b4 = records[next + 4];
-    let b5 = records[next + 5];
-    let b6 = records[next + 6];
-    let b7 = records[next + 7];
-    bits::bytes::write_eight(copy, k * 8, a0, a1, a2, a3, a4, a5, a6, a7);
-    bits::bytes::write_eight(copy, (k + 1) * 8, b0, b1, b2, b3, b4, b5, b6, b7);
+    let first = trace::whole(records, i);
+    let second = trace::whole(records, i + 1);
+    put_record(copy, k, first);
+    put_record(copy, k + 1, second);
 }
 
 // Copies eight records from `from` on as they are, as those from number k on.
@@ -189,11 +166,9 @@ fn copy_mixed(records: &[u8], from: usize, n: usize, copy: &mut [u8; 544], k: us
     ensures { Copied records.now from n copy.old k copy.new result }
 {
     let mut copied: usize = 0;
-    let mut i: usize = 0;
-    while i < n {
+    for i in 0..n {
         copy_record(records, from + i, copy, k + copied);
         copied += 1 - service(records, from + i);
-        i += 1;
     }
     copied
 }
@@ -248,12 +223,8 @@ fn note(copy: &mut [u8; 544], i: usize, x: usize)
     requires { (i < 68) × (length copy.old ≡ 544) }
     ensures { Noted copy.old i x copy.new }
 {
-    let at = i * 8;
-    let y = (x % 4294967296) as u32;
-    copy[at] = (y / 16777216 % 256) as u8;
-    copy[at + 1] = (y / 65536 % 256) as u8;
-    copy[at + 2] = (y / 256 % 256) as u8;
-    copy[at + 3] = (y % 256) as u8;
+    let time = (x % 4294967296) as u32;
+    copy[i * 8..i * 8 + 4].copy_from_slice(&time.to_be_bytes());
 }
 
 // Says how many positions a copy keeps, and of some the record behind them. The end of none is not asked for, and the test keeps the stores
@@ -275,7 +246,7 @@ fn kept_of(copy: &[u8; 544]) -> Kept
 {
     Kept {
         end: trace::time(copy, KEPT_END) as usize,
-        count: bits::bytes::wide(copy[KEPT_COUNT]) as usize,
+        count: usize::from(copy[KEPT_COUNT]),
     }
 }
 
@@ -284,15 +255,8 @@ fn is_kept(copy: &[u8; 544], at: usize, n: usize) -> bool
     requires { length copy.now ≡ 544 }
     ensures { result ≡ is_kept copy.now at n }
 {
-    let count = bits::bytes::wide(copy[KEPT_COUNT]);
-    (0 < count) & ((trace::time(copy, KEPT_FROM) == at as u64) & (n as u64 <= count))
-}
-
-// The larger of two.
-fn larger(a: usize, b: usize) -> usize
-    ensures { result ≡ max a b }
-{
-    if a < b { b } else { a }
+    let count = usize::from(copy[KEPT_COUNT]);
+    (0 < count) & ((trace::time(copy, KEPT_FROM) == at as u64) & (n <= count))
 }
 
 // n positions from record `at` on, in a copy that keeps them; where it keeps others, all that it has room for are copied anew.
@@ -308,10 +272,9 @@ fn hold(records: &[u8], at: usize, n: usize, copy: &mut [u8; 544]) -> Kept
     note(copy, KEPT_FROM, at);
     let found = gather(records, at, copy);
     say(copy, found);
-    let count = larger(n, found.count);
     Kept {
-        end: found.end,
-        count,
+        count: n.max(found.count),
+        ..found
     }
 }
 
@@ -332,12 +295,10 @@ fn pick_mixed(records: &[u8], from: usize, n: usize, letter: u64) -> Picked
 {
     let mut bits: u64 = 0;
     let mut count: usize = 0;
-    let mut i: usize = 0;
-    while i < n {
+    for i in 0..n {
         let one = pick_one(records, from + i, letter);
-        bits = bits + (one.bits << count as u64);
+        bits += one.bits << count as u64;
         count += one.count;
-        i += 1;
     }
     Picked { bits, count }
 }
@@ -365,13 +326,13 @@ fn pick_letters(records: &[u8], from: usize, n: usize, letter: u64) -> Letters
     let mut bits: u64 = 0;
     while can_take(8, n - k, at, end) {
         let group = pick_group(records, at, 8, letter);
-        bits = bits + (group.bits << k as u64);
+        bits += group.bits << k as u64;
         k += group.count;
         at += 8;
     }
     while can_take(1, n - k, at, end) {
         let one = pick_one(records, at, letter);
-        bits = bits + (one.bits << k as u64);
+        bits += one.bits << k as u64;
         k += one.count;
         at += 1;
     }
@@ -387,20 +348,20 @@ fn has_room(records: &[u8], from: usize, n: usize) -> bool
 }
 
 // Whether they are there and the slice has no service record at all: no other look at them is needed.
-fn is_plain(records: &[u8], view: &[u64; 66], from: usize, n: usize) -> bool
+fn is_plain(records: &[u8], view: &View, from: usize, n: usize) -> bool
     ensures { result ≡ negate (skips view.now) && leb (from + n) (record_count records.now) }
 {
-    (view[view::SKIPS] != 1) & has_room(records, from, n)
+    !view.skips & has_room(records, from, n)
 }
 
 // Whether so few records are there and lie in blocks, two at most, of which none is marked: no record is looked at.
-fn is_clear(records: &[u8], view: &[u64; 66], from: usize, n: usize) -> bool
+fn is_clear(records: &[u8], view: &View, from: usize, n: usize) -> bool
     requires { (n ≤ 65) × Views view.now records.now }
     ensures { (result ≡ true → dense (skips view.now) records.now from n ≡ true) × (result ≡ false → Mixed (skips view.now) records.now from n) }
 {
     if has_room(records, from, n) {
-        let marked = view::is_marked(view, from / 256) | view::is_marked(view, (from + n) / 256);
-        return (view[view::SKIPS] != 1) | !marked;
+        let marked = view.is_marked(from / 256) | view.is_marked((from + n) / 256);
+        return !view.skips | !marked;
     }
     false
 }
@@ -421,7 +382,7 @@ fn read_kept(records: &[u8], at: usize, n: usize, letter: u64, copy: &mut [u8; 5
 // it will read the same positions. Where it keeps them already, no mark is looked at.
 fn read_mixed(
     records: &[u8],
-    view: &[u64; 66],
+    view: &View,
     at: usize,
     n: usize,
     letter: u64,
@@ -431,7 +392,7 @@ fn read_mixed(
     ensures lettered { Lettered (skips view.now) records.now letter at n result }
     ensures keeps { Keeps records.now copy.new }
 {
-    if (view[view::SKIPS] == 1) & is_kept(copy, at, n) {
+    if view.skips & is_kept(copy, at, n) {
         return read_kept(records, at, n, letter, copy);
     }
     if is_clear(records, view, at, n) {
@@ -448,7 +409,7 @@ fn read_mixed(
 // The letter at each of n positions from a head on.
 pub fn read_letters(
     records: &[u8],
-    view: &[u64; 66],
+    view: &View,
     head: u64,
     n: u64,
     letter: u64,
@@ -458,7 +419,7 @@ pub fn read_letters(
     ensures lettered { Lettered (skips view.now) records.now letter (in_slice (slice_first view.now) head) n result }
     ensures keeps { Keeps records.now copy.new }
 {
-    let at = in_slice(view[view::FIRST], head);
+    let at = in_slice(view.first, head);
     if is_plain(records, view, at, n as usize) {
         let bits = trace::letter_bits(records, at, n as usize, letter);
         let end = at + n as usize;
@@ -495,7 +456,7 @@ fn copied(at: usize, held: Kept, shared: bool) -> Window
 }
 
 // The window of n positions from `at` on, where service records may lie among them.
-fn open_mixed(records: &[u8], view: &[u64; 66], at: usize, n: usize, copy: &mut [u8; 544]) -> Window
+fn open_mixed(records: &[u8], view: &View, at: usize, n: usize, copy: &mut [u8; 544]) -> Window
     requires { (n ≤ 65) × Keeps records.now copy.old × Views view.now records.now }
     ensures { Opened (skips view.now) records.now at n result copy.new }
 {
@@ -506,11 +467,11 @@ fn open_mixed(records: &[u8], view: &[u64; 66], at: usize, n: usize, copy: &mut 
 }
 
 // The window of n positions from a head on; the copy is written where it is needed.
-pub fn open(records: &[u8], view: &[u64; 66], head: u64, n: u64, copy: &mut [u8; 544]) -> Window
+pub fn open(records: &[u8], view: &View, head: u64, n: u64, copy: &mut [u8; 544]) -> Window
     requires { (n ≤ 65) × Keeps records.now copy.old × Views view.now records.now }
     ensures { Opened (skips view.now) records.now (in_slice (slice_first view.now) head) n result copy.new }
 {
-    let at = in_slice(view[view::FIRST], head);
+    let at = in_slice(view.first, head);
     if is_plain(records, view, at, n as usize) {
         return own_part(at, n as usize);
     }
@@ -520,7 +481,7 @@ pub fn open(records: &[u8], view: &[u64; 66], head: u64, n: u64, copy: &mut [u8;
 // As `open_mixed`, but read from the other copy where that keeps the positions.
 fn share_mixed(
     records: &[u8],
-    view: &[u64; 66],
+    view: &View,
     at: usize,
     n: usize,
     other: &[u8; 544],
@@ -542,7 +503,7 @@ fn share_mixed(
 // As `open`, but read from the other copy where that keeps the positions.
 pub fn share(
     records: &[u8],
-    view: &[u64; 66],
+    view: &View,
     head: u64,
     n: u64,
     other: &[u8; 544],
@@ -552,7 +513,7 @@ pub fn share(
     ensures opened { Opened (skips view.now) records.now (in_slice (slice_first view.now) head) n result (either_of result other.now copy.new) }
     ensures keeps { Keeps records.now copy.new }
 {
-    let at = in_slice(view[view::FIRST], head);
+    let at = in_slice(view.first, head);
     if is_plain(records, view, at, n as usize) {
         return own_part(at, n as usize);
     }
@@ -627,7 +588,7 @@ fn behind_some(records: &[u8], from: usize, end: usize, n: usize, more: usize) -
 }
 
 // Where a head stands after n positions of its window; where it stood if there are none.
-pub fn pass(head: u64, window: Window, records: &[u8], view: &[u64; 66], n: u64) -> u64
+pub fn pass(head: u64, window: Window, records: &[u8], view: &View, n: u64) -> u64
     requires { Views view.now records.now × Windowed view.now records.now head n window }
     ensures { Passed view.now records.now head n window result }
 {
@@ -635,28 +596,28 @@ pub fn pass(head: u64, window: Window, records: &[u8], view: &[u64; 66], n: u64)
         return head;
     }
     if window.dense {
-        return view[view::FIRST] + window.at as u64 + n;
+        return view.first + window.at as u64 + n;
     }
     let more = window.count - n as usize;
-    view[view::FIRST] + behind_some(records, window.at, window.end, n as usize, more) as u64
+    view.first + behind_some(records, window.at, window.end, n as usize, more) as u64
 }
 
 // Whether record `at` is there and a position.
-fn is_position(records: &[u8], view: &[u64; 66], at: usize) -> bool
+fn is_position(records: &[u8], view: &View, at: usize) -> bool
     ensures { result ≡ dense (skips view.now) records.now at 1 }
 {
     if has_room(records, at, 1) {
-        return (view[view::SKIPS] != 1) | (service(records, at) == 0);
+        return !view.skips | (service(records, at) == 0);
     }
     false
 }
 
 // The time of the first position from a head on, where there is one: mostly that of the record at the head.
-pub fn first_time(records: &[u8], view: &[u64; 66], head: u64) -> u64
+pub fn first_time(records: &[u8], view: &View, head: u64) -> u64
     requires { Views view.now records.now }
     ensures { FirstTime view.now records.now head result }
 {
-    let at = in_slice(view[view::FIRST], head);
+    let at = in_slice(view.first, head);
     if is_position(records, view, at) {
         return trace::time(records, at);
     }

@@ -1,6 +1,6 @@
 -- Counting distinct values.
 use Prim.Native.Nat.{ℕ, zero, suc, ◌+◌, ◌-◌, ◌≤◌, ◌<◌, min}
-use mathlib.Core.Bool.{Bool, true, false, not}
+use mathlib.Core.Bool.{Bool, true, not}
 use mathlib.Core.Logic.{⊎_elim, ◌↔◌}
 use mathlib.Core.Path.{◌≡◌}
 use native.Mathlib.Omega.{arith}
@@ -8,17 +8,13 @@ use lib.Dec.{eqb}
 use borrow.Author.Tests.{eq-eqb, eqb-true}
 use Rattle.mtl.specs.Satisfaction.{any}
 use Rattle.mtl.proofs.Bounded.{true_or_false, false_iff, and_iff, not_iff, any_iff, le_or_lt}
-use Rattle.bits.specs.Packed.{number}
+use Rattle.bits.proofs.Laws.{number_lt}
 use Rattle.worst.specs.Waiting.{count_where, same_value, new_value, distinct}
-
-number_le : (b : Bool) → number b ≤ 1
-number_le true = omega arith
-number_le false = omega arith
 
 pub count_le : (n : ℕ) (p : ℕ → Bool) → count_where n p ≤ n
 unfolding count_where
 count_le zero p = omega arith
-count_le (suc n) p = omega (arith, count_le n p, number_le (p n))
+count_le (suc n) p = omega (arith, count_le n p, number_lt (p n))
 
 module _ (p : ℕ → Bool) (value : ℕ → ℕ) where
   -- n has p, and a value that no number before it with p has

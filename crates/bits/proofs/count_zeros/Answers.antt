@@ -13,8 +13,5 @@ counted : (d : After-turned) →
     let a = d.args in (ones d.turned.result ≡ zeros a.n a.word) × (ones d.turned.result ≤ a.n)
 counted d = let a = d.args in zeros_counted a.word (omega arith) a.n d.turned.result (omega arith) d.turned.ensures
 
-pub overflow_cast-result : goal.overflow_cast-result
-overflow_cast-result c = record { fits = omega (arith, (counted (goal.at.overflow_cast-result c).After-turned).1) }
-
 pub returns : goal.returns
 returns c = counted (goal.at.returns c).After-turned

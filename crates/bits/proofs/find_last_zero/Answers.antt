@@ -15,11 +15,5 @@ found : (d : After-turned) →
     (above ≤ 64) × (64 - above ≡ last_zero a.n a.word) × (64 - above ≤ a.n)
 found d = let a = d.args in last_found a.word (omega arith) a.n d.turned.result (omega arith) d.turned.ensures
 
-pub overflow_cast-result : goal.overflow_cast-result
-overflow_cast-result c = record { fits = omega (arith, (found (goal.at.overflow_cast-result c).After-turned).0) }
-
-pub overflow_sub-result : goal.overflow_sub-result
-overflow_sub-result c = (found (goal.at.overflow_sub-result c).After-turned).0
-
 pub returns : goal.returns
 returns c = ((found (goal.at.returns c).After-turned).1, (found (goal.at.returns c).After-turned).2)

@@ -6,17 +6,11 @@ use mathlib.Core.Path.{sym, ap, ◌∙◌}
 use lib.Pow.{pow_pos}
 use Rattle.bits.specs.Packed.{bit}
 use Rattle.bits.proofs.Laws.{power}
-use Rattle.bits.proofs.Filling.{ones_bit, zero_bit}
+use Rattle.bits.proofs.Filling.{ones_bit}
 use Rattle.bits.proofs.repeat.Goals as goal
-
-pub overflow_sub-result : goal.overflow_sub-result
-overflow_sub-result c = let n = c.args.n in omega (arith, power n (omega arith), pow_pos n)
 
 pub returns-then-x : goal.returns-then-x
 returns-then-x c =
     let a = c.args in
     let p = power a.n (omega arith) in
     (omega (arith, p, pow_pos a.n), λ i h. ap (λ (v : ℕ). bit (v - 1) i) p ∙ ones_bit a.n i h ∙ sym c.if-x.true)
-
-pub returns-else-x : goal.returns-else-x
-returns-else-x c = let a = c.args in (pow_pos a.n, λ i h. zero_bit i ∙ sym c.if-x.false)

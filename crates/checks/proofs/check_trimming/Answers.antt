@@ -1,10 +1,20 @@
--- `check::check_trimming` meets its contract, by those of the functions that it calls.
-use borrow.Author.Rules.{rules}
-use Rattle.rule.proofs.Spans.{header_least}
+-- `check_trimming` meets its contract: the refusals of the words come first, then those of the log.
+use mathlib.Core.Path.{sym, ◌∙◌}
+use Rattle.refusal.proofs.Numbers.{handed_on}
+use Rattle.checks.specs.Refusal.{trimming_refusal}
+use Rattle.checks.proofs.Checks.{stops, goes_on, words_first}
 use Rattle.checks.proofs.check_trimming.Goals as goal
 
-pub trimming_reason-requires : goal.trimming_reason-requires
-trimming_reason-requires c = let least = header_least c.args.version in search rules
+pub returns-in_err-check_words : goal.returns-in_err-check_words
+returns-in_err-check_words c =
+    let a = c.args in
+    let r = a.rule.now in
+    handed_on c.from_residual.result _ c.from_residual.ensures.1
+    ∙ stops _ _ (trimming_refusal a.lent a.log.now a.point.now) c.in_err-check_words.ensures
+    ∙ sym (words_first r.version r.entries r.count a.point.now _)
 
 pub returns : goal.returns
-returns c = simp (c.checked_by.ensures, c.words_reason.ensures, c.trimming_reason.ensures)
+returns c =
+    let a = c.args in
+    let r = a.rule.now in
+    c.check_trimmed.ensures ∙ sym (words_first r.version r.entries r.count a.point.now _ ∙ goes_on _ _ c.in_ok-check_words.ensures)

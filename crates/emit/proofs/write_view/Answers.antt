@@ -2,4 +2,4 @@
 use Rattle.emit.proofs.write_view.Goals as goal
 
 pub returns : goal.returns
-returns c = rw (← c.wanted_position-earlier.ensures) c.write_view.ensures
+returns c = rw (← c.wanted_position-earlier.ensures) c.of.ensures

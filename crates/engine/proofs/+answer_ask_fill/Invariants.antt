@@ -5,6 +5,7 @@ use mathlib.Core.Path.{◌≡◌}
 use lib.ListN.{length, drop}
 use Rattle.window.specs.Window.{Keeps}
 use Rattle.blocks.specs.Step.{left_to_do}
+use Rattle.engine.specs.Table.{row_at}
 use Rattle.engine.specs.Ask.{StillStands}
 use Rattle.engine.proofs.+answer_ask_fill.Given as goal
 
@@ -21,4 +22,4 @@ abbrev pub invariant-answer-loop-step : goal.invariant-answer-loop-step
 invariant-answer-loop-step l = (length l.words ≡ length l.initial.words) × Keeps l.records l.copy × Keeps l.records l.waiting × StillStands l.table l.view l.records l.k l.initial.words l.words
 
 abbrev pub decreases-answer-loop-step : goal.decreases-answer-loop-step
-decreases-answer-loop-step l = left_to_do l.view (drop l.own l.words)
+decreases-answer-loop-step l = let row = row_at l.table l.k in left_to_do l.view (drop (row.left_words + row.right_words) l.words)

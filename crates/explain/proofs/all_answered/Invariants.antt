@@ -7,7 +7,4 @@ use Rattle.explain.proofs.Formulas.{Reached}
 use Rattle.explain.proofs.all_answered.Given as goal
 
 abbrev pub invariant-loop-k : goal.invariant-loop-k
-invariant-loop-k l = (length l.words ≡ length l.initial.words) × Keeps l.records l.copy × Keeps l.records l.waiting × (l.k ≤ l.number) × Reached l.table l.view l.records l.ends l.number l.position l.k
-
-abbrev pub decreases-loop-k : goal.decreases-loop-k
-decreases-loop-k l = l.number - l.k
+invariant-loop-k l = (length l.words ≡ length l.initial.words) × Keeps l.records l.copy × Keeps l.records l.waiting × Reached l.table l.view l.records l.ends.at l.ends.number l.position l.k

@@ -26,7 +26,7 @@ neither_far c k n i e =
 pub returns-then-columns_of-formula : goal.returns-then-columns_of-formula
 returns-then-columns_of-formula c =
     let a = c.args in
-    (Prim.tt {0}, none_there a.table.now a.view.now a.records.now a.ends.now a.number a.formula a.position a.text.now c.columns_of.result c.columns_of.ensures (either_far c.columns_of.result a.formula (total a.view.now) a.position c.if-columns_of-formula.true))
+    (Prim.tt {0}, none_there a.table.now a.view.now a.records.now a.ends.now.at a.ends.now.number a.formula a.position a.text.now c.columns_of.result c.columns_of.ensures (either_far c.columns_of.result a.formula (total a.view.now) a.position c.if-columns_of-formula.true))
 
 pub all_answered-answered-requires : goal.all_answered-answered-requires
 all_answered-answered-requires c =
@@ -40,17 +40,17 @@ returns-then-not-answered c =
     let a = c.args in
     let few = c.requires.2 in
     let (one_of_lem, inside) = neither_far c.columns_of.result a.formula (total a.view.now) a.position c.if-columns_of-formula.false in
-    (Prim.tt {0}, none_answered a.table.now a.view.now a.records.now a.ends.now a.number a.formula a.position a.text.now inside (rw c.if-not-answered.true at c.all_answered-answered.ensures.all_answered))
+    (Prim.tt {0}, none_answered a.table.now a.view.now a.records.now a.ends.now.at a.ends.now.number a.formula a.position a.text.now inside (rw c.if-not-answered.true at c.all_answered-answered.ensures.all_answered))
 
-pub returns-then-number-eq0 : goal.returns-then-number-eq0
+pub returns-then-ends-eq0 : goal.returns-then-ends-eq0
 unfolding ascii
-returns-then-number-eq0 c =
+returns-then-ends-eq0 c =
     let a = c.args in
     let few = c.requires.2 in
     let (one_of_lem, inside) = neither_far c.columns_of.result a.formula (total a.view.now) a.position c.if-columns_of-formula.false in
     let room = c.requires.1 in (
       omega (arith, c.put.ensures.ends),
-      empty_reasoned a.table.now a.view.now a.records.now a.ends.now a.number a.formula a.position a.text.now c.columns_of.result c.columns_of.ensures one_of_lem inside (rw c.if-not-answered.false at c.all_answered-answered.ensures.all_answered) c.if-number-eq0.true
+      empty_reasoned a.table.now a.view.now a.records.now a.ends.now.at a.ends.now.number a.formula a.position a.text.now c.columns_of.result c.columns_of.ensures one_of_lem inside (rw c.if-not-answered.false at c.all_answered-answered.ensures.all_answered) c.if-ends-eq0.true
           c.put.result c.put.new.text c.put.ensures,
     )
 
@@ -75,7 +75,7 @@ overflow_sub-ends c =
     let a = c.args in
     let few = c.requires.2 in
     let (one_of_lem, inside) = neither_far c.columns_of.result a.formula (total a.view.now) a.position c.if-columns_of-formula.false in
-    (c.requires.0.some a.formula (omega (arith, c.columns_of.ensures, c.if-number-eq0.false))).0
+    (c.requires.0.some a.formula (omega (arith, c.columns_of.ensures, c.if-ends-eq0.false))).0
 
 pub tell-told-requires : goal.tell-told-requires
 tell-told-requires c =
@@ -83,14 +83,14 @@ tell-told-requires c =
     let few = c.requires.2 in
     let (one_of_lem, inside) = neither_far c.columns_of.result a.formula (total a.view.now) a.position c.if-columns_of-formula.false in
     let p = c.requires.0 in
-    let here : a.formula < a.number = omega (arith, c.columns_of.ensures, c.if-number-eq0.false) in
+    let here : a.formula < a.ends.now.number = omega (arith, c.columns_of.ensures, c.if-ends-eq0.false) in
     let some = p.some a.formula here in
     let rows = p.rows a.formula here in
-    let bound = (rows.0 (get_or a.ends.now a.formula 0 - 1) (omega arith)).bound in
+    let bound = (rows (get_or a.ends.now.at a.formula 0 - 1) (omega arith)).bound in
     let kept = c.all_answered-answered.auto.words in
     let room = p.words_room in
     let text_room = c.requires.1 in
-    record { lent = record { entry = omega arith; rows = rows.0; lows = rows.1; words_room = omega arith; copy_keeps = c.all_answered-answered.ensures.keeps.0; waiting_keeps = c.all_answered-answered.ensures.keeps.1; views = p.views; few = p.few_records }; far = omega arith; space = omega arith }
+    record { lent = record { entry = omega arith; rows = rows; words_room = omega arith; copy_keeps = c.all_answered-answered.ensures.keeps.0; waiting_keeps = c.all_answered-answered.ensures.keeps.1; views = p.views; few = p.few_records }; far = omega arith; space = omega arith }
 
 pub returns : goal.returns
 returns c =
@@ -98,12 +98,12 @@ returns c =
     let few = c.requires.2 in
     let (one_of_lem, inside) = neither_far c.columns_of.result a.formula (total a.view.now) a.position c.if-columns_of-formula.false in
     let p = c.requires.0 in
-    let here : a.formula < a.number = omega (arith, c.columns_of.ensures, c.if-number-eq0.false) in
+    let here : a.formula < a.ends.now.number = omega (arith, c.columns_of.ensures, c.if-ends-eq0.false) in
     let rows = p.rows a.formula here in
-    let bound = (rows.0 (get_or a.ends.now a.formula 0 - 1) (omega arith)).bound in
+    let bound = (rows (get_or a.ends.now.at a.formula 0 - 1) (omega arith)).bound in
     let text_room = c.requires.1 in
     let ends = c.tell-told.ensures.tells.room in (
       omega arith,
-      formula_reasoned a.table.now a.view.now a.records.now a.ends.now a.number a.formula a.position a.text.now c.columns_of.result c.columns_of.ensures one_of_lem inside (rw c.if-not-answered.false at c.all_answered-answered.ensures.all_answered) c.if-number-eq0.false
+      formula_reasoned a.table.now a.view.now a.records.now a.ends.now.at a.ends.now.number a.formula a.position a.text.now c.columns_of.result c.columns_of.ensures one_of_lem inside (rw c.if-not-answered.false at c.all_answered-answered.ensures.all_answered) c.if-ends-eq0.false
           c.tell-told.result c.tell-told.new.text c.tell-told.ensures.tells,
     )

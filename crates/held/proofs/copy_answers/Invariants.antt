@@ -1,13 +1,10 @@
 -- The invariants of `held::copy_answers`.
-use Prim.Native.Nat.{ℕ, ◌+◌, ◌-◌, ◌≤◌, ◌<◌, ◌^◌}
+use Prim.Native.Nat.{ℕ, ◌+◌, ◌-◌, ◌<◌, ◌^◌}
 use mathlib.Core.Path.{◌≡◌}
 use lib.ListN.{length, get_or}
 use Rattle.blocks.specs.Block.{word}
-use Rattle.engine.specs.Tops.{top_column}
+use Rattle.engine.specs.Tops.{held_at}
 use Rattle.held.proofs.copy_answers.Given as goal
 
 abbrev pub invariant-loop-k : goal.invariant-loop-k
-invariant-loop-k l = (l.k ≤ l.number) × (length l.answers ≡ 8) × ((j : ℕ) → j < l.k → get_or l.answers j 0 ≡ word l.words (top_column 3 l.tops j + 1)) × (l.k ≡ 0 → get_or l.answers 0 0 ≡ 2 ^ 64 - 1)
-
-abbrev pub decreases-loop-k : goal.decreases-loop-k
-decreases-loop-k l = l.number - l.k
+invariant-loop-k l = (length l.answers ≡ 8) × ((j : ℕ) → j < l.k → get_or l.answers j 0 ≡ word l.words (held_at l.tops j + 1)) × (l.k ≡ 0 → get_or l.answers 0 0 ≡ 2 ^ 64 - 1)

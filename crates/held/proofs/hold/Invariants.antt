@@ -1,5 +1,5 @@
 -- The invariants of `held::hold`.
-use Prim.Native.Nat.{ℕ, ◌-◌, ◌≤◌}
+use Prim.Native.Nat.{ℕ}
 use mathlib.Core.Path.{◌≡◌}
 use mathlib.Core.List.{List}
 use lib.ListN.{length}
@@ -10,8 +10,5 @@ use Rattle.held.proofs.Holding.{Asked}
 use Rattle.held.proofs.hold.Given as goal
 
 abbrev pub invariant-loop-k : goal.invariant-loop-k
-invariant-loop-k l = (l.k ≤ l.number) × (length l.words ≡ length l.initial.words) × Keeps l.records l.copy × Keeps l.records l.waiting ×
-    ((base : ℕ) (fs : List Formula) → Fits (plan l.table l.tops l.number) base fs (length l.initial.words) → Asked base fs l.view l.records l.initial.words l.k l.least l.words)
-
-abbrev pub decreases-loop-k : goal.decreases-loop-k
-decreases-loop-k l = l.number - l.k
+invariant-loop-k l = (length l.words ≡ length l.initial.words) × Keeps l.records l.copy × Keeps l.records l.waiting ×
+    ((base : ℕ) (fs : List Formula) → Fits (plan l.table l.tops) base fs (length l.initial.words) → Asked base fs l.view l.records l.initial.words l.k l.least l.words)

@@ -1,5 +1,4 @@
 -- The invariants of `monitor::write_noes`.
-use Prim.Native.Nat.{◌-◌, ◌≤◌}
 use mathlib.Core.List.{◌++◌}
 use mathlib.Core.Path.{◌≡◌}
 use lib.ListN.{length, drop}
@@ -8,11 +7,7 @@ use Rattle.monitor.specs.Summary.{counts_of, latest_words}
 use Rattle.monitor.proofs.write_noes.Given as goal
 
 abbrev pub invariant-loop-k : goal.invariant-loop-k
-invariant-loop-k l = (l.k ≤ l.formulas)
-    × (length l.no ≡ length l.initial.no)
+invariant-loop-k l = (length l.no ≡ length l.initial.no)
     × (length l.latest ≡ length l.initial.latest)
     × (l.no ≡ counts_of (stored_noes l.most l.point) l.k ++ drop l.k l.initial.no)
     × (l.latest ≡ latest_words (stored_noes l.most l.point) l.k ++ drop l.k l.initial.latest)
-
-abbrev pub decreases-loop-k : goal.decreases-loop-k
-decreases-loop-k l = l.formulas - l.k

@@ -26,19 +26,18 @@ loop-i-init c =
     let a = c.args in (
       omega arith,
       omega arith,
-      c.at_most-count.ensures.0,
+      omega arith,
       refl,
-      pushing_none a.cells (time_at a.window.now) a.right a.from a.block.now c.at_most-start.result c.at_most-count.result c.newest-newest.result
-          (λ h. c.at_most-start.ensures.1 (omega arith))
-          c.at_most-count.ensures.1
-          c.newest-newest.ensures,
+      pushing_none a.cells (time_at a.window.now) a.right a.from a.block.now c.min-start.result c.min-count.result c.unwrap_or-newest.result
+          (λ h. omega arith)
+          (λ h. omega arith)
+          (λ qs r. c.unwrap_or-newest.ensures ∙ c.newest.ensures.by_index 4294967296 qs r),
     )
 
 pub add-count-requires : goal.add-count-requires
 add-count-requires c =
     let l = c.loop-i in
     let a = c.args in
-    let first = c.at_most-start.ensures.0 in
     let free = ltb-true l.count a.cells ((and_iff c.test.result (ltb l.count a.cells)).0 c.if-test-count.true).1 in
     omega arith
 
@@ -56,7 +55,7 @@ loop-i-preserved c =
             rw w.count-is added.ensures.1,
             rw w.block-is (added.auto.block ∙ l.invariant.3),
             rw (w.block-is, w.count-is, w.newest-is, added.ensures.0, added.ensures.2, w.time-now.ensures.0)
-                (pushing_next a.cells at a.right a.from a.block.now c.at_most-start.result l.i l.block l.count l.newest
+                (pushing_next a.cells at a.right a.from a.block.now c.min-start.result l.i l.block l.count l.newest
                 l.invariant.0
                 l.invariant.4
                 (omega arith)
@@ -71,7 +70,7 @@ loop-i-preserved c =
         rw w.count-is l.invariant.2,
         rw w.block-is l.invariant.3,
         rw (w.block-is, w.count-is, w.newest-is)
-            (pushing_skip a.cells at a.right a.from a.block.now c.at_most-start.result l.i l.block l.count l.newest
+            (pushing_skip a.cells at a.right a.from a.block.now c.min-start.result l.i l.block l.count l.newest
             l.invariant.0
             l.invariant.4
             (rw c.test.ensures at w.if-test-count.false)),
@@ -88,7 +87,7 @@ returns c =
     let e : l.i + (a.n - l.i) ≡ a.n = omega arith in
     let none : (j : ℕ) → l.i ≤ j → j < l.i + (a.n - l.i) → bit a.right j ≡ false =
     λ j b h. turned (bit a.right j) (sym (bit_not 64 a.right j (omega arith) (omega arith)) ∙ one_behind_last a.n (2 ^ 64 - 1 - a.right) j (let f = c.find_last_zero-end.ensures.0 in omega arith) (omega arith)) in
-    pushing_done a.cells (time_at a.window.now) a.right a.from a.block.now c.at_most-start.result a.n l.block l.count l.newest
-    (λ h. c.at_most-start.ensures.1 (omega arith))
+    pushing_done a.cells (time_at a.window.now) a.right a.from a.block.now c.min-start.result a.n l.block l.count l.newest
+    (λ h. omega arith)
     (omega arith)
-    (rw e at (pushing_rest a.cells (time_at a.window.now) a.right a.from a.block.now c.at_most-start.result l.i (a.n - l.i) l.block l.count l.newest l.invariant.0 none l.invariant.4))
+    (rw e at (pushing_rest a.cells (time_at a.window.now) a.right a.from a.block.now c.min-start.result l.i (a.n - l.i) l.block l.count l.newest l.invariant.0 none l.invariant.4))

@@ -15,10 +15,10 @@ bounds-block-10-then-count-eq0 c = simp length-set (omega arith)
 pub returns-then-count-eq0 : goal.returns-then-count-eq0
 returns-then-count-eq0 c =
     let a = c.args in
-    let f = ltb-true c.at_most-count.result a.cells ((and_iff a.right (ltb c.at_most-count.result a.cells)).0 c.if-right-count.true).1 in
-    is_pushed a.cells a.block.now c.at_most-start.result c.at_most-count.result
-    (λ h. c.at_most-start.ensures.1 (omega arith))
-    c.at_most-count.ensures.1
+    let f = ltb-true c.min-count.result a.cells ((and_iff a.right (ltb c.min-count.result a.cells)).0 c.if-right-count.true).1 in
+    is_pushed a.cells a.block.now c.min-start.result c.min-count.result
+    (λ h. omega arith)
+    (λ h. omega arith)
     a.at
     a.right
     (omega arith)
@@ -36,9 +36,9 @@ pub returns-else-block-cell : goal.returns-else-block-cell
 returns-else-block-cell c =
     let a = c.args in
     let some = c.if-count-eq0.false in
-    newest_already a.cells a.block.now c.at_most-start.result c.at_most-count.result
-    (λ h. c.at_most-start.ensures.1 (omega arith))
-    c.at_most-count.ensures.1
+    newest_already a.cells a.block.now c.min-start.result c.min-count.result
+    (λ h. omega arith)
+    (λ h. omega arith)
     a.at
     a.right
     c.cell.result
@@ -49,9 +49,9 @@ returns-else-block-cell c =
 pub returns-else-right-count : goal.returns-else-right-count
 returns-else-right-count c =
     let a = c.args in
-    not_pushed a.cells a.block.now c.at_most-start.result c.at_most-count.result
-    (λ h. c.at_most-start.ensures.1 (omega arith))
-    c.at_most-count.ensures.1
+    not_pushed a.cells a.block.now c.min-start.result c.min-count.result
+    (λ h. omega arith)
+    (λ h. omega arith)
     a.at
     a.right
     c.if-right-count.false

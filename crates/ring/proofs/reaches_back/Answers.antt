@@ -6,7 +6,7 @@ use Rattle.ring.proofs.reaches_back.Goals as goal
 pub returns : goal.returns
 returns c =
     let a = c.args in
-    oldest a.cells a.block.now c.at_most-start.result c.cell.result a.low a.at c.gap.result
-    (λ h. c.at_most-start.ensures.1 (omega arith))
+    oldest a.cells a.block.now c.min-start.result c.cell.result a.low a.at c.saturating_sub.result
+    (λ h. omega arith)
     (c.cell.ensures.2 (omega arith))
-    c.gap.ensures
+    c.saturating_sub.ensures

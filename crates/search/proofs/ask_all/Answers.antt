@@ -1,6 +1,7 @@
 -- `search::ask_all` meets its contract.
 use mathlib.Core.Path.{refl, ◌∙◌}
 use native.Mathlib.Omega.{arith}
+use Rattle.engine.proofs.Rows.{repeated}
 use Rattle.search.proofs.Asking.{going_none, going_end, going_open, going_some, going_on}
 use Rattle.search.proofs.ask_all.Goals as goal
 
@@ -8,36 +9,26 @@ pub loop-done-init : goal.loop-done-init
 loop-done-init c =
     let a = c.args in
     let p = c.requires in
-    (refl, p.3, p.4, omega arith, omega arith, omega arith, going_none a.table.now a.view.now a.records.now a.k a.want a.from a.to c.clear.new.words (c.clear.auto.words ∙ p.2) c.clear.ensures)
+    (refl, p.3, p.4, omega arith, omega arith, omega arith, going_none a.table.now a.view.now a.records.now a.k a.want a.from a.to c.fill.new.self (c.fill.auto.self ∙ p.2) (λ i. rw (c.fill.ensures.after (λ y e. e)) (repeated _ i 0)))
 
 pub answer-reply-requires : goal.answer-reply-requires
 answer-reply-requires c =
     let p = c.requires in
     let l = c.loop-done in
-    (p.0, p.1, l.invariant.0 ∙ c.clear.auto.words ∙ p.2, l.invariant.1, l.invariant.2, p.5)
+    (p.0, p.1, l.invariant.0 ∙ c.fill.auto.self ∙ p.2, l.invariant.1, l.invariant.2, p.5)
 
-pub shape_of-words-in_default : goal.shape_of-words-in_default
-shape_of-words-in_default c =
-    let l = c.loop-done in
-    c.answer-reply.auto.words ∙ l.invariant.0 ∙ c.clear.auto.words
-
-pub returns-in_default : goal.returns-in_default
-returns-in_default c =
+pub returns-in_default-clause-bounded : goal.returns-in_default-clause-bounded
+returns-in_default-clause-bounded c =
     let a = c.args in
     let l = c.loop-done in
     let told = c.in_default.is in
-    record { bounded = ((l.invariant.3, l.invariant.4, l.invariant.5), going_open a.table.now a.view.now a.records.now a.k a.want a.from a.to l.words l.done l.first l.after l.invariant.6 c.loop-done-test.true c.answer-reply.new.words (rw told at c.answer-reply.ensures.answers)); keeps = c.answer-reply.ensures.keeps }
+    ((l.invariant.3, l.invariant.4, l.invariant.5), going_open a.table.now a.view.now a.records.now a.k a.want a.from a.to l.words l.done l.first l.after l.invariant.6 c.loop-done-test.true c.answer-reply.new.words (rw told at c.answer-reply.ensures.answers))
 
-pub shape_of-words-then-n-eq0 : goal.shape_of-words-then-n-eq0
-shape_of-words-then-n-eq0 c =
-    let l = c.loop-done in
-    c.answer-reply.auto.words ∙ l.invariant.0 ∙ c.clear.auto.words
-
-pub returns-then-n-eq0 : goal.returns-then-n-eq0
-returns-then-n-eq0 c =
+pub returns-then-n-eq0-clause-bounded : goal.returns-then-n-eq0-clause-bounded
+returns-then-n-eq0-clause-bounded c =
     let a = c.args in
     let l = c.loop-done in
-    record { bounded = ((l.invariant.3, l.invariant.4, l.invariant.5), going_some a.table.now a.view.now a.records.now a.k a.want a.from a.to l.words l.done l.first l.after l.invariant.6 c.loop-done-test.true c.in-Batch.bits c.in-Batch.count c.available-n.result c.answer-reply.new.words (rw c.in-Batch.is at c.answer-reply.ensures.answers) c.available-n.ensures.0 c.if-n-eq0.true); keeps = c.answer-reply.ensures.keeps }
+    ((l.invariant.3, l.invariant.4, l.invariant.5), going_some a.table.now a.view.now a.records.now a.k a.want a.from a.to l.words l.done l.first l.after l.invariant.6 c.loop-done-test.true c.in-Some.batch.bits c.in-Some.batch.count c.available-n.result c.answer-reply.new.words (rw c.in-Some.is at c.answer-reply.ensures.answers) c.available-n.ensures.0 c.if-n-eq0.true)
 
 pub first_of-first-requires : goal.first_of-first-requires
 first_of-first-requires c =
@@ -65,14 +56,11 @@ loop-done-preserved c =
       omega (arith, c.available-n.ensures.0, l.invariant.3),
       c.first_of-first.ensures.0,
       c.after_no-after.ensures.0,
-      going_on a.table.now a.view.now a.records.now a.k a.want a.from a.to l.words l.done l.first l.after l.invariant.6 c.loop-done-test.true c.in-Batch.bits c.in-Batch.count c.available-n.result c.answer-reply.new.words (rw c.in-Batch.is at c.answer-reply.ensures.answers) c.available-n.ensures.0 c.first_of-first.result c.after_no-after.result c.first_of-first.ensures.1 c.after_no-after.ensures.1,
+      going_on a.table.now a.view.now a.records.now a.k a.want a.from a.to l.words l.done l.first l.after l.invariant.6 c.loop-done-test.true c.in-Some.batch.bits c.in-Some.batch.count c.available-n.result c.answer-reply.new.words (rw c.in-Some.is at c.answer-reply.ensures.answers) c.available-n.ensures.0 c.first_of-first.result c.after_no-after.result c.first_of-first.ensures.1 c.after_no-after.ensures.1,
     )
 
-pub shape_of-words : goal.shape_of-words
-shape_of-words c = c.loop-done.invariant.0 ∙ c.clear.auto.words
-
-pub returns : goal.returns
-returns c =
+pub returns-clause-bounded : goal.returns-clause-bounded
+returns-clause-bounded c =
     let a = c.args in
     let l = c.loop-done in
-    record { bounded = ((l.invariant.3, l.invariant.4, l.invariant.5), going_end a.table.now a.view.now a.records.now a.k a.want a.from a.to l.words l.done l.first l.after l.invariant.6 l.invariant.3 c.loop-done-test.false); keeps = (l.invariant.1, l.invariant.2) }
+    ((l.invariant.3, l.invariant.4, l.invariant.5), going_end a.table.now a.view.now a.records.now a.k a.want a.from a.to l.words l.done l.first l.after l.invariant.6 l.invariant.3 c.loop-done-test.false)

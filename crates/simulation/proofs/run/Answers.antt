@@ -1,5 +1,6 @@
 -- `simulation::run` meets its contract. The loop's invariant: generator, kiosk and log are those of the first t seconds.
 -- Assumes nothing.
+use Prim.Native.Nat.{◌+◌}
 use native.Mathlib.Omega.{arith}
 use mathlib.Core.Path.{◌≡◌, refl, ◌∙◌}
 use Rattle.trace.specs.Making.{records_bytes}
@@ -10,34 +11,32 @@ use Rattle.simulation.proofs.run.Goals as goal
 
 pub loop-t-init : goal.loop-t-init
 unfolding run_after records_bytes
-loop-t-init c = (omega arith, refl, c.start-k.ensures, refl, put_nothing c.args.log.now 8 (omega arith))
+loop-t-init c = record { state = refl; kiosk = c.start-kiosk.ensures; log = put_nothing c.args.log.now 8 (omega arith) }
 
-pub second-k-requires : goal.second-k-requires
-second-k-requires c =
+pub second-kiosk-requires : goal.second-kiosk-requires
+second-kiosk-requires c =
     let a = c.args in
     let l = c.loop-t in
-    let few = small a.s a.seed l.t l.k l.invariant.2 (omega arith) in
+    let few = small a.s a.seed l.t l.kiosk l.invariant.kiosk (omega arith) in
     (few.0, few.1, omega arith)
 
 pub loop-t-preserved : goal.loop-t-preserved
 loop-t-preserved c =
     let a = c.args in
     let l = c.loop-t in
-    let d = c.drawn-state in
-    let k = c.second-k in
-    let e = c.events in
-    let w = c.write_record in
-    let state = d.ensures ∙ next_state a.s a.seed l.t l.state l.invariant.1 in
-    let kiosk = k.ensures ∙ next_kiosk a.s a.seed l.t d.result l.k state l.invariant.2 in (
-      omega arith,
-      state,
-      kiosk,
-      w.auto.log ∙ l.invariant.3,
-      w.ensures ∙ next_log a.s a.seed l.t a.log.now l.log e.result k.result (omega arith) l.invariant.4 kiosk e.ensures,
-    )
+    let d = c.draw in
+    let k = c.second-kiosk in
+    let state : d.result ≡ (run_after a.s a.seed (l.t + 1)).state = d.ensures.0 ∙ next_state a.s a.seed l.t l.generator.state l.invariant.state in
+    let kiosk = k.ensures ∙ next_kiosk a.s a.seed l.t d.result l.kiosk state l.invariant.kiosk in
+    record {
+      state = d.ensures.1 ∙ state;
+      kiosk = kiosk;
+      log = c.write_record.ensures ∙
+          next_log a.s a.seed l.t a.log.now l.log c.events.result k.result (omega arith) l.invariant.log kiosk c.events.ensures;
+    }
 
 pub returns : goal.returns
 returns c =
     let l = c.loop-t in
     let last : l.t ≡ c.args.seconds = omega arith in
-    record { value = rw last at l.invariant.2; log_after = rw last at l.invariant.4 }
+    record { value = rw last at l.invariant.kiosk; log_after = rw last at l.invariant.log }

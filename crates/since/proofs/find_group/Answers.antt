@@ -12,33 +12,37 @@ use Rattle.since.specs.Old.{old_enough}
 use Rattle.since.proofs.Newest.{newest_none}
 use Rattle.since.proofs.Runs.{due_is, due_more}
 use Rattle.since.proofs.find_group.Goals as goal
+use Rattle.since.proofs.find_group.Goals.{then-test, else-test}
 
 pub loop-i-init : goal.loop-i-init
 loop-i-init c =
     let a = c.args in
     let at = times_from a.window.now a.from in
-    (omega arith, ap (λ (t : ℕ). t + a.low) (sym (newest_none at a.marks a.last)), pushed_none (old_enough a.low at a.marks a.last) 0)
+    (ap (λ (t : ℕ). t + a.low) (sym (newest_none at a.marks a.last)), pushed_none (old_enough a.low at a.marks a.last) 0)
 
 pub push-answers-requires : goal.push-answers-requires
-push-answers-requires c = (omega arith, c.loop-i.invariant.2.small)
+push-answers-requires c = (omega arith, c.loop-i.invariant.1.small)
 
 pub loop-i-preserved : goal.loop-i-preserved
 loop-i-preserved c =
     let l = c.loop-i in
     let a = c.args in
     let at = times_from a.window.now a.from in
-    let due : c.choose-due.result ≡ newest_at at a.marks a.last (l.i + 1) + a.low =
-    c.choose-due.ensures ∙ rw (c.test.ensures, c.time-now.ensures.0, l.invariant.1) (due_more at a.marks a.last l.i a.low) in
-    let here : leb a.low (at l.i - newest_at at a.marks a.last (suc l.i)) ≡ leb c.choose-due.result c.time-now.result =
+    let more = due_more at a.marks a.last l.i a.low in
+    let due : c.if-test.due ≡ newest_at at a.marks a.last (l.i + 1) + a.low =
+    elim c.if-test.branch [
+      | then-test w ↦ w.due-is ∙ rw c.time-now.ensures.0 (rw (sym c.test.ensures ∙ w.if-test.true) at more)
+      | else-test w ↦ w.due-is ∙ l.invariant.0 ∙ (rw (sym c.test.ensures ∙ w.if-test.false) at more)
+    ] in
+    let here : leb a.low (at l.i - newest_at at a.marks a.last (suc l.i)) ≡ leb c.if-test.due c.time-now.result =
     sym (ap₂ leb (due ∙ ap (λ (k : ℕ). newest_at at a.marks a.last k + a.low) (add-one l.i)) c.time-now.ensures.0
     ∙ due_is a.low (newest_at at a.marks a.last (suc l.i)) (at l.i) c.requires.0) in (
-      omega arith,
       due,
-      pushed_more (old_enough a.low at a.marks a.last) 0 l.i l.answers (leb c.choose-due.result c.time-now.result) c.push-answers.result
+      pushed_more (old_enough a.low at a.marks a.last) 0 l.i l.answers (leb c.if-test.due c.time-now.result) c.push-answers.result
           (omega arith)
           (ap (old_enough a.low at a.marks a.last) (zero-add l.i) ∙ here)
           c.push-answers.ensures
-          l.invariant.2,
+          l.invariant.1,
     )
 
 pub returns : goal.returns
@@ -46,5 +50,5 @@ returns c =
     let a = c.args in
     let l = c.loop-i in
     let e : l.i ≡ a.n = omega arith in
-    let all = rw e at l.invariant.2 in
+    let all = rw e at l.invariant.1 in
     (all.small, all.packed)

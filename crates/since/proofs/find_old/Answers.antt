@@ -7,34 +7,27 @@ use native.Mathlib.Nat.{eq-or-lt_of_le}
 use Rattle.trace.specs.Format.{time_at}
 use Rattle.since.proofs.find_old.Goals as goal
 
-pub loop-i-init : goal.loop-i-init
-loop-i-init c = (omega arith, omega arith, λ k a h. absurd (omega arith))
-
 pub loop-i-preserved : goal.loop-i-preserved
-loop-i-preserved c =
+loop-i-preserved c k b h =
     let l = c.loop-i in
     let a = c.args in
-    let here : time_at a.window.now l.i - a.last < a.low = rw (c.gap.ensures, c.time.ensures.0) at c.if-low-gap.false in (
-      omega arith,
-      omega arith,
-      λ k b h.
-          ⊎_elim
-          (λ e. let f = ap (time_at a.window.now) e in omega arith)
-          (λ m. l.invariant.2 k b m)
-          (eq-or-lt_of_le {n = k} {m = l.i} (omega arith)),
-    )
+    let here : time_at a.window.now l.i - a.last < a.low = rw (c.saturating_sub.ensures, c.time.ensures.0) at c.if-low-saturating_sub.false in
+    ⊎_elim
+    (λ e. let f = ap (time_at a.window.now) e in omega arith)
+    (λ m. l.invariant k b m)
+    (eq-or-lt_of_le {n = k} {m = l.i} (omega arith))
 
-pub returns-after-loop-i : goal.returns-after-loop-i
-returns-after-loop-i c =
+pub returns : goal.returns
+returns c =
     let l = c.loop-i in
-    record { behind = l.invariant.0; within = l.invariant.1; before = l.invariant.2; there = λ h. absurd (omega arith) }
+    record { behind = omega arith; within = omega arith; before = λ k b h. l.invariant k b (omega arith); there = λ h. absurd (omega arith) }
 
-pub returns-then-low-gap : goal.returns-then-low-gap
-returns-then-low-gap c =
+pub returns-then-low-saturating_sub : goal.returns-then-low-saturating_sub
+returns-then-low-saturating_sub c =
     let l = c.loop-i in
     record {
-      behind = l.invariant.0;
-      within = l.invariant.1;
-      before = l.invariant.2;
-      there = λ h. rw (c.gap.ensures, c.time.ensures.0) at c.if-low-gap.true;
+      behind = omega arith;
+      within = omega arith;
+      before = l.invariant;
+      there = λ h. rw (c.saturating_sub.ensures, c.time.ensures.0) at c.if-low-saturating_sub.true;
     }

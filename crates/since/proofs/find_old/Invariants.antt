@@ -4,7 +4,4 @@ use Rattle.trace.specs.Format.{time_at}
 use Rattle.since.proofs.find_old.Given as goal
 
 abbrev pub invariant-loop-i : goal.invariant-loop-i
-invariant-loop-i l = (l.from ≤ l.i) × (l.i ≤ l.end) × ((k : ℕ) → l.from ≤ k → k < l.i → time_at l.window k - l.last < l.low)
-
-abbrev pub decreases-loop-i : goal.decreases-loop-i
-decreases-loop-i l = l.end - l.i
+invariant-loop-i l = (k : ℕ) → l.from ≤ k → k < l.i → time_at l.window k - l.last < l.low

@@ -6,10 +6,10 @@ use Rattle.since.proofs.Newest.{all_in_reach}
 use Rattle.since.proofs.Runs.{reached_are}
 use Rattle.since.proofs.keep_reached.Goals as goal
 
-pub returns-then-gap-high : goal.returns-then-gap-high
-returns-then-gap-high c rises =
+pub returns-then-saturating_sub-high : goal.returns-then-saturating_sub-high
+returns-then-saturating_sub-high c rises =
     let a = c.args in
-    let near : time_at a.window.now (a.n - 1) - a.first ≤ a.high = rw (c.gap.ensures, c.time.ensures.0) at c.if-gap-high.true in
+    let near : time_at a.window.now (a.n - 1) - a.first ≤ a.high = rw (c.saturating_sub.ensures, c.time.ensures.0) at c.if-saturating_sub-high.true in
     all_in_reach a.right rises a.alive (omega arith) near
 
 pub returns : goal.returns

@@ -19,7 +19,7 @@ both d = omega arith
 -- how many positions are taken
 taking : (d : After-available-count) →
     Available (taken d.args.block.now) (min (left_count d.args.block.now) (right_count d.args.block.now)) (total d.args.view.now) d.available-count.result
-taking d = available _ _ _ _ (rw d.smaller-both.ensures at d.available-count.ensures.0)
+taking d = available _ _ _ _ (rw d.min-both.ensures at d.available-count.ensures.0)
 
 pub returns-then-block-eq0 : goal.returns-then-block-eq0
 returns-then-block-eq0 c =

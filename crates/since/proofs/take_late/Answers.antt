@@ -5,11 +5,12 @@ use Rattle.since.proofs.take_late.Goals as goal
 pub take_inside-requires : goal.take_inside-requires
 take_inside-requires c =
     let pre = c.requires in
-    (pre.0, pre.1, pre.2, pre.3, pre.4, pre.5, rw (c.gap.ensures, c.time-2.ensures.0) at c.if-gap-high.true)
+    (pre.0, pre.1, pre.2, pre.3, pre.4, pre.5, rw (c.saturating_sub.ensures, c.time-2.ensures.0, c.unwrap_or-first.ensures, c.time.ensures.0) at c.if-saturating_sub-high.true)
 
-pub returns-then-gap-high : goal.returns-then-gap-high
-returns-then-gap-high c =
-    c.take_inside.ensures (rw (c.cells_for.ensures.0, c.time.ensures.0) at c.oldest-first.ensures)
+pub returns-then-saturating_sub-high : goal.returns-then-saturating_sub-high
+returns-then-saturating_sub-high c =
+    let held = rw c.cells_for.ensures.0 at c.oldest-oldest.ensures in
+    c.take_inside.ensures (λ qs r. (held.by_index _ qs r, held.some qs r))
 
 pub returns : goal.returns
 returns c = turns_take c.turn_all.ensures

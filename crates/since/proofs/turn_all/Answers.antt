@@ -8,10 +8,10 @@ use Rattle.since.proofs.turn_all.Goals as goal
 pub loop-i-init : goal.loop-i-init
 loop-i-init c =
     let a = c.args in
-    (omega arith, refl, turning_none a.low a.high (time_at a.window.now) a.left a.right a.block.now)
+    (refl, turning_none a.low a.high (time_at a.window.now) a.left a.right a.block.now)
 
 pub push-answers-requires : goal.push-answers-requires
-push-answers-requires c = (omega arith, c.loop-i.invariant.2.small)
+push-answers-requires c = (omega arith, c.loop-i.invariant.1.small)
 
 pub loop-i-preserved : goal.loop-i-preserved
 loop-i-preserved c =
@@ -20,10 +20,9 @@ loop-i-preserved c =
     let left = c.test-left_holds in
     let right = c.test-right_holds in
     let turn = c.turn-holds in (
-      omega arith,
-      turn.auto.block ∙ l.invariant.1,
+      turn.auto.block ∙ l.invariant.0,
       rw c.push-answers.ensures.0
-          (turning_next a.low a.high (time_at a.window.now) a.left a.right a.block.now l.i l.answers l.block l.invariant.2 (omega arith)
+          (turning_next a.low a.high (time_at a.window.now) a.left a.right a.block.now l.i l.answers l.block l.invariant.1 (omega arith)
           c.cells_for-cells.result
           c.cells_for-cells.ensures.0
           c.time-now.result
@@ -39,11 +38,11 @@ loop-i-preserved c =
     )
 
 pub shape_of-block : goal.shape_of-block
-shape_of-block c = c.loop-i.invariant.1
+shape_of-block c = c.loop-i.invariant.0
 
 pub returns : goal.returns
 returns c =
     let a = c.args in
     let l = c.loop-i in
     let e : l.i ≡ a.n = omega arith in
-    (rw e at l.invariant.2).turns
+    (rw e at l.invariant.1).turns

@@ -4,5 +4,5 @@ use Rattle.since.proofs.turn_word.Goals as goal
 
 pub returns : goal.returns
 returns c =
-    rw (c.gap-from.ensures, c.find_last_zero-after.ensures.0, c.cells_for.ensures.0)
+    rw (c.saturating_sub-from.ensures, c.find_last_zero-after.ensures.0, c.cells_for.ensures.0)
     at (followed (c.keep_if.ensures c.cells_for.result) c.push_all.ensures)

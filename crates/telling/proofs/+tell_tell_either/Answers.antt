@@ -14,14 +14,8 @@ pub tell-put_line-start-requires : goal.tell-put_line-start-requires
 tell-put_line-start-requires t c = may_put c.requires c.say-own.ensures.saids
 
 -- nothing follows
-pub tell-shape_of-words-then-own-eq0 : goal.tell-shape_of-words-then-own-eq0
-tell-shape_of-words-then-own-eq0 t c = c.say-own.auto.words
-
-pub tell-shape_of-text-then-own-eq0 : goal.tell-shape_of-text-then-own-eq0
-tell-shape_of-text-then-own-eq0 t c = c.put_line-start.auto.text
-
-pub tell-returns-then-own-eq0 : goal.tell-returns-then-own-eq0
-tell-returns-then-own-eq0 t c = record { tells = tells_none c.requires c.say-own.ensures.saids c.put_line-start.ensures c.if-own-eq0.true; keeps = c.say-own.ensures.keeps }
+pub tell-returns-then-own-eq0-clause-tells : goal.tell-returns-then-own-eq0-clause-tells
+tell-returns-then-own-eq0-clause-tells t c = tells_none c.requires c.say-own.ensures.saids c.put_line-start.ensures c.if-own-eq0.true
 
 -- the only operand's lines follow
 pub tell-overflow_sub-k : goal.tell-overflow_sub-k
@@ -30,71 +24,38 @@ tell-overflow_sub-k t c = before c.requires c.say-own.ensures.saids c.put_line-s
 pub tell-tell-one-requires : goal.tell-tell-one-requires
 tell-tell-one-requires t c = let told = before c.requires c.say-own.ensures.saids c.put_line-start.ensures c.if-own-eq0.false in (omega (arith, c.decreases), may_tell c.requires c.say-own.ensures.saids c.put_line-start.ensures c.say-own.auto.words c.say-own.ensures.keeps c.put_line-start.auto.text c.if-own-eq0.false)
 
-pub tell-shape_of-words-then-own-eq1 : goal.tell-shape_of-words-then-own-eq1
-tell-shape_of-words-then-own-eq1 t c = c.tell-one.auto.words ∙ c.say-own.auto.words
-
-pub tell-shape_of-text-then-own-eq1 : goal.tell-shape_of-text-then-own-eq1
-tell-shape_of-text-then-own-eq1 t c = c.tell-one.auto.text ∙ c.put_line-start.auto.text
-
-pub tell-returns-then-own-eq1 : goal.tell-returns-then-own-eq1
-tell-returns-then-own-eq1 t c = record { tells = tells_one c.requires c.say-own.ensures.saids c.put_line-start.ensures c.if-own-eq1.true c.tell-one.ensures.tells c.turned.result c.turned.ensures; keeps = c.tell-one.ensures.keeps }
+pub tell-returns-then-own-eq1-clause-tells : goal.tell-returns-then-own-eq1-clause-tells
+tell-returns-then-own-eq1-clause-tells t c = tells_one c.requires c.say-own.ensures.saids c.put_line-start.ensures c.if-own-eq1.true c.tell-one.ensures.tells c.turned.result c.turned.ensures
 
 -- an or's operands' lines follow
 pub tell-tell_either-requires : goal.tell-tell_either-requires
 tell-tell_either-requires t c = (omega (arith, c.decreases), may_either c.requires c.say-own.ensures.saids c.put_line-start.ensures c.say-own.auto.words c.say-own.ensures.keeps c.put_line-start.auto.text c.if-own-eq0.false c.if-own-eq1.false)
 
-pub tell-shape_of-words : goal.tell-shape_of-words
-tell-shape_of-words t c = c.tell_either.auto.words ∙ c.say-own.auto.words
-
-pub tell-shape_of-text : goal.tell-shape_of-text
-tell-shape_of-text t c = c.tell_either.auto.text ∙ c.put_line-start.auto.text
-
-pub tell-returns : goal.tell-returns
-tell-returns t c = record { tells = tells_two c.requires c.say-own.ensures.saids c.put_line-start.ensures c.if-own-eq0.false c.if-own-eq1.false c.tell_either.ensures.tells_either; keeps = c.tell_either.ensures.keeps }
+pub tell-returns-clause-tells : goal.tell-returns-clause-tells
+tell-returns-clause-tells t c = tells_two c.requires c.say-own.ensures.saids c.put_line-start.ensures c.if-own-eq0.false c.if-own-eq1.false c.tell_either.ensures.tells_either
 
 -- left's lines
-pub tell_either-field-left-requires : goal.tell_either-field-left-requires
-tell_either-field-left-requires t c = let entry = c.requires.lent.entry in (entry, omega arith)
-
 pub tell_either-tell-first-requires : goal.tell_either-tell-first-requires
-tell_either-tell-first-requires t c = let (below, same) = or_left c.requires.lent c.requires.kind in let at = c.field-left.ensures in (omega (arith, c.decreases), may_left c.requires _ at)
+tell_either-tell-first-requires t c = let (below, same) = or_left c.requires.lent c.requires.kind in let at = c.from-left.ensures in (omega (arith, c.decreases), may_left c.requires _ at)
 
 -- left is yes
-pub tell_either-shape_of-words-then-first : goal.tell_either-shape_of-words-then-first
-tell_either-shape_of-words-then-first t c = c.tell-first.auto.words
-
-pub tell_either-shape_of-text-then-first : goal.tell_either-shape_of-text-then-first
-tell_either-shape_of-text-then-first t c = c.tell-first.auto.text
-
-pub tell_either-returns-then-first : goal.tell_either-returns-then-first
-tell_either-returns-then-first t c = record { tells_either = tells_left c.requires c.field-left.ensures c.tell-first.ensures.tells c.if-first.true; keeps = c.tell-first.ensures.keeps }
+pub tell_either-returns-then-first-clause-tells_either : goal.tell_either-returns-then-first-clause-tells_either
+tell_either-returns-then-first-clause-tells_either t c = tells_left c.requires c.from-left.ensures c.tell-first.ensures.tells c.if-first.true
 
 -- right's lines
 pub tell_either-overflow_sub-k : goal.tell_either-overflow_sub-k
 tell_either-overflow_sub-k t c = (or_right c.requires.lent c.requires.kind).0
 
 pub tell_either-tell-second-requires : goal.tell_either-tell-second-requires
-tell_either-tell-second-requires t c = let (below, same) = or_right c.requires.lent c.requires.kind in (omega (arith, c.decreases), may_right c.requires c.field-left.ensures c.tell-first.ensures.tells c.tell-first.auto.words c.tell-first.ensures.keeps c.tell-first.auto.text)
+tell_either-tell-second-requires t c = let (below, same) = or_right c.requires.lent c.requires.kind in (omega (arith, c.decreases), may_right c.requires c.from-left.ensures c.tell-first.ensures.tells c.tell-first.auto.words c.tell-first.ensures.keeps c.tell-first.auto.text)
 
 -- right is yes: its lines stand in left's place
 pub tell_either-shift-requires : goal.tell_either-shift-requires
-tell_either-shift-requires t c = let (up, on, inside) = may_shift c.requires c.field-left.ensures c.tell-first.ensures.tells c.if-first.false c.tell-second.ensures.tells (c.tell-second.auto.text ∙ c.tell-first.auto.text) in (omega arith, on, inside)
+tell_either-shift-requires t c = let (up, on, inside) = may_shift c.requires c.from-left.ensures c.tell-first.ensures.tells c.if-first.false c.tell-second.ensures.tells (c.tell-second.auto.text ∙ c.tell-first.auto.text) in (omega arith, on, inside)
 
-pub tell_either-shape_of-words-then-second : goal.tell_either-shape_of-words-then-second
-tell_either-shape_of-words-then-second t c = c.tell-second.auto.words ∙ c.tell-first.auto.words
-
-pub tell_either-shape_of-text-then-second : goal.tell_either-shape_of-text-then-second
-tell_either-shape_of-text-then-second t c = c.shift.auto.text ∙ c.tell-second.auto.text ∙ c.tell-first.auto.text
-
-pub tell_either-returns-then-second : goal.tell_either-returns-then-second
-tell_either-returns-then-second t c = record { tells_either = tells_right c.requires c.field-left.ensures c.tell-first.ensures.tells c.if-first.false c.tell-second.ensures.tells c.if-second.true c.shift.ensures; keeps = c.tell-second.ensures.keeps }
+pub tell_either-returns-then-second-clause-tells_either : goal.tell_either-returns-then-second-clause-tells_either
+tell_either-returns-then-second-clause-tells_either t c = tells_right c.requires c.from-left.ensures c.tell-first.ensures.tells c.if-first.false c.tell-second.ensures.tells c.if-second.true c.shift.ensures
 
 -- neither is
-pub tell_either-shape_of-words : goal.tell_either-shape_of-words
-tell_either-shape_of-words t c = c.tell-second.auto.words ∙ c.tell-first.auto.words
-
-pub tell_either-shape_of-text : goal.tell_either-shape_of-text
-tell_either-shape_of-text t c = c.tell-second.auto.text ∙ c.tell-first.auto.text
-
-pub tell_either-returns : goal.tell_either-returns
-tell_either-returns t c = record { tells_either = tells_both c.requires c.field-left.ensures c.tell-first.ensures.tells c.if-first.false c.tell-second.ensures.tells c.if-second.false; keeps = c.tell-second.ensures.keeps }
+pub tell_either-returns-clause-tells_either : goal.tell_either-returns-clause-tells_either
+tell_either-returns-clause-tells_either t c = tells_both c.requires c.from-left.ensures c.tell-first.ensures.tells c.if-first.false c.tell-second.ensures.tells c.if-second.false

@@ -1,11 +1,8 @@
--- The invariants of `trace::alternate`.
-use Prim.Native.Nat.{◌+◌, ◌-◌, ◌*◌, ◌≤◌}
+-- The invariant of `trace::alternate`.
+use Prim.Native.Nat.{◌+◌, ◌-◌, ◌*◌}
 use Rattle.trace.specs.Format.{has_letter}
 use Rattle.trace.specs.Letters.{place_of, every_other, Raised}
 use Rattle.trace.proofs.alternate.Given as goal
 
 abbrev pub invariant-loop-i : goal.invariant-loop-i
-invariant-loop-i l = (l.i ≤ 4) × Raised (every_other (has_letter l.records l.letter) l.from) (l.i * 8) (place_of l.letter - 6 + 8 - l.i * 8) l.answers
-
-abbrev pub decreases-loop-i : goal.decreases-loop-i
-decreases-loop-i l = 4 - l.i
+invariant-loop-i l = Raised (every_other (has_letter l.records l.letter) l.from) (l.i * 8) (place_of l.letter - 6 + 8 - l.i * 8) l.answers

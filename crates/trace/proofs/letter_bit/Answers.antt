@@ -45,9 +45,10 @@ pub returns : goal.returns
 returns c =
     let a = c.args in
     let s = a.records.now in
-    let w = c.wide.result in
-    let told = bit_of s (λ i. (c.type_inv.records i).fits) a.i a.letter (omega arith) in
-    let here : bit w (a.letter % 8) ≡ has_letter s a.letter a.i = rw c.wide.ensures.0 told in (
+    let bytes : (i : ℕ) → get_or s i 0 < 256 = λ i. (c.type_inv.records i).fits in
+    let w = c.from.result in
+    let here : bit w (a.letter % 8) ≡ has_letter s a.letter a.i = rw c.from.ensures (bit_of s bytes a.i a.letter (omega arith)) in
+    let small : w < 256 = rw c.from.ensures (bytes (a.i * 8 + (7 - a.letter / 8))) in (
       masked w (a.letter % 8) (omega arith) ∙ ap (λ (x : Bool). number x * 2 ^ (a.letter % 8)) here,
-      lt_of_le_of_lt (and_le_l w (1 * 2 ^ (a.letter % 8) % 2 ^ 64)) c.wide.ensures.1,
+      lt_of_le_of_lt (and_le_l w (1 * 2 ^ (a.letter % 8) % 2 ^ 64)) small,
     )

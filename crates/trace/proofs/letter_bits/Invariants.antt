@@ -1,11 +1,8 @@
--- The invariants of `trace::letter_bits`.
-use Prim.Native.Nat.{◌-◌, ◌≤◌}
+-- The invariant of `trace::letter_bits`.
+use Prim.Native.Nat.{◌*◌}
 use Rattle.bits.proofs.Laws.{Pushed}
 use Rattle.trace.specs.Format.{has_letter}
 use Rattle.trace.proofs.letter_bits.Given as goal
 
-abbrev pub invariant-loop-i : goal.invariant-loop-i
-invariant-loop-i l = (l.i ≤ l.n) × Pushed (has_letter l.records l.letter) l.from l.i l.answers
-
-abbrev pub decreases-loop-i : goal.decreases-loop-i
-decreases-loop-i l = l.n - l.i
+abbrev pub invariant-loop-group : goal.invariant-loop-group
+invariant-loop-group l = Pushed (has_letter l.records l.letter) l.from (l.group * 32) l.answers

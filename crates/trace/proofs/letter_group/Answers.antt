@@ -51,9 +51,6 @@ module _ (f : ℕ → Bool) (from n s : ℕ) where
       let size : n - i ≡ n = omega arith in
       rw (done.told, shl-shr done.answers s) (rw size at done.small, rw (start, size) at done.packed)
 
-pub loop-i-init : goal.loop-i-init
-loop-i-init c = let a = c.args in none_yet (has_letter a.records.now a.letter) a.from a.n (a.letter % 8)
-
 pub overflow_mul-answers : goal.overflow_mul-answers
 overflow_mul-answers c =
     let a = c.args in

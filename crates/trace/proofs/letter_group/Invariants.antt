@@ -1,4 +1,4 @@
--- The invariants of `trace::letter_group`.
+-- The invariant of `trace::letter_group`.
 use Prim.Native.Nat.{ℕ, ◌+◌, ◌*◌, ◌-◌, ◌%◌, ◌^◌, ◌≤◌, ◌<◌}
 use mathlib.Core.Bool.{Bool}
 use mathlib.Core.Path.{◌≡◌}
@@ -16,6 +16,3 @@ pub record Answered (f : ℕ → Bool) (from n s i word : ℕ) : Type 0 where
 
 abbrev pub invariant-loop-i : goal.invariant-loop-i
 invariant-loop-i l = Answered (has_letter l.records l.letter) l.from l.n (l.letter % 8) l.i l.answers
-
-abbrev pub decreases-loop-i : goal.decreases-loop-i
-decreases-loop-i l = l.i

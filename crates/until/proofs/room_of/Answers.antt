@@ -4,4 +4,4 @@ use Rattle.until.proofs.room_of.Goals as goal
 
 pub returns : goal.returns
 returns c =
-    room c.args.block.now c.args.total c.requires.2 (rw c.smaller-both.ensures at c.available-take.ensures.0) c.available-take.ensures.1 c.smaller.ensures c.smaller-2.ensures
+    room c.args.block.now c.args.total c.requires.2 (rw c.min-both.ensures at c.available-take.ensures.0) c.available-take.ensures.1 c.min.ensures c.min-2.ensures

@@ -41,7 +41,7 @@ went : (c : After-walk_on-stride) →
     let o = c in
     let k = o in
     let a = k.args in
-    Went a.low a.high o.smaller-most.result a.view.now a.records.now a.block.now k.room_of-room.result o.open-ahead.result o.open-ahead.new.copy
+    Went a.low a.high o.min-most.result a.view.now a.records.now a.block.now k.room_of-room.result o.open-ahead.result o.open-ahead.new.copy
     c.walk_on-stride.result
 went c =
     let o = c in
@@ -49,7 +49,7 @@ went c =
     record {
       opens = opened_2 c;
       byte = λ i. (k.type_inv.records i).fits;
-      clamp = o.smaller-most.ensures;
+      clamp = o.min-most.ensures;
       strides = c.walk_on-stride.ensures.strides;
     }
 
@@ -95,7 +95,7 @@ returns-then-must_wait c =
     let stuck = c.must_wait.ensures.take_value c.if-must_wait.true in record {
       ends = wanted_ends a.view.now a.block.now t.result t.ensures;
       steps = λ φ ψ L g falls agrees ready.
-          wants_more ready agrees c.room_of-room.ensures stuck.0 (stuck.1 a.high φ ψ L g c.smaller-most.ensures falls agrees ready) t.result t.ensures;
+          wants_more ready agrees c.room_of-room.ensures stuck.0 (stuck.1 a.high φ ψ L g c.min-most.ensures falls agrees ready) t.result t.ensures;
       keeps = (c.must_wait.ensures.keeps, c.requires.2);
     }
 

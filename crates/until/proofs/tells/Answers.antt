@@ -10,4 +10,4 @@ by_first-requires c =
 
 pub returns : goal.returns
 returns c e starts first =
-    rw (c.last_of.ensures, c.gap.ensures, c.read.ensures) at (c.by_first.ensures e starts first)
+    rw (c.last_of.ensures, c.saturating_sub.ensures, c.read.ensures) at (c.by_first.ensures e starts first)

@@ -7,11 +7,11 @@ read-requires c = c.requires.4.inside
 pub walk_inside-requires : goal.walk_inside-requires
 walk_inside-requires c =
     let pre = c.requires in
-    (pre.1, pre.2, rw c.read.ensures pre.4.long, rw c.gap.ensures pre.3)
+    (pre.1, pre.2, rw c.read.ensures pre.4.long, rw c.saturating_sub.ensures pre.3)
 
 pub returns : goal.returns
 returns c =
     record {
-      by_index = simp (c.gap.ensures, c.read.ensures) at c.walk_inside.ensures.by_index;
-      fact = simp (c.gap.ensures, c.read.ensures) at c.walk_inside.ensures.fact;
+      by_index = simp (c.saturating_sub.ensures, c.read.ensures) at c.walk_inside.ensures.by_index;
+      fact = simp (c.saturating_sub.ensures, c.read.ensures) at c.walk_inside.ensures.fact;
     }

@@ -83,22 +83,22 @@ returns-then-walked-eq0 c =
     record { strides = by_first_none c.requires.0 c.first_time-start.result c.first_time-start.ensures (walked (goal.at.returns-then-walked-eq0 c).After-walk_ahead-walked) c.if-walked-eq0.true; keeps = c.requires.2 }
 
 pub overflow_sub-some : goal.overflow_sub-some
-overflow_sub-some c = omega (arith, all (goal.at.overflow_sub-some c).Else-walked-eq0, c.gap.ensures)
+overflow_sub-some c = omega (arith, all (goal.at.overflow_sub-some c).Else-walked-eq0, c.saturating_sub.ensures)
 
 pub bounds-block-11 : goal.bounds-block-11
 bounds-block-11 c = let room = c.requires.0.room in omega arith
 
 pub pass-head-requires : goal.pass-head-requires
 pass-head-requires c =
-    (c.requires.3, rw c.gap.ensures (beyond_windowed c.requires.0 (walked (goal.at.pass-head-requires c).After-walk_ahead-walked)))
+    (c.requires.3, rw c.saturating_sub.ensures (beyond_windowed c.requires.0 (walked (goal.at.pass-head-requires c).After-walk_ahead-walked)))
 
 pub returns-then-tells : goal.returns-then-tells
 returns-then-tells c =
-    record { strides = by_first_all c.requires.0 c.first_time-start.result c.first_time-start.ensures (walked (goal.at.returns-then-tells c).After-walk_ahead-walked) (all (goal.at.returns-then-tells c).Else-walked-eq0) (rw c.gap.ensures at c.pass-head.ensures); keeps = c.requires.2 }
+    record { strides = by_first_all c.requires.0 c.first_time-start.result c.first_time-start.ensures (walked (goal.at.returns-then-tells c).After-walk_ahead-walked) (all (goal.at.returns-then-tells c).Else-walked-eq0) (rw c.saturating_sub.ensures at c.pass-head.ensures); keeps = c.requires.2 }
 
 pub answer_told-walked-requires : goal.answer_told-walked-requires
 answer_told-walked-requires c =
-    let lead = c.gap-lead.result in
+    let lead = c.saturating_sub-lead.result in
     let both = (and_iff (leb lead 64) c.is_told.result).0 c.if-lead-is_told.true in
     (sym c.is_told.ensures ∙ both.1, leb-true lead 64 both.0)
 
@@ -106,7 +106,7 @@ pub returns-then-lead-is_told : goal.returns-then-lead-is_told
 returns-then-lead-is_told c =
     let a = c.args in
     let b = a.block.now in
-    let lead = c.gap-lead.ensures in record {
+    let lead = c.saturating_sub-lead.ensures in record {
       strides = by_last c.requires.0 c.first_time-start.result c.first_time-start.ensures
           (rw c.if-low-eq0.true
           (rw (lead, c.last_of-last.ensures)

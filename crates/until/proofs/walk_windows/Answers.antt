@@ -14,7 +14,7 @@ read-requires c = c.requires.has_records.1.inside
 
 pub walk_words-requires : goal.walk_words-requires
 walk_words-requires c =
-    let gap = c.gap in
+    let gap = c.saturating_sub in
     let starts = c.read in
     let next = c.read-next in
     let pre = c.requires in
@@ -23,5 +23,5 @@ walk_words-requires c =
 
 pub returns : goal.returns
 returns c =
-    rw (c.last_of.ensures, c.gap.ensures, c.read.ensures, c.either.ensures, c.next_time-after.ensures, c.time_of_none.ensures, c.read-next.ensures)
+    rw (c.last_of.ensures, c.saturating_sub.ensures, c.read.ensures, c.either.ensures, c.next_time-after.ensures, c.time_of_none.ensures, c.read-next.ensures)
     at c.walk_words.ensures

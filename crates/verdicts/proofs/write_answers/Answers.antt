@@ -1,56 +1,40 @@
--- `write_answers` meets its contract. The loop's invariant: i verdicts are written.
-use Prim.Native.Nat.{◌+◌, ◌-◌}
+-- `write_answers` meets its contract. The loop's invariant: eight verdicts a group are written.
+use Prim.Native.Nat.{◌+◌, ◌-◌, ◌*◌, ◌/◌}
 use native.Mathlib.Omega.{arith}
 use mathlib.Core.Path.{◌≡◌, refl, ap, ◌∙◌}
 use lib.ListN.{length, take}
 use Rattle.verdicts.proofs.Columns.{few_taken}
-use Rattle.verdicts.proofs.Written.{written_none, written_more, length_written, full_word}
+use Rattle.verdicts.proofs.Written.{written_none, written_more, length_written}
 use Rattle.verdicts.proofs.write_answers.Goals as goal
 
-pub write_word-requires : goal.write_word-requires
-write_word-requires c =
+pub loop-group-init : goal.loop-group-init
+loop-group-init c =
     let a = c.args in
-    let full = full_word a.columns a.n c.if-columns-n.true in
-    omega arith
+    (refl, written_none a.from (take a.columns a.answers.now) a.sheet.now)
 
-pub returns-then-columns-n : goal.returns-then-columns-n
-returns-then-columns-n c =
+pub loop-group-preserved : goal.loop-group-preserved
+loop-group-preserved c =
     let a = c.args in
-    let full = full_word a.columns a.n c.if-columns-n.true in
-    rw (full.0, full.1) c.write_word.ensures
-
-pub loop-i-init : goal.loop-i-init
-loop-i-init c =
-    let a = c.args in
-    (omega arith, refl, written_none a.from (take a.columns a.answers.now) a.sheet.now)
-
-pub loop-i-preserved : goal.loop-i-preserved
-loop-i-preserved c =
-    let a = c.args in
-    let l = c.loop-i in
+    let l = c.loop-group in
     let words = take a.columns a.answers.now in
-    let write = c.write_all in
+    let next : 8 * l.group + 8 ≡ 8 * (l.group + 1) = omega arith in
     let new =
-    written_more a.from l.i 8 c.verdicts_at-word.result words a.sheet.now l.sheet write.new.sheet
+    written_more a.from (8 * l.group) 8 c.verdicts_at-word.result words a.sheet.now l.sheet c.write_first.new.sheet
     (omega (arith, few_taken a.columns a.answers.now)) (omega arith) (omega arith)
-    c.verdicts_at-word.ensures write.ensures l.invariant.2 in
-    (omega arith, ap length new ∙ length_written a.from (l.i + 8) words a.sheet.now (omega arith), new)
+    c.verdicts_at-word.ensures c.write_first.ensures l.invariant.1 in
+    let new' = rw next at new in
+    (ap length new' ∙ length_written a.from (8 * (l.group + 1)) words a.sheet.now (omega arith), new')
 
-pub returns-then-n-i : goal.returns-then-n-i
-returns-then-n-i c =
-    let l = c.loop-i in
-    let last : l.i ≡ c.args.n = omega arith in
-    rw last at l.invariant.2
-
-pub returns : goal.returns
-returns c =
+pub returns-then-i-n : goal.returns-then-i-n
+returns-then-i-n c =
     let a = c.args in
-    let l = c.loop-i in
+    let l = c.loop-group in
     let words = take a.columns a.answers.now in
-    let write = c.write_first in
-    let end : l.i + (a.n - l.i) ≡ a.n = omega arith in
-    let new =
-    written_more a.from l.i (a.n - l.i) c.verdicts_at-word-2.result words a.sheet.now l.sheet write.new.sheet
+    let i = a.n / 8 * 8 in
+    let done : 8 * l.group ≡ i = omega arith in
+    let end : i + (a.n - i) ≡ a.n = omega arith in
+    rw end at (
+    written_more a.from i (a.n - i) c.verdicts_at-word-then-i-n.result words a.sheet.now l.sheet c.write_first-then-i-n.new.sheet
     (omega (arith, few_taken a.columns a.answers.now)) (omega arith) (omega arith)
-    c.verdicts_at-word-2.ensures write.ensures l.invariant.2 in
-    rw end at new
+    c.verdicts_at-word-then-i-n.ensures c.write_first-then-i-n.ensures (rw done at l.invariant.1)
+    )

@@ -23,7 +23,7 @@ time-last-requires c = let m = may (goal.at.time-last-requires c).Else-n-lead in
 pub returns : goal.returns
 returns c t starts first =
     let a = c.args in
-    goes a.low a.high a.lead a.n c.gap.result c.gap-2.result a.from starts (time_at a.ahead.now) (may (goal.at.returns c).Else-n-lead)
-    (c.gap.ensures ∙ rw first refl)
-    (c.gap-2.ensures ∙ rw (c.time-last.ensures.0, first) refl)
+    goes a.low a.high a.lead a.n c.saturating_sub.result c.saturating_sub-2.result a.from starts (time_at a.ahead.now) (may (goal.at.returns c).Else-n-lead)
+    (c.saturating_sub.ensures ∙ rw first refl)
+    (c.saturating_sub-2.ensures ∙ rw (c.time-last.ensures.0, first) refl)
     t

@@ -4,7 +4,4 @@ use Rattle.trace.specs.Format.{time_at}
 use Rattle.walks.proofs.count_far.Given as goal
 
 abbrev pub invariant-loop-i : goal.invariant-loop-i
-invariant-loop-i l = (l.i < l.n) × ((j : ℕ) → l.i ≤ j → j < l.n → time_at l.ahead (l.n - 1) ≤ time_at l.ahead j + l.high)
-
-abbrev pub decreases-loop-i : goal.decreases-loop-i
-decreases-loop-i l = l.i
+invariant-loop-i l = (j : ℕ) → l.i ≤ j → j < l.n → time_at l.ahead (l.n - 1) ≤ time_at l.ahead j + l.high

@@ -2,17 +2,20 @@
 -- Assumes nothing.
 use Prim.Native.Nat.{ℕ, ◌-◌, ◌≤◌, ◌<◌}
 use native.Mathlib.Omega.{arith}
-use mathlib.Core.Bool.{true, false}
+use mathlib.Core.Bool.{true, false, cond}
 use mathlib.Core.Logic.{⊎_elim}
-use mathlib.Core.Path.{◌≡◌, ap, ◌∙◌}
+use mathlib.Core.Path.{◌≡◌, refl, sym, ap, ◌∙◌}
+use lib.Dec.{eqb}
+use borrow.Author.Tests.{eq-eqb, ne_eqb}
 use Rattle.mtl.proofs.Bounded.{le_or_lt, true_and_false}
-use Rattle.bits.specs.Packed.{bit}
+use Rattle.bits.specs.Packed.{bit, Packed}
 use Rattle.bits.proofs.Zeros.{last_is_zero, zero_before}
 use Rattle.trace.specs.Format.{time_at}
+use Rattle.walks.specs.Settle.{Rising, latest_right, is_late, Words}
 use Rattle.walks.proofs.Leads.{UpTo, leads_up_to}
 use Rattle.walks.proofs.Stretches.{stretched_none, stretched_more, stretched_all}
 use Rattle.walks.proofs.find_by_stretches.Goals as goal
-use Rattle.walks.proofs.find_by_stretches.Goals.{After-find_last_zero-from}
+use Rattle.walks.proofs.find_by_stretches.Goals.{After-find_last_zero-from, After-test, then-from-eq0, else-from-eq0}
 
 -- a stretch ends before the last position, which does not lead on, and one that leads on stands before its end
 ends_inside : (leads n end : ℕ) → 0 < n → bit leads (n - 1) ≡ false → end ≤ n → UpTo leads n end → (end < n) × (0 < end → (bit leads (end - 1) ≡ true) × (bit leads end ≡ false))
@@ -51,8 +54,8 @@ time-to-requires c = omega (arith, c.loop-end.invariant.0)
 pub find_met-met-requires : goal.find_met-met-requires
 find_met-met-requires c = let l = c.loop-end in (omega arith, c.find_last_zero-from.ensures.1, omega (arith, l.invariant.0))
 
-pub ones_between-bits-requires : goal.ones_between-bits-requires
-ones_between-bits-requires c = let met = c.find_met-met.ensures in omega (arith, met.within, c.loop-end.invariant.0, c.find_last_zero-from.ensures.1)
+pub ones_between-requires : goal.ones_between-requires
+ones_between-requires c = let met = c.find_met-met.ensures in omega (arith, met.within, c.loop-end.invariant.0, c.find_last_zero-from.ensures.1)
 
 pub find_last_zero-end-requires-in-loop-end : goal.find_last_zero-end-requires-in-loop-end
 find_last_zero-end-requires-in-loop-end c = let l = c.loop-end in omega (arith, l.invariant.0, c.find_last_zero-from.ensures.1)
@@ -70,6 +73,11 @@ loop-end-preserved c =
     let few_from : c.find_last_zero-from.result ≤ 64 = omega (arith, l.invariant.0, c.requires.3) in
     let up_to_lem = leads_up_to a.leads c.find_last_zero-from.result few_from (omega arith) c.find_last_zero-end-in-loop-end.ensures in
     let most = c.find_last_zero-end-in-loop-end.ensures.1 in
+    let latest : c.if-from-eq0.latest ≡ cond (eqb c.find_last_zero-from.result 0) c.time-to.result l.latest =
+    elim c.if-from-eq0.branch [
+      | then-from-eq0 w ↦ w.latest-is ∙ rw (eq-eqb c.find_last_zero-from.result 0 w.if-from-eq0.true) refl
+      | else-from-eq0 w ↦ w.latest-is ∙ rw (ne_eqb c.find_last_zero-from.result 0 w.if-from-eq0.false) refl
+    ] in
     let off : 0 < c.find_last_zero-from.result → bit a.leads (c.find_last_zero-from.result - 1) ≡ false = rw begin.0 (last_is_zero l.end a.leads) in (
       omega (arith, l.invariant.0),
       λ h.
@@ -80,20 +88,34 @@ loop-end-preserved c =
           (λ below. (up_to_lem.0 h, up_to_lem.1 c.find_last_zero-end-in-loop-end.result (omega arith) below))
           (le_or_lt c.find_last_zero-from.result c.find_last_zero-end-in-loop-end.result),
       λ left right positive few w rising.
-          rw (c.pick-latest.ensures, c.time-to.ensures.0)
+          rw (latest, c.time-to.ensures.0)
           (stretched_more a.low (time_at a.ahead.now) left right a.n positive few w rising some l.invariant.0 (l.invariant.1 some).1 (l.invariant.1 some).0 (l.invariant.2 left right positive few w rising)
-          c.ones_between-bits.result
+          c.ones_between.result
           begin.0
           begin.1
           (rw c.time-to.ensures.0 at c.find_met-met.ensures)
-          c.ones_between-bits.ensures
+          c.ones_between.ensures
           up_to_lem
           most),
     )
 
-pub returns : goal.returns
-returns c left right w rising =
+-- the loop's end: no stretch is left
+all : (c : After-test) →
+    let a = c.args in
+    let time = time_at a.ahead.now in
+    (left right : ℕ) → Words left right a.n a.own a.leads → Rising time a.n →
+    Packed (is_late a.low time left right a.n) 0 a.n c.loop-end.bits × (cond (bit a.own 0) c.loop-end.latest 0 ≡ latest_right time left right a.n 0)
+all c left right w rising =
     let l = c.loop-end in
     let a = c.args in
-    let (packed, latest) = stretched_all a.low (time_at a.ahead.now) left right a.n c.requires.0 c.requires.3 w c.requires.2 (omega arith) (l.invariant.2 left right c.requires.0 c.requires.3 w rising) in
-    (packed, c.keep_if.ensures ∙ rw c.test.ensures latest)
+    stretched_all a.low (time_at a.ahead.now) left right a.n c.requires.0 c.requires.3 w c.requires.2 (omega arith) (l.invariant.2 left right c.requires.0 c.requires.3 w rising)
+
+pub returns-then-test : goal.returns-then-test
+returns-then-test c left right w rising =
+    let (packed, latest) = all (goal.at.returns-then-test c).After-test left right w rising in
+    (packed, rw (sym c.test.ensures ∙ c.if-test.true) at latest)
+
+pub returns-else-test : goal.returns-else-test
+returns-else-test c left right w rising =
+    let (packed, latest) = all (goal.at.returns-else-test c).After-test left right w rising in
+    (packed, rw (sym c.test.ensures ∙ c.if-test.false) at latest)

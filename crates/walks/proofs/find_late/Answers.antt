@@ -10,7 +10,7 @@ use lib.Dec.{leb}
 use lib.Pow.{pow-add, pow_mono, pow_pos}
 use borrow.Author.Tests.{lt-leb}
 use Rattle.mtl.proofs.Bounded.{le_or_lt, true_or_false}
-use Rattle.bits.specs.Packed.{bit, number}
+use Rattle.bits.specs.Packed.{bit, number, Packed}
 use Rattle.bits.proofs.Laws.{number_lt, packed_front}
 use Rattle.bits.proofs.Filling.{zero_bit}
 use Rattle.trace.specs.Format.{time_at}
@@ -18,7 +18,7 @@ use Rattle.walks.specs.Settle.{Rising, latest_right, is_late, Words}
 use Rattle.walks.proofs.Leads.{leads, words_are, UpTo, leads_up_to, leads_inside, right_from_none, own_right, not_late, same_right}
 use Rattle.walks.proofs.find_late.Invariants.{Seen, Looked}
 use Rattle.walks.proofs.find_late.Goals as goal
-use Rattle.walks.proofs.find_late.Goals.{After-fill_down-own, After-find_last_zero-i, After-pick-latest}
+use Rattle.walks.proofs.find_late.Goals.{After-fill_down-own, After-find_last_zero-end, After-test-2, After-time-now, then-not-test, else-not-test}
 
 module _ (low : ℕ) (time : ℕ → ℕ) (left right n own leads : ℕ) (positive : 0 < low) (some : 0 < n) (few : n ≤ 64)
     (w : Words left right n own leads) where
@@ -125,51 +125,51 @@ last_off f =
     (true_or_false (bit (leads a.left f.fill_down-own.result) (a.n - 1)))
 
 -- the words of those that lead on
-words_of_2 : (f : After-find_last_zero-i) →
+words_of_2 : (f : After-find_last_zero-end) →
     let a = f.args in
     Words a.left a.right a.n f.fill_down-own.result (leads a.left f.fill_down-own.result)
 words_of_2 f =
     let a = f.args in
     words_are a.left a.right a.n f.fill_down-own.result (omega arith) (omega arith) (rw f.first_bits.ensures at f.fill_down-own.ensures)
 
-words : (z : After-find_last_zero-i) →
+words : (z : After-find_last_zero-end) →
     let a = z.args in
     Words a.left a.right a.n z.fill_down-own.result (leads a.left z.fill_down-own.result)
 words z = words_of_2 z
 
 -- the last of them
-up_to : (z : After-find_last_zero-i) →
+up_to : (z : After-find_last_zero-end) →
     let f = z in
     let a = f.args in
-    UpTo (leads a.left f.fill_down-own.result) a.n z.find_last_zero-i.result
+    UpTo (leads a.left f.fill_down-own.result) a.n z.find_last_zero-end.result
 up_to z =
     let f = z in
     let a = f.args in
-    leads_up_to (leads a.left f.fill_down-own.result) a.n (omega arith) (omega (arith, and_le_l a.left (f.fill_down-own.result / 2 ^ 1))) z.find_last_zero-i.ensures
+    leads_up_to (leads a.left f.fill_down-own.result) a.n (omega arith) (omega (arith, and_le_l a.left (f.fill_down-own.result / 2 ^ 1))) z.find_last_zero-end.ensures
 
-inside : (z : After-find_last_zero-i) → z.find_last_zero-i.result < z.args.n
+inside : (z : After-find_last_zero-end) → z.find_last_zero-end.result < z.args.n
 inside z =
     let a = z.args in
     end_inside a.low (time_at a.ahead.now) a.left a.right a.n z.fill_down-own.result (leads a.left z.fill_down-own.result) (omega arith) (omega arith) (omega arith) (words z)
-    z.find_last_zero-i.result
-    z.find_last_zero-i.ensures.1
+    z.find_last_zero-end.result
+    z.find_last_zero-end.ensures.1
     (up_to z).0
 
 -- the words of those that lead on
-words_of_3 : (f : After-pick-latest) →
+words_of_3 : (f : After-time-now) →
     let a = f.args in
     Words a.left a.right a.n f.fill_down-own.result (leads a.left f.fill_down-own.result)
 words_of_3 f =
     let a = f.args in
     words_are a.left a.right a.n f.fill_down-own.result (omega arith) (omega arith) (rw f.first_bits.ensures at f.fill_down-own.ensures)
 
-words_2 : (z : After-pick-latest) →
+words_2 : (z : After-time-now) →
     let a = z.args in
     Words a.left a.right a.n z.fill_down-own.result (leads a.left z.fill_down-own.result)
 words_2 z = words_of_3 z
 
 -- what is known in a turn
-fits : (c : After-pick-latest) → c.loop-i.bits * 2 + 1 < 2 ^ 64
+fits : (c : After-time-now) → c.loop-i.bits * 2 + 1 < 2 ^ 64
 fits c =
     let l = c.loop-i in
     let a = c.args in
@@ -191,56 +191,67 @@ returns-then-count_zeros-le-FEW_STRETCHES c rising =
     c.find_by_stretches.ensures a.left a.right (words_of (goal.at.returns-then-count_zeros-le-FEW_STRETCHES c).After-fill_down-own) rising
 
 pub time-latest-requires : goal.time-latest-requires
-time-latest-requires z = omega (arith, inside (goal.at.time-latest-requires z).After-find_last_zero-i)
+time-latest-requires z = omega (arith, inside (goal.at.time-latest-requires z).After-find_last_zero-end)
 
 pub loop-i-init : goal.loop-i-init
 loop-i-init c =
     let a = c.args in
     rw c.time-latest.ensures.0
-    (none_yet a.low (time_at a.ahead.now) a.left a.right a.n c.fill_down-own.result (leads a.left c.fill_down-own.result) (omega arith) (omega arith) (omega arith) (words (goal.at.loop-i-init c).After-find_last_zero-i)
-    c.find_last_zero-i.result
-    (inside (goal.at.loop-i-init c).After-find_last_zero-i)
-    (up_to (goal.at.loop-i-init c).After-find_last_zero-i).1)
+    (none_yet a.low (time_at a.ahead.now) a.left a.right a.n c.fill_down-own.result (leads a.left c.fill_down-own.result) (omega arith) (omega arith) (omega arith) (words (goal.at.loop-i-init c).After-find_last_zero-end)
+    c.find_last_zero-end.result
+    (inside (goal.at.loop-i-init c).After-find_last_zero-end)
+    (up_to (goal.at.loop-i-init c).After-find_last_zero-end).1)
 
 pub overflow_mul-bits : goal.overflow_mul-bits
-overflow_mul-bits c = record { fits = omega (arith, fits (goal.at.overflow_mul-bits c).After-pick-latest) }
+overflow_mul-bits c = record { fits = omega (arith, fits (goal.at.overflow_mul-bits c).After-time-now) }
 
 pub overflow_add-bits : goal.overflow_add-bits
 overflow_add-bits c =
     let a = c.args in
-    record { fits = omega (arith, fits (goal.at.overflow_add-bits c).After-pick-latest, c.flag.ensures, number_lt (leb (c.time-now.result + a.low) c.pick-latest.result)) }
+    record { fits = omega (arith, fits (goal.at.overflow_add-bits c).After-time-now, c.flag.ensures, number_lt (leb (c.time-now.result + a.low) c.if-not-test.latest)) }
 
 pub loop-i-preserved : goal.loop-i-preserved
 loop-i-preserved c =
     let l = c.loop-i in
     let a = c.args in
+    let by_leads = λ (x : Bool). cond x l.latest (time_at a.ahead.now (l.i - 1)) in
     rw (c.flag.ensures, c.time-now.ensures.0)
-    (more a.low (time_at a.ahead.now) a.left a.right a.n c.fill_down-own.result (leads a.left c.fill_down-own.result) (omega arith) (omega arith) (omega arith) (words (goal.at.loop-i-preserved c).After-find_last_zero-i)
+    (more a.low (time_at a.ahead.now) a.left a.right a.n c.fill_down-own.result (leads a.left c.fill_down-own.result) (omega arith) (omega arith) (omega arith) (words (goal.at.loop-i-preserved c).After-find_last_zero-end)
     l.i
     l.latest
     l.bits
-    c.pick-latest.result
+    c.if-not-test.latest
     (omega arith)
-    (c.pick-latest.ensures ∙ rw (c.test.ensures, c.time-now.ensures.0) refl)
+    (elim c.if-not-test.branch [
+      | then-not-test w ↦ w.latest-is ∙ c.time-now.ensures.0 ∙ sym (ap by_leads (sym c.test.ensures ∙ w.if-not-test.true))
+      | else-not-test w ↦ w.latest-is ∙ sym (ap by_leads (sym c.test.ensures ∙ w.if-not-test.false))
+    ])
     l.invariant)
 
-pub returns : goal.returns
-returns c rising =
+-- the loop's end: all are looked at
+all : (c : After-test-2) →
+    let a = c.args in
+    let time = time_at a.ahead.now in
+    Rising time a.n →
+    Packed (is_late a.low time a.left a.right a.n) 0 a.n c.loop-i.bits × (bit c.fill_down-own.result 0 ≡ true → c.loop-i.latest ≡ latest_right time a.left a.right a.n 0)
+all c rising =
     let l = c.loop-i in
     let a = c.args in
+    let time = time_at a.ahead.now in
     let e : l.i ≡ 0 = omega arith in
-    let all : a.n - l.i ≡ a.n = omega arith in
     let whole : a.n - 0 ≡ a.n = omega arith in
-    let seen = l.invariant.seen rising in (
-      rw (all, e) at seen.packed,
-      c.keep_if.ensures
-          ∙ rw c.test-2.ensures
-          (by (bit c.fill_down-own.result 0)
-          (λ o. seen.is_latest (ap (bit c.fill_down-own.result) e ∙ o) ∙ ap (λ (k : ℕ). latest_right (time_at a.ahead.now) a.left a.right (a.n - k) k) e)
-          (λ o. right_from_none (time_at a.ahead.now) a.left a.right a.n (omega arith) (words (goal.at.returns c).After-find_last_zero-i) 0 (omega arith) o))
-          ∙ ap (λ (d : ℕ). latest_right (time_at a.ahead.now) a.left a.right d 0) whole,
-    )
-  where
-    by : (x : Bool) {latest r : ℕ} → (x ≡ true → latest ≡ r) → (x ≡ false → r ≡ 0) → cond x latest 0 ≡ r
-    by true on off = on refl
-    by false on off = sym (off refl)
+    let seen = rw e at (l.invariant.seen rising) in
+    (rw whole at seen.packed, rw whole at seen.is_latest)
+
+pub returns-then-test : goal.returns-then-test
+returns-then-test c rising =
+    let (packed, latest) = all (goal.at.returns-then-test c).After-test-2 rising in
+    (packed, latest (sym c.test-2.ensures ∙ c.if-test.true))
+
+pub returns-else-test : goal.returns-else-test
+returns-else-test c rising =
+    let a = c.args in
+    let whole : a.n - 0 ≡ a.n = omega arith in
+    let none = right_from_none (time_at a.ahead.now) a.left a.right a.n (omega arith) (words (goal.at.returns-else-test c).After-find_last_zero-end) 0 (omega arith) (sym c.test-2.ensures ∙ c.if-test.false) in
+    let (packed, latest) = all (goal.at.returns-else-test c).After-test-2 rising in
+    (packed, sym (rw whole at none))

@@ -19,6 +19,3 @@ pub record Looked (low : ℕ) (time : ℕ → ℕ) (left right n own i latest bi
 
 abbrev pub invariant-loop-i : goal.invariant-loop-i
 invariant-loop-i l = Looked l.low (time_at l.ahead) l.left l.right l.n l.own l.i l.latest l.bits
-
-abbrev pub decreases-loop-i : goal.decreases-loop-i
-decreases-loop-i l = l.i

@@ -4,7 +4,4 @@ use Rattle.trace.specs.Format.{time_at}
 use Rattle.walks.proofs.find_met.Given as goal
 
 abbrev pub invariant-loop-i : goal.invariant-loop-i
-invariant-loop-i l = (l.from ≤ l.i) × (l.i ≤ l.end) × ((j : ℕ) → l.i ≤ j → j < l.end → l.to < time_at l.ahead j + l.low)
-
-abbrev pub decreases-loop-i : goal.decreases-loop-i
-decreases-loop-i l = l.i
+invariant-loop-i l = (j : ℕ) → l.i ≤ j → j < l.end → l.to < time_at l.ahead j + l.low

@@ -13,7 +13,7 @@ use Rattle.walks.specs.Settle.{first_right, is_soon}
 use Rattle.walks.proofs.Far.{first_of_none, first_of_more}
 use Rattle.walks.proofs.find_soon.Invariants.{Looked}
 use Rattle.walks.proofs.find_soon.Goals as goal
-use Rattle.walks.proofs.find_soon.Goals.{After-pick-next}
+use Rattle.walks.proofs.find_soon.Goals.{After-time-now, then-test, else-test}
 
 module _ (high : ℕ) (time : ℕ → ℕ) (right n : ℕ) where
   none_yet : Looked high time right n n 8589934592 0
@@ -58,7 +58,7 @@ module _ (high : ℕ) (time : ℕ → ℕ) (right n : ℕ) where
             (rw behind done.packed));
       }
 
-fits : (c : After-pick-next) → c.loop-i.bits * 2 + 1 < 2 ^ 64
+fits : (c : After-time-now) → c.loop-i.bits * 2 + 1 < 2 ^ 64
 fits c =
     let l = c.loop-i in
     let a = c.args in
@@ -68,20 +68,23 @@ pub loop-i-init : goal.loop-i-init
 loop-i-init c = let a = c.args in none_yet a.high (time_at a.ahead.now) a.right a.n
 
 pub overflow_mul-bits : goal.overflow_mul-bits
-overflow_mul-bits c = record { fits = omega (arith, fits (goal.at.overflow_mul-bits c).After-pick-next) }
+overflow_mul-bits c = record { fits = omega (arith, fits (goal.at.overflow_mul-bits c).After-time-now) }
 
 pub overflow_add-bits : goal.overflow_add-bits
 overflow_add-bits c =
     let a = c.args in
-    record { fits = omega (arith, fits (goal.at.overflow_add-bits c).After-pick-next, c.flag.ensures, number_lt (leb c.pick-next.result (c.time-now.result + a.high))) }
+    record { fits = omega (arith, fits (goal.at.overflow_add-bits c).After-time-now, c.flag.ensures, number_lt (leb c.if-test.next (c.time-now.result + a.high))) }
 
 pub loop-i-preserved : goal.loop-i-preserved
 loop-i-preserved c =
     let l = c.loop-i in
     let a = c.args in
     rw (c.flag.ensures, c.time-now.ensures.0)
-    (more a.high (time_at a.ahead.now) a.right a.n l.i l.next l.bits c.pick-next.result (omega arith) (omega arith)
-    (c.pick-next.ensures ∙ rw (c.test.ensures, c.time-now.ensures.0) refl)
+    (more a.high (time_at a.ahead.now) a.right a.n l.i l.next l.bits c.if-test.next (omega arith) (omega arith)
+    (elim c.if-test.branch [
+      | then-test w ↦ w.next-is ∙ rw (sym c.test.ensures ∙ w.if-test.true, c.time-now.ensures.0) refl
+      | else-test w ↦ w.next-is ∙ rw (sym c.test.ensures ∙ w.if-test.false) refl
+    ])
     l.invariant)
 
 pub returns : goal.returns

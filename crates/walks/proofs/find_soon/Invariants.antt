@@ -15,6 +15,3 @@ pub record Looked (high : ℕ) (time : ℕ → ℕ) (right n i next bits : ℕ) 
 
 abbrev pub invariant-loop-i : goal.invariant-loop-i
 invariant-loop-i l = Looked l.high (time_at l.ahead) l.right l.n l.i l.next l.bits
-
-abbrev pub decreases-loop-i : goal.decreases-loop-i
-decreases-loop-i l = l.i

@@ -27,10 +27,10 @@ time-last-requires c =
 pub returns : goal.returns
 returns c =
     let a = c.args in
-    calms a.high a.lead a.n a.left a.right c.find_first_zero.result c.gap.result a.from (time_at a.starts.now)
+    calms a.high a.lead a.n a.left a.right c.find_first_zero.result c.saturating_sub.result a.from (time_at a.starts.now)
     (time_at a.ahead.now)
     (many_some a.lead a.n c.if-lead-n.false)
     c.requires.0
     (omega arith)
     c.find_first_zero.ensures
-    (c.gap.ensures ∙ rw (c.time-last.ensures.0, c.time-start.ensures.0) refl)
+    (c.saturating_sub.ensures ∙ rw (c.time-last.ensures.0, c.time-start.ensures.0) refl)

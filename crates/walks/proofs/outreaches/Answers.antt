@@ -28,6 +28,6 @@ time-last-requires c =
 pub returns : goal.returns
 returns c =
     let a = c.args in
-    reaches a.high a.lead a.n c.gap.result a.from (time_at a.ahead.now) (some_few a.n a.lead c.if-n-lead.false)
-    (c.gap.ensures ∙ rw (c.time-last.ensures.0, c.time-first.ensures.0) refl)
+    reaches a.high a.lead a.n c.saturating_sub.result a.from (time_at a.ahead.now) (some_few a.n a.lead c.if-n-lead.false)
+    (c.saturating_sub.ensures ∙ rw (c.time-last.ensures.0, c.time-first.ensures.0) refl)
     (rw c.time-last.ensures.0 at c.time-last.ensures.1)

@@ -2,7 +2,7 @@
 use Rattle.walks.proofs.settle.Goals as goal
 
 pub returns-then-met-over : goal.returns-then-met-over
-returns-then-met-over c = simp (← c.gap.ensures, ← c.gap-2.ensures, c.if-met-over.true)
+returns-then-met-over c = simp (← c.saturating_sub.ensures, ← c.saturating_sub-2.ensures, c.if-met-over.true)
 
 pub returns-else-met-over : goal.returns-else-met-over
-returns-else-met-over c = simp (← c.gap.ensures, ← c.gap-2.ensures, c.if-met-over.false)
+returns-else-met-over c = simp (← c.saturating_sub.ensures, ← c.saturating_sub-2.ensures, c.if-met-over.false)

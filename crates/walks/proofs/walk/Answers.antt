@@ -17,15 +17,15 @@ loop-count-init c = (
 pub look-requires : goal.look-requires
 look-requires c = (omega arith, omega arith, λ h. omega arith)
 
-pub loop-count-preserved-in-Known : goal.loop-count-preserved-in-Known
-loop-count-preserved-in-Known c =
+pub loop-count-preserved-in-Some : goal.loop-count-preserved-in-Some
+loop-count-preserved-in-Some c =
     let l = c.loop-count in
     let a = c.args in
     let w = l.invariant.1 in
     let start = time_at a.starts.now in
     let next = next_of (time_at a.ahead.now) a.n a.after in
-    let e = sym c.look.ensures ∙ c.in-Known.is in
-    let some = known_behind a.low a.high start next a.lead l.count l.took l.last c.in-Known.holds e in (
+    let e = sym c.look.ensures ∙ c.in-Some.is in
+    let some = known_behind a.low a.high start next a.lead l.count l.took l.last c.in-Some.holds e in (
       c.push-bits.ensures.1,
       record {
         few = omega arith;
@@ -37,7 +37,7 @@ loop-count-preserved-in-Known c =
           (walks_known a.low a.high start next a.lead a.n a.left a.right a.from l.bits l.count l.took l.last
           (omega arith)
           w.most
-          c.in-Known.holds
+          c.in-Some.holds
           e
           l.invariant.0
           l.invariant.2),
@@ -58,7 +58,7 @@ loop-count-preserved c =
           (walks_unknown a.low a.high start next a.lead a.n a.left a.right a.from l.bits l.count l.took l.last
           (omega arith)
           w.most
-          (sym c.look.ensures ∙ c.in-Unknown.is)
+          (sym c.look.ensures ∙ c.in-None.is)
           (omega arith)
           l.invariant.2),
     )
@@ -71,6 +71,6 @@ returns-then-took-n c =
     let l = c.loop-count in
     record {
       limits = l.invariant.1;
-      waiting = λ h t. record { all = c.if-took-n.true; unknown = sym c.look.ensures ∙ c.in-Unknown.is };
+      waiting = λ h t. record { all = c.if-took-n.true; unknown = sym c.look.ensures ∙ c.in-None.is };
       walks = l.invariant.2;
     }

@@ -47,8 +47,8 @@ returns c =
           settled_walk (by_next after by) (omega arith)
           (λ rises.
           soon_some next (known (goal.at.returns c).After-find_last_zero-known) start a.lead (omega arith) c.fill_down-own.ensures (λ i h. c.repeat-front.ensures.1 i h ∙ c.test.ensures) c.prolong.ensures)
-          c.smaller.result c.taken_for-took.result c.smaller.ensures c.taken_for-took.ensures c.take-2.result
+          c.min.result c.taken_for-took.result c.min.ensures c.taken_for-took.ensures c.take-2.result
           (c.take-2.ensures.0 ∙ taken_at (time_at a.ahead.now) a.n after (c.taken_for-took.result - 1) a.left a.right (omega (arith, took (goal.at.returns c).After-taken_for-took)))
           c.take-2.ensures.1;
-      fact = inr (omega (arith, c.smaller.ensures));
+      fact = inr (omega (arith, c.min.ensures));
     }

@@ -74,6 +74,6 @@ returns c high after from by =
     (omega arith)
     c.prolong.ensures
     rises)
-    c.smaller.result c.taken_for-took.result c.smaller.ensures c.taken_for-took.ensures c.take-2.result
+    c.min.result c.taken_for-took.result c.min.ensures c.taken_for-took.ensures c.take-2.result
     (c.take-2.ensures.0 ∙ taken_at time a.n after (c.taken_for-took.result - 1) a.left a.right (omega (arith, took (goal.at.returns c).After-taken_for-took)))
     c.take-2.ensures.1

@@ -12,7 +12,7 @@ use Rattle.walks.proofs.walk_over.Goals.{After-count_met-took}
 ahead : (m : After-count_met-took) →
     let z = m in
     let a = m.args in
-    Ahead a.high (time_at a.starts.now) (time_at a.ahead.now) a.lead a.n a.left a.right z.smaller-most.result
+    Ahead a.high (time_at a.starts.now) (time_at a.ahead.now) a.lead a.n a.left a.right z.min-most.result
     z.find_first_zero-event.result
     m.count_met-took.result
 ahead m =
@@ -23,9 +23,9 @@ ahead m =
     let a = b.args in
     record {
       waiting = b.requires.1;
-      may = z.smaller-most.ensures;
+      may = z.min-most.ensures;
       before = still_before a.left a.right a.n b.requires.3 (omega arith) z.find_first_zero-event.ensures;
-      taken = rw (t.time.ensures.0, l.smaller.ensures) at m.count_met-took.ensures;
+      taken = rw (t.time.ensures.0, l.min.ensures) at m.count_met-took.ensures;
     }
 
 pub returns-then-took-eq0 : goal.returns-then-took-eq0

@@ -23,39 +23,12 @@ loop-left-init c =
     let none : a.n - a.n ≡ 0 = omega arith in
     (omega arith, rw none (going_none a.records.now a.from a.n))
 
-pub count_group-left-requires : goal.count_group-left-requires
-count_group-left-requires c = omega (arith, c.can_take.ensures.0 c.loop-left-test.true)
-
-pub overflow_sub-left : goal.overflow_sub-left
-overflow_sub-left c = omega (arith, c.can_take.ensures.0 c.loop-left-test.true, c.count_group-left.ensures.few)
-
-pub overflow_add-at : goal.overflow_add-at
-overflow_add-at c = omega (arith, c.can_take.ensures.0 c.loop-left-test.true)
-
-pub loop-left-smaller : goal.loop-left-smaller
-loop-left-smaller c = omega (arith, c.can_take.ensures.0 c.loop-left-test.true)
-
 pub loop-left-preserved : goal.loop-left-preserved
 loop-left-preserved c =
     let a = c.args in
     let l = c.loop-left in
     let fits = c.can_take.ensures.0 c.loop-left-test.true in
     fewer a.records.now a.from a.n l.left l.at 8 c.count_group-left.result l.invariant (omega arith) c.count_group-left.ensures
-
-pub loop-left-2-init : goal.loop-left-2-init
-loop-left-2-init c = c.loop-left.invariant
-
-pub count_mixed-left-requires : goal.count_mixed-left-requires
-count_mixed-left-requires c = omega (arith, c.can_take-in-loop-left-2.ensures.0 c.loop-left-2-test.true)
-
-pub overflow_sub-left-in-loop-left-2 : goal.overflow_sub-left-in-loop-left-2
-overflow_sub-left-in-loop-left-2 c = omega (arith, c.can_take-in-loop-left-2.ensures.0 c.loop-left-2-test.true, c.count_mixed-left.ensures.few)
-
-pub overflow_add-at-in-loop-left-2 : goal.overflow_add-at-in-loop-left-2
-overflow_add-at-in-loop-left-2 c = omega (arith, c.can_take-in-loop-left-2.ensures.0 c.loop-left-2-test.true)
-
-pub loop-left-2-smaller : goal.loop-left-2-smaller
-loop-left-2-smaller c = omega (arith, c.can_take-in-loop-left-2.ensures.0 c.loop-left-2-test.true)
 
 pub loop-left-2-preserved : goal.loop-left-2-preserved
 loop-left-2-preserved c =

@@ -1,12 +1,7 @@
 -- `window::copy_group` meets its contract: what was copied first are the positions, or it is written over. Assumes nothing.
 use mathlib.Core.Path.{sym, ◌∙◌}
-use Rattle.window.proofs.Windows.{copied_again, copied_plain}
+use Rattle.window.proofs.Windows.{copied_plain}
 use Rattle.window.proofs.copy_group.Goals as goal
-
-pub returns-then-group_has_service : goal.returns-then-group_has_service
-returns-then-group_has_service c =
-    let a = c.args in
-    copied_again a.records.now a.from 8 a.k c.copy_eight.ensures c.copy_mixed.ensures
 
 pub returns-else-group_has_service : goal.returns-else-group_has_service
 returns-else-group_has_service c =

@@ -1,10 +1,7 @@
--- The invariants of `window::count_many`.
-use Prim.Native.Nat.{◌-◌, ◌≤◌}
+-- The invariant of `window::count_many`.
+use Prim.Native.Nat.{◌*◌}
 use Rattle.window.specs.Window.{Counted}
 use Rattle.window.proofs.count_many.Given as goal
 
-abbrev pub invariant-loop-i : goal.invariant-loop-i
-invariant-loop-i l = (l.i ≤ l.n) × Counted l.records l.from l.i l.found
-
-abbrev pub decreases-loop-i : goal.decreases-loop-i
-decreases-loop-i l = l.n - l.i
+abbrev pub invariant-loop-group : goal.invariant-loop-group
+invariant-loop-group l = Counted l.records l.from (l.group * 8) l.found

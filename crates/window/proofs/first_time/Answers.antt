@@ -1,16 +1,15 @@
 -- `window::first_time` meets its contract, by the laws of proofs/Windows. Assumes nothing.
 use Prim.Native.Nat.{◌-◌, ◌≤◌, ◌<◌}
-use native.Mathlib.Omega.{arith}
 use mathlib.Core.Path.{◌≡◌, sym, ap, ◌∙◌}
 use lib.Dec.{leb, ltb}
-use borrow.Author.Tests.{ltb-true, leb-true, lt-ltb, le-leb}
+use borrow.Author.Tests.{lt-ltb, le-leb}
 use Rattle.mtl.proofs.Bounded.{and_iff, true_and_false}
 use Rattle.trace.specs.Format.{record_count, time_at}
 use Rattle.trace.specs.Positions.{place, Inside}
 use Rattle.window.specs.View.{skips}
 use Rattle.window.proofs.Windows.{first_here, first_behind}
 use Rattle.window.proofs.first_time.Goals as goal
-use Rattle.window.proofs.first_time.Goals.{After-behind-end, Then-end-count, Then-is_position}
+use Rattle.window.proofs.first_time.Goals.{After-behind-end, Then-is_position}
 
 here : (c : Then-is_position) →
     let a = c.args in
@@ -30,28 +29,11 @@ further c =
     let a = c.args in
     first_behind (skips a.view.now) a.records.now c.in_slice-at.result (sym c.is_position.ensures ∙ c.if-is_position.false) c.behind-end.result c.behind-end.ensures
 
--- the record behind the position is there
-there : (c : Then-end-count) → let end = c.behind-end.result in (0 < end) × (end ≤ c.count.result)
-there c =
-    let end = c.behind-end.result in
-    let count = c.count.result in
-    let both = (and_iff (ltb 0 end) (leb end count)).0 c.if-end-count.true in
-    (ltb-true 0 end both.0, leb-true end count both.1)
-
-pub time-requires : goal.time-requires
-time-requires c = (here (goal.at.time-requires c).Then-is_position).0
-
 pub returns-then-is_position : goal.returns-then-is_position
 returns-then-is_position c =
     let a = c.args in
     let at = c.in_slice-at in
     rw (← at.ensures) (λ inside. c.time.ensures.0 ∙ ap (time_at a.records.now) (sym (here (goal.at.returns-then-is_position c).Then-is_position).1))
-
-pub overflow_sub-end : goal.overflow_sub-end
-overflow_sub-end c = (there (goal.at.overflow_sub-end c).Then-end-count).0
-
-pub time-requires-then-end-count : goal.time-requires-then-end-count
-time-requires-then-end-count c = let t = there (goal.at.time-requires-then-end-count c).Then-end-count in omega (arith, c.count.ensures)
 
 pub returns-then-end-count : goal.returns-then-end-count
 returns-then-end-count c =

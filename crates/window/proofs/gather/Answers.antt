@@ -2,7 +2,7 @@
 -- Assumes nothing.
 use Prim.Native.Nat.{◌+◌, ◌≤◌}
 use native.Mathlib.Omega.{arith}
-use Rattle.window.proofs.Windows.{ended, gathering_none, gathering_group, gathering_anew, gathered}
+use Rattle.window.proofs.Windows.{ended, gathering_group, gathered}
 use Rattle.window.proofs.gather.Goals as goal
 use Rattle.window.proofs.gather.Goals.{In-loop-copy, In-loop-copy-2}
 
@@ -14,26 +14,6 @@ fits_2 : (c : In-loop-copy-2) →
     (c.loop-copy-2.k + 1 ≤ 65) × (c.loop-copy-2.at + 1 ≤ c.count-end.result)
 fits_2 c = omega (arith, c.can_take-in-loop-copy-2.ensures.0 c.loop-copy-2-test.true, c.loop-copy-2.invariant.going.few)
 
-pub loop-copy-init : goal.loop-copy-init
-loop-copy-init c =
-    let a = c.args in
-    gathering_none a.records.now a.from a.copy.now c.requires
-
-pub overflow_sub-k : goal.overflow_sub-k
-overflow_sub-k c = c.loop-copy.invariant.going.few
-
-pub copy_group-k-requires : goal.copy_group-k-requires
-copy_group-k-requires c = omega (arith, fits (goal.at.copy_group-k-requires c).In-loop-copy, c.loop-copy.invariant.long)
-
-pub overflow_add-k : goal.overflow_add-k
-overflow_add-k c = omega (arith, fits (goal.at.overflow_add-k c).In-loop-copy, c.copy_group-k.ensures.counted.few)
-
-pub overflow_add-at : goal.overflow_add-at
-overflow_add-at c = omega (arith, fits (goal.at.overflow_add-at c).In-loop-copy)
-
-pub loop-copy-smaller : goal.loop-copy-smaller
-loop-copy-smaller c = omega (arith, fits (goal.at.loop-copy-smaller c).In-loop-copy)
-
 pub loop-copy-preserved : goal.loop-copy-preserved
 loop-copy-preserved c =
     let a = c.args in
@@ -41,24 +21,6 @@ loop-copy-preserved c =
     let (few, inside) = fits (goal.at.loop-copy-preserved c).In-loop-copy in
     let g = c.copy_group-k in
     gathering_group a.records.now a.from a.copy.now l.k l.at 8 g.result l.copy g.new.copy l.invariant few (omega arith) g.ensures
-
-pub loop-copy-2-init : goal.loop-copy-2-init
-loop-copy-2-init c = let a = c.args in gathering_anew a.records.now a.from a.copy.now c.loop-copy.invariant
-
-pub overflow_sub-k-in-loop-copy-2 : goal.overflow_sub-k-in-loop-copy-2
-overflow_sub-k-in-loop-copy-2 c = c.loop-copy-2.invariant.going.few
-
-pub copy_mixed-k-requires : goal.copy_mixed-k-requires
-copy_mixed-k-requires c = let long = c.loop-copy-2.invariant.long in omega (arith, fits_2 (goal.at.copy_mixed-k-requires c).In-loop-copy-2)
-
-pub overflow_add-k-in-loop-copy-2 : goal.overflow_add-k-in-loop-copy-2
-overflow_add-k-in-loop-copy-2 c = omega (arith, fits_2 (goal.at.overflow_add-k-in-loop-copy-2 c).In-loop-copy-2, c.copy_mixed-k.ensures.counted.few)
-
-pub overflow_add-at-in-loop-copy-2 : goal.overflow_add-at-in-loop-copy-2
-overflow_add-at-in-loop-copy-2 c = omega (arith, fits_2 (goal.at.overflow_add-at-in-loop-copy-2 c).In-loop-copy-2)
-
-pub loop-copy-2-smaller : goal.loop-copy-2-smaller
-loop-copy-2-smaller c = omega (arith, fits_2 (goal.at.loop-copy-2-smaller c).In-loop-copy-2)
 
 pub loop-copy-2-preserved : goal.loop-copy-2-preserved
 loop-copy-2-preserved c =

@@ -5,18 +5,14 @@ use native.Mathlib.Omega.{arith}
 use native.Mathlib.Numerals.{add-one}
 use mathlib.Core.Bool.{Bool, true, false}
 use mathlib.Core.List.{List}
-use mathlib.Core.Logic.{⊎_elim}
-use mathlib.Core.Path.{◌≡◌, refl, sym, ap, ◌∙◌}
+use mathlib.Core.Path.{◌≡◌, refl, ap, ◌∙◌}
 use lib.Bits.{bit_or, or_lt}
-use lib.Dec.{eqb, leb}
+use lib.Dec.{eqb}
 use lib.ListN.{get_or}
-use borrow.Author.Tests.{le-leb, lt-leb, eq-eqb, ne_eqb}
 use Rattle.mtl.specs.Satisfaction.{any}
-use Rattle.mtl.proofs.Bounded.{le_or_lt}
 use Rattle.bits.specs.Packed.{bit, number}
 use Rattle.bits.proofs.Laws.{bit_of_or}
 use Rattle.trace.specs.Positions.{is_service}
-use Rattle.window.specs.Window.{some_service}
 use Rattle.window.proofs.Windows.{top_bit}
 use Rattle.window.proofs.group_has_service.Invariants.{Joined}
 use Rattle.window.proofs.group_has_service.Goals as goal
@@ -24,14 +20,6 @@ use Rattle.window.proofs.group_has_service.Goals as goal
 is_one : (b : Bool) → eqb (number b) 1 ≡ b
 is_one true = refl
 is_one false = refl
-
--- the highest bit of a byte, as the code tests it
-highest : (x : ℕ) → x < 256 → leb 128 x ≡ bit x 7
-highest x small =
-    ⊎_elim
-    (λ h. le-leb 128 x h ∙ sym (eq-eqb (x / 128 % 2) 1 (omega arith)))
-    (λ h. lt-leb 128 x h ∙ sym (ne_eqb (x / 128 % 2) 1 (omega arith)))
-    (le_or_lt 128 x)
 
 module _ (s : List ℕ) (byte : (k : ℕ) → get_or s k 0 < 256) where
   top : (i : ℕ) → bit (get_or s (i * 8 + 4) 0) 7 ≡ is_service s i
@@ -47,17 +35,10 @@ module _ (s : List ℕ) (byte : (k : ℕ) → get_or s k 0 < 256) where
 
 pub loop-i-init : goal.loop-i-init
 unfolding any
-loop-i-init c = (omega arith, (omega arith, refl))
+loop-i-init c = (omega arith, refl)
 
 pub loop-i-preserved : goal.loop-i-preserved
 loop-i-preserved c =
     let a = c.args in
     let l = c.loop-i in
-    (omega arith, one_more a.records.now (λ k. (c.type_inv.records k).fits) a.from l.i l.joined l.invariant.1)
-
-pub returns : goal.returns
-returns c =
-    let a = c.args in
-    let l = c.loop-i in
-    let all : l.i ≡ a.n = omega (arith, l.invariant.0) in
-    highest l.joined l.invariant.1.0 ∙ l.invariant.1.1 ∙ ap (some_service a.records.now a.from) all
+    one_more a.records.now (λ k. (c.type_inv.records k).fits) a.from l.i l.joined l.invariant

@@ -1,5 +1,5 @@
--- The invariants of `window::group_has_service`.
-use Prim.Native.Nat.{ℕ, ◌-◌, ◌≤◌, ◌<◌}
+-- The invariant of `window::group_has_service`.
+use Prim.Native.Nat.{ℕ, ◌<◌}
 use mathlib.Core.List.{List}
 use mathlib.Core.Path.{◌≡◌}
 use Rattle.bits.specs.Packed.{bit}
@@ -11,7 +11,4 @@ abbrev pub Joined : List ℕ → (from i joined : ℕ) → Type 0
 Joined s from i joined = (joined < 256) × (bit joined 7 ≡ some_service s from i)
 
 abbrev pub invariant-loop-i : goal.invariant-loop-i
-invariant-loop-i l = (l.i ≤ l.n) × Joined l.records l.from l.i l.joined
-
-abbrev pub decreases-loop-i : goal.decreases-loop-i
-decreases-loop-i l = l.n - l.i
+invariant-loop-i l = Joined l.records l.from l.i l.joined

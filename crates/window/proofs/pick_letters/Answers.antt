@@ -20,15 +20,6 @@ fits_2 c = omega (arith, c.can_take-in-loop-one.ensures.0 c.loop-one-test.true, 
 pub loop-group-init : goal.loop-group-init
 loop-group-init c = let a = c.args in picking_none a.records.now a.letter a.from a.n
 
-pub overflow_sub-n : goal.overflow_sub-n
-overflow_sub-n c = c.loop-group.invariant.0.few
-
-pub pick_group-group-requires : goal.pick_group-group-requires
-pick_group-group-requires c = omega (arith, fits (goal.at.pick_group-group-requires c).In-loop-group)
-
-pub overflow_shl-bits : goal.overflow_shl-bits
-overflow_shl-bits c = omega (arith, fits (goal.at.overflow_shl-bits c).In-loop-group)
-
 pub overflow_add-bits : goal.overflow_add-bits
 overflow_add-bits c =
     let a = c.args in
@@ -40,15 +31,6 @@ overflow_add-bits c =
           group.ensures;
     }
 
-pub overflow_add-k : goal.overflow_add-k
-overflow_add-k c = omega (arith, fits (goal.at.overflow_add-k c).In-loop-group, c.pick_group-group.ensures.counted.few)
-
-pub overflow_add-at : goal.overflow_add-at
-overflow_add-at c = omega (arith, fits (goal.at.overflow_add-at c).In-loop-group)
-
-pub loop-group-smaller : goal.loop-group-smaller
-loop-group-smaller c = omega (arith, fits (goal.at.loop-group-smaller c).In-loop-group)
-
 pub loop-group-preserved : goal.loop-group-preserved
 loop-group-preserved c =
     let a = c.args in
@@ -56,18 +38,6 @@ loop-group-preserved c =
     let group = c.pick_group-group in
     picking_on a.records.now a.letter a.from a.n l.k l.at l.bits 8 l.invariant c.requires.0 (fits (goal.at.loop-group-preserved c).In-loop-group) group.result
     group.ensures
-
-pub loop-one-init : goal.loop-one-init
-loop-one-init c = c.loop-group.invariant
-
-pub overflow_sub-n-in-loop-one : goal.overflow_sub-n-in-loop-one
-overflow_sub-n-in-loop-one c = c.loop-one.invariant.0.few
-
-pub pick_one-one-requires : goal.pick_one-one-requires
-pick_one-one-requires c = omega (arith, fits_2 (goal.at.pick_one-one-requires c).In-loop-one)
-
-pub overflow_shl-bits-in-loop-one : goal.overflow_shl-bits-in-loop-one
-overflow_shl-bits-in-loop-one c = omega (arith, fits_2 (goal.at.overflow_shl-bits-in-loop-one c).In-loop-one)
 
 pub overflow_add-bits-in-loop-one : goal.overflow_add-bits-in-loop-one
 overflow_add-bits-in-loop-one c =
@@ -79,15 +49,6 @@ overflow_add-bits-in-loop-one c =
           picking_fits a.records.now a.letter a.from a.n l.k l.at l.bits 1 l.invariant c.requires.0 (fits_2 (goal.at.overflow_add-bits-in-loop-one c).In-loop-one) one.result
           one.ensures;
     }
-
-pub overflow_add-k-in-loop-one : goal.overflow_add-k-in-loop-one
-overflow_add-k-in-loop-one c = omega (arith, fits_2 (goal.at.overflow_add-k-in-loop-one c).In-loop-one, c.pick_one-one.ensures.counted.few)
-
-pub overflow_add-at-in-loop-one : goal.overflow_add-at-in-loop-one
-overflow_add-at-in-loop-one c = omega (arith, fits_2 (goal.at.overflow_add-at-in-loop-one c).In-loop-one)
-
-pub loop-one-smaller : goal.loop-one-smaller
-loop-one-smaller c = omega (arith, fits_2 (goal.at.loop-one-smaller c).In-loop-one)
 
 pub loop-one-preserved : goal.loop-one-preserved
 loop-one-preserved c =

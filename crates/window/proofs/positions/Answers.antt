@@ -9,6 +9,3 @@ returns-then-skips c =
     let s = c.args.records.now in
     let n = c.count in
     rw c.if-skips.true (counted_whole s n.result c.count_many.result c.count_many.ensures ∙ ap (positions s) n.ensures)
-
-pub returns-else-skips : goal.returns-else-skips
-returns-else-skips c = rw c.if-skips.false c.count-else-skips.ensures

@@ -1,10 +1,9 @@
 -- `window::read_letters` meets its contract. Assumes nothing.
-use native.Mathlib.Omega.{arith}
 use mathlib.Core.Bool.{true}
 use mathlib.Core.Path.{◌≡◌, sym, ◌∙◌}
 use Rattle.window.specs.View.{skips}
 use Rattle.window.specs.Window.{dense}
-use Rattle.window.proofs.Windows.{dense_fits, plain_dense, lettered_dense}
+use Rattle.window.proofs.Windows.{plain_dense, lettered_dense}
 use Rattle.window.proofs.read_letters.Goals as goal
 use Rattle.window.proofs.read_letters.Goals.{Then-is_plain}
 
@@ -14,20 +13,7 @@ told c =
     let a = c.args in
     plain_dense (skips a.view.now) a.records.now c.in_slice-at.result a.n (sym c.is_plain.ensures ∙ c.if-is_plain.true)
 
-pub letter_bits-bits-requires : goal.letter_bits-bits-requires
-letter_bits-bits-requires c =
-    let a = c.args in
-    (dense_fits (skips a.view.now) a.records.now c.in_slice-at.result a.n (told (goal.at.letter_bits-bits-requires c).Then-is_plain), c.requires.1, c.requires.2)
-
-pub overflow_add-end : goal.overflow_add-end
-overflow_add-end c =
-    let a = c.args in
-    omega (arith, dense_fits (skips a.view.now) a.records.now c.in_slice-at.result a.n (told (goal.at.overflow_add-end c).Then-is_plain))
-
 pub returns-then-is_plain : goal.returns-then-is_plain
 returns-then-is_plain c =
     let a = c.args in
     let at = c.in_slice-at in record { lettered = rw (← at.ensures) (lettered_dense (skips a.view.now) a.records.now a.letter at.result a.n c.letter_bits-bits.result (told (goal.at.returns-then-is_plain c).Then-is_plain) c.letter_bits-bits.ensures); keeps = c.requires.4 }
-
-pub returns : goal.returns
-returns c = record { lettered = rw (← c.in_slice-at.ensures) c.read_mixed.ensures.lettered; keeps = c.read_mixed.ensures.keeps }

@@ -1,6 +1,5 @@
 -- `window::share` meets its contract, by the laws of proofs/Windows. Assumes nothing.
 use Prim.Native.Nat.{◌+◌, ◌≤◌}
-use native.Mathlib.Omega.{arith}
 use mathlib.Core.Path.{sym, ◌∙◌}
 use Rattle.trace.specs.Format.{record_count}
 use Rattle.window.specs.View.{skips}
@@ -23,11 +22,5 @@ plain c =
     let dense = plain_dense (skips v) s at start.args.n (sym c.is_plain.ensures ∙ c.if-is_plain.true) in
     (dense_fits (skips v) s at start.args.n dense, opened_dense (skips v) s at start.args.n start.args.copy.now start.requires.2 dense)
 
-pub own_part-requires : goal.own_part-requires
-own_part-requires c = omega (arith, (plain (goal.at.own_part-requires c).Then-is_plain).0)
-
 pub returns-then-is_plain : goal.returns-then-is_plain
 returns-then-is_plain c = record { opened = rw (c.own_part.ensures, ← c.in_slice-at.ensures) (plain (goal.at.returns-then-is_plain c).Then-is_plain).1; keeps = c.requires.2 }
-
-pub returns : goal.returns
-returns c = record { opened = rw (← c.in_slice-at.ensures) c.share_mixed.ensures.opened; keeps = c.share_mixed.ensures.keeps }

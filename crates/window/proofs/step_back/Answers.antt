@@ -1,32 +1,13 @@
 -- `window::step_back` meets its contract: from record `at` on stand as many positions as were counted, and the last one
 -- counted stands there. Assumes nothing.
 use Prim.Native.Nat.{◌<◌}
-use native.Mathlib.Omega.{arith}
-use Rattle.window.proofs.Windows.{back_none, back_on, back_found, goes_on, stops}
+use Rattle.window.proofs.Windows.{back_on, back_found, goes_on, stops}
 use Rattle.window.proofs.step_back.Goals as goal
 use Rattle.window.proofs.step_back.Goals.{In-loop-left}
 
 -- what the loop's test says
 goes : (c : In-loop-left) → (0 < c.loop-left.left) × (0 < c.loop-left.at)
 goes c = goes_on 0 c.loop-left.left 0 c.loop-left.at c.loop-left-test.true
-
-pub loop-left-init : goal.loop-left-init
-loop-left-init c = let a = c.args in rw c.count-at.ensures (back_none a.records.now a.n)
-
-pub overflow_sub-at : goal.overflow_sub-at
-overflow_sub-at c = omega (arith, goes (goal.at.overflow_sub-at c).In-loop-left)
-
-pub service-requires : goal.service-requires
-service-requires c = omega (arith, goes (goal.at.service-requires c).In-loop-left)
-
-pub overflow_sub-left : goal.overflow_sub-left
-overflow_sub-left c = omega (arith, goes (goal.at.overflow_sub-left c).In-loop-left)
-
-pub overflow_sub-left-in-loop-left : goal.overflow_sub-left-in-loop-left
-overflow_sub-left-in-loop-left c = omega (arith, goes (goal.at.overflow_sub-left-in-loop-left c).In-loop-left)
-
-pub loop-left-smaller : goal.loop-left-smaller
-loop-left-smaller c = omega (arith, goes (goal.at.loop-left-smaller c).In-loop-left)
 
 pub loop-left-preserved : goal.loop-left-preserved
 loop-left-preserved c =

@@ -1,38 +1,23 @@
--- `worst::write_records` meets its contract. The loop's invariant: the first i records are written, `at` is behind them, and all else is as lent.
-use Prim.Native.Nat.{ℕ}
+-- `worst::write_records` meets its contract.
 use native.Mathlib.Omega.{arith}
-use mathlib.Core.List.{List}
-use mathlib.Core.Path.{◌≡◌, refl, ap, ◌∙◌}
-use Rattle.trace.specs.Making.{record_bytes, records_bytes, put}
+use mathlib.Core.Path.{◌≡◌, ◌∙◌}
+use Rattle.trace.specs.Making.{records_bytes}
 use Rattle.trace.proofs.Making.{put_nothing, put_record}
 use Rattle.worst.specs.Written.{worst_time, worst_events}
 use Rattle.worst.proofs.write_records.Goals as goal
 
-pub loop-at-init : goal.loop-at-init
+pub loop-i-init : goal.loop-i-init
 unfolding records_bytes
-loop-at-init c = (omega arith, omega arith, refl, put_nothing c.args.log.now 8 (omega arith))
+loop-i-init c = put_nothing c.args.log.now 8 (omega arith)
 
-pub loop-at-preserved : goal.loop-at-preserved
-loop-at-preserved c =
+pub loop-i-preserved : goal.loop-i-preserved
+loop-i-preserved c =
     let a = c.args in
-    let l = c.loop-at in
-    let s = c.smaller in
-    let w = c.write_record in
-    let wrote : w.new.log ≡ put l.log l.at (record_bytes s.result (worst_events l.i)) = w.ensures in
-    let time : s.result ≡ worst_time a.high l.i = s.ensures in
-    let before = put a.log.now 8 (records_bytes (worst_time a.high) worst_events l.i) in (
-      omega arith,
-      omega arith,
-      w.auto.log ∙ l.invariant.2,
-      wrote ∙
-          ap (λ (b : List ℕ). put b l.at (record_bytes s.result (worst_events l.i))) l.invariant.3 ∙
-          ap (λ (t : ℕ). put before l.at (record_bytes t (worst_events l.i))) time ∙
-          ap (λ (k : ℕ). put before k (record_bytes (worst_time a.high l.i) (worst_events l.i))) l.invariant.1 ∙
-          put_record (worst_time a.high) worst_events a.log.now l.i (omega arith),
-    )
+    let i = c.loop-i.i in
+    let time : c.min.result ≡ worst_time a.high i = omega arith in
+    rw time at c.write_record.ensures ∙ rw c.loop-i.invariant (put_record (worst_time a.high) worst_events a.log.now i (omega arith))
 
 pub returns : goal.returns
 returns c =
-    let l = c.loop-at in
-    let last : l.i ≡ c.args.n = omega arith in
-    rw last at l.invariant.3
+    let last : c.loop-i.i ≡ c.args.n = omega arith in
+    rw last at c.loop-i.invariant

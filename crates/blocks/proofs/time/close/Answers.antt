@@ -1,6 +1,6 @@
 -- `blocks::time::close` meets its contract. The loop's invariant: the first i positions are answered, one bit each.
 -- Assumes nothing.
-use Prim.Native.Nat.{ℕ, ◌+◌, ◌*◌, ◌-◌, ◌%◌, ◌^◌, ◌≤◌, ◌<◌}
+use Prim.Native.Nat.{ℕ, ◌+◌, ◌*◌, ◌-◌, ◌/◌, ◌%◌, ◌^◌, ◌≤◌, ◌<◌}
 use native.Mathlib.Omega.{arith}
 use mathlib.Core.Bool.{Bool}
 use mathlib.Core.Bool.{not as negate}
@@ -42,40 +42,50 @@ returns-then-far-ge4294967295 c =
     let a = c.args in
     every a.window.now (λ k. (c.type_inv.window k).fits) a.far a.n (omega arith) (omega arith)
 
-pub loop-i-init : goal.loop-i-init
-loop-i-init c = let a = c.args in (omega arith, pushed_none (close_after a.far (time_at a.window.now)) 0)
+pub loop-group-init : goal.loop-group-init
+loop-group-init c = let a = c.args in pushed_none (close_after a.far (time_at a.window.now)) 0
 
 pub overflow_add-answers : goal.overflow_add-answers
 overflow_add-answers c =
     let a = c.args in
-    let l = c.loop-i in
+    let l = c.loop-group in
     let g = c.close_group in
-    record { fits = on_fits (close_after a.far (time_at a.window.now)) l.i 8 g.result l.answers (omega arith) g.ensures l.invariant.1 }
+    record { fits = on_fits (close_after a.far (time_at a.window.now)) (l.group * 8) 8 g.result l.answers (omega arith) g.ensures l.invariant }
 
-pub loop-i-preserved : goal.loop-i-preserved
-loop-i-preserved c =
+pub loop-group-preserved : goal.loop-group-preserved
+loop-group-preserved c =
     let a = c.args in
-    let l = c.loop-i in
+    let l = c.loop-group in
     let g = c.close_group in
-    (omega arith, on (close_after a.far (time_at a.window.now)) l.i 8 g.result l.answers (omega arith) g.ensures l.invariant.1)
+    let next : l.group * 8 + 8 ≡ (l.group + 1) * 8 = omega arith in
+    rw next at (on (close_after a.far (time_at a.window.now)) (l.group * 8) 8 g.result l.answers (omega arith) g.ensures l.invariant)
 
-pub overflow_add-answers-then-i-n : goal.overflow_add-answers-then-i-n
-overflow_add-answers-then-i-n c =
+-- the groups end where the rest begins
+behind : (n g : ℕ) → g ≡ n / 8 → g * 8 ≡ n - n % 8
+behind n g e = omega arith
+
+pub overflow_add-answers-then-rest-ne0 : goal.overflow_add-answers-then-rest-ne0
+overflow_add-answers-then-rest-ne0 c =
     let a = c.args in
-    let l = c.loop-i in
-    let g = c.close_group-then-i-n in
-    record { fits = on_fits (close_after a.far (time_at a.window.now)) l.i (a.n - l.i) g.result l.answers (omega arith) g.ensures l.invariant.1 }
+    let l = c.loop-group in
+    let g = c.close_group-then-rest-ne0 in
+    record {
+      fits = on_fits (close_after a.far (time_at a.window.now)) (a.n - a.n % 8) (a.n % 8) g.result l.answers (omega arith) g.ensures
+          (rw (behind a.n l.group (omega arith)) at l.invariant);
+    }
 
-pub returns-then-i-n : goal.returns-then-i-n
-returns-then-i-n c =
+pub returns-then-rest-ne0 : goal.returns-then-rest-ne0
+returns-then-rest-ne0 c =
     let a = c.args in
-    let l = c.loop-i in
-    let g = c.close_group-then-i-n in
-    let all : l.i + (a.n - l.i) ≡ a.n = omega arith in
-    rw all at (on (close_after a.far (time_at a.window.now)) l.i (a.n - l.i) g.result l.answers (omega arith) g.ensures l.invariant.1).packed
+    let l = c.loop-group in
+    let g = c.close_group-then-rest-ne0 in
+    let all : a.n - a.n % 8 + a.n % 8 ≡ a.n = omega arith in
+    rw all
+    at (on (close_after a.far (time_at a.window.now)) (a.n - a.n % 8) (a.n % 8) g.result l.answers (omega arith) g.ensures
+    (rw (behind a.n l.group (omega arith)) at l.invariant)).packed
 
-pub returns-else-i-n : goal.returns-else-i-n
-returns-else-i-n c =
-    let l = c.loop-i in
-    let all : l.i ≡ c.args.n = omega arith in
-    rw all at l.invariant.1.packed
+pub returns-else-rest-ne0 : goal.returns-else-rest-ne0
+returns-else-rest-ne0 c =
+    let l = c.loop-group in
+    let all : l.group * 8 ≡ c.args.n = omega arith in
+    rw all at l.invariant.packed

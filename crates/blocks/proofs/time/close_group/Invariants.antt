@@ -6,6 +6,3 @@ use Rattle.blocks.proofs.time.close_group.Given as goal
 
 abbrev pub invariant-loop-i : goal.invariant-loop-i
 invariant-loop-i l = Downward (close_after l.far (time_at l.window)) l.from l.n l.i l.answers
-
-abbrev pub decreases-loop-i : goal.decreases-loop-i
-decreases-loop-i l = l.i

@@ -2,6 +2,7 @@
 use Prim.Native.Nat.{◌+◌, ◌≤◌}
 use native.Mathlib.Omega.{arith}
 use mathlib.Core.Path.{◌≡◌, refl, sym, ap, ◌∙◌}
+use Rattle.rule.specs.Words.{header_words}
 use lib.ListN.{length, length-set}
 use Rattle.checkpoint.specs.Fresh.{copies}
 use Rattle.checkpoint.proofs.Offsets.{walk_start, walk_room, walk_on, walk_ends}
@@ -15,11 +16,11 @@ room c = omega (arith, walk_room c.loop-k.invariant.0 (omega arith))
 
 -- the words keep their number
 kept : (c : At-loop-k) → length c.loop-k.words ≡ length c.args.words.now
-kept c = let a = c.args in ap length c.loop-k.invariant.1 ∙ copies_length a.base a.entries a.words.now c.loop-k.k
+kept c = let a = c.args in ap length c.loop-k.invariant.1 ∙ copies_length (header_words a.rule.now.version) a.rule.now.entries a.words.now c.loop-k.k
 
 pub loop-k-init : goal.loop-k-init
 unfolding copies
-loop-k-init c = (walk_start _ _ _, refl)
+loop-k-init c = rw c.header_words-at.ensures (walk_start _ _ _, refl)
 
 pub overflow_add-words : goal.overflow_add-words
 overflow_add-words c = omega (arith, room (goal.at.overflow_add-words c).In-loop-k)
@@ -49,7 +50,7 @@ loop-k-preserved c =
     let i = c.loop-k in
     let a = c.args in (
       (walk_on i.invariant.0 (omega arith) _ c.own_words.ensures.0).0,
-      simp (i.invariant.1, i.invariant.0.begins, c.head_of.ensures, c.ends_of.ensures) (sym (copies_more a.base a.entries a.words.now i.k)),
+      simp (i.invariant.1, i.invariant.0.begins, c.head_of.ensures, c.ends_of.ensures) (sym (copies_more (header_words a.rule.now.version) a.rule.now.entries a.words.now i.k)),
     )
 
 pub shape_of-words : goal.shape_of-words

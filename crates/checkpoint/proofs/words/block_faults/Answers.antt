@@ -2,6 +2,7 @@
 use Prim.Native.Nat.{◌+◌, ◌≤◌}
 use native.Mathlib.Omega.{arith}
 use mathlib.Core.Path.{refl, sym}
+use Rattle.rule.specs.Words.{header_words}
 use lib.ListN.{length}
 use Rattle.mtl.specs.Satisfaction.{any}
 use Rattle.checkpoint.specs.Checkpoint.{copy_differs, block_outside}
@@ -15,7 +16,7 @@ room c = omega (arith, walk_room c.loop-k.invariant.0 (omega arith))
 
 pub loop-k-init : goal.loop-k-init
 unfolding any
-loop-k-init c = (walk_start _ _ _, refl, refl, refl, refl)
+loop-k-init c = rw c.header_words-at.ensures (walk_start _ _ _, refl, refl, refl, refl)
 
 pub copy_differs-copies-requires : goal.copy_differs-copies-requires
 copy_differs-copies-requires c = room (goal.at.copy_differs-copies-requires c).In-loop-k
@@ -39,12 +40,12 @@ loop-k-preserved c =
       (walk_on i.invariant.0 (omega arith) _ c.own_words.ensures.0).0,
       refl,
       refl,
-      simp (i.invariant.3, c.copy_differs-copies.ensures, i.invariant.0.begins) (sym (any_more i.k (copy_differs a.base a.entries a.point.now))),
-      simp (i.invariant.4, c.waiting_fits.ensures, c.block_fits.ensures, i.invariant.0.begins, c.cells.ensures) (sym (any_more i.k (block_outside a.base a.entries a.point.now))),
+      simp (i.invariant.3, c.copy_differs-copies.ensures, i.invariant.0.begins) (sym (any_more i.k (copy_differs (header_words a.rule.now.version) a.rule.now.entries a.point.now))),
+      simp (i.invariant.4, c.waiting_fits.ensures, c.block_fits.ensures, i.invariant.0.begins, c.cells.ensures) (sym (any_more i.k (block_outside (header_words a.rule.now.version) a.rule.now.entries a.point.now))),
     )
 
 pub returns : goal.returns
 returns c =
     let i = c.loop-k in
     let e = walk_ends i.invariant.0 (omega arith) in
-    (rw e at i.invariant.3, rw e at i.invariant.4)
+    record { copies = rw e at i.invariant.3; ranges = rw e at i.invariant.4 }

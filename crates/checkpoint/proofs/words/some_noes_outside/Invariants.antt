@@ -1,12 +1,8 @@
 -- The invariants of `checkpoint::words::some_noes_outside`.
-use Prim.Native.Nat.{◌-◌, ◌≤◌}
 use mathlib.Core.Path.{◌≡◌}
 use Rattle.mtl.specs.Satisfaction.{any}
 use Rattle.checkpoint.specs.Checkpoint.{given, noes_outside}
 use Rattle.checkpoint.proofs.words.some_noes_outside.Given as goal
 
 abbrev pub invariant-loop-k : goal.invariant-loop-k
-invariant-loop-k l = (l.k ≤ l.most) × (l.given ≡ given l.point) × (l.outside ≡ any l.k (noes_outside l.most l.point))
-
-abbrev pub decreases-loop-k : goal.decreases-loop-k
-decreases-loop-k l = l.most - l.k
+invariant-loop-k l = (l.given ≡ given l.point) × (l.outside ≡ any l.k (noes_outside l.most l.point))

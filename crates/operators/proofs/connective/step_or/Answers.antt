@@ -16,7 +16,7 @@ taking : (c : Else-count-eq0) →
     let a = c.args in
     let b = a.block.now in
     Shared (taken b) (left_count b) (right_count b) (total a.view.now) c.available-count.result
-taking c = shared _ _ _ _ _ _ c.smaller-both.ensures c.available-count.ensures.0 c.if-count-eq0.false
+taking c = shared _ _ _ _ _ _ c.min-both.ensures c.available-count.ensures.0 c.if-count-eq0.false
 
 pub returns-then-block-eq0 : goal.returns-then-block-eq0
 returns-then-block-eq0 c = record { ends = (refl, refl, c.if-block-eq0.true); by_index = λ s φ ψ L g falls agrees ready. (refl, λ e. let core = ready.core in let w = ready.buffers.1.within in omega (arith, settled_or L φ ψ)) }

@@ -7,7 +7,7 @@ use lib.ListN.{length-set}
 use Rattle.mtl.proofs.Closing.{settled_letter}
 use Rattle.window.specs.View.{slice_first}
 use Rattle.blocks.proofs.Words.{available}
-use Rattle.operators.proofs.Simple.{some_step, read_onward, letter_batch}
+use Rattle.operators.proofs.Simple.{read_onward, letter_batch}
 use Rattle.operators.proofs.letter.read_letter.Goals as goal
 use Rattle.operators.proofs.letter.read_letter.Goals.{Else-count-eq0}
 
@@ -17,7 +17,7 @@ word_head d = (d.type_inv.block 11).fits
 
 pub returns-then-count-eq0 : goal.returns-then-count-eq0
 returns-then-count-eq0 c =
-    record { ends = refl; steps = λ L g falls agrees ready. let core = ready.core in let size = agrees.size in omega (arith, settled_letter L c.args.letter); keeps = c.requires.3 }
+    record { some = tt; ends = refl; steps = λ L g falls agrees ready. let core = ready.core in let size = agrees.size in omega (arith, settled_letter L c.args.letter); keeps = c.requires.3 }
 
 pub read_letters-read-requires : goal.read_letters-read-requires
 read_letters-read-requires c =
@@ -40,10 +40,10 @@ returns c =
     let n = c.available-count in
     let left = available _ _ _ _ n.ensures.0 in
     let lettered = c.read_letters-read.ensures.lettered in
-    let onward = lettered.onward in
-    let batch = some_step n.result c.read_letters-read.result.bits (omega arith) in record {
-      ends = rw batch (read_onward n.result (slice_first v + c.read_letters-read.result.end) b c.requires.1 (omega arith));
+    let onward = lettered.onward in record {
+      some = omega arith;
+      ends = read_onward n.result (slice_first v + c.read_letters-read.result.end) b c.requires.1 (omega arith);
       steps = λ L g falls agrees ready.
-          rw batch (letter_batch v b c.requires.1 n.result (omega arith) L g agrees c.args.letter (left.inside (omega arith)) lettered ready);
+          letter_batch v b c.requires.1 n.result (omega arith) L g agrees c.args.letter (left.inside (omega arith)) lettered ready;
       keeps = c.read_letters-read.ensures.keeps;
     }

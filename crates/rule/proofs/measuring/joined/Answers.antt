@@ -9,6 +9,6 @@ returns-then-e-eq0 c = search (rules, eq-eqb)
 
 pub returns-else-e-eq0 : goal.returns-else-e-eq0
 returns-else-e-eq0 c = (
-  simp (ne_eqb _ _ c.if-e-eq0.false, c.added.ensures.0, c.larger.ensures),
-  omega (arith, c.added.ensures, c.larger.ensures),
+  simp (ne_eqb _ _ c.if-e-eq0.false, c.added.ensures.0, c.max.ensures),
+  omega (arith, c.added.ensures, c.max.ensures),
 )

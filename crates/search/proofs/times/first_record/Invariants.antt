@@ -1,5 +1,5 @@
 -- The invariants of `search::times::first_record`.
-use Prim.Native.Nat.{ℕ, ◌-◌, ◌≤◌, ◌<◌}
+use Prim.Native.Nat.{ℕ, ◌<◌}
 use mathlib.Core.Bool.{false}
 use mathlib.Core.Path.{◌≡◌}
 use lib.Dec.{leb}
@@ -7,7 +7,4 @@ use Rattle.trace.specs.Format.{time_at}
 use Rattle.search.proofs.times.first_record.Given as goal
 
 abbrev pub invariant-loop-r : goal.invariant-loop-r
-invariant-loop-r l = (l.r ≤ l.end) × ((j : ℕ) → j < l.r → leb l.bound (time_at l.records j) ≡ false)
-
-abbrev pub decreases-loop-r : goal.decreases-loop-r
-decreases-loop-r l = l.end - l.r
+invariant-loop-r l = (j : ℕ) → j < l.r → leb l.bound (time_at l.records j) ≡ false

@@ -19,7 +19,7 @@ search-left-requires c =
     let lent = c.requires.0 in
     let row = lent.rows c.args.k (omega arith) in
     let (below, same) = row.left (ap takes_left c.requires.2) in
-    let at = c.field-operand.ensures in
+    let at = c.from-operand.ensures in
     let few = lent.entry in
     (omega arith, λ j h. lent.rows j (omega arith), lent.words_room, lent.copy_keeps, lent.waiting_keeps, lent.views)
 
@@ -63,14 +63,14 @@ returns c =
             let fields = fields_here a.table.now a.view.now a.records.now L (Formula.since low high φ ψ) a.k a.i an in
             let now = c.time_of-now.ensures.1 L whole inside in
             let small = c.time_of-now.ensures.0 in
-            let high_is : c.field.result ≡ high = c.field.ensures ∙ fields.high in
-            let low_is : c.field-2.result ≡ low = c.field-2.ensures ∙ fields.low in
+            let high_is : c.from-high.result ≡ high = c.from-high.ensures ∙ fields.high in
+            let low_is : c.from-low.result ≡ low = c.from-low.ensures ∙ fields.low in
             let near_is : c.first_at-near.result ≡ first_time L (L.time a.i - high) =
             c.first_at-near.ensures.1 L whole ∙ ap (first_time L) (c.gap.ensures ∙ ap₂ (λ (x y : ℕ). x - y) now high_is) in
             let late_is : c.first_at-late.result ≡ first_time L (L.time a.i + 1 - low) =
             c.first_at-late.ensures.1 L whole ∙ ap (first_time L) (c.gap-2.ensures ∙ ap₂ (λ (x y : ℕ). x + 1 - y) now low_is) in
             let (left-answers-it, right-answers-it) = operands_of a.table.now a.view.now a.records.now L (Formula.since low high φ ψ) φ ψ a.k a.i an refl (since_formulas low high φ ψ an.entries a.k an.formula) in
-            let lefts = c.search-left.ensures.bounded.1 φ L (rw c.field-operand.ensures left-answers-it.0) an.shown.falls an.shown.agrees (rw c.field-operand.ensures left-answers-it.1) in
+            let lefts = c.search-left.ensures.bounded.1 φ L (rw c.from-operand.ensures left-answers-it.0) an.shown.falls an.shown.agrees (rw c.from-operand.ensures left-answers-it.1) in
             let rights = c.search-right.ensures.bounded.1 ψ L right-answers-it.0 an.shown.falls an.shown.agrees right-answers-it.1 in
             e ∙ since_told low high φ ψ a.table.now a.view.now a.records.now a.k a.i L an (omega arith) c.first_at-near.result c.first_at-late.result c.choose-from.result c.smaller.result
             c.search-left.result c.search-right.result near_is late_is lefts from_is c.smaller.ensures rights,

@@ -13,36 +13,12 @@ use Rattle.sentences.proofs.Operands.{inside_here, fields_here, operands_of, unt
 use Rattle.sentences.proofs.Searched.{until_told}
 use Rattle.sentences.proofs.saying.say_until.Goals as goal
 
-pub overflow_add-now : goal.overflow_add-now
-overflow_add-now c =
-    let lent = c.requires.0 in
-    let high = (lent.rows c.args.k (omega arith)).high in
-    let is = c.field.ensures in
-    let small = c.time_of-now.ensures.0 in
-    omega arith
-
-pub overflow_add-now-2 : goal.overflow_add-now-2
-overflow_add-now-2 c =
-    let lent = c.requires.0 in
-    let high = (lent.rows c.args.k (omega arith)).high in
-    let is = c.field.ensures in
-    let small = c.time_of-now.ensures.0 in
-    omega arith
-
-pub overflow_add-now-3 : goal.overflow_add-now-3
-overflow_add-now-3 c =
-    let lent = c.requires.0 in
-    let low = lent.lows c.args.k (omega arith) in
-    let is = c.field-2.ensures in
-    let small = c.time_of-now.ensures.0 in
-    omega arith
-
 pub search-left-requires : goal.search-left-requires
 search-left-requires c =
     let lent = c.requires.0 in
     let row = lent.rows c.args.k (omega arith) in
     let (below, same) = row.left (ap takes_left c.requires.2) in
-    let at = c.field-operand.ensures in
+    let at = c.from-operand.ensures in
     let few = lent.entry in
     (omega arith, λ j h. lent.rows j (omega arith), lent.words_room, lent.copy_keeps, lent.waiting_keeps, lent.views)
 
@@ -88,14 +64,14 @@ returns c =
             let inside = inside_here a.table.now a.view.now a.records.now L (Formula.until low high φ ψ) a.k a.i an in
             let fields = fields_here a.table.now a.view.now a.records.now L (Formula.until low high φ ψ) a.k a.i an in
             let now = c.time_of-now.ensures.1 L whole inside in
-            let high_is : c.field.result ≡ high = c.field.ensures ∙ fields.high in
-            let low_is : c.field-2.result ≡ low = c.field-2.ensures ∙ fields.low in
+            let high_is : c.from-high.result ≡ high = c.from-high.ensures ∙ fields.high in
+            let low_is : c.low_of-low.result ≡ low = c.low_of-low.ensures.0 ∙ fields.low in
             let over_is : c.first_at-over.result ≡ first_time L (L.time a.i + high + 1) =
             c.first_at-over.ensures.1 L whole ∙ ap (first_time L) (ap₂ (λ (x y : ℕ). x + y + 1) now high_is) in
             let soon_is : c.first_at-soon.result ≡ first_time L (L.time a.i + low) =
             c.first_at-soon.ensures.1 L whole ∙ ap (first_time L) (ap₂ (λ (x y : ℕ). x + y) now low_is) in
             let (left-answers-it, right-answers-it) = operands_of a.table.now a.view.now a.records.now L (Formula.until low high φ ψ) φ ψ a.k a.i an refl (until_formulas low high φ ψ an.entries a.k an.formula) in
-            let lefts = c.search-left.ensures.bounded.1 φ L (rw c.field-operand.ensures left-answers-it.0) an.shown.falls an.shown.agrees (rw c.field-operand.ensures left-answers-it.1) in
+            let lefts = c.search-left.ensures.bounded.1 φ L (rw c.from-operand.ensures left-answers-it.0) an.shown.falls an.shown.agrees (rw c.from-operand.ensures left-answers-it.1) in
             let rights = c.search-right.ensures.bounded.1 ψ L right-answers-it.0 an.shown.falls an.shown.agrees right-answers-it.1 in
             e ∙ until_told low high φ ψ a.table.now a.view.now a.records.now a.k a.i L an c.first_at-over.result c.first_at-soon.result c.choose-stop.result c.choose-from.result c.smaller.result
             c.search-left.result c.search-right.result over_is soon_is lefts stop_is c.choose-from.ensures c.smaller.ensures rights,

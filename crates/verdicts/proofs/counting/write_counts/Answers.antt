@@ -17,7 +17,7 @@ numbers x s k = count_of x k s (length s)
 pub loop-k-init : goal.loop-k-init
 loop-k-init c =
     let a = c.args in
-    (omega arith, refl, refl, listed_none (numbers false a.sheet.now) a.no.now, listed_none (numbers true a.sheet.now) a.yes.now)
+    (refl, refl, listed_none (numbers false a.sheet.now) a.no.now, listed_none (numbers true a.sheet.now) a.yes.now)
 
 pub loop-k-preserved : goal.loop-k-preserved
 loop-k-preserved c =
@@ -27,15 +27,8 @@ loop-k-preserved c =
     let count = c.count_yes-count.result in
     let is : count ≡ count_of true l.k s (length s) = c.count_yes-count.ensures.0 in
     let is_no : length s - count ≡ count_of false l.k s (length s) = ap (λ (n : ℕ). length s - n) is ∙ count_no_is l.k s (length s) in (
-      omega arith,
+      simp length-set l.invariant.0,
       simp length-set l.invariant.1,
-      simp length-set l.invariant.2,
-      listed_more (numbers false s) l.k (length s - count) a.no.now l.no (omega arith) is_no l.invariant.3,
-      listed_more (numbers true s) l.k count a.yes.now l.yes (omega arith) is l.invariant.4,
+      listed_more (numbers false s) l.k (length s - count) a.no.now l.no (omega arith) is_no l.invariant.2,
+      listed_more (numbers true s) l.k count a.yes.now l.yes (omega arith) is l.invariant.3,
     )
-
-pub returns : goal.returns
-returns c =
-    let l = c.loop-k in
-    let last : l.k ≡ c.args.formulas = omega arith in
-    record { no_after = rw last at l.invariant.3; yes_after = rw last at l.invariant.4 }

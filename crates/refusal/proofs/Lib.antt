@@ -1,0 +1,2 @@
+-- A law on the numbers of the refusals.
+pub mod Numbers
