@@ -21,10 +21,11 @@ use Rattle.window.specs.declared.Letters.{Letters}
 use Rattle.window.specs.declared.Window.{Window}
 use Rattle.window.proofs.Reading.{shown_inside, shown_time, shown_letter, head_behind, window_time}
 use Rattle.window.specs.declared.view.View.{View}
+use Rattle.window.specs.declared.KeptCopy.{KeptCopy}
 use Rattle.blocks.specs.Step.{Agrees}
 
 -- whatever the words hold: the window can be read
-module _ (v : View) (h : ℕ) {s : List ℕ} {n : ℕ} {w : Window} {copy : List ℕ} (opened : Opened (skips v) s (in_slice (slice_first v) h) n w copy) where
+module _ (v : View) (h : ℕ) {s : List ℕ} {n : ℕ} {w : Window} {copy : KeptCopy} (opened : Opened (skips v) s (in_slice (slice_first v) h) n w copy) where
   pub readable : w.dense ≡ true → w.at * 8 ≤ length s
   readable e =
       let at = in_slice (slice_first v) h in
@@ -68,7 +69,7 @@ module _ {v : View} {s : List ℕ} {L : Log} {g : ℕ} (agrees : Agrees v s L g)
 
 -- a window of them
 module _ {v : View} {s : List ℕ} {L : Log} {g : ℕ} (agrees : Agrees v s L g) {h : ℕ} (p : ℕ) (head : h ≡ head_of L p) (from : g ≤ p) {n : ℕ} (inside : p + n ≤ L.size)
-    {w : Window} {copy : List ℕ} (opened : Opened (skips v) s (in_slice (slice_first v) h) n w copy) where
+    {w : Window} {copy : KeptCopy} (opened : Opened (skips v) s (in_slice (slice_first v) h) n w copy) where
   here : Opened (skips v) s (in_slice (slice_first v) (head_of L p)) n w copy
   here = rw head at opened
 

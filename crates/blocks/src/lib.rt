@@ -30,13 +30,6 @@ pub enum Step {
     Open,
 }
 
-// The smaller of two counts.
-pub fn smaller(left: u64, right: u64) -> u64
-    ensures { result ≡ min left right }
-{
-    left.min(right)
-}
-
 // How many of count positions from `at` on lie within a log of so many positions, and in one word.
 pub fn available(at: u64, count: u64, total: u64) -> u64
     ensures { (result ≡ min (min count (total - at)) 64) × (at + result < 2 ^ 64) }

@@ -5,13 +5,6 @@ ghost use Rattle.bits.specs.Packed.{number, Packed};
 ghost use Rattle.trace.specs.Format.{record_count, time_at};
 ghost use Rattle.blocks.specs.Near.{close_after, near_after};
 
-// A later time minus an earlier one.
-pub fn gap(earlier: u64, later: u64) -> u64
-    ensures { result ≡ later - earlier }
-{
-    later.saturating_sub(earlier)
-}
-
 // low ≤ gap ≤ high. A gap to a 32-bit time never lies above the high that means no upper end.
 pub fn within(low: u64, high: u64, earlier: u64, later: u64) -> bool
     requires { later < 2 ^ 32 }

@@ -6,11 +6,15 @@ use mathlib.Core.Path.{◌≡◌, sym}
 use mathlib.Core.List.{List}
 use lib.Dec.{ltb}
 use borrow.Author.Tests.{ltb-false, le-ltb}
+use Rattle.std.specs.Prelude.{Result, Ok, Err}
+use Rattle.refusal.specs.declared.Refusal.{Refusal}
+use Rattle.refusal.specs.Number.{number}
+use Rattle.rule.specs.Entries.{decoded, count}
 use Rattle.rule.specs.Refusal.{refusal}
 use Rattle.rule.proofs.Headers.{first_zero, before_none}
 use Rattle.checkpoint.specs.Checkpoint.{need}
 use Rattle.checks.specs.Refusal.{open_refusal}
-use Rattle.checks.specs.Contract.{IsAdmitted}
+use Rattle.checks.specs.Contract.{IsAdmitted, Admits}
 use Rattle.checks.specs.declared.Admitted.{Admitted}
 
 -- `open` takes no fewer words than the need
@@ -20,3 +24,12 @@ enough_words rule lent none = ltb-false lent (need rule) (first_zero 8 (ltb lent
 -- nor is it refused where the rule was admitted
 pub open_accepted : (s : List ℕ) (lent : ℕ) (a : Admitted) → IsAdmitted s lent a → 0 ≡ open_refusal s lent
 open_accepted s lent a d = sym (rw (d.accepted, le-ltb lent (need s) d.room))
+
+-- what `admit` answers is refusals 1 to 9, and the words are the need
+pub sized_is : (s : List ℕ) (lent : ℕ) (r : Result Admitted Refusal) → Admits s lent r → number r ≡ open_refusal s lent
+sized_is s lent (Ok a) d = open_accepted s lent a d
+sized_is s lent (Err refusal) d = d
+
+-- the entries of a rule that is admitted
+pub is_decoded : (s : List ℕ) (lent : ℕ) (a : Admitted) → IsAdmitted s lent a → (a.rule.entries ≡ decoded s) × (a.rule.count ≡ count s)
+is_decoded s lent a d = (d.entries_are, d.count_is)

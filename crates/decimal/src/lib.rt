@@ -2,27 +2,7 @@
 #![tactic(auto)]
 
 ghost use Rattle.std.specs.Prelude.{◌≡◌, ◌+◌, ◌≤◌, length};
-ghost use Rattle.decimal.specs.Text.{decimal, Writes};
-
-// Writes bytes into the text from `at` on, and gives where they end.
-pub fn put(bytes: &[u8], text: &mut [u8], at: usize) -> usize
-    requires { at + length bytes.now ≤ length text.old }
-    ensures { Writes text.old at bytes.now result text.new }
-{
-    bits::bytes::copy(bytes, text, at);
-    at + bytes.len()
-}
-
-// A number in decimal.
-#[tactic(auto, using(crate::proofs::Decimals::decimal_of))]
-pub fn put_number(n: usize, text: &mut [u8], at: usize) -> usize
-    requires { at + length (decimal n) ≤ length text.old }
-    ensures { Writes text.old at (decimal n) result text.new }
-{
-    let mut digits = [0u8; 20];
-    let count = io::decimal(n as u64, &mut digits);
-    put(&digits[..count], text, at)
-}
+ghost use Rattle.decimal.specs.Text.{decimal};
 
 // A lent buffer that a text is written into, one piece behind the other.
 #[derive(Drop)]
@@ -33,7 +13,7 @@ pub struct Text<'a> {
 }
 
 impl<'a> Text<'a> {
-    ghost use Rattle.decimal.specs.Written.{Begins, Room, Puts};
+    ghost use Rattle.decimal.specs.Written.{Begins, Room, Puts, Cuts};
 
     pub fn new(bytes: &'a mut [u8]) -> Text<'a>
         ensures { Begins bytes.entry result }
@@ -64,5 +44,14 @@ impl<'a> Text<'a> {
         let mut digits = [0u8; 20];
         let count = io::decimal(n as u64, &mut digits);
         self.put(&digits[..count]);
+    }
+
+    // Takes out the bytes from `from` up to `to`, and moves those behind them to their place.
+    pub fn cut(&mut self, from: usize, to: usize)
+        requires { (from ≤ to) × (to ≤ self.old.at) × (self.old.at ≤ length self.old.bytes.now) }
+        ensures { Cuts self.old from to self.new }
+    {
+        self.bytes.copy_within(to..self.at, from);
+        self.at -= to - from;
     }
 }

@@ -12,6 +12,7 @@ use checkpoint::header;
 use engine::table::{NO_ROW, Row};
 use engine::tops::Top;
 use rule::{Ends, Rule};
+use window::KeptCopy;
 use window::view::View;
 
 // How many verdicts a call gave, and whether more are settled.
@@ -36,8 +37,8 @@ fn give_all(
     most: usize,
     records: &[u8],
     view: &View,
-    copy: &mut [u8; 544],
-    waiting: &mut [u8; 544],
+    copy: &mut KeptCopy,
+    waiting: &mut KeptCopy,
     shift: u64,
     words: &mut [u64],
     sheet: &mut [u8],
@@ -71,8 +72,8 @@ fn give(
     most: usize,
     records: &[u8],
     view: &View,
-    copy: &mut [u8; 544],
-    waiting: &mut [u8; 544],
+    copy: &mut KeptCopy,
+    waiting: &mut KeptCopy,
     shift: u64,
     words: &mut [u64],
     sheet: &mut [u8],
@@ -111,7 +112,7 @@ fn closed_with(closed: bool, total: u64) -> u64
 fn wanted_position(depth: u64, given: u64) -> u64
     ensures { result ≡ given - depth }
 {
-    blocks::time::gap(depth, given)
+    given.saturating_sub(depth)
 }
 
 // What the call knows of its log: the view of the records from the first wanted on.
@@ -130,8 +131,8 @@ fn shift_of(records: &[u8], view: &View, depth: u64, words: &[u64]) -> u64
     requires { 8 ≤ length words.now }
 {
     let earlier = wanted_position(depth, words[header::GIVEN]);
-    let seen = blocks::time::gap(words[header::WANTED], words[header::SEEN]);
-    let old = blocks::smaller(seen, trace::count(records) as u64) as usize;
+    let seen = words[header::SEEN].saturating_sub(words[header::WANTED]);
+    let old = seen.min(trace::count(records) as u64) as usize;
     let before = window::positions(&records[..old * 8], view.skips);
     64 - (earlier % 64 + before % 64) % 64
 }
@@ -142,10 +143,10 @@ fn note(records: &[u8], view: &View, skips: bool, depth: u64, words: &mut [u64])
     ensures { Notes skips depth view.now records.now words.old words.new }
 {
     let first = words[header::WANTED];
-    let seen = blocks::time::gap(first, words[header::SEEN]);
+    let seen = words[header::SEEN].saturating_sub(first);
     let total = first + trace::count(records) as u64;
     let wanted = wanted_position(depth, words[header::GIVEN]);
-    let left = blocks::time::gap(wanted, view.total);
+    let left = view.total.saturating_sub(wanted);
     words[header::LAST] = trace::last_time(records, seen as usize, words[header::LAST]);
     words[header::SEEN] = total;
     words[header::CLOSED_WITH] = closed_with(view.closed, total);
@@ -175,8 +176,8 @@ pub fn emit(
     let tops = engine::layout::lay_tops(ends, &table, base);
     let view = write_view(records, skips, closed, depth, words);
     let shift = shift_of(records, &view, depth, words);
-    let mut copy = [0u8; 544];
-    let mut waiting = [0u8; 544];
+    let mut copy = KeptCopy::new();
+    let mut waiting = KeptCopy::new();
     let emitted = give(
         &table,
         &tops[..ends.number],

@@ -84,7 +84,7 @@ fn row_of(e: Entry, kind: Kind, left: usize, a: u16, c: u16) -> Row
 
 // Writes the rows of an accepted rule's entries into an empty table, each from those of its operands, which stand before it.
 pub fn lay_out(rule: &Rule, table: &mut [Row; 128])
-    requires { (rule.now.count ≤ 128) × WellFormed rule.now.entries rule.now.count × (length table.old ≡ 128) × ((k : ℕ) → row_at table.old k ≡ no_row) }
+    requires { WellFormed rule.now.entries rule.now.count × (length table.old ≡ 128) × ((k : ℕ) → row_at table.old k ≡ no_row) }
     ensures { Laid rule.now.entries rule.now.count table.new }
 {
     let mut firsts = [0usize; 128];

@@ -15,6 +15,7 @@ pub mod tops;
 use blocks::{Batch, Step, word};
 use rule::Kind;
 use table::Row;
+use window::KeptCopy;
 use window::view::View;
 
 // Puts a batch into the buffer at slot.
@@ -31,8 +32,8 @@ fn advance(
     table: &[Row; 128],
     records: &[u8],
     view: &View,
-    copy: &mut [u8; 544],
-    waiting: &mut [u8; 544],
+    copy: &mut KeptCopy,
+    waiting: &mut KeptCopy,
     k: usize,
     own: usize,
     words: &mut [u64],
@@ -60,7 +61,7 @@ fn answer_letter(
     table: &[Row; 128],
     records: &[u8],
     view: &View,
-    copy: &mut [u8; 544],
+    copy: &mut KeptCopy,
     k: usize,
     shift: u64,
     words: &mut [u64],
@@ -81,8 +82,8 @@ pub fn answer(
     table: &[Row; 128],
     records: &[u8],
     view: &View,
-    copy: &mut [u8; 544],
-    waiting: &mut [u8; 544],
+    copy: &mut KeptCopy,
+    waiting: &mut KeptCopy,
     k: usize,
     shift: u64,
     words: &mut [u64],
@@ -157,8 +158,8 @@ fn fill(
     table: &[Row; 128],
     records: &[u8],
     view: &View,
-    copy: &mut [u8; 544],
-    waiting: &mut [u8; 544],
+    copy: &mut KeptCopy,
+    waiting: &mut KeptCopy,
     k: usize,
     shift: u64,
     split: usize,
@@ -225,8 +226,8 @@ pub fn ask(
     table: &[Row; 128],
     records: &[u8],
     view: &View,
-    copy: &mut [u8; 544],
-    waiting: &mut [u8; 544],
+    copy: &mut KeptCopy,
+    waiting: &mut KeptCopy,
     operand: usize,
     shift: u64,
     from: usize,

@@ -1,17 +1,15 @@
 -- The whole call: what it lends to the search, check 27, and the refusals before it. Assumes nothing.
 use Prim.Native.Nat.{ℕ, suc, ◌≤◌, ◌<◌}
 use mathlib.Core.Bool.{Bool, true, false, cond}
-use mathlib.Core.Logic.{◌⊎◌, inl, inr, ⊎_elim}
 use mathlib.Core.Path.{◌≡◌, refl, sym, ◌∙◌, ap}
 use mathlib.Core.List.{List, ◌++◌}
 use native.Mathlib.Omega.{arith}
-use lib.Dec.{leb, ltb}
+use lib.Dec.{ltb}
 use lib.ListN.{length, get_or, take, drop}
-use borrow.Author.Tests.{le-leb, lt-leb, lt-ltb, le-ltb, eq-eqb, ne_eqb}
+use borrow.Author.Tests.{lt-leb, le-ltb, eq-eqb, ne_eqb}
 use Rattle.mtl.specs.Formula.{Formula}
 use Rattle.mtl.specs.Log.{Log}
 use Rattle.mtl.specs.Progress.{joint_progress}
-use Rattle.mtl.proofs.Bounded.{or_iff}
 use Rattle.rule.specs.declared.Entry.{Entry}
 use Rattle.rule.specs.Postfix.{formula, start}
 use Rattle.rule.specs.Refusal.{first, or_else, refusal}
@@ -27,20 +25,18 @@ use Rattle.engine.specs.Tops.{Ended}
 use Rattle.engine.specs.declared.table.Row.{Row}
 use Rattle.engine.proofs.Rows.{row_ok}
 use Rattle.meaning.specs.Verdicts.{formulas_of, columns}
-use Rattle.decimal.specs.Text.{Writes}
 use Rattle.reasons.specs.Text.{text}
 use Rattle.reasons.specs.OfRule.{log_in, reason_in}
 use Rattle.search.proofs.Records.{WholeView, whole_log, whole_agrees}
-use Rattle.std.specs.Prelude.{Option, Some, None, Result, Ok, Err}
+use Rattle.std.specs.Prelude.{Option, Some, Result, Ok, Err}
 use Rattle.refusal.specs.declared.Refusal.{Refusal}
-use Rattle.refusal.specs.declared.Refusal.TheVariants.{NoReason}
 use Rattle.refusal.specs.Number.{number_of}
 use Rattle.refusal.proofs.Numbers.{number_positive}
 use Rattle.checks.specs.Refusal.{whole_log_refusal}
 use Rattle.explain.specs.Explain.{unexplained_in, explain_refusal, answer, Explains}
 use Rattle.sentences.specs.Said.{Ruled}
 use Rattle.telling.specs.Lines.{Wrote}
-use Rattle.explain.specs.Code.{Prepared, Represents, Reasoned, EndsInside, Copies}
+use Rattle.explain.specs.Code.{Prepared, Represents, Reasoned, Copies}
 
 -- WHAT IS LENT
 
@@ -79,18 +75,12 @@ module _ (e : List Entry) (n : ℕ) (ends : List ℕ) (number : ℕ) (fs : List 
         shown = record { whole = whole_log skips s v made keeps; falls = positions_keep skips s keeps; agrees = whole_agrees skips s v made; unclosed = refl };
       }
 
--- WHAT A REASON THAT IS MISSING OR ENDS SAYS, for any text that was lent
+-- WHAT A REASON SAYS, for any text that was lent
 
 module _ (fs : List Formula) (L : Log) (k i : ℕ) (text₀ : List ℕ) (r : Option ℕ) (text' : List ℕ) where
-  pub reasoned_missing : r ≡ None → Reasoned fs L k i text₀ r text' → (columns fs ≤ k) ⊎ (joint_progress fs L ≤ i)
-  reasoned_missing is reasoned = rw is at reasoned
-
   pub reasoned_ends : (end : ℕ) → r ≡ Some end → Reasoned fs L k i text₀ r text' →
       (k < columns fs) × (i < joint_progress fs L) × Wrote text₀ 0 (text (reason_in fs k L i)) end text'
   reasoned_ends end is reasoned = rw is at reasoned
-
-pub ends_inside : (text₀ : List ℕ) (r : Option ℕ) (end : ℕ) → r ≡ Some end → EndsInside text₀ r → end ≤ length text₀
-ends_inside text₀ r end is inside = rw is at inside
 
 -- CHECK 27
 
@@ -98,32 +88,14 @@ module _ (fs : List Formula) (L : Log) (k i : ℕ) (lent : List ℕ) where
   abbrev bytes : List ℕ
   bytes = text (reason_in fs k L i)
 
-  refused : unexplained_in fs L k i (length lent) ≡ true → Copies fs L k i lent (Err NoReason) lent
-  refused e = record { answer = rw e refl; bytes = rw e refl }
-
-  pub copies_none : (columns fs ≤ k) ⊎ (joint_progress fs L ≤ i) → Copies fs L k i lent (Err NoReason) lent
-  copies_none far =
-      refused
-      (⊎_elim
-      (λ (h : columns fs ≤ k). (or_iff (leb (columns fs) k) _).1 (inl (le-leb (columns fs) k h)))
-      (λ (h : joint_progress fs L ≤ i). (or_iff (leb (columns fs) k) _).1 (inr ((or_iff (leb (joint_progress fs L) i) _).1 (inl (le-leb (joint_progress fs L) i h)))))
-      far)
-
-  pub copies_short : length lent < length bytes → Copies fs L k i lent (Err NoReason) lent
-  copies_short h =
-      refused
-      ((or_iff (leb (columns fs) k) _).1 (inr ((or_iff (leb (joint_progress fs L) i) (ltb (length lent) (length bytes))).1 (inr (lt-ltb (length lent) (length bytes) h)))))
-
   pub copies_all : k < columns fs → i < joint_progress fs L → (text₀ lines : List ℕ) (end : ℕ) → Wrote text₀ 0 bytes end lines → end ≤ length lent →
-      (to : ℕ) (lent' : List ℕ) → Writes lent 0 (take end lines) to lent' → Copies fs L k i lent (Ok end) lent'
-  copies_all one two text₀ lines end wrote room to lent' writes =
+      (lent' : List ℕ) → lent' ≡ take end lines ++ drop end lent → Copies fs L k i lent (Ok end) lent'
+  copies_all one two text₀ lines end wrote room lent' copied =
       let all : end ≡ length bytes = let z = wrote.ends in omega arith in
       let none : unexplained_in fs L k i (length lent) ≡ false = rw (lt-leb (columns fs) k one, lt-leb (joint_progress fs L) i two, le-ltb (length lent) (length bytes) (omega arith)) refl in
-      let size : length (take end lines) ≡ length bytes = ap length wrote.content in
-      let ends : to ≡ length bytes = let z = writes.ends in omega arith in
       record {
         answer = rw none (ap (λ (m : ℕ). answer (Ok m)) all);
-        bytes = rw none (writes.content ∙ ap (λ (b : List ℕ). b ++ drop to lent) wrote.content ∙ ap (λ (m : ℕ). bytes ++ drop m lent) ends);
+        bytes = rw none (copied ∙ ap (λ (b : List ℕ). b ++ drop end lent) wrote.content ∙ ap (λ (m : ℕ). bytes ++ drop m lent) all);
       }
 
 -- THE REFUSALS BEFORE IT

@@ -7,7 +7,7 @@ use mathlib.Core.List.{List, [], ◌∷◌}
 use native.Mathlib.Omega.{arith}
 use lib.Dec.{ltb}
 use lib.ListN.{length, get_or}
-use borrow.Author.Tests.{lt-ltb, le-ltb, ltb-true, ltb-false}
+use borrow.Author.Tests.{lt-ltb, le-ltb, ltb-true}
 use Rattle.mtl.specs.Formula.{Formula}
 use Rattle.mtl.specs.Log.{Log}
 use Rattle.mtl.specs.Satisfaction.{sat}
@@ -19,7 +19,10 @@ use Rattle.rule.proofs.Order.{some_size, within_whole}
 use Rattle.engine.proofs.Rows.{has_at, column_is_part}
 use Rattle.meaning.specs.Verdicts.{columns}
 use Rattle.meaning.proofs.Laws.{joint_le, joint_least}
+use Rattle.std.specs.Borrow.{MutBor}
 use Rattle.decimal.specs.Text.{ascii, Writes}
+use Rattle.decimal.specs.Written.{Begins}
+use Rattle.decimal.specs.declared.Text.{Text}
 use Rattle.reasons.specs.Reason.{reason}
 use Rattle.reasons.specs.Text.{text, spaced_line}
 use Rattle.reasons.specs.OfRule.{last_entry, reason_in}
@@ -28,7 +31,6 @@ use Rattle.search.specs.Scan.{Scanned, Scans}
 use Rattle.search.proofs.Zeros.{zero_state}
 use Rattle.window.specs.View.{total}
 use Rattle.window.specs.declared.view.View.{View}
-use Rattle.telling.specs.declared.Told.{Told}
 use Rattle.sentences.specs.Said.{Answering}
 use Rattle.telling.specs.Lines.{Wrote, Tells}
 use Rattle.explain.specs.Code.{Represents, AllAnswered}
@@ -131,13 +133,6 @@ module _ (t : List Row) (v : View) (s ends : List ℕ) (number k i : ℕ) (text�
       let most = joint_le_size fs L in
       ⊎_elim (λ (h : c ≤ k). inl (omega arith)) (λ (h : total v ≤ i). inr (omega arith)) far
 
-  -- some formula has not answered the position
-  pub none_answered : i < total v → AllAnswered t v s ends number i false →
-      (fs : List Formula) (L : Log) → Represents t v s ends number fs L → (columns fs ≤ k) ⊎ (joint_progress fs L ≤ i)
-  none_answered inside answered fs L told =
-      let size = told.shown.whole.size in
-      inr (ltb-false i (joint_progress fs L) (sym (answered fs L told (omega arith))))
-
   module _ (columns_are : ℕ) (columns_is : columns_are ≡ max 1 number) (one_of_lem : k < columns_are) (inside : i < total v) (answered : AllAnswered t v s ends number i true) where
     below : (fs : List Formula) (L : Log) → Represents t v s ends number fs L → (k < columns fs) × (i < joint_progress fs L)
     below fs L told =
@@ -153,14 +148,20 @@ module _ (t : List Row) (v : View) (s ends : List ℕ) (number k i : ℕ) (text�
         let (one, two) = below fs L told in
         (one, two, rw (empty_text fs k L i (omega arith)) (wrote_line writes (omega arith)))
 
-    pub formula_reasoned : (number ≡ 0 → ⊥) → (r : Told) (text' : List ℕ) → Tells t v s (get_or ends k 0 - 1) i text₀ 0 r text' →
+    -- `lent` is written through a text of its own, which ends where the written text does
+    pub formula_reasoned : (number ≡ 0 → ⊥) → {lent : MutBor (List ℕ)} → lent.now ≡ text₀ → {begun after : Text} {holds : Bool} → Begins lent begun →
+        Tells t v s (get_or ends k 0 - 1) i begun holds after → (end : ℕ) (text' : List ℕ) → end ≡ after.at → text' ≡ after.bytes.now →
         (fs : List Formula) (L : Log) → Represents t v s ends number fs L →
-        (k < columns fs) × (i < joint_progress fs L) × Wrote text₀ 0 (text (reason_in fs k L i)) r.end text'
-    formula_reasoned some r text' tells fs L told =
+        (k < columns fs) × (i < joint_progress fs L) × Wrote text₀ 0 (text (reason_in fs k L i)) end text'
+    formula_reasoned some is {begun} {after} begins tells end text' ends_there same_bytes fs L told =
         let n = told.ended.number in
         let (one, two) = below fs L told in
         let here : k < number = omega arith in
         let least = joint_le fs L k (omega arith) in
         let last = last_is t v s ends number fs L told k here in
-        let (holds, wrote) = tells.meaning (formula fs k) L (last_answers t v s ends number fs L told k here i (omega arith)) in
-        (one, two, rw (there_text fs k L i (omega arith)) (subst (λ (m : ℕ). Wrote text₀ 0 (text (reason (formula fs k) m L i)) r.end text') last wrote))
+        let (same, wrote) = tells.meaning (formula fs k) L (last_answers t v s ends number fs L told k here i (omega arith)) in (
+          one,
+          two,
+          rw (ends_there, same_bytes, there_text fs k L i (omega arith))
+              (subst (λ (m : ℕ). Wrote text₀ 0 (text (reason (formula fs k) m L i)) after.at after.bytes.now) last (rw (begins.lent ∙ is, begins.nothing) at wrote)),
+        )

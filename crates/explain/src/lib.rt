@@ -13,9 +13,11 @@ ghost use Rattle.checks.specs.Refusal.{whole_log_refusal};
 ghost use Rattle.explain.specs.Explain.{answer, Explains};
 ghost use Rattle.explain.specs.Code.{Prepared, AllAnswered, Reasons, ReasonsOf, CopiesOf};
 
+use decimal::Text;
 use engine::table::{NO_ROW, Row};
 use refusal::Refusal;
 use rule::{Ends, Rule};
+use window::KeptCopy;
 use window::view::View;
 
 // Refusals 12, 24 and 14 of the log, 14 from the first record on.
@@ -39,8 +41,8 @@ fn all_answered(
     table: &[Row; 128],
     records: &[u8],
     view: &View,
-    copy: &mut [u8; 544],
-    waiting: &mut [u8; 544],
+    copy: &mut KeptCopy,
+    waiting: &mut KeptCopy,
     words: &mut [u64],
     ends: &Ends,
     position: u64,
@@ -83,8 +85,8 @@ fn write_reason(
     requires { Prepared table.now view.now records.now words.old ends.now.at ends.now.number × (length text.old ≡ 24576) × (total view.now ≤ 1000000) }
     ensures { Reasons table.now view.now records.now ends.now.at ends.now.number formula position text.old result text.new }
 {
-    let mut copy = [0u8; 544];
-    let mut waiting = [0u8; 544];
+    let mut copy = KeptCopy::new();
+    let mut waiting = KeptCopy::new();
     if (emit::columns_of(ends.number) as u64 <= formula) | (view.total <= position) {
         return None;
     }
@@ -101,10 +103,12 @@ fn write_reason(
     if !answered {
         return None;
     }
+    let mut text = Text::new(text);
     if ends.number == 0 {
-        return Some(decimal::put(b"empty\n", text, 0));
+        text.put(b"empty\n");
+        return Some(text.len());
     }
-    let told = telling::tell(
+    telling::tell(
         table,
         records,
         view,
@@ -113,10 +117,9 @@ fn write_reason(
         words,
         ends.at[formula as usize] - 1,
         position,
-        text,
-        0,
+        &mut text,
     );
-    Some(told.end)
+    Some(text.len())
 }
 
 // The same of a decoded rule.
@@ -162,7 +165,7 @@ fn copy_reason(
     if text.len() < length {
         return Err(Refusal::NoReason);
     }
-    decimal::put(&lines[..length], text, 0);
+    text[..length].copy_from_slice(&lines[..length]);
     Ok(length)
 }
 

@@ -14,6 +14,7 @@ ghost use Rattle.held.specs.Code.{plan, Fitting, HoldsOne, HoldsAll, Answered, t
 use checkpoint::header;
 use engine::table::Row;
 use engine::tops::Top;
+use window::KeptCopy;
 use window::view::View;
 
 // How many positions of a log of so many have no verdict yet, as far as one word goes.
@@ -30,8 +31,8 @@ fn hold_one(
     k: usize,
     records: &[u8],
     view: &View,
-    copy: &mut [u8; 544],
-    waiting: &mut [u8; 544],
+    copy: &mut KeptCopy,
+    waiting: &mut KeptCopy,
     shift: u64,
     words: &mut [u64],
 ) -> u64
@@ -53,8 +54,8 @@ pub fn hold(
     tops: &[Top],
     records: &[u8],
     view: &View,
-    copy: &mut [u8; 544],
-    waiting: &mut [u8; 544],
+    copy: &mut KeptCopy,
+    waiting: &mut KeptCopy,
     shift: u64,
     words: &mut [u64],
 ) -> u64

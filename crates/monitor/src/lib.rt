@@ -22,7 +22,7 @@ use emit::Emitted;
 use refusal::Refusal;
 
 // The lent word of a latest position where there is none.
-const NO_POSITION: u64 = 18446744073709551615;
+const NO_POSITION: u64 = u64::MAX;
 
 // What `status` tells: the verdicts given, the records seen, the first record still wanted, and whether a closing was accepted.
 #[derive(Clone, Copy, Debug, PartialEq, Eq)]

@@ -34,6 +34,7 @@ use Rattle.window.specs.Window.{window_of, Lettered, Opened, Passed}
 use Rattle.window.specs.declared.Letters.{Letters}
 use Rattle.window.specs.declared.Window.{Window}
 use Rattle.window.specs.declared.view.View.{View}
+use Rattle.window.specs.declared.KeptCopy.{KeptCopy}
 use Rattle.trace.proofs.Laws.{neither}
 use Rattle.blocks.specs.Block.{taken, left_count, left_bits, right_count, right_bits, answered, head, Onward, Core, Own, Heads, RightBuffer, Buffers, Ready, took_right, took_both}
 use Rattle.blocks.specs.Near.{near_after}
@@ -270,7 +271,7 @@ module _ (v : View) (b : List ℕ) (room : 16 ≤ length b) (n : ℕ) (some : 0 
           )
 
 -- n answers taken through a window of one position more
-module _ (low high : ℕ) (v : View) (s b : List ℕ) (n : ℕ) (room : 16 ≤ length b) (w : Window) (copy : List ℕ)
+module _ (low high : ℕ) (v : View) (s b : List ℕ) (n : ℕ) (room : 16 ≤ length b) (w : Window) (copy : KeptCopy)
     (opened : Opened (skips v) s (in_slice (slice_first v) (head b)) (n + 1) w copy) where
   pub took_near : (near e : ℕ) → Packed (near_after low high (time_at (window_of w s copy))) 0 n near → Passed v s (head b) n w e →
       TookNear low high v s b n (bit_and near (right_bits b)) (set (took_right n b) 11 e)

@@ -7,6 +7,7 @@ ghost use Rattle.blocks.specs.Step.{Steps, Ends};
 ghost use Rattle.operators.specs.Letter.{step_of};
 
 use blocks::{Batch, word};
+use window::KeptCopy;
 use window::view::View;
 
 // How many positions there are from `at` on up to the next whose number makes a multiple of 64 with `shift`.
@@ -16,14 +17,14 @@ fn room_for(at: u64, shift: u64) -> u64
     64 - (at % 64 + shift % 64) % 64
 }
 
-// The answers at the next positions from the head on, where the log has more. `shift` has all letters of a rule end together, those under a previous or next one position apart:
-// what is given by them has as many positions then as a word can hold.
+// The answers at the next positions from the head on, where the log has more. `shift` has all letters of a rule end together, those
+// under a previous or next one position apart: what is given by them has as many positions then as a word can hold.
 pub fn read_letter(
     letter: u64,
     shift: u64,
     records: &[u8],
     view: &View,
-    copy: &mut [u8; 544],
+    copy: &mut KeptCopy,
     block: &mut [u64],
 ) -> Option<Batch>
     requires { (letter < 32) × (16 ≤ length block.old) × Views view.now records.now × Keeps records.now copy.old }

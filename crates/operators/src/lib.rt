@@ -18,6 +18,7 @@ mod neighbour;
 
 use blocks::Step;
 use rule::Kind;
+use window::KeptCopy;
 use window::view::View;
 
 pub fn advance(
@@ -26,8 +27,8 @@ pub fn advance(
     high: u64,
     records: &[u8],
     view: &View,
-    copy: &mut [u8; 544],
-    waiting: &mut [u8; 544],
+    copy: &mut KeptCopy,
+    waiting: &mut KeptCopy,
     block: &mut [u64],
 ) -> Step
     requires { (kind ≢ Letter) × (high < 2 ^ 32) × (own_words (number_of_kind kind) high ≤ length block.old) × Keeps records.now copy.old × Keeps records.now waiting.old × Views view.now records.now }

@@ -12,8 +12,8 @@ ghost use Rattle.blocks.specs.Step.{Steps, Ends};
 ghost use Rattle.operators.specs.Neighbour.{TookNear};
 
 use blocks::{Batch, Step, time, word};
-use window::Window;
 use window::view::View;
+use window::{KeptCopy, Window};
 
 // Behind which of the window's first n positions the next one lies in the interval, as a word of answers.
 fn read_near<'a>(
@@ -21,7 +21,7 @@ fn read_near<'a>(
     high: u64,
     window: Window,
     records: &'a [u8],
-    copy: &'a [u8],
+    copy: &'a KeptCopy,
     n: u64,
 ) -> u64
     requires { (n ≤ 64) × (n < record_count (window_of window records.now copy.now)) × (window.dense ≡ true → window.at * 8 ≤ length records.now) }
@@ -36,7 +36,7 @@ fn take_near(
     high: u64,
     records: &[u8],
     view: &View,
-    copy: &mut [u8; 544],
+    copy: &mut KeptCopy,
     block: &mut [u64],
     count: u64,
 ) -> u64
@@ -60,7 +60,7 @@ pub fn step_previous(
     high: u64,
     records: &[u8],
     view: &View,
-    copy: &mut [u8; 544],
+    copy: &mut KeptCopy,
     block: &mut [u64],
 ) -> Step
     requires { (16 ≤ length block.old) × Keeps records.now copy.old × Views view.now records.now }
@@ -93,7 +93,7 @@ pub fn step_next(
     high: u64,
     records: &[u8],
     view: &View,
-    copy: &mut [u8; 544],
+    copy: &mut KeptCopy,
     block: &mut [u64],
 ) -> Step
     requires { (16 ≤ length block.old) × Keeps records.now copy.old × Views view.now records.now }

@@ -109,7 +109,7 @@ pub fn turn(
 // The newest of its times, where it has one.
 pub fn newest(cells: u64, block: &[u64]) -> Option<u64>
     requires { (0 < cells) × (cells < 2 ^ 32) × (16 + cells ≤ length block.now) }
-    ensures by_index { (none : ℕ) (qs : List ℕ) → Ring cells block.now qs → unwrap_or result none ≡ newest_of none qs }
+    ensures value { (none : ℕ) (qs : List ℕ) → Ring cells block.now qs → unwrap_or result none ≡ newest_of none qs }
     ensures some { (qs : List ℕ) → Ring cells block.now qs → is_some result ≡ ltb 0 (length qs) }
 {
     let held = block[word::RING_COUNT].min(cells);
@@ -123,7 +123,7 @@ pub fn newest(cells: u64, block: &[u64]) -> Option<u64>
 // The oldest of its times, where it has one.
 pub fn oldest(cells: u64, block: &[u64]) -> Option<u64>
     requires { (0 < cells) × (cells < 2 ^ 32) × (16 + cells ≤ length block.now) }
-    ensures by_index { (none : ℕ) (qs : List ℕ) → Ring cells block.now qs → unwrap_or result none ≡ oldest_of none qs }
+    ensures value { (none : ℕ) (qs : List ℕ) → Ring cells block.now qs → unwrap_or result none ≡ oldest_of none qs }
     ensures some { (qs : List ℕ) → Ring cells block.now qs → is_some result ≡ ltb 0 (length qs) }
 {
     if block[word::RING_COUNT] == 0 {

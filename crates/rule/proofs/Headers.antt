@@ -13,7 +13,10 @@ use lib.ListN.{length}
 use Rattle.rule.specs.Bytes.{byte}
 use Rattle.rule.specs.Entries.{version, count, decoded}
 use Rattle.rule.specs.Refusal.{first, or_else, unmarked, unknown_version, wrong_size, header_refusal}
-use Rattle.rule.specs.Contract.{filled}
+use Rattle.rule.specs.declared.decoding.Rule.{Rule}
+use Rattle.rule.specs.Measure.{measured}
+use Rattle.rule.specs.Contract.{filled, measured_entries}
+use Rattle.rule.specs.Decoded.{IsRule}
 use Rattle.rule.proofs.Decoded.{decoded_filled}
 
 -- no refusal: neither this one nor a later one
@@ -68,3 +71,14 @@ headed_decoded s e = let h = headed s e in decoded_filled s (count s) h.few (ome
 
 pub version_known : (s : List ℕ) → header_refusal s ≡ 0 → version s ≤ 2
 version_known s e = ⊎_elim (λ (one : version s ≡ 1). omega arith) (λ (two : version s ≡ 2). omega arith) (headed s e).one_or_two
+
+-- a rule that is decoded: its entries are no more than fit, they are those of the bytes, and the answer by them is the rule's
+module _ (s : List ℕ) (r : Rule) (is : IsRule s r) where
+  pub few_to_decode : r.count ≤ 128
+  few_to_decode = r.few
+
+  pub decoded_once : (r.entries ≡ decoded s) × (r.count ≡ count s)
+  decoded_once = (is.entries_are, is.count_is)
+
+  pub measured_once : measured_entries r.version r.entries r.count ≡ measured s
+  measured_once = rw (is.version_is, is.entries_are, is.count_is) (simp is.accepted refl)

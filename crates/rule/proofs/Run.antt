@@ -15,6 +15,7 @@ use Rattle.mtl.specs.Formula.Formula.{letter, not, or, previous, next, since, un
 use Rattle.mtl.specs.Wanted.{depth, deepest}
 use Rattle.rule.specs.declared.Entry.{Entry}
 use Rattle.std.specs.Prelude.{Some, None, unwrap_or}
+use Rattle.std.specs.Prelude.{Option as OptionOf}
 use Rattle.rule.specs.declared.measuring.Quantity.{Quantity}
 use Rattle.rule.specs.declared.measuring.Quantity.TheVariants.{Reach, Depth}
 use Rattle.rule.specs.Entries.{entry}
@@ -230,3 +231,9 @@ pub depth_of : (o : Option (List Formula)) → unwrap_or (reading Depth o) 0 ≡
 unfolding largest
 depth_of none = refl
 depth_of (some fs) = refl
+
+pub depth_found : (o : Option (List Formula)) (most_formulas : ℕ) → reading Depth o ≡ Some most_formulas → most_formulas ≡ deepest (formulas_or o)
+depth_found o most_formulas e = sym (ap (λ (r : OptionOf ℕ). unwrap_or r 0) e) ∙ depth_of o
+
+pub depth_faulty : (o : Option (List Formula)) → reading Depth o ≡ None → 0 ≡ deepest (formulas_or o)
+depth_faulty o e = sym (ap (λ (r : OptionOf ℕ). unwrap_or r 0) e) ∙ depth_of o

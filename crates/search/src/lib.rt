@@ -12,6 +12,7 @@ ghost use Rattle.search.specs.Scan.{is, sought, sought_bit, Scans, Bounded};
 pub mod times;
 
 use engine::table::Row;
+use window::KeptCopy;
 use window::view::View;
 
 // What the answers of an entry at the positions up to an end came to: how many of them there are, where the first that was looked for
@@ -74,8 +75,8 @@ fn ask_all(
     table: &[Row; 128],
     records: &[u8],
     view: &View,
-    copy: &mut [u8; 544],
-    waiting: &mut [u8; 544],
+    copy: &mut KeptCopy,
+    waiting: &mut KeptCopy,
     k: usize,
     want: bool,
     from: u64,
@@ -111,8 +112,8 @@ pub fn search(
     table: &[Row; 128],
     records: &[u8],
     view: &View,
-    copy: &mut [u8; 544],
-    waiting: &mut [u8; 544],
+    copy: &mut KeptCopy,
+    waiting: &mut KeptCopy,
     k: usize,
     want: bool,
     from: u64,

@@ -10,7 +10,7 @@ use window::view::View;
 fn record_of(records: &[u8], view: &View, i: u64) -> usize
     ensures { (L : Log) → WholeLog view.now records.now L → i < L.size → (result ≡ L.place i) × (result < record_count records.now) }
 {
-    let behind = blocks::time::gap(i, view.total);
+    let behind = view.total.saturating_sub(i);
     window::find(records, view.skips, behind) as usize
 }
 

@@ -1,20 +1,19 @@
 -- What an entry says, by its kind. Assumes nothing.
 use Prim.Native.Nat.{ℕ, ◌+◌, ◌≤◌, ◌<◌}
 use mathlib.Core.Bool.{true}
-use mathlib.Core.Bool.{not as negate}
-use mathlib.Core.Path.{◌≡◌, sym, ◌∙◌, ap}
+use mathlib.Core.Path.{◌≡◌, refl, sym, ◌∙◌, ap}
 use mathlib.Core.List.{List}
 use native.Mathlib.Omega.{arith}
-use borrow.Author.Tests.{ne_eqb}
 use Rattle.mtl.specs.Formula.{Formula}
 use Rattle.window.specs.declared.view.View.{View}
 use Rattle.mtl.specs.Formula.Formula.{letter, not, or, previous, next, since, until}
 use Rattle.mtl.specs.Log.{Log}
 use Rattle.mtl.proofs.Until.{progress_le_size, progress_next}
-use Rattle.blocks.specs.Kinds.{takes_right}
+use Rattle.rule.specs.declared.kind.Kind.TheVariants.{Not, Or}
 use Rattle.engine.specs.Table.{row_at, kind_at}
 use Rattle.engine.specs.declared.table.Row.{Row}
 use Rattle.search.specs.Times.{WholeLog}
+use Rattle.sentences.specs.declared.saying.Follows.TheVariants.{One, Either}
 use Rattle.sentences.specs.declared.saying.Saying.{Saying}
 use Rattle.sentences.specs.Said.{saying_of, joining, Answering, Shape, Saids}
 use Rattle.sentences.proofs.Operands.{fields_here, inside_here, answered_here}
@@ -35,25 +34,25 @@ module _ (t : List Row) (v : View) (s : List ℕ) (k i : ℕ) (r : Saying) where
       by (since low high φ ψ) L an = absurd (omega (arith, (fields_here t v s L (since low high φ ψ) k i an).kind))
       by (until low high φ ψ) L an = absurd (omega (arith, (fields_here t v s L (until low high φ ψ) k i an).kind))
 
-  pub said_connective : (kind : ℕ) → kind_at t k ≡ kind → (kind ≡ 0 → ⊥) → kind < 3 → r ≡ joining kind i → Saids t v s k i r
-  said_connective kind is some few e =
-      rw e (record {
-        shape = record {
-          number = omega arith;
-          near = omega arith;
-          some = λ h. rw is (takes kind some);
-          two = λ h g. omega arith;
-        };
-        meaning = by;
-      })
+  pub said_not : kind_at t k ≡ 1 → r ≡ joining Not (One i true) → Saids t v s k i r
+  said_not is e = rw e (record { shape = record { number = tt; behind = (omega arith, rw is refl) }; meaning = by })
     where
-      takes : (n : ℕ) → (n ≡ 0 → ⊥) → takes_right n ≡ true
-      takes n h = ap negate (ne_eqb n 0 h)
-
-      by : (φ : Formula) (L : Log) → Answering φ t v s k L i → joining kind i ≡ saying_of φ L i
+      by : (φ : Formula) (L : Log) → Answering φ t v s k L i → joining Not (One i true) ≡ saying_of φ L i
       by (letter d) L an = absurd (omega (arith, (fields_here t v s L (letter d) k i an).kind))
-      by (not φ) L an = ap (λ (n : ℕ). joining n i) (sym is ∙ (fields_here t v s L (not φ) k i an).kind)
-      by (or φ ψ) L an = ap (λ (n : ℕ). joining n i) (sym is ∙ (fields_here t v s L (or φ ψ) k i an).kind)
+      by (not φ) L an = refl
+      by (or φ ψ) L an = absurd (omega (arith, (fields_here t v s L (or φ ψ) k i an).kind))
+      by (previous low high φ) L an = absurd (omega (arith, (fields_here t v s L (previous low high φ) k i an).kind))
+      by (next low high φ) L an = absurd (omega (arith, (fields_here t v s L (next low high φ) k i an).kind))
+      by (since low high φ ψ) L an = absurd (omega (arith, (fields_here t v s L (since low high φ ψ) k i an).kind))
+      by (until low high φ ψ) L an = absurd (omega (arith, (fields_here t v s L (until low high φ ψ) k i an).kind))
+
+  pub said_or : kind_at t k ≡ 2 → r ≡ joining Or Either → Saids t v s k i r
+  said_or is e = rw e (record { shape = record { number = tt; behind = is }; meaning = by })
+    where
+      by : (φ : Formula) (L : Log) → Answering φ t v s k L i → joining Or Either ≡ saying_of φ L i
+      by (letter d) L an = absurd (omega (arith, (fields_here t v s L (letter d) k i an).kind))
+      by (not φ) L an = absurd (omega (arith, (fields_here t v s L (not φ) k i an).kind))
+      by (or φ ψ) L an = refl
       by (previous low high φ) L an = absurd (omega (arith, (fields_here t v s L (previous low high φ) k i an).kind))
       by (next low high φ) L an = absurd (omega (arith, (fields_here t v s L (next low high φ) k i an).kind))
       by (since low high φ ψ) L an = absurd (omega (arith, (fields_here t v s L (since low high φ ψ) k i an).kind))

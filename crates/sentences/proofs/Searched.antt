@@ -1,5 +1,5 @@
 -- What a since or an until says, from the numbers that the code has. Assumes nothing.
-use Prim.Native.Nat.{ℕ, suc, ◌+◌, ◌-◌, ◌≤◌, min}
+use Prim.Native.Nat.{ℕ, suc, ◌+◌, ◌-◌, ◌≤◌, min, max}
 use mathlib.Core.Bool.{true, false, cond}
 use mathlib.Core.Bool.{not as negate}
 use mathlib.Core.Logic.{⊎_elim}
@@ -14,6 +14,7 @@ use Rattle.mtl.specs.Log.{Log}
 use Rattle.mtl.specs.Satisfaction.{sat}
 use Rattle.mtl.specs.Progress.{progress, settled_to}
 use Rattle.mtl.proofs.Until.{progress_le_size, progress_since, until_answered}
+use Rattle.rule.specs.declared.kind.Kind.TheVariants.{Since, Until}
 use Rattle.reasons.specs.Search.{first_where, after_last}
 use Rattle.search.specs.declared.Scan.{Scan}
 use Rattle.search.specs.Scan.{sought, Scanned}
@@ -31,7 +32,7 @@ module _ (low high : ℕ) (φ ψ : Formula) (t : List Row) (v : View) (s : List 
       Scanned (sat φ L) false 0 (min (i + 1) (settled_to φ L)) l →
       from ≡ cond (ltb near l.after) (l.after - 1) near → to ≡ min late (i + 1) →
       Scanned (sat ψ L) true from (min to (settled_to ψ L)) r →
-      found_saying 5 (ltb r.first r.done) r.first from (ltb near l.after) ≡ saying_of (since low high φ ψ) L i
+      found_saying Since (ltb r.first r.done) r.first from (ltb near l.after) ≡ saying_of (since low high φ ψ) L i
   unfolding sat
   since_told an small near late from to l r near_is late_is lefts from_is to_is rights =
       let an_i = answered_here t v s L (since low high φ ψ) k i an in
@@ -56,9 +57,9 @@ module _ (low high : ℕ) (φ ψ : Formula) (t : List Row) (v : View) (s : List 
       (over soon stop from to : ℕ) (l r : Scan) →
       over ≡ first_time L (L.time i + high + 1) → soon ≡ first_time L (L.time i + low) →
       Scanned (sat φ L) false i (min (over + 1) (settled_to φ L)) l →
-      stop ≡ cond (ltb l.first l.done) l.first over → from ≡ cond (ltb soon i) i soon → to ≡ min over (stop + 1) →
+      stop ≡ cond (ltb l.first l.done) l.first over → from ≡ max i soon → to ≡ min over (stop + 1) →
       Scanned (sat ψ L) true from (min to (settled_to ψ L)) r →
-      found_saying 6 (ltb r.first r.done) r.first stop (ltb l.first l.done) ≡ saying_of (until low high φ ψ) L i
+      found_saying Until (ltb r.first r.done) r.first stop (ltb l.first l.done) ≡ saying_of (until low high φ ψ) L i
   unfolding sat
   until_told an over soon stop from to l r over_is soon_is lefts stop_is from_is to_is rights =
       let open_left = open_settled φ L an.shown.unclosed in
@@ -70,7 +71,7 @@ module _ (low high : ℕ) (φ ψ : Formula) (t : List Row) (v : View) (s : List 
       let asked' = min (over' + 1) pl in
       let failed' = first_where asked' (sought false i (sat φ L)) in
       let stop' = cond (ltb failed' asked') failed' over' in
-      let from' = cond (ltb soon' i) i soon' in
+      let from' = max i soon' in
       let seen' = min (min over' (stop' + 1)) pr in
       let asked_is : min (over + 1) (settled_to φ L) ≡ asked' = rw (over_is, open_left) refl in
       let l_done : l.done ≡ asked' = lefts.all ∙ asked_is in

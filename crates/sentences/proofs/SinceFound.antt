@@ -11,6 +11,7 @@ use borrow.Author.Tests.{le-leb, leb-true, leb-false, ltb-true, ltb-false, lt-lt
 use Rattle.mtl.specs.Formula.{unbounded}
 use Rattle.mtl.specs.Satisfaction.{at_most, since_by, since_at}
 use Rattle.mtl.proofs.Bounded.{true_or_false, true_and_false, false_iff, not_iff, and_iff, le_or_lt, at_most_iff, above_iff, above_small, at_most_small, SinceBy, since_by_iff, since_at_iff}
+use Rattle.rule.specs.declared.kind.Kind.TheVariants.{Since}
 use Rattle.reasons.specs.Search.{first_where, after_last}
 use Rattle.reasons.specs.Reason.{Says, first_near, since_denied}
 use Rattle.reasons.specs.Reason.Says.{since}
@@ -144,20 +145,20 @@ module _ (low high : ℕ) (time : ℕ → ℕ) (left right : ℕ → Bool) (size
       (λ h. (since_by_iff low high time left right i found).1 (fits_out found l (first_holds to (sought true from right) l)))
 
   -- the saying of the searches is the since's
-  pub since_said : found_saying 5 (ltb found to) found from (ltb near fail) ≡
+  pub since_said : found_saying Since (ltb found to) found from (ltb near fail) ≡
       alone
       (cond (since_at low high time left right i) (since (first_where (suc i) (since_by low high time left right i))) (since_denied high time left i))
       (since_at low high time left right i)
   since_said = by (ltb found to) refl (since_at low high time left right i) since_holds
     where
       denied : (n : ℕ) (b : Bool) → ltb n fail ≡ b → n ≡ near →
-          found_saying 5 false found (cond (ltb near fail) (fail - 1) near) (ltb near fail) ≡
+          found_saying Since false found (cond (ltb near fail) (fail - 1) near) (ltb near fail) ≡
           alone (cond b (Rattle.reasons.specs.Reason.Says.since_no (fail - 1) Rattle.reasons.specs.Reason.Cause.by_left) (Rattle.reasons.specs.Reason.Says.since_no n Rattle.reasons.specs.Reason.Cause.by_time)) false
       denied n true e same = rw (sym same, e) refl
       denied n false e same = rw (sym same, e) refl
 
       by : (b : Bool) → ltb found to ≡ b → (s : Bool) → b ≡ s →
-          found_saying 5 b found from (ltb near fail) ≡
+          found_saying Since b found from (ltb near fail) ≡
           alone (cond s (since (first_where (suc i) (since_by low high time left right i))) (since_denied high time left i)) s
       by true e true h = rw (since_first (ltb-true found to e)) refl
       by false e false h = denied (first_near high time i) (ltb (first_near high time i) fail) refl near_is

@@ -1,6 +1,6 @@
 -- An until's line from the searches: the first position more than high later, left's first answered no up to it, and the first yes of
 -- right up to the earlier of them, at least low later. Over an operator's operands, by position. Assumes nothing.
-use Prim.Native.Nat.{ℕ, ◌+◌, ◌-◌, ◌≤◌, ◌<◌, min}
+use Prim.Native.Nat.{ℕ, ◌+◌, ◌-◌, ◌≤◌, ◌<◌, min, max}
 use mathlib.Core.Bool.{Bool, true, false, cond, ◌||◌}
 use mathlib.Core.Bool.{not as negate}
 use mathlib.Core.Logic.{inl, inr, ⊎_elim}
@@ -14,6 +14,7 @@ use Rattle.mtl.specs.Progress.{fails_from}
 use Rattle.mtl.specs.Progress.{over as over_test}
 use Rattle.mtl.proofs.Bounded.{true_or_false, true_and_false, false_iff, not_iff, and_iff, or_iff, le_or_lt, above_iff, UntilBy, until_by_iff, until_at_iff}
 use Rattle.mtl.proofs.Until.{SettledYes, Ended, SettledNo}
+use Rattle.rule.specs.declared.kind.Kind.TheVariants.{Until}
 use Rattle.reasons.specs.Search.{first_where}
 use Rattle.reasons.specs.Reason.{Says, cause, denied_left, first_end, until_denied}
 use Rattle.reasons.specs.Reason.Says.{until, until_no}
@@ -41,7 +42,7 @@ module _ (low high : ℕ) (time : ℕ → ℕ) (left right : ℕ → Bool) (size
   stop = cond (ltb failed asked) failed over
 
   abbrev from : ℕ
-  from = cond (ltb soon i) i soon
+  from = max i soon
 
   abbrev to : ℕ
   to = min over (stop + 1)
@@ -84,25 +85,13 @@ module _ (low high : ℕ) (time : ℕ → ℕ) (left right : ℕ → Bool) (size
       omega arith)
 
   from_i : i ≤ from
-  from_i = by (ltb soon i) refl
-    where
-      by : (b : Bool) → ltb soon i ≡ b → i ≤ cond b i soon
-      by true e = omega arith
-      by false e = ltb-false soon i e
+  from_i = omega arith
 
   from_soon : soon ≤ from
-  from_soon = by (ltb soon i) refl
-    where
-      by : (b : Bool) → ltb soon i ≡ b → soon ≤ cond b i soon
-      by true e = omega (arith, ltb-true soon i e)
-      by false e = omega arith
+  from_soon = omega arith
 
   from_least : (q : ℕ) → i ≤ q → soon ≤ q → from ≤ q
-  from_least q a b = by (ltb soon i)
-    where
-      by : (c : Bool) → cond c i soon ≤ q
-      by true = a
-      by false = b
+  from_least q a b = omega arith
 
   -- LEFT
 
@@ -199,7 +188,7 @@ module _ (low high : ℕ) (time : ℕ → ℕ) (left right : ℕ → Bool) (size
         true_and_false v (none_before seen (sought true from right) q h)))
         (λ h. (until_by_iff low high time left right i found).1 yes_fits)
 
-    pub yes_said : found_saying 6 (ltb found seen) found stop (ltb failed asked) ≡
+    pub yes_said : found_saying Until (ltb found seen) found stop (ltb failed asked) ≡
         alone
         (cond (until_at low high time left right size i) (until (first_where size (until_by low high time left right i))) (until_denied high time left size pl i))
         (until_at low high time left right size i)
@@ -314,12 +303,12 @@ module _ (low high : ℕ) (time : ℕ → ℕ) (left right : ℕ → Bool) (size
         either true = refl
         either false = refl
 
-    pub no_said : found_saying 6 (ltb found seen) found stop (ltb failed asked) ≡
+    pub no_said : found_saying Until (ltb found seen) found stop (ltb failed asked) ≡
         alone
         (cond (until_at low high time left right size i) (until (first_where size (until_by low high time left right i))) (until_denied high time left size pl i))
         (until_at low high time left right size i)
     no_said = rw (le-ltb found seen no_found, no_holds) (by (ltb failed asked) ∙ ap (λ (x : Says). alone x false) (sym denied_is))
       where
-        by : (b : Bool) → found_saying 6 false found stop b ≡ alone (until_no stop (cond b by_left by_time)) false
+        by : (b : Bool) → found_saying Until false found stop b ≡ alone (until_no stop (cond b by_left by_time)) false
         by true = refl
         by false = refl

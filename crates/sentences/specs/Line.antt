@@ -1,44 +1,53 @@
--- A sentence as numbers, and as the bytes of its line.
-use Rattle.std.specs.Prelude.{ℕ, ◌-◌, cond, ◌||◌, List, [], ◌++◌, eqb, ltb}
+-- A sentence as the code has it, and as the bytes of its line.
+use Rattle.std.specs.Prelude.{ℕ, cond, Option, Some, None, List, [], ◌++◌}
 use Rattle.decimal.specs.Text.{ascii, decimal}
+use Rattle.rule.specs.declared.kind.Kind.{Kind}
+use Rattle.rule.specs.declared.kind.Kind.TheVariants.{Letter, Not, Or, Previous, Next, Since, Until}
 use Rattle.reasons.specs.Reason.{Cause, Says}
 use Rattle.reasons.specs.Reason.Cause.{by_left, by_time}
 use Rattle.reasons.specs.Reason.Says.{stands, not, or, prev, next, prev_none, since, until, since_no, until_no}
 use Rattle.sentences.specs.declared.sentence.Sentence.{Sentence}
+use Rattle.sentences.specs.declared.sentence.Tail.{Tail}
+use Rattle.sentences.specs.declared.sentence.Tail.TheVariants.{Yes, No, NoneBefore, Left, Time}
 
--- what is said, as numbers: the kind's word, a number, and the word at the end of the line
-abbrev pub tail_of : Cause → ℕ
-tail_of by_left = 4
-tail_of by_time = 5
+-- what is said: the kind's word, a number, and the word at the end of the line
+abbrev pub tail_of : Cause → Tail
+tail_of by_left = Left
+tail_of by_time = Time
 
 abbrev pub encode : Says → Sentence
-encode (stands k holds) = record { kind = 0; number = k; tail = cond holds 1 2 }
-encode not = record { kind = 1; number = 0; tail = 0 }
-encode or = record { kind = 2; number = 0; tail = 0 }
-encode (prev gap) = record { kind = 3; number = gap; tail = 0 }
-encode (next gap) = record { kind = 4; number = gap; tail = 0 }
-encode prev_none = record { kind = 3; number = 0; tail = 3 }
-encode (since j) = record { kind = 5; number = j; tail = 0 }
-encode (until j) = record { kind = 6; number = j; tail = 0 }
-encode (since_no p cause) = record { kind = 5; number = p; tail = tail_of cause }
-encode (until_no p cause) = record { kind = 6; number = p; tail = tail_of cause }
-
--- one of three words
-abbrev pub one_of : (n : ℕ) (first second third : List ℕ) → List ℕ
-one_of n first second third = cond (eqb n 0) first (cond (eqb n 1) second third)
+encode (stands k holds) = record { kind = Letter; number = Some k; tail = Some (cond holds Yes No) }
+encode not = record { kind = Not; number = None; tail = None }
+encode or = record { kind = Or; number = None; tail = None }
+encode (prev gap) = record { kind = Previous; number = Some gap; tail = None }
+encode (next gap) = record { kind = Next; number = Some gap; tail = None }
+encode prev_none = record { kind = Previous; number = None; tail = Some NoneBefore }
+encode (since j) = record { kind = Since; number = Some j; tail = None }
+encode (until j) = record { kind = Until; number = Some j; tail = None }
+encode (since_no p cause) = record { kind = Since; number = Some p; tail = Some (tail_of cause) }
+encode (until_no p cause) = record { kind = Until; number = Some p; tail = Some (tail_of cause) }
 
 -- the bytes of each part of a line, the spaces between them included
-abbrev pub kind_text : ℕ → List ℕ
-kind_text kind =
-    cond (ltb kind 3) (one_of kind (ascii " e") (ascii " not") (ascii " or"))
-    (cond (ltb kind 6) (one_of (kind - 3) (ascii " prev ") (ascii " next ") (ascii " since ")) (ascii " until "))
+abbrev pub kind_text : Kind → List ℕ
+kind_text Letter = ascii " e"
+kind_text Not = ascii " not"
+kind_text Or = ascii " or"
+kind_text Previous = ascii " prev "
+kind_text Next = ascii " next "
+kind_text Since = ascii " since "
+kind_text Until = ascii " until "
 
-abbrev pub value_text : Sentence → List ℕ
-value_text s = cond (eqb s.kind 1 || (eqb s.kind 2 || eqb s.tail 3)) [] (decimal s.number)
+abbrev pub value_text : Option ℕ → List ℕ
+value_text None = []
+value_text (Some n) = decimal n
 
-abbrev pub tail_text : ℕ → List ℕ
-tail_text tail =
-    cond (ltb tail 3) (one_of tail (ascii "\n") (ascii " yes\n") (ascii " no\n")) (one_of (tail - 3) (ascii "none\n") (ascii " left\n") (ascii " time\n"))
+abbrev pub tail_text : Option Tail → List ℕ
+tail_text None = ascii "\n"
+tail_text (Some Yes) = ascii " yes\n"
+tail_text (Some No) = ascii " no\n"
+tail_text (Some NoneBefore) = ascii "none\n"
+tail_text (Some Left) = ascii " left\n"
+tail_text (Some Time) = ascii " time\n"
 
 abbrev pub line_text : (k i : ℕ) → Sentence → List ℕ
-line_text k i s = decimal k ++ (ascii " " ++ (decimal i ++ (kind_text s.kind ++ (value_text s ++ tail_text s.tail))))
+line_text k i s = decimal k ++ (ascii " " ++ (decimal i ++ (kind_text s.kind ++ (value_text s.number ++ tail_text s.tail))))

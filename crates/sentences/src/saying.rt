@@ -1,5 +1,5 @@
 // What one entry says at a position.
-ghost use Rattle.std.specs.Prelude.{◌≡◌, cond, ℕ, ◌+◌, ◌-◌, ◌≤◌, ◌<◌};
+ghost use Rattle.std.specs.Prelude.{◌≡◌, ℕ, ◌+◌, ◌-◌, ◌≤◌, ◌<◌};
 ghost use Rattle.mtl.specs.Formula.{Formula};
 ghost use Rattle.mtl.specs.Log.{Log};
 ghost use Rattle.window.specs.Window.{Keeps};
@@ -7,28 +7,29 @@ ghost use Rattle.engine.specs.Table.{kind_at};
 ghost use Rattle.search.specs.Times.{WholeLog};
 ghost use Rattle.sentences.specs.Said.{saying_of, joining, gap_saying, found_saying, Lent, Answering, Shape, Saids};
 
-use super::sentence;
-use super::sentence::Sentence;
+use super::sentence::{Sentence, Tail};
 use engine::table::Row;
 use rule::Kind;
 use search::times;
+use window::KeptCopy;
 use window::view::View;
 
-// A sentence, the number of operands whose sentences follow it, their position, and whether the entry holds there; of one operand: whether
-// the operand's answer is turned.
-#[derive(Clone, Copy)]
-pub struct Saying {
-    pub says: Sentence,
-    pub operands: u64,
-    pub at: u64,
-    pub holds: bool,
+// What follows an entry's sentence.
+#[derive(Clone, Copy, Debug, PartialEq, Eq)]
+pub enum Follows {
+    // Nothing. Whether the entry holds.
+    Nothing(bool),
+    // Its only operand's sentences at a position. Whether the operand's answer is turned.
+    One(u64, bool),
+    // Those of an or's operands, at the same position.
+    Either,
 }
 
-// One of two numbers.
-fn choose(first: bool, a: u64, b: u64) -> u64
-    ensures { result ≡ cond first a b }
-{
-    if first { a } else { b }
+// What an entry says at a position.
+#[derive(Clone, Copy, Debug, PartialEq, Eq)]
+pub struct Saying {
+    pub says: Sentence,
+    pub follows: Follows,
 }
 
 // A letter: yes or no.
@@ -39,46 +40,44 @@ fn say_letter(records: &[u8], view: &View, letter: u64, i: u64) -> Saying
     let holds = times::has_letter(records, view, i, letter);
     Saying {
         says: Sentence {
-            kind: 0,
-            number: letter,
-            tail: choose(holds, sentence::YES, sentence::NO),
+            kind: Kind::Letter,
+            number: Some(letter),
+            tail: Some(if holds { Tail::Yes } else { Tail::No }),
         },
-        operands: 0,
-        at: i,
-        holds,
+        follows: Follows::Nothing(holds),
     }
 }
 
-// not and or: their operands' sentences follow at the same position. A not turns its operand's answer.
-fn say_connective(kind: u64, i: u64) -> Saying
-    ensures { result ≡ joining kind i }
+// not and or: the word alone, and their operands' sentences behind it.
+fn say_connective(kind: Kind, follows: Follows) -> Saying
+    ensures { result ≡ joining kind follows }
 {
     Saying {
         says: Sentence {
             kind,
-            number: 0,
-            tail: sentence::NOTHING,
+            number: None,
+            tail: None,
         },
-        operands: kind,
-        at: i,
-        holds: true,
+        follows,
     }
 }
 
 // previous and next: the gap, and behind it the operand's sentences at the position beside, if the gap is within.
-fn say_gap(kind: u64, low: u64, high: u64, earlier: u64, later: u64, beside: u64) -> Saying
+fn say_gap(kind: Kind, low: u64, high: u64, earlier: u64, later: u64, beside: u64) -> Saying
     requires { later < 4294967296 }
     ensures { result ≡ gap_saying kind low high earlier later beside }
 {
     Saying {
         says: Sentence {
             kind,
-            number: blocks::time::gap(earlier, later),
-            tail: sentence::NOTHING,
+            number: Some(later.saturating_sub(earlier)),
+            tail: None,
         },
-        operands: bits::flag(blocks::time::within(low, high, earlier, later)),
-        at: beside,
-        holds: false,
+        follows: if blocks::time::within(low, high, earlier, later) {
+            Follows::One(beside, false)
+        } else {
+            Follows::Nothing(false)
+        },
     }
 }
 
@@ -88,19 +87,17 @@ fn say_previous(records: &[u8], view: &View, low: u64, high: u64, i: u64) -> Say
     if i == 0 {
         return Saying {
             says: Sentence {
-                kind: 3,
-                number: 0,
-                tail: sentence::NONE,
+                kind: Kind::Previous,
+                number: None,
+                tail: Some(Tail::NoneBefore),
             },
-            operands: 0,
-            at: 0,
-            holds: false,
+            follows: Follows::Nothing(false),
         };
     }
     let before = i - 1;
     let earlier = times::time_of(records, view, before);
     let later = times::time_of(records, view, i);
-    say_gap(3, low, high, earlier, later, before)
+    say_gap(Kind::Previous, low, high, earlier, later, before)
 }
 
 fn say_next(records: &[u8], view: &View, low: u64, high: u64, i: u64) -> Saying
@@ -110,34 +107,30 @@ fn say_next(records: &[u8], view: &View, low: u64, high: u64, i: u64) -> Saying
     let after = i + 1;
     let earlier = times::time_of(records, view, i);
     let later = times::time_of(records, view, after);
-    say_gap(4, low, high, earlier, later, after)
+    say_gap(Kind::Next, low, high, earlier, later, after)
 }
 
 // since and until: yes by position j, or no by position p.
-fn say_search(kind: u64, holds: bool, j: u64, p: u64, by_left: bool) -> Saying
+fn say_search(kind: Kind, holds: bool, j: u64, p: u64, by_left: bool) -> Saying
     ensures { result ≡ found_saying kind holds j p by_left }
 {
-    let cause = choose(by_left, sentence::LEFT, sentence::TIME);
+    let cause = if by_left { Tail::Left } else { Tail::Time };
     Saying {
         says: Sentence {
             kind,
-            number: choose(holds, j, p),
-            tail: choose(holds, sentence::NOTHING, cause),
+            number: Some(if holds { j } else { p }),
+            tail: if holds { None } else { Some(cause) },
         },
-        operands: 0,
-        at: 0,
-        holds,
+        follows: Follows::Nothing(holds),
     }
 }
 
-// "the latest where left fails, or the first at most high before if none does from there on"; the earliest fitting j lies not before it,
-// and at least low before i.
 fn say_since(
     table: &[Row; 128],
     records: &[u8],
     view: &View,
-    copy: &mut [u8; 544],
-    waiting: &mut [u8; 544],
+    copy: &mut KeptCopy,
+    waiting: &mut KeptCopy,
     words: &mut [u64],
     k: usize,
     i: u64,
@@ -151,8 +144,8 @@ fn say_since(
     let high = u64::from(row.high);
     let operand = usize::from(row.left);
     let now = times::time_of(records, view, i);
-    let near = times::first_at(records, view, blocks::time::gap(high, now));
-    let late = times::first_at(records, view, blocks::time::gap(low, now + 1));
+    let near = times::first_at(records, view, now.saturating_sub(high));
+    let late = times::first_at(records, view, (now + 1).saturating_sub(low));
     let left = search::search(
         table,
         records,
@@ -166,7 +159,7 @@ fn say_since(
         words,
     );
     let by_left = near < left.after;
-    let from = choose(by_left, blocks::time::gap(1, left.after), near);
+    let from = if by_left { left.after - 1 } else { near };
     let right = search::search(
         table,
         records,
@@ -176,10 +169,16 @@ fn say_since(
         k - 1,
         true,
         from,
-        blocks::smaller(late, i + 1),
+        late.min(i + 1),
         words,
     );
-    say_search(5, right.first < right.done, right.first, from, by_left)
+    say_search(
+        Kind::Since,
+        right.first < right.done,
+        right.first,
+        from,
+        by_left,
+    )
 }
 
 // The interval's lower end. It has 32 bits, so that behind a time it fits.
@@ -195,8 +194,8 @@ fn say_until(
     table: &[Row; 128],
     records: &[u8],
     view: &View,
-    copy: &mut [u8; 544],
-    waiting: &mut [u8; 544],
+    copy: &mut KeptCopy,
+    waiting: &mut KeptCopy,
     words: &mut [u64],
     k: usize,
     i: u64,
@@ -225,8 +224,8 @@ fn say_until(
         words,
     );
     let by_left = left.first < left.done;
-    let stop = choose(by_left, left.first, over);
-    let from = choose(soon < i, i, soon);
+    let stop = if by_left { left.first } else { over };
+    let from = i.max(soon);
     let right = search::search(
         table,
         records,
@@ -236,10 +235,16 @@ fn say_until(
         k - 1,
         true,
         from,
-        blocks::smaller(over, stop + 1),
+        over.min(stop + 1),
         words,
     );
-    say_search(6, right.first < right.done, right.first, stop, by_left)
+    say_search(
+        Kind::Until,
+        right.first < right.done,
+        right.first,
+        stop,
+        by_left,
+    )
 }
 
 // What entry k says at position i.
@@ -247,8 +252,8 @@ pub fn say(
     table: &[Row; 128],
     records: &[u8],
     view: &View,
-    copy: &mut [u8; 544],
-    waiting: &mut [u8; 544],
+    copy: &mut KeptCopy,
+    waiting: &mut KeptCopy,
     words: &mut [u64],
     k: usize,
     i: u64,
@@ -263,8 +268,8 @@ pub fn say(
     let high = u64::from(row.high);
     match row.kind {
         Kind::Letter => say_letter(records, view, letter, i),
-        Kind::Not => say_connective(1, i),
-        Kind::Or => say_connective(2, i),
+        Kind::Not => say_connective(Kind::Not, Follows::One(i, true)),
+        Kind::Or => say_connective(Kind::Or, Follows::Either),
         Kind::Previous => say_previous(records, view, low, high, i),
         Kind::Next => say_next(records, view, low, high, i),
         Kind::Since => say_since(table, records, view, copy, waiting, words, k, i),

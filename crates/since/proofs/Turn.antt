@@ -23,6 +23,7 @@ use Rattle.window.specs.Window.{window_of, Opened, Passed}
 use Rattle.window.specs.declared.Window.{Window}
 use Rattle.window.proofs.Reading.{shown_time_bound}
 use Rattle.window.specs.declared.view.View.{View}
+use Rattle.window.specs.declared.KeptCopy.{KeptCopy}
 use Rattle.blocks.specs.Block.{word, taken, left_count, left_bits, right_count, right_bits, head, Onward, Ready, took_both}
 use Rattle.blocks.specs.Ring.{Ring, Rings, Witnesses, Turns, turned, turns, reaches, reached, Shown, Takes}
 use Rattle.blocks.specs.Step.{Agrees, Stepped, Steps}
@@ -141,7 +142,7 @@ module _ (low high : ℕ) (v : View) (s b : List ℕ) where
         absurd (omega arith)
 
     -- a window of them is open, and d is the block after their turns
-    module _ (some : 0 < n) (w : Window) (copy : List ℕ) (opened : Opened (skips v) s (in_slice (slice_first v) (head b)) n w copy)
+    module _ (some : 0 < n) (w : Window) (copy : KeptCopy) (opened : Opened (skips v) s (in_slice (slice_first v) (head b)) n w copy)
         (d : List ℕ) (long : length d ≡ length b) (answers : ℕ)
         (turn : Takes low high (time_at (window_of w s copy)) (left_bits b) (right_bits b) n b answers d) where
       turned_word : (i : ℕ) → i < 9 → word d i ≡ word b i

@@ -16,8 +16,8 @@ ghost use Rattle.since.specs.Old.{old_enough, FirstOld};
 ghost use Rattle.bits.specs.Packed.{bit, Packed, FilledUp};
 
 use blocks::{Batch, Step, word};
-use window::Window;
 use window::view::View;
+use window::{KeptCopy, Window};
 
 // Up to so many runs are gone through one by one.
 const FEW_RUNS: u64 = 6;
@@ -254,7 +254,7 @@ fn take_window<'a>(
     high: u64,
     window: Window,
     records: &'a [u8],
-    copy: &'a [u8],
+    copy: &'a KeptCopy,
     n: u64,
     block: &mut [u64],
 ) -> u64
@@ -273,7 +273,7 @@ pub fn step_since(
     high: u64,
     records: &[u8],
     view: &View,
-    copy: &mut [u8; 544],
+    copy: &mut KeptCopy,
     block: &mut [u64],
 ) -> Step
     requires { (high < 2 ^ 32) × (16 + ring_words high ≤ length block.old) × Keeps records.now copy.old × Views view.now records.now }

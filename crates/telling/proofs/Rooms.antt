@@ -8,12 +8,13 @@ use lib.ListN.{length}
 use Rattle.rule.proofs.Spans.{own_least}
 use Rattle.window.specs.Window.{Keeps}
 use Rattle.window.specs.declared.view.View.{View}
+use Rattle.window.specs.declared.KeptCopy.{KeptCopy}
 use Rattle.blocks.specs.Kinds.{takes_right}
 use Rattle.engine.specs.Table.{row_at, kind_at}
 use Rattle.engine.specs.declared.table.Row.{Row}
 use Rattle.sentences.specs.Said.{Lent}
 
-module _ {t : List Row} {v : View} {s words copy waiting : List ℕ} {k : ℕ} (lent : Lent t v s words copy waiting k) where
+module _ {t : List Row} {v : View} {s words : List ℕ} {copy waiting : KeptCopy} {k : ℕ} (lent : Lent t v s words copy waiting k) where
   -- an entry has words of its own besides its operands'
   pub own_room : (row_at t k).left_words + (row_at t k).right_words + 16 ≤ (row_at t k).words
   own_room = let all = (lent.rows k (omega arith)).words in let least = own_least (kind_at t k) (row_at t k).high in omega arith
@@ -28,7 +29,7 @@ module _ {t : List Row} {v : View} {s words copy waiting : List ℕ} {k : ℕ} (
   pub or_left : kind_at t k ≡ 2 → ((row_at t k).left < k) × ((row_at t (row_at t k).left).words ≡ (row_at t k).left_words)
   or_left kind = (lent.rows k (omega arith)).left (rw kind refl)
 
-  pub lent_below : {words' copy' waiting' : List ℕ} (j : ℕ) → j ≤ k → length words' ≡ length words → Keeps s copy' × Keeps s waiting' → Lent t v s words' copy' waiting' j
+  pub lent_below : {words' : List ℕ} {copy' waiting' : KeptCopy} (j : ℕ) → j ≤ k → length words' ≡ length words → Keeps s copy' × Keeps s waiting' → Lent t v s words' copy' waiting' j
   lent_below j below kept copies =
       let entry = lent.entry in
       let room = lent.words_room in

@@ -6,7 +6,9 @@ use native.Mathlib.Omega.{arith}
 use lib.ListN.{length, take, drop, length-append}
 use lib.Seq.{take_at, drop_at, take-add, take-take, length-take-le}
 use Rattle.decimal.specs.Text.{Writes}
-use Rattle.telling.specs.Lines.{Wrote, Shifts}
+use Rattle.decimal.specs.Written.{Cuts}
+use Rattle.decimal.specs.declared.Text.{Text}
+use Rattle.telling.specs.Lines.{Wrote}
 
 -- what is written with the rest kept
 pub wrote_line : {t t' xs : List ℕ} {at e : ℕ} → Writes t at xs e t' → at ≤ length t → Wrote t at xs e t'
@@ -35,10 +37,12 @@ front {t} {t'} {xs} {at} {m} v h =
     let d = v.ends in
     omega arith
 
--- left's bytes are dropped: right's move to their place
-pub wrote_shift : {t t' t'' t''' xs ys : List ℕ} {at m e r : ℕ} → Wrote t at xs m t' → Wrote t' m ys e t'' → at ≤ length t → at ≤ m → m ≤ e →
-    Shifts t'' m e at r t''' → Wrote t at ys r t'''
-wrote_shift {t} {t'} {t''} {t'''} {xs} {ys} {at} {m} {e} {r} v w room a b s =
+-- left's bytes are taken out: right's move to their place
+pub wrote_cut : {t t' : List ℕ} {xs ys : List ℕ} {at m : ℕ} {both cut : Text} → Wrote t at xs m t' → Wrote t' m ys both.at both.bytes.now → at ≤ length t → at ≤ m → m ≤ both.at →
+    Cuts both at m cut → Wrote t at ys cut.at cut.bytes.now
+wrote_cut {t} {t'} {xs} {ys} {at} {m} {both} {cut} v w room a b s =
+    let e = both.at in
+    let t'' = both.bytes.now in
     let f = front v room in
     let start : take m t'' ≡ take m t' = sym (take-take m e t'' b) ∙ ap (take m) w.content ∙ take_at (take m t') ys m f in
     let first : take at t'' ≡ take at t =

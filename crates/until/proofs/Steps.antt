@@ -25,6 +25,7 @@ use Rattle.window.specs.Window.{window_of, Opened, Windowed, Passed, FirstTime}
 use Rattle.window.specs.declared.Window.{Window}
 use Rattle.window.proofs.Reading.{shown_time_bound}
 use Rattle.window.specs.declared.view.View.{View}
+use Rattle.window.specs.declared.KeptCopy.{KeptCopy}
 use Rattle.blocks.specs.Block.{word, taken, left_count, left_bits, right_count, right_bits, answered, last_left, last_right, head, waiting_head, Onward, Heads, Until, Buffer, Ready}
 use Rattle.blocks.specs.Step.{Agrees, Moved, Stepped, Ends}
 use Rattle.walks.specs.Settle.{settle_spec, time_of_none, next_of, ReadsTimes, Reached, StillWaits, Walk}
@@ -78,7 +79,7 @@ waiting_fits : (g at take answer : ℕ) → g ≤ at → answer ≡ min (at - g 
     (g + answer ≤ at + take) × ((i : ℕ) → i ≤ 64 → g + i ≤ at + take → i ≤ answer)
 waiting_fits g at take answer h e = (omega arith, λ i few l. omega arith)
 
-module _ {v : View} {s b : List ℕ} {r : Room} {ahead : Window} {copy : List ℕ} (opens : OpensAhead v s b r ahead copy) where
+module _ {v : View} {s b : List ℕ} {r : Room} {ahead : Window} {copy : KeptCopy} (opens : OpensAhead v s b r ahead copy) where
   looks : (r.take ≤ r.look) × (taken b + r.look ≤ total v) × (taken b + r.take < total v → r.take < r.look) × (taken b + r.take ≡ total v → r.look ≤ r.take)
   looks = ahead_fits (taken b) r.take r.look (total v) opens.fits.inside opens.fits.ahead
 
@@ -104,7 +105,7 @@ module _ {v : View} {s b : List ℕ} {r : Room} {ahead : Window} {copy : List �
     waiting_inside = let inside = answers.0 in let fit = opens.fits.inside in let size = agrees.size in omega arith
 
   -- their window, and the times that it shows
-  module _ {starts : Window} {waiting : List ℕ} (opened : Opened (skips v) s (in_slice (slice_first v) (waiting_head b)) r.answer starts waiting) where
+  module _ {starts : Window} {waiting : KeptCopy} (opened : Opened (skips v) s (in_slice (slice_first v) (waiting_head b)) r.answer starts waiting) where
     pub starts_holds : HasRecords starts s waiting (min (taken b - answered b + r.take) 64)
     starts_holds = record { inside = readable v (waiting_head b) opened; long = rw opens.fits.waiting at opened.long }
 
@@ -136,7 +137,7 @@ module _ {v : View} {s b : List ℕ} {r : Room} {ahead : Window} {copy : List �
     beyond_some : w.count - (taken b - answered b) ≤ r.look
     beyond_some = let l = looks.0 in let most = walk.limits.most in let count = walk.limits.behind in omega arith
 
-    pub starts_windowed : {starts : Window} {waiting : List ℕ} → Opened (skips v) s (in_slice (slice_first v) (waiting_head b)) r.answer starts waiting →
+    pub starts_windowed : {starts : Window} {waiting : KeptCopy} → Opened (skips v) s (in_slice (slice_first v) (waiting_head b)) r.answer starts waiting →
         Windowed v s (waiting_head b) w.count starts
     starts_windowed {waiting = waiting} opened = (r.answer, waiting, answered_some, opened)
 
@@ -144,7 +145,7 @@ module _ {v : View} {s b : List ℕ} {r : Room} {ahead : Window} {copy : List �
     beyond_windowed = (r.look, copy, beyond_some, opens.next)
 
   -- by their window
-  pub by_window : {low most : ℕ} {starts : Window} {waiting : List ℕ} → Opened (skips v) s (in_slice (slice_first v) (waiting_head b)) r.answer starts waiting →
+  pub by_window : {low most : ℕ} {starts : Window} {waiting : KeptCopy} → Opened (skips v) s (in_slice (slice_first v) (waiting_head b)) r.answer starts waiting →
       {w : Walked} {k : ℕ} →
       Walk low most (starts_of starts s waiting) (ahead_of ahead s copy r.take r.look (closed v)) (taken b - answered b) r.take (left_bits b) (right_bits b) (last_taken b) w →
       Passed v s (waiting_head b) w.count starts k → Strides low most v s b r ahead copy (record { walked = w; head = k })
@@ -318,7 +319,7 @@ stuck_fresh low most v s b byte e high φ ψ L g clamp falls agrees ready d =
         none_left clamp φ ψ L falls sees (taken_behind ready) (last_taken b) (stands_at ready) refl ready.core.reached (both_taken ready d)
 
 -- the first that waits is not settled by the windows' first records
-pub record First (low most : ℕ) (v : View) (s b : List ℕ) (end : ℕ) (ahead : Window) (copy : List ℕ) (first : ℕ) : Type 0 where
+pub record First (low most : ℕ) (v : View) (s b : List ℕ) (end : ℕ) (ahead : Window) (copy : KeptCopy) (first : ℕ) : Type 0 where
   pub byte : (i : ℕ) → get_or s i 0 < 256
   pub some : answered b < taken b
   pub inside : taken b ≤ total v
@@ -328,7 +329,7 @@ pub record First (low most : ℕ) (v : View) (s b : List ℕ) (end : ℕ) (ahead
   pub unknown :
       settle_spec low most first (last_taken b) (next_of (time_at (window_of ahead s copy)) end (time_of_none (closed v)) 0) ≡ None
 
-pub stuck_first : {low most : ℕ} {v : View} {s b : List ℕ} {end : ℕ} {ahead : Window} {copy : List ℕ} {first : ℕ} →
+pub stuck_first : {low most : ℕ} {v : View} {s b : List ℕ} {end : ℕ} {ahead : Window} {copy : KeptCopy} {first : ℕ} →
     First low most v s b end ahead copy first → Stuck low most v s b
 stuck_first {low} {most} {v} {s} {b} {end} {ahead} {copy} {first} f high φ ψ L g clamp falls agrees ready d =
     let at = ready.core.own.0 in
@@ -350,13 +351,13 @@ stuck_first {low} {most} {v} {s} {b} {end} {ahead} {copy} {first} f high φ ψ L
     none_left clamp φ ψ L falls sees (taken_behind ready) (last_taken b) (stands_at ready) f.unknown ready.core.reached (both_taken ready d)
 
 -- a step on block b that has walked over the window ahead
-pub record Went (low high most : ℕ) (v : View) (s b : List ℕ) (r : Room) (ahead : Window) (copy : List ℕ) (t : Stride) : Type 0 where
+pub record Went (low high most : ℕ) (v : View) (s b : List ℕ) (r : Room) (ahead : Window) (copy : KeptCopy) (t : Stride) : Type 0 where
   pub opens : OpensAhead v s b r ahead copy
   pub byte : (i : ℕ) → get_or s i 0 < 256
   pub clamp : most ≡ min high unbounded
   pub strides : Strides low most v s b r ahead copy t
 
-module _ {low high most : ℕ} {v : View} {s b : List ℕ} {r : Room} {ahead : Window} {copy : List ℕ} {t : Stride} (went : Went low high most v s b r ahead copy t) where
+module _ {low high most : ℕ} {v : View} {s b : List ℕ} {r : Room} {ahead : Window} {copy : KeptCopy} {t : Stride} (went : Went low high most v s b r ahead copy t) where
   abbrev opens : OpensAhead v s b r ahead copy
   opens = went.opens
 

@@ -10,6 +10,7 @@ use Rattle.window.specs.View.{slice_first, total, skips, closed, in_slice}
 use Rattle.window.specs.Window.{window_of, Opened}
 use Rattle.window.specs.declared.Window.{Window}
 use Rattle.window.specs.declared.view.View.{View}
+use Rattle.window.specs.declared.KeptCopy.{KeptCopy}
 use Rattle.blocks.specs.Block.{taken, left_count, left_bits, right_count, right_bits, answered, last_left, last_right, last_taken_time, head, waiting_head, took_both, Ready}
 use Rattle.blocks.specs.Step.{Agrees}
 use Rattle.walks.specs.declared.Last.{Last}
@@ -21,15 +22,15 @@ use Rattle.blocks.specs.declared.Step.TheVariants.{Batch, Left, Right, Again, Op
 use Rattle.walks.specs.Settle.{time_of_none, next_of, Walk}
 
 -- a window that has n records
-pub record HasRecords (w : Window) (s copy : List ℕ) (n : ℕ) : Type 0 where
+pub record HasRecords (w : Window) (s : List ℕ) (copy : KeptCopy) (n : ℕ) : Type 0 where
   pub inside : w.dense ≡ true → w.at * 8 ≤ length s
   pub long : n ≤ record_count (window_of w s copy)
 
 -- the times that two windows show: of the positions that wait, and of the n to take and the one behind them, where the window has it
-abbrev pub starts_of : Window → (s copy : List ℕ) → ℕ → ℕ
+abbrev pub starts_of : Window → (s : List ℕ) (copy : KeptCopy) → ℕ → ℕ
 starts_of w s copy = time_at (window_of w s copy)
 
-abbrev pub ahead_of : Window → (s copy : List ℕ) (n end : ℕ) (closed : Bool) → ℕ → ℕ
+abbrev pub ahead_of : Window → (s : List ℕ) (copy : KeptCopy) (n end : ℕ) (closed : Bool) → ℕ → ℕ
 ahead_of w s copy n end closed =
     next_of (time_at (window_of w s copy)) n (next_of (time_at (window_of w s copy)) end (time_of_none closed) n)
 
@@ -67,7 +68,7 @@ pub record FitsRoom (b : List ℕ) (total : ℕ) (r : Room) : Type 0 where
   pub waiting : r.answer ≡ min (taken b - answered b + r.take) 64
 
 -- the window ahead, opened from a block's head
-pub record OpensAhead (v : View) (s b : List ℕ) (r : Room) (ahead : Window) (copy : List ℕ) : Type 0 where
+pub record OpensAhead (v : View) (s b : List ℕ) (r : Room) (ahead : Window) (copy : KeptCopy) : Type 0 where
   pub room : 17 ≤ length b
   pub behind : answered b ≤ taken b
   pub fits : FitsRoom b (total v) r
@@ -79,7 +80,7 @@ Waiting v s b r start =
     (L : Log) (g : ℕ) → Agrees v s L g → answered b ≡ g → waiting_head b ≡ head_of L g → (i : ℕ) → i < r.answer → start i ≡ L.time (g + i)
 
 -- a walk over the window ahead, by the times of those that wait, and their head behind those that it answers
-pub record Strides (low most : ℕ) (v : View) (s b : List ℕ) (r : Room) (ahead : Window) (copy : List ℕ) (t : Stride) : Type 0 where
+pub record Strides (low most : ℕ) (v : View) (s b : List ℕ) (r : Room) (ahead : Window) (copy : KeptCopy) (t : Stride) : Type 0 where
   pub start : ℕ → ℕ
   pub waits : Waiting v s b r start
   pub walk :

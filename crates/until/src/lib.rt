@@ -15,8 +15,8 @@ ghost use Rattle.until.specs.Code.{HasRecords, starts_of, ahead_of, last_taken, 
 
 use blocks::{Batch, Step, word};
 use walks::{Last, Walked};
-use window::Window;
 use window::view::View;
+use window::{KeptCopy, Window};
 
 // How far a step may go: how many positions it may take, how many it looks at ahead, which is one more where the log has it, and how many
 // of those that wait it may answer.
@@ -81,9 +81,9 @@ fn walk_windows<'a>(
     high: u64,
     records: &'a [u8],
     starts: Window,
-    waiting: &'a [u8],
+    waiting: &'a KeptCopy,
     ahead: Window,
-    copy: &'a [u8],
+    copy: &'a KeptCopy,
     n: u64,
     end: u64,
     closed: bool,
@@ -132,7 +132,7 @@ fn first_waits<'a>(
     start: u64,
     records: &'a [u8],
     ahead: Window,
-    copy: &'a [u8],
+    copy: &'a KeptCopy,
     end: u64,
     closed: bool,
     block: &[u64],
@@ -152,7 +152,7 @@ fn must_wait(
     high: u64,
     records: &[u8],
     view: &View,
-    copy: &mut [u8; 544],
+    copy: &mut KeptCopy,
     block: &[u64],
     room: Room,
 ) -> bool
@@ -180,7 +180,7 @@ fn tells<'a>(
     start: u64,
     records: &'a [u8],
     ahead: Window,
-    copy: &'a [u8],
+    copy: &'a KeptCopy,
     n: u64,
     block: &[u64],
 ) -> bool
@@ -199,7 +199,13 @@ fn tells<'a>(
 }
 
 // That walk.
-fn walk_ahead<'a>(records: &'a [u8], ahead: Window, copy: &'a [u8], n: u64, block: &[u64]) -> Walked
+fn walk_ahead<'a>(
+    records: &'a [u8],
+    ahead: Window,
+    copy: &'a KeptCopy,
+    n: u64,
+    block: &[u64],
+) -> Walked
     requires { (16 ≤ length block.now) × (0 < n) × (n ≤ 64) × (taken block.now - answered block.now < 64) × HasRecords ahead records.now copy.now n }
     ensures by_index { (high after : ℕ) (start : ℕ → ℕ) (from : Last) → ByWords 0 high start (time_at (window_of ahead records.now copy.now)) (taken block.now - answered block.now) n from → Walk 0 high start (next_of (time_at (window_of ahead records.now copy.now)) n after) (taken block.now - answered block.now) n (left_bits block.now) (right_bits block.now) from result }
     ensures fact { (result.count ≡ 0) ⊎ (taken block.now - answered block.now < result.count) }
@@ -221,8 +227,8 @@ fn walk_on<'a>(
     records: &'a [u8],
     view: &View,
     ahead: Window,
-    copy: &'a [u8; 544],
-    waiting: &mut [u8; 544],
+    copy: &'a KeptCopy,
+    waiting: &mut KeptCopy,
     room: Room,
     block: &[u64],
 ) -> Stride
@@ -277,8 +283,8 @@ pub fn step_until(
     high: u64,
     records: &[u8],
     view: &View,
-    copy: &mut [u8; 544],
-    waiting: &mut [u8; 544],
+    copy: &mut KeptCopy,
+    waiting: &mut KeptCopy,
     block: &mut [u64],
 ) -> Step
     requires { (17 ≤ length block.old) × Keeps records.now copy.old × Keeps records.now waiting.old × Views view.now records.now }

@@ -49,7 +49,7 @@ pub const LONGEST_GAP: u64 = 4294967295;
 const TIME_OF_NO_RIGHT: u64 = 8589934592;
 
 // A word of yes.
-const ALL_YES: u64 = 18446744073709551615;
+const ALL_YES: u64 = u64::MAX;
 
 // The answer at the position whose time is `start`, if the last position taken or the time of the next settles it.
 pub fn settle(low: u64, high: u64, start: u64, last: Last, next: u64) -> Option<bool>

@@ -1,28 +1,27 @@
 -- MARKS: what a view says of where service records lie, and how it is made. Assumes nothing.
 use Prim.Native.Nat.{ℕ, suc, ◌+◌, ◌-◌, ◌*◌, ◌/◌, ◌%◌, ◌^◌, ◌≤◌, ◌<◌, min}
 use native.Mathlib.Omega.{arith}
-use mathlib.Core.Bool.{Bool, true, false, ◌&&◌, ◌||◌}
+use mathlib.Core.Bool.{Bool, true, false, ◌||◌}
 use mathlib.Core.Bool.{not as negate}
-use mathlib.Core.List.{List, [], ◌∷◌, ◌++◌}
+use mathlib.Core.List.{List}
 use mathlib.Core.Logic.{inl, inr, ⊎_elim}
-use mathlib.Core.Path.{◌≡◌, refl, sym, ap, ◌∙◌}
+use mathlib.Core.Path.{◌≡◌, refl, ap, ◌∙◌}
 use lib.Bits.{bit_or}
 use lib.Dec.{leb, ltb, eqb}
-use lib.ListN.{length, get_or, set, drop, length-set}
+use lib.ListN.{length, get_or, set, length-set}
 use lib.Pow.{shl-shr}
 use lib.Seq.{get_or-set_same, get_or-set_other}
-use borrow.Author.Tests.{eqb-true, eqb-false, lt-ltb, le-leb, not-true}
-use Rattle.mtl.proofs.Bounded.{le_or_lt, true_or_false, true_and_false, false_iff, and_iff, or_iff, leb_iff, any_false_iff}
-use Rattle.bits.specs.Packed.{bit, number}
+use borrow.Author.Tests.{eqb-true, eqb-false, lt-ltb, not-true}
+use Rattle.mtl.proofs.Bounded.{le_or_lt, true_or_false, true_and_false, false_iff, or_iff, leb_iff, any_false_iff}
+use Rattle.bits.specs.Packed.{bit}
 use Rattle.bits.proofs.Laws.{bit_of_or}
 use Rattle.trace.specs.Format.{record_count}
-use Rattle.trace.specs.Positions.{is_service, positions, before}
-use Rattle.window.specs.View.{slice_first, total, skips, closed, block_marked, BlockMarks, MarkedToo, Views, served, ViewOf}
+use Rattle.trace.specs.Positions.{is_service, positions}
+use Rattle.window.specs.View.{skips, block_marked, BlockMarks, MarkedToo, Views, ViewOf}
 use Rattle.window.specs.Window.{some_service, dense}
 use Rattle.window.specs.declared.view.View.{View}
 use Rattle.trace.proofs.Counting.{count_service, count_most}
 use Rattle.window.proofs.Windows.{clear_dense}
-use Rattle.window.proofs.Slices.{served_before, served_skips, flag_told}
 
 -- A BLOCK IS MARKED
 

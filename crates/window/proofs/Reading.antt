@@ -16,6 +16,7 @@ use Rattle.trace.specs.Format.{record_count, time_at, has_letter}
 use Rattle.trace.specs.Positions.{spot, place, moved, before, Inside}
 use Rattle.window.specs.View.{in_slice, Shows}
 use Rattle.window.specs.Window.{window_of, letter_at, Opened}
+use Rattle.window.specs.declared.KeptCopy.{KeptCopy}
 use Rattle.window.specs.declared.Window.{Window}
 use Rattle.trace.proofs.Laws.{time_bound, same_time}
 use Rattle.trace.proofs.Positions.{place_last}
@@ -75,7 +76,7 @@ module _ (skips : Bool) (s : List ℕ) (first : ℕ) (L : Log) (g n : ℕ) (show
   shown_letter k i h = ap (has_letter s k) (read_on i h) ∙ (shown i h).letters k
 
   -- record i of the window is position g + i
-  module _ (w : Window) (copy : List ℕ) (opened : Opened skips s from n w copy) where
+  module _ (w : Window) (copy : KeptCopy) (opened : Opened skips s from n w copy) where
     pub window_time : (i : ℕ) → i < n → time_at (window_of w s copy) i ≡ L.time (g + i)
     window_time i h =
         same_time (window_of w s copy) s i (place skips s from i) (opened.shows shown_inside i h) ∙ shown_time i h

@@ -10,8 +10,8 @@ use mathlib.Core.Logic.{◌⊎◌, inl, inr, ⊎_elim}
 use mathlib.Core.Path.{◌≡◌, refl, sym, ap, subst, ◌∙◌}
 use lib.Dec.{ltb, leb, eqb}
 use lib.ListN.{length, get_or, take, drop, length-drop, get_or-append}
-use lib.Seq.{sets, get_or-take, get_or-drop, drop-cons, length-take-le}
-use borrow.Author.Tests.{lt-ltb, ltb-true, le-leb, not-true}
+use lib.Seq.{get_or-take, get_or-drop, drop-cons, length-take-le}
+use borrow.Author.Tests.{lt-ltb, ltb-true, not-true}
 use Rattle.std.specs.Int.{w64, to_le_bytes}
 use Rattle.std.proofs.lemmas.Nat.{le_bytes_8}
 use Rattle.mtl.proofs.Bounded.{le_or_lt, true_or_false, true_and_false, and_iff, leb_iff, any_false_iff}
@@ -23,12 +23,12 @@ use Rattle.trace.specs.Positions.{is_service, spot, place, moved, positions, Ins
 use Rattle.trace.specs.Making.{put}
 use Rattle.trace.specs.Letters.{whole_at}
 use Rattle.window.specs.View.{slice_first, skips, in_slice}
-use Rattle.window.specs.Window.{some_service, dense, own_part, copied, record_of, letter_at, Counted, Transcribed, Copied, Mixed, Lettered, Keeps, Held, Opened, Behind, BehindBut, BehindSome, Gathered, Windowed, Passed, Found}
-use Rattle.window.specs.declared.Kept.{Kept}
+use Rattle.window.specs.Window.{some_service, dense, own_part, copied, record_of, letter_at, Counted, Transcribed, Copied, Mixed, Lettered, Keeps, Opened, Behind, BehindBut, Gathered, Windowed, Passed, Found}
+use Rattle.window.specs.declared.KeptCopy.{KeptCopy}
 use Rattle.window.specs.declared.Letters.{Letters}
 use Rattle.window.specs.declared.Window.{Window}
 use Rattle.window.specs.declared.view.View.{View}
-use Rattle.trace.proofs.Making.{stored, byte_behind, length_put}
+use Rattle.trace.proofs.Making.{byte_behind, length_put}
 use Rattle.trace.proofs.Counting.{spot_last, head_finds, count_one, count_grows, count_most}
 use Rattle.trace.proofs.Positions.{seek_position, spot_service, spot_position, spot_past, spot_plain}
 
@@ -354,23 +354,21 @@ module _ (s : List ℕ) (from : ℕ) (copy : List ℕ) (k : ℕ) where
           (true_or_false (is_service s (from + i)))
 
 -- the records of those passed stand in the copy
-pub record Gathering (s : List ℕ) (from : ℕ) (copy₀ : List ℕ) (k at : ℕ) (copy : List ℕ) : Type 0 where
+pub record Gathering (s : List ℕ) (from k at : ℕ) (copy : List ℕ) : Type 0 where
   pub going : Going s from 65 k at
   pub counted : positions s from + k ≡ positions s at
-  pub long : length copy ≡ 544
+  pub long : length copy ≡ 520
   pub done : (j : ℕ) → j < k → SameRecord copy j s (spot s from j)
-  pub after : (j : ℕ) → 65 ≤ j → SameRecord copy j copy₀ j
 
-module _ (s : List ℕ) (from : ℕ) (copy₀ : List ℕ) where
-  pub gathering_group : (k at m r : ℕ) (copy copy' : List ℕ) → Gathering s from copy₀ k at copy → k + m ≤ 65 → at + m ≤ record_count s → Copied s at m copy k copy' r →
-      Gathering s from copy₀ (k + r) (at + m) copy'
+module _ (s : List ℕ) (from : ℕ) where
+  pub gathering_group : (k at m r : ℕ) (copy copy' : List ℕ) → Gathering s from k at copy → k + m ≤ 65 → at + m ≤ record_count s → Copied s at m copy k copy' r →
+      Gathering s from (k + r) (at + m) copy'
   gathering_group k at m r copy copy' g few inside copied =
       record {
         going = going_group s from 65 k at g.going m few inside r copied.counted.sum;
         counted = omega (arith, g.counted, copied.counted.sum);
         long = copied.long ∙ g.long;
         done = λ j h. ⊎_elim (λ l. new j l h) (λ l b byte. copied.before j l b byte ∙ g.done j l b byte) (le_or_lt k j);
-        after = λ j h b byte. copied.after j (omega arith) b byte ∙ g.after j h b byte;
       }
     where
       new : (j : ℕ) → k ≤ j → j < k + r → SameRecord copy' j s (spot s from j)
@@ -379,8 +377,8 @@ module _ (s : List ℕ) (from : ℕ) (copy₀ : List ℕ) where
           let place = rw same at (g.going.left (j - k)) in
           rw place (rw same at (copied.here (j - k) (omega arith)))
 
-  pub gathered : (k at : ℕ) (now copy : List ℕ) → ((j : ℕ) → 65 ≤ j → SameRecord now j copy₀ j) → Gathering s from now k at copy → (65 ≤ k) ⊎ (record_count s ≤ at) → Gathered s from copy₀ copy (record { end = at; count = k })
-  gathered k at now copy same g ended =
+  pub gathered : (k at : ℕ) (copy : List ℕ) → Gathering s from k at copy → (65 ≤ k) ⊎ (record_count s ≤ at) → Gathered s from copy (record { end = at; count = k })
+  gathered k at copy g ended =
       record {
         long = g.long;
         holds = record {
@@ -390,7 +388,6 @@ module _ (s : List ℕ) (from : ℕ) (copy₀ : List ℕ) where
           counted = g.counted;
           at = g.done;
         };
-        after = λ j h b byte. g.after j h b byte ∙ same j h b byte;
         most = λ n few inside. ⊎_elim (λ l. l) (λ l. absurd (none_left n few inside l)) (le_or_lt n k);
       }
     where
@@ -480,7 +477,7 @@ module _ (skips : Bool) (s : List ℕ) (at n : ℕ) where
       by true kind = rw (fits, none kind)
       by false kind = rw fits
 
-  pub opened_dense : (copy : List ℕ) → Keeps s copy → dense skips s at n ≡ true → Opened skips s at n (own_part at n) copy
+  pub opened_dense : (copy : KeptCopy) → Keeps s copy → dense skips s at n ≡ true → Opened skips s at n (own_part at n) copy
   opened_dense copy keeps e =
       let fits = dense_fits e in
       record {
@@ -513,21 +510,6 @@ module _ (skips : Bool) (s : List ℕ) (at n : ℕ) where
       (λ none. stays r behind none)
       (λ some. let kind = mixed inside some in rw kind (behind.end (rw kind at inside)))
       (le_or_lt n 0)
-
-  pub opened_copied : (shared : Bool) (copy : List ℕ) (r : Kept) → n ≤ 65 → Mixed skips s at n → Keeps s copy → Held s at n copy r → Opened skips s at n (copied at r shared) copy
-  opened_copied shared copy r few mixed keeps held =
-      record {
-        start = refl;
-        size = held.enough;
-        own = λ told. absurd (true_and_false told refl);
-        mixed = λ told. mixed;
-        long = let long = keeps.long in omega arith;
-        keeps = keeps;
-        shows = λ inside i h. let kind = mixed inside (omega arith) in rw kind (held.shows (rw kind at inside) i h);
-        onward = held.onward;
-        bounded = held.bounded;
-        counted = λ told inside some. held.counted (rw (mixed inside some) at inside);
-      }
 
 -- LETTERS
 

@@ -2,7 +2,7 @@
 -- before it may have been overwritten or dropped.
 use Rattle.std.specs.Prelude.{ℕ, ◌+◌, ◌-◌, ◌/◌, ◌%◌, ◌<◌, ◌^◌, max, Bool, true, ◌||◌, ◌≡◌, List, [], length, get_or, leb, ltb}
 use Rattle.mtl.specs.Log.{Log, head_of}
-use Rattle.bits.specs.Packed.{bit, number}
+use Rattle.bits.specs.Packed.{bit}
 use Rattle.trace.specs.Format.{record_count, time_at, has_letter}
 use Rattle.trace.specs.Positions.{is_service, place, before}
 use Rattle.window.specs.declared.view.View.{View}
@@ -54,7 +54,7 @@ pub record MarkedToo (marks : List ℕ) (block : ℕ) (needed : Bool) (marks' : 
   pub this : needed ≡ true → block_marked marks' block ≡ true
   pub kept : (b : ℕ) → block_marked marks b ≡ true → block_marked marks' b ≡ true
 
--- a view that windows can be opened by: no record's number wraps, nor is too large for a copy to keep, and where service records are passed over, they are marked
+-- a view that windows can be opened by: the records' numbers have 32 bits, and where service records are passed over, they are marked
 pub record Views (v : View) (s : List ℕ) : Type 0 where
   pub numbered : slice_first v + record_count s < 2 ^ 32
   pub marks : skips v ≡ true → BlockMarks v.marks s

@@ -1,11 +1,12 @@
 -- A window: the records of the next positions from a reading head on, and no others.
-use Rattle.std.specs.Prelude.{ℕ, ◌+◌, ◌-◌, ◌*◌, ◌%◌, ◌≤◌, ◌<◌, ◌^◌, max, Bool, true, false, cond, ◌&&◌, not as negate, ◌≡◌, List, length, get_or, take, drop, leb, ltb, eqb}
+use Rattle.std.specs.Prelude.{ℕ, ◌+◌, ◌-◌, ◌*◌, ◌≤◌, ◌<◌, ◌^◌, max, Bool, true, false, cond, ◌&&◌, not as negate, ◌≡◌, List, length, take, drop, leb, ltb, eqb}
 use Rattle.mtl.specs.Satisfaction.{any}
 use Rattle.bits.specs.Packed.{Packed}
 use Rattle.trace.specs.Format.{record_count, time_at, has_letter, SameRecord}
 use Rattle.trace.specs.Positions.{is_service, spot, place, moved, positions, before, Inside}
 use Rattle.window.specs.View.{slice_first, skips, in_slice}
 use Rattle.window.specs.declared.Kept.{Kept}
+use Rattle.window.specs.declared.KeptCopy.{KeptCopy}
 use Rattle.window.specs.declared.Letters.{Letters}
 use Rattle.window.specs.declared.Picked.{Picked}
 use Rattle.window.specs.declared.Window.{Window}
@@ -24,8 +25,8 @@ abbrev pub Mixed : (skips : Bool) → List ℕ → (at n : ℕ) → Type 0
 Mixed skips s at n = Inside skips s at n → 0 < n → skips ≡ true
 
 -- the bytes of a window: the records' own part, or the copy
-abbrev pub window_of : Window → (s copy : List ℕ) → List ℕ
-window_of w s copy = cond w.dense (drop (w.at * 8) s) copy
+abbrev pub window_of : Window → (s : List ℕ) (copy : KeptCopy) → List ℕ
+window_of w s copy = cond w.dense (drop (w.at * 8) s) copy.bytes
 
 -- the window that is the records' own part
 abbrev pub own_part : (at n : ℕ) → Window
@@ -36,7 +37,7 @@ abbrev pub copied : (at : ℕ) → Kept → (shared : Bool) → Window
 copied at held shared = record { at = at; end = held.end; count = held.count; dense = false; shared = shared }
 
 -- the copy in which a window stands: another window's, or its own
-abbrev pub either_of : Window → (other copy : List ℕ) → List ℕ
+abbrev pub either_of : Window → (other copy : KeptCopy) → KeptCopy
 either_of w other copy = cond w.shared other copy
 
 -- the bytes of record i
@@ -90,43 +91,20 @@ pub record Holds (s : List ℕ) (from : ℕ) (copy : List ℕ) (r : Kept) : Type
   pub counted : positions s from + r.count ≡ positions s r.end
   pub at : (i : ℕ) → i < r.count → SameRecord copy i s (place true s from i)
 
--- 65 positions, or all that the records have from there on; what stands behind 65 records stays
-pub record Gathered (s : List ℕ) (from : ℕ) (copy copy' : List ℕ) (r : Kept) : Type 0 where
-  pub long : length copy' ≡ 544
-  pub holds : Holds s from copy' r
-  pub after : (j : ℕ) → 65 ≤ j → SameRecord copy' j copy j
+-- 65 positions, or all that the records have from there on
+pub record Gathered (s : List ℕ) (from : ℕ) (copy : List ℕ) (r : Kept) : Type 0 where
+  pub long : length copy ≡ 520
+  pub holds : Holds s from copy r
   pub most : (n : ℕ) → n ≤ 65 → Inside true s from n → n ≤ r.count
 
--- behind its 65 records a copy has three numbers: as the times of two records, the record from which on it keeps positions and the record
--- behind them; as one byte, how many they are
-abbrev pub kept_from : (copy : List ℕ) → ℕ
-kept_from copy = time_at copy 65
-
-abbrev pub kept_of : (copy : List ℕ) → Kept
-kept_of copy = record { end = time_at copy 66; count = get_or copy 536 0 }
-
--- what it says it keeps it has; a new copy says that it keeps none
-pub record Keeps (s copy : List ℕ) : Type 0 where
-  pub long : length copy ≡ 544
-  pub holds : 0 < (kept_of copy).count → Holds s (kept_from copy) copy (kept_of copy)
+-- what a copy says it keeps it has; a new one says that it keeps none
+pub record Keeps (s : List ℕ) (copy : KeptCopy) : Type 0 where
+  pub long : length copy.bytes ≡ 520
+  pub holds : 0 < copy.kept.count → Holds s copy.from copy.bytes copy.kept
 
 -- a copy that keeps n positions from this record on
-abbrev pub is_kept : (copy : List ℕ) (at n : ℕ) → Bool
-is_kept copy at n = ltb 0 (kept_of copy).count && (eqb (kept_from copy) at && leb n (kept_of copy).count)
-
--- a number written as the time of record i
-pub record Noted (copy : List ℕ) (i x : ℕ) (copy' : List ℕ) : Type 0 where
-  pub long : length copy' ≡ length copy
-  pub number : time_at copy' i ≡ x % 4294967296
-  pub before : (j : ℕ) → j < i → SameRecord copy' j copy j
-  pub after : (j : ℕ) → i < j → SameRecord copy' j copy j
-
--- how many positions are kept, and of some the record behind them, written where a copy says it
-pub record Said (copy : List ℕ) (r : Kept) (copy' : List ℕ) : Type 0 where
-  pub long : length copy' ≡ length copy
-  pub count : (kept_of copy').count ≡ r.count
-  pub end : 0 < r.count → (kept_of copy').end ≡ r.end % 4294967296
-  pub before : (j : ℕ) → j < 66 → SameRecord copy' j copy j
+abbrev pub is_kept : (copy : KeptCopy) (at n : ℕ) → Bool
+is_kept copy at n = ltb 0 copy.kept.count && (eqb copy.from at && leb n copy.kept.count)
 
 -- n positions from record `at` on, and more where the copy has them
 pub record Held (s : List ℕ) (at n : ℕ) (copy : List ℕ) (r : Kept) : Type 0 where
@@ -139,7 +117,7 @@ pub record Held (s : List ℕ) (at n : ℕ) (copy : List ℕ) (r : Kept) : Type 
 -- OPENING
 
 -- a window of n positions from record `at` of the slice on
-pub record Opened (skips : Bool) (s : List ℕ) (at n : ℕ) (w : Window) (copy : List ℕ) : Type 0 where
+pub record Opened (skips : Bool) (s : List ℕ) (at n : ℕ) (w : Window) (copy : KeptCopy) : Type 0 where
   pub start : w.at ≡ at
   pub size : n ≤ w.count
   -- the log's own part has no service records that are passed over; where the log has the positions, it is copied only if some are in the slice
@@ -175,13 +153,13 @@ pub record BehindSome (s : List ℕ) (from end n more r : ℕ) : Type 0 where
 -- a window opened from this head on, of n positions at least
 abbrev pub Windowed : (v : View) (s : List ℕ) (head n : ℕ) → Window → Type 0
 Windowed v s head n w =
-    (m : ℕ) × (copy : List ℕ) × (n ≤ m) × Opened (skips v) s (in_slice (slice_first v) head) m w copy
+    (m : ℕ) × (copy : KeptCopy) × (n ≤ m) × Opened (skips v) s (in_slice (slice_first v) head) m w copy
 
 -- the head after n of its positions
 pub record Passed (v : View) (s : List ℕ) (head n : ℕ) (w : Window) (r : ℕ) : Type 0 where
   pub onward : head ≤ r
   pub still : n ≡ 0 → r ≡ head
-  pub behind : (m : ℕ) (copy : List ℕ) → n ≤ m → Opened (skips v) s (in_slice (slice_first v) head) m w copy →
+  pub behind : (m : ℕ) (copy : KeptCopy) → n ≤ m → Opened (skips v) s (in_slice (slice_first v) head) m w copy →
       Inside (skips v) s (in_slice (slice_first v) head) m → 0 < n → r ≡ slice_first v + moved (skips v) s (in_slice (slice_first v) head) n
 
 -- the record that holds the position from which on there are n, "or the record after all seen where no seen record holds it"

@@ -3,14 +3,14 @@
 // read by all heads that stand at the record from which on it was made.
 #![tactic(auto)]
 
-ghost use Rattle.std.specs.Prelude.{◌≡◌, true, false, ◌&&◌, not as negate, ◌⊎◌, ◌+◌, ◌*◌, ◌≤◌, ◌<◌, ◌^◌, max, leb, length};
+ghost use Rattle.std.specs.Prelude.{◌≡◌, true, false, ◌&&◌, not as negate, ◌⊎◌, ◌+◌, ◌*◌, ◌≤◌, ◌<◌, ◌^◌, max, leb, length, ℕ, List};
 ghost use Rattle.std.specs.Int.{w64, to_le_bytes};
 ghost use Rattle.bits.specs.Packed.{number};
 ghost use Rattle.trace.specs.Format.{record_count};
 ghost use Rattle.trace.specs.Positions.{is_service, before};
 ghost use Rattle.trace.specs.Making.{put};
 ghost use Rattle.window.specs.View.{slice_first, skips, in_slice, Views};
-ghost use Rattle.window.specs.Window.{some_service, dense, window_of, own_part, copied, either_of, record_of, kept_of, is_kept, Counted, Transcribed, Copied, Picks, Lettered, Gathered, Noted, Said, Keeps, Held, Mixed, Opened, Behind, BehindBut, BehindSome, Windowed, Passed, Found, FirstTime};
+ghost use Rattle.window.specs.Window.{some_service, dense, window_of, own_part, copied, either_of, record_of, is_kept, Counted, Transcribed, Copied, Picks, Lettered, Gathered, Keeps, Held, Mixed, Opened, Behind, BehindBut, BehindSome, Windowed, Passed, Found, FirstTime};
 
 pub mod view;
 
@@ -34,12 +34,33 @@ pub struct Kept {
     pub count: usize,
 }
 
-// Where a copy says what it keeps, behind its 65 records: as the times of two more, and in the byte behind those.
-const KEPT_FROM: usize = 65;
+// A copy of the records of up to 65 positions, one behind the other: their bytes, the record from which on they were taken, and what is kept.
+#[derive(Clone, Copy)]
+pub struct KeptCopy {
+    pub bytes: [u8; 520],
+    pub from: usize,
+    pub kept: Kept,
+}
 
-const KEPT_END: usize = 66;
+impl KeptCopy {
+    // A copy that keeps none.
+    pub fn new() -> KeptCopy
+        ensures { (s : List ℕ) → Keeps s result }
+    {
+        KeptCopy {
+            bytes: [0; 520],
+            from: 0,
+            kept: Kept { end: 0, count: 0 },
+        }
+    }
 
-const KEPT_COUNT: usize = 536;
+    // Whether it keeps n positions from record `at` on.
+    fn has(&self, at: usize, n: usize) -> bool
+        ensures { result ≡ is_kept self.now at n }
+    {
+        (0 < self.kept.count) & ((self.from == at) & (n <= self.kept.count))
+    }
+}
 
 // A letter at some positions, as a word of answers, and the record behind the last of them.
 #[derive(Clone, Copy)]
@@ -123,24 +144,24 @@ fn in_slice(first: u64, head: u64) -> usize
 }
 
 // Writes record k of a copy, given as one number: it is compiled as one word.
-fn put_record(copy: &mut [u8; 544], k: usize, word: u64)
-    requires { (k < 65) × (length copy.old ≡ 544) }
+fn put_record(copy: &mut [u8; 520], k: usize, word: u64)
+    requires { (k < 65) × (length copy.old ≡ 520) }
     ensures { copy.new ≡ put copy.old (k * 8) (to_le_bytes w64 word) }
 {
     copy[k * 8..k * 8 + 8].copy_from_slice(&word.to_le_bytes());
 }
 
 // Copies record i, as number k of the copy.
-fn copy_record(records: &[u8], i: usize, copy: &mut [u8; 544], k: usize)
-    requires { (i < record_count records.now) × (k < 65) × (length copy.old ≡ 544) }
+fn copy_record(records: &[u8], i: usize, copy: &mut [u8; 520], k: usize)
+    requires { (i < record_count records.now) × (k < 65) × (length copy.old ≡ 520) }
     ensures { copy.new ≡ put copy.old (k * 8) (record_of records.now i) }
 {
     put_record(copy, k, trace::whole(records, i));
 }
 
 // Copies records i and i + 1, as numbers k and k + 1. Both are read before the first is written: it is compiled as one move of sixteen.
-fn copy_pair(records: &[u8], i: usize, copy: &mut [u8; 544], k: usize)
-    requires { (i + 2 ≤ record_count records.now) × (k + 2 ≤ 65) × (length copy.old ≡ 544) }
+fn copy_pair(records: &[u8], i: usize, copy: &mut [u8; 520], k: usize)
+    requires { (i + 2 ≤ record_count records.now) × (k + 2 ≤ 65) × (length copy.old ≡ 520) }
     ensures { Transcribed records.now i 2 copy.old k copy.new }
 {
     let first = trace::whole(records, i);
@@ -150,8 +171,8 @@ fn copy_pair(records: &[u8], i: usize, copy: &mut [u8; 544], k: usize)
 }
 
 // Copies eight records from `from` on as they are, as those from number k on.
-fn copy_eight(records: &[u8], from: usize, copy: &mut [u8; 544], k: usize)
-    requires { (from + 8 ≤ record_count records.now) × (k + 8 ≤ 65) × (length copy.old ≡ 544) }
+fn copy_eight(records: &[u8], from: usize, copy: &mut [u8; 520], k: usize)
+    requires { (from + 8 ≤ record_count records.now) × (k + 8 ≤ 65) × (length copy.old ≡ 520) }
     ensures { Transcribed records.now from 8 copy.old k copy.new }
 {
     copy_pair(records, from, copy, k);
@@ -161,8 +182,8 @@ fn copy_eight(records: &[u8], from: usize, copy: &mut [u8; 544], k: usize)
 }
 
 // Copies the positions among n records from `from` on: a service record is written over by the next record. Gives how many they are.
-fn copy_mixed(records: &[u8], from: usize, n: usize, copy: &mut [u8; 544], k: usize) -> usize
-    requires { (from + n ≤ record_count records.now) × (k + n ≤ 65) × (length copy.old ≡ 544) }
+fn copy_mixed(records: &[u8], from: usize, n: usize, copy: &mut [u8; 520], k: usize) -> usize
+    requires { (from + n ≤ record_count records.now) × (k + n ≤ 65) × (length copy.old ≡ 520) }
     ensures { Copied records.now from n copy.old k copy.new result }
 {
     let mut copied: usize = 0;
@@ -175,8 +196,8 @@ fn copy_mixed(records: &[u8], from: usize, n: usize, copy: &mut [u8; 544], k: us
 
 // The same of eight records. They are copied before the look at them, since behind a look they are not moved in pairs; where a service record
 // is found, they are copied again one by one.
-fn copy_group(records: &[u8], from: usize, copy: &mut [u8; 544], k: usize) -> usize
-    requires { (from + 8 ≤ record_count records.now) × (k + 8 ≤ 65) × (length copy.old ≡ 544) }
+fn copy_group(records: &[u8], from: usize, copy: &mut [u8; 520], k: usize) -> usize
+    requires { (from + 8 ≤ record_count records.now) × (k + 8 ≤ 65) × (length copy.old ≡ 520) }
     ensures { Copied records.now from 8 copy.old k copy.new result }
 {
     copy_eight(records, from, copy, k);
@@ -199,9 +220,9 @@ fn can_take(m: usize, left: usize, at: usize, end: usize) -> bool
 }
 
 // Copies the records of 65 positions from `from` on, as many as there are, eight records at a time.
-fn gather(records: &[u8], from: usize, copy: &mut [u8; 544]) -> Kept
-    requires { length copy.old ≡ 544 }
-    ensures { Gathered records.now from copy.old copy.new result }
+fn gather(records: &[u8], from: usize, copy: &mut [u8; 520]) -> Kept
+    requires { length copy.old ≡ 520 }
+    ensures { Gathered records.now from copy.new result }
 {
     let end = trace::count(records);
     let mut at = from;
@@ -217,64 +238,21 @@ fn gather(records: &[u8], from: usize, copy: &mut [u8; 544]) -> Kept
     Kept { end: at, count: k }
 }
 
-// Writes a number as the time of record i of a copy. No other byte is written beside its four: they are compiled as one word then, which is read
-// again without a wait.
-fn note(copy: &mut [u8; 544], i: usize, x: usize)
-    requires { (i < 68) × (length copy.old ≡ 544) }
-    ensures { Noted copy.old i x copy.new }
-{
-    let time = (x % 4294967296) as u32;
-    copy[i * 8..i * 8 + 4].copy_from_slice(&time.to_be_bytes());
-}
-
-// Says how many positions a copy keeps, and of some the record behind them. The end of none is not asked for, and the test keeps the stores
-// of the two apart.
-fn say(copy: &mut [u8; 544], found: Kept)
-    requires { (found.count ≤ 65) × (length copy.old ≡ 544) }
-    ensures { Said copy.old found copy.new }
-{
-    copy[KEPT_COUNT] = found.count as u8;
-    if found.count != 0 {
-        note(copy, KEPT_END, found.end);
-    }
-}
-
-// What the copy keeps.
-fn kept_of(copy: &[u8; 544]) -> Kept
-    requires { length copy.now ≡ 544 }
-    ensures { result ≡ kept_of copy.now }
-{
-    Kept {
-        end: trace::time(copy, KEPT_END) as usize,
-        count: usize::from(copy[KEPT_COUNT]),
-    }
-}
-
-// Whether the copy keeps n positions from record `at` on.
-fn is_kept(copy: &[u8; 544], at: usize, n: usize) -> bool
-    requires { length copy.now ≡ 544 }
-    ensures { result ≡ is_kept copy.now at n }
-{
-    let count = usize::from(copy[KEPT_COUNT]);
-    (0 < count) & ((trace::time(copy, KEPT_FROM) == at as u64) & (n <= count))
-}
-
 // n positions from record `at` on, in a copy that keeps them; where it keeps others, all that it has room for are copied anew.
-fn hold(records: &[u8], at: usize, n: usize, copy: &mut [u8; 544]) -> Kept
-    requires { (n ≤ 65) × (record_count records.now < 2 ^ 32) × Keeps records.now copy.old }
-    ensures held { Held records.now at n copy.new result }
+fn hold(records: &[u8], at: usize, n: usize, copy: &mut KeptCopy) -> Kept
+    requires { (n ≤ 65) × Keeps records.now copy.old }
+    ensures held { Held records.now at n copy.new.bytes result }
     ensures keeps { Keeps records.now copy.new }
 {
-    if is_kept(copy, at, n) {
-        return kept_of(copy);
+    if copy.has(at, n) {
+        return copy.kept;
     }
-    // before the records are copied, apart from the stores behind that
-    note(copy, KEPT_FROM, at);
-    let found = gather(records, at, copy);
-    say(copy, found);
+    let kept = gather(records, at, &mut copy.bytes);
+    copy.from = at;
+    copy.kept = kept;
     Kept {
-        count: n.max(found.count),
-        ..found
+        count: n.max(kept.count),
+        ..kept
     }
 }
 
@@ -367,13 +345,13 @@ fn is_clear(records: &[u8], view: &View, from: usize, n: usize) -> bool
 }
 
 // The letter at each of n positions from `at` on, read from a copy of their records.
-fn read_kept(records: &[u8], at: usize, n: usize, letter: u64, copy: &mut [u8; 544]) -> Letters
-    requires { (0 < n) × (n ≤ 64) × (letter < 32) × (record_count records.now < 2 ^ 32) × Keeps records.now copy.old }
+fn read_kept(records: &[u8], at: usize, n: usize, letter: u64, copy: &mut KeptCopy) -> Letters
+    requires { (0 < n) × (n ≤ 64) × (letter < 32) × Keeps records.now copy.old }
     ensures lettered { Lettered true records.now letter at n result }
     ensures keeps { Keeps records.now copy.new }
 {
     let held = hold(records, at, n, copy);
-    let bits = trace::letter_bits(copy, 0, n, letter);
+    let bits = trace::letter_bits(&copy.bytes, 0, n, letter);
     let end = behind_some(records, at, held.end, n, held.count - n);
     Letters { bits, end }
 }
@@ -386,13 +364,13 @@ fn read_mixed(
     at: usize,
     n: usize,
     letter: u64,
-    copy: &mut [u8; 544],
+    copy: &mut KeptCopy,
 ) -> Letters
     requires { (0 < n) × (n ≤ 64) × (letter < 32) × Views view.now records.now × Keeps records.now copy.old }
     ensures lettered { Lettered (skips view.now) records.now letter at n result }
     ensures keeps { Keeps records.now copy.new }
 {
-    if view.skips & is_kept(copy, at, n) {
+    if view.skips & copy.has(at, n) {
         return read_kept(records, at, n, letter, copy);
     }
     if is_clear(records, view, at, n) {
@@ -400,7 +378,7 @@ fn read_mixed(
         let end = at + n;
         return Letters { bits, end };
     }
-    if kept_of(copy).count == 0 {
+    if copy.kept.count == 0 {
         return pick_letters(records, at, n, letter);
     }
     read_kept(records, at, n, letter, copy)
@@ -413,7 +391,7 @@ pub fn read_letters(
     head: u64,
     n: u64,
     letter: u64,
-    copy: &mut [u8; 544],
+    copy: &mut KeptCopy,
 ) -> Letters
     requires { (0 < n) × (n ≤ 64) × (letter < 32) × Views view.now records.now × Keeps records.now copy.old }
     ensures lettered { Lettered (skips view.now) records.now letter (in_slice (slice_first view.now) head) n result }
@@ -456,7 +434,7 @@ fn copied(at: usize, held: Kept, shared: bool) -> Window
 }
 
 // The window of n positions from `at` on, where service records may lie among them.
-fn open_mixed(records: &[u8], view: &View, at: usize, n: usize, copy: &mut [u8; 544]) -> Window
+fn open_mixed(records: &[u8], view: &View, at: usize, n: usize, copy: &mut KeptCopy) -> Window
     requires { (n ≤ 65) × Keeps records.now copy.old × Views view.now records.now }
     ensures { Opened (skips view.now) records.now at n result copy.new }
 {
@@ -467,7 +445,7 @@ fn open_mixed(records: &[u8], view: &View, at: usize, n: usize, copy: &mut [u8; 
 }
 
 // The window of n positions from a head on; the copy is written where it is needed.
-pub fn open(records: &[u8], view: &View, head: u64, n: u64, copy: &mut [u8; 544]) -> Window
+pub fn open(records: &[u8], view: &View, head: u64, n: u64, copy: &mut KeptCopy) -> Window
     requires { (n ≤ 65) × Keeps records.now copy.old × Views view.now records.now }
     ensures { Opened (skips view.now) records.now (in_slice (slice_first view.now) head) n result copy.new }
 {
@@ -484,8 +462,8 @@ fn share_mixed(
     view: &View,
     at: usize,
     n: usize,
-    other: &[u8; 544],
-    copy: &mut [u8; 544],
+    other: &KeptCopy,
+    copy: &mut KeptCopy,
 ) -> Window
     requires { (n ≤ 65) × Keeps records.now other.now × Keeps records.now copy.old × Views view.now records.now }
     ensures opened { Opened (skips view.now) records.now at n result (either_of result other.now copy.new) }
@@ -494,8 +472,8 @@ fn share_mixed(
     if is_clear(records, view, at, n) {
         return own_part(at, n);
     }
-    if is_kept(other, at, n) {
-        return copied(at, kept_of(other), true);
+    if other.has(at, n) {
+        return copied(at, other.kept, true);
     }
     copied(at, hold(records, at, n, copy), false)
 }
@@ -506,8 +484,8 @@ pub fn share(
     view: &View,
     head: u64,
     n: u64,
-    other: &[u8; 544],
-    copy: &mut [u8; 544],
+    other: &KeptCopy,
+    copy: &mut KeptCopy,
 ) -> Window
     requires { (n ≤ 65) × Keeps records.now other.now × Keeps records.now copy.old × Views view.now records.now }
     ensures opened { Opened (skips view.now) records.now (in_slice (slice_first view.now) head) n result (either_of result other.now copy.new) }
@@ -521,21 +499,21 @@ pub fn share(
 }
 
 // The copy in which a window stands.
-pub fn either<'a>(window: Window, other: &'a [u8], copy: &'a [u8]) -> &'a [u8]
+pub fn either<'a>(window: Window, other: &'a KeptCopy, copy: &'a KeptCopy) -> &'a KeptCopy
     ensures { result.now ≡ either_of window other.now copy.now }
 {
     if window.shared { other } else { copy }
 }
 
 // The window's records.
-pub fn read<'a>(window: Window, records: &'a [u8], copy: &'a [u8]) -> &'a [u8]
+pub fn read<'a>(window: Window, records: &'a [u8], copy: &'a KeptCopy) -> &'a [u8]
     requires { window.dense ≡ true → window.at * 8 ≤ length records.now }
     ensures { result.now ≡ window_of window records.now copy.now }
 {
     if window.dense {
         &records[window.at * 8..]
     } else {
-        copy
+        &copy.bytes
     }
 }
 

@@ -6,7 +6,6 @@ use lib.ListN.{length, take}
 use Rattle.mtl.specs.Formula.{Formula}
 use Rattle.engine.specs.Tops.{Ended, LaidAs}
 use Rattle.window.proofs.Marks.{made_views}
-use Rattle.window.proofs.Copies.{keeps_none}
 use Rattle.engine.specs.Table.{no_row}
 use Rattle.engine.proofs.Rows.{repeated}
 use Rattle.held.specs.Code.{plan, Fits}
@@ -42,7 +41,7 @@ laid d =
     (d.lay_tops-tops.ensures a.rule.now.entries a.rule.now.count s.requires.the_formulas (entries_laid_2 d s.requires.the_formulas s.requires.ended))
 
 pub lay_out-requires : goal.lay_out-requires
-lay_out-requires c = let p = c.requires in (p.few, p.well_formed, refl, λ k. repeated 128 k no_row)
+lay_out-requires c = (c.requires.well_formed, refl, λ k. repeated 128 k no_row)
 
 pub lay_tops-tops-requires : goal.lay_tops-tops-requires
 lay_tops-tops-requires c =
@@ -65,8 +64,8 @@ give-emitted-requires c =
         given = p.given;
         noes = p.noes;
       },
-      keeps_none c.args.records.now,
-      keeps_none c.args.records.now,
+      c.new-copy.ensures c.args.records.now,
+      c.new-waiting.ensures c.args.records.now,
       made_views c.write_view-view.ensures (omega (arith, p.wanted, p.records)),
     )
 

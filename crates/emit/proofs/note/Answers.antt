@@ -24,11 +24,11 @@ returns c =
     let a = c.args in
     let s = a.records.now in
     let ws = a.words.now in
-    let time : c.last_time.result ≡ last_time s (seen ws - first_wanted ws) (last ws) = rw c.gap-seen.ensures at c.last_time.ensures in
+    let time : c.last_time.result ≡ last_time s (seen ws - first_wanted ws) (last ws) = rw c.saturating_sub-seen.ensures at c.last_time.ensures in
     let ended : c.closed_with.result ≡ cond (closed a.view.now) (suc (first_wanted ws + record_count s)) 0 =
     rw c.count.ensures at c.closed_with.ensures in
     let kind : c.log_kind.result ≡ kind_of_log a.skips = c.log_kind.ensures in (
       c.find.result,
-      rw (c.gap-left.ensures, c.wanted_position-wanted.ensures) at c.find.ensures,
+      rw (c.saturating_sub-left.ensures, c.wanted_position-wanted.ensures) at c.find.ensures,
       rw (time, ended, kind, c.count.ensures) refl,
     )

@@ -7,5 +7,5 @@ use Rattle.emit.proofs.shift_of.Goals as goal
 
 pub slice_bounds-positions-end : goal.slice_bounds-positions-end
 slice_bounds-positions-end c =
-    let old = c.smaller-old in
+    let old = c.min-old in
     sym (length-take-le (old.result * 8) c.args.records.now (omega (arith, old.ensures, c.count.ensures)))

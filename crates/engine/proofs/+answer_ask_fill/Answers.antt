@@ -80,6 +80,10 @@ answer_made t d =
       )
     ]
 
+-- what the copies keep then is the log's
+answer_keeps : (t : ℕ) (d : answer-Joined-filled t) → Keeps d.args.records.now d.if-filled.copy × Keeps d.args.records.now d.if-filled.waiting
+answer_keeps t d = let made = answer_made t d in (made.1, made.2)
+
 -- the row that the caller has read, and the words as they are
 fill_here : (t : ℕ) (d : fill-Start t) →
     let a = d.args in
@@ -185,13 +189,22 @@ pub answer-returns-then-count-eq0-clause-answers : goal.answer-returns-then-coun
 answer-returns-then-count-eq0-clause-answers t c = let made = answer_made t (goal.at.answer-returns-then-count-eq0-clause-answers t c).Joined-filled in
     none_turn c.if-count-eq0.true (as_told c.in-Batch.is made.3).turn
 
+pub answer-returns-then-count-eq0-clause-keeps : goal.answer-returns-then-count-eq0-clause-keeps
+answer-returns-then-count-eq0-clause-keeps t c = answer_keeps t (goal.at.answer-returns-then-count-eq0-clause-keeps t c).Joined-filled
+
 pub answer-returns-in-Batch-clause-answers : goal.answer-returns-in-Batch-clause-answers
 answer-returns-in-Batch-clause-answers t c = let made = answer_made t (goal.at.answer-returns-in-Batch-clause-answers t c).Joined-filled in
     batch_turn (as_told c.in-Batch.is made.3).turn
 
+pub answer-returns-in-Batch-clause-keeps : goal.answer-returns-in-Batch-clause-keeps
+answer-returns-in-Batch-clause-keeps t c = answer_keeps t (goal.at.answer-returns-in-Batch-clause-keeps t c).Joined-filled
+
 pub answer-returns-in-Open-clause-answers : goal.answer-returns-in-Open-clause-answers
 answer-returns-in-Open-clause-answers t c = let made = answer_made t (goal.at.answer-returns-in-Open-clause-answers t c).Joined-filled in
     open_turn (as_told c.in-Open.is made.3).turn
+
+pub answer-returns-in-Open-clause-keeps : goal.answer-returns-in-Open-clause-keeps
+answer-returns-in-Open-clause-keeps t c = answer_keeps t (goal.at.answer-returns-in-Open-clause-keeps t c).Joined-filled
 
 -- it took positions
 pub answer-loop-step-smaller-in-Again-step : goal.answer-loop-step-smaller-in-Again-step
@@ -206,6 +219,9 @@ answer-returns-then-not-filled-clause-answers t c =
     let whole = wanted_open on_left c.in-Left.is c.if-not-filled.true (answer_made t (goal.at.answer-returns-then-not-filled-clause-answers t c).Joined-filled) in
     whole.0
 
+pub answer-returns-then-not-filled-clause-keeps : goal.answer-returns-then-not-filled-clause-keeps
+answer-returns-then-not-filled-clause-keeps t c = answer_keeps t (goal.at.answer-returns-then-not-filled-clause-keeps t c).Joined-filled
+
 pub answer-loop-step-smaller-else-not-filled : goal.answer-loop-step-smaller-else-not-filled
 answer-loop-step-smaller-else-not-filled t c = wanted_less on_left c.in-Left.is c.if-not-filled.false (answer_made t (goal.at.answer-loop-step-smaller-else-not-filled t c).Joined-filled).3
 
@@ -216,6 +232,9 @@ pub answer-returns-then-not-filled-2-clause-answers : goal.answer-returns-then-n
 answer-returns-then-not-filled-2-clause-answers t c =
     let whole = wanted_open on_right c.in-Right.is c.if-not-filled-2.true (answer_made t (goal.at.answer-returns-then-not-filled-2-clause-answers t c).Joined-filled) in
     whole.0
+
+pub answer-returns-then-not-filled-2-clause-keeps : goal.answer-returns-then-not-filled-2-clause-keeps
+answer-returns-then-not-filled-2-clause-keeps t c = answer_keeps t (goal.at.answer-returns-then-not-filled-2-clause-keeps t c).Joined-filled
 
 pub answer-loop-step-smaller : goal.answer-loop-step-smaller
 answer-loop-step-smaller t c = wanted_less on_right c.in-Right.is c.if-not-filled-2.false (answer_made t (goal.at.answer-loop-step-smaller t c).Joined-filled).3

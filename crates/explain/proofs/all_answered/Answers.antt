@@ -1,18 +1,9 @@
 -- `explain::all_answered` meets its contract.
 use Prim.Native.Nat.{◌<◌}
-use mathlib.Core.Path.{◌≡◌, refl, ◌∙◌}
+use mathlib.Core.Path.{◌≡◌, ◌∙◌}
 use native.Mathlib.Omega.{arith}
-use Rattle.explain.proofs.Formulas.{reached_none, reached_next, all_reached, not_reached}
+use Rattle.explain.proofs.Formulas.{reached_next, all_reached, not_reached}
 use Rattle.explain.proofs.all_answered.Goals as goal
-
-pub loop-k-init : goal.loop-k-init
-loop-k-init c =
-    let a = c.args in
-    let p = c.requires in
-    (refl, p.1, p.2, reached_none a.table.now a.view.now a.records.now a.ends.now.at a.ends.now.number a.position)
-
-pub overflow_sub-ends : goal.overflow_sub-ends
-overflow_sub-ends c = (c.requires.0.some c.loop-k.k (omega arith)).0
 
 pub search-scan-requires : goal.search-scan-requires
 search-scan-requires c =
@@ -22,9 +13,6 @@ search-scan-requires c =
     let room = p.words_room in
     let kept = l.invariant.0 in
     (omega arith, p.rows l.k (omega arith), omega arith, l.invariant.1, l.invariant.2, p.views)
-
-pub shape_of-words-then-scan-position : goal.shape_of-words-then-scan-position
-shape_of-words-then-scan-position c = c.search-scan.auto.words ∙ c.loop-k.invariant.0
 
 pub returns-then-scan-position : goal.returns-then-scan-position
 returns-then-scan-position c =
@@ -42,9 +30,6 @@ loop-k-preserved c =
       c.search-scan.ensures.keeps.1,
       reached_next a.table.now a.view.now a.records.now a.ends.now.at a.ends.now.number a.position l.k h l.invariant.3 c.search-scan.result c.search-scan.ensures.bounded.1 (omega (arith, c.if-scan-position.false)),
     )
-
-pub shape_of-words : goal.shape_of-words
-shape_of-words c = c.loop-k.invariant.0
 
 pub returns : goal.returns
 returns c =

@@ -1,5 +1,4 @@
 -- The invariants of `explain::all_answered`.
-use Prim.Native.Nat.{◌-◌, ◌≤◌}
 use mathlib.Core.Path.{◌≡◌}
 use lib.ListN.{length}
 use Rattle.window.specs.Window.{Keeps}

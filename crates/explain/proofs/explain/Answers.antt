@@ -1,6 +1,5 @@
 -- `explain::explain` meets its contract: a rule and a log that are not refused, and the reason.
 use mathlib.Core.Path.{◌≡◌, sym, ◌∙◌}
-use native.Mathlib.Omega.{arith}
 use Rattle.rule.specs.Entries.{version, count, decoded}
 use Rattle.rule.specs.Refusal.{refusal}
 use Rattle.rule.specs.Measure.{measured}

@@ -11,7 +11,7 @@ use Rattle.explain.proofs.Calling.{prepared, represented}
 use Rattle.explain.proofs.reason_of.Goals as goal
 
 pub lay_out-requires : goal.lay_out-requires
-lay_out-requires c = let p = c.requires in (c.args.rule.now.few, p.0, refl, λ k. repeated 128 k no_row)
+lay_out-requires c = (c.requires.0, refl, λ k. repeated 128 k no_row)
 
 pub write_reason-requires : goal.write_reason-requires
 write_reason-requires c =

@@ -2,16 +2,16 @@
 use Prim.Native.Nat.{ℕ, ◌-◌, ◌≤◌, ◌<◌}
 use mathlib.Core.Bool.{true, false, ◌||◌}
 use mathlib.Core.Logic.{◌⊎◌, inl, inr, ⊎_elim}
-use mathlib.Core.Path.{◌≡◌}
+use mathlib.Core.Path.{◌≡◌, refl, ap}
 use native.Mathlib.Omega.{arith}
+use Rattle.std.proofs.Common.{rules}
 use lib.Dec.{leb}
-use lib.ListN.{get_or}
+use lib.ListN.{length, get_or}
 use borrow.Author.Tests.{leb-true, le-leb}
 use Rattle.mtl.proofs.Bounded.{true_and_false, or_iff}
 use Rattle.window.specs.View.{total}
 use Rattle.decimal.specs.Text.{ascii}
-use Rattle.window.proofs.Copies.{keeps_none}
-use Rattle.explain.proofs.Formulas.{none_there, none_answered, empty_reasoned, formula_reasoned}
+use Rattle.explain.proofs.Formulas.{none_there, empty_reasoned, formula_reasoned}
 use Rattle.explain.proofs.write_reason.Goals as goal
 
 either_far : (c k n i : ℕ) → leb c k || leb n i ≡ true → (c ≤ k) ⊎ (n ≤ i)
@@ -33,14 +33,7 @@ all_answered-answered-requires c =
     let a = c.args in
     let few = c.requires.2 in
     let (one_of_lem, inside) = neither_far c.columns_of.result a.formula (total a.view.now) a.position c.if-columns_of-formula.false in
-    (c.requires.0, keeps_none a.records.now, keeps_none a.records.now, omega arith)
-
-pub returns-then-not-answered : goal.returns-then-not-answered
-returns-then-not-answered c =
-    let a = c.args in
-    let few = c.requires.2 in
-    let (one_of_lem, inside) = neither_far c.columns_of.result a.formula (total a.view.now) a.position c.if-columns_of-formula.false in
-    (Prim.tt {0}, none_answered a.table.now a.view.now a.records.now a.ends.now.at a.ends.now.number a.formula a.position a.text.now inside (rw c.if-not-answered.true at c.all_answered-answered.ensures.all_answered))
+    (c.requires.0, c.new-copy.ensures a.records.now, c.new-waiting.ensures a.records.now, omega arith)
 
 pub returns-then-ends-eq0 : goal.returns-then-ends-eq0
 unfolding ascii
@@ -49,36 +42,13 @@ returns-then-ends-eq0 c =
     let few = c.requires.2 in
     let (one_of_lem, inside) = neither_far c.columns_of.result a.formula (total a.view.now) a.position c.if-columns_of-formula.false in
     let room = c.requires.1 in (
-      omega (arith, c.put.ensures.ends),
+      omega (arith, c.put.ensures.fits),
       empty_reasoned a.table.now a.view.now a.records.now a.ends.now.at a.ends.now.number a.formula a.position a.text.now c.columns_of.result c.columns_of.ensures one_of_lem inside (rw c.if-not-answered.false at c.all_answered-answered.ensures.all_answered) c.if-ends-eq0.true
-          c.put.result c.put.new.text c.put.ensures,
+          _ _ (search rules),
     )
 
-pub offset_bounds-ends-formula : goal.offset_bounds-ends-formula
-offset_bounds-ends-formula c =
-    let a = c.args in
-    let few = c.requires.2 in
-    let (one_of_lem, inside) = neither_far c.columns_of.result a.formula (total a.view.now) a.position c.if-columns_of-formula.false in
-    let most = c.requires.0.few in
-    omega (arith, c.columns_of.ensures)
-
-pub bounds-ends-formula : goal.bounds-ends-formula
-bounds-ends-formula c =
-    let a = c.args in
-    let few = c.requires.2 in
-    let (one_of_lem, inside) = neither_far c.columns_of.result a.formula (total a.view.now) a.position c.if-columns_of-formula.false in
-    let most = c.requires.0.few in
-    omega (arith, c.columns_of.ensures)
-
-pub overflow_sub-ends : goal.overflow_sub-ends
-overflow_sub-ends c =
-    let a = c.args in
-    let few = c.requires.2 in
-    let (one_of_lem, inside) = neither_far c.columns_of.result a.formula (total a.view.now) a.position c.if-columns_of-formula.false in
-    (c.requires.0.some a.formula (omega (arith, c.columns_of.ensures, c.if-ends-eq0.false))).0
-
-pub tell-told-requires : goal.tell-told-requires
-tell-told-requires c =
+pub tell-requires : goal.tell-requires
+tell-requires c =
     let a = c.args in
     let few = c.requires.2 in
     let (one_of_lem, inside) = neither_far c.columns_of.result a.formula (total a.view.now) a.position c.if-columns_of-formula.false in
@@ -90,6 +60,9 @@ tell-told-requires c =
     let kept = c.all_answered-answered.auto.words in
     let room = p.words_room in
     let text_room = c.requires.1 in
+    let begins = c.new-text.ensures in
+    let empty = begins.nothing in
+    let whole = ap length begins.lent in
     record { lent = record { entry = omega arith; rows = rows; words_room = omega arith; copy_keeps = c.all_answered-answered.ensures.keeps.0; waiting_keeps = c.all_answered-answered.ensures.keeps.1; views = p.views; few = p.few_records }; far = omega arith; space = omega arith }
 
 pub returns : goal.returns
@@ -102,8 +75,8 @@ returns c =
     let rows = p.rows a.formula here in
     let bound = (rows (get_or a.ends.now.at a.formula 0 - 1) (omega arith)).bound in
     let text_room = c.requires.1 in
-    let ends = c.tell-told.ensures.tells.room in (
+    let ends = c.tell.ensures.tells.grows.room in (
       omega arith,
       formula_reasoned a.table.now a.view.now a.records.now a.ends.now.at a.ends.now.number a.formula a.position a.text.now c.columns_of.result c.columns_of.ensures one_of_lem inside (rw c.if-not-answered.false at c.all_answered-answered.ensures.all_answered) c.if-ends-eq0.false
-          c.tell-told.result c.tell-told.new.text c.tell-told.ensures.tells,
+          refl c.new-text.ensures c.tell.ensures.tells _ _ c.len-2.ensures (search rules),
     )

@@ -10,7 +10,7 @@ pub returns-then-held-eq0 : goal.returns-then-held-eq0
 returns-then-held-eq0 c =
     let a = c.args in
     record {
-      by_index = none_newest a.cells a.block.now c.min-held.result (λ h. omega arith) c.if-held-eq0.true;
+      value = none_newest a.cells a.block.now c.min-held.result (λ h. omega arith) c.if-held-eq0.true;
       some = λ qs r. let n = r.count in let f = r.fits in sym (le-ltb 0 (length qs) (omega arith));
     }
 
@@ -18,7 +18,7 @@ pub returns : goal.returns
 returns c =
     let a = c.args in
     record {
-      by_index =
+      value =
           some_newest a.cells a.block.now c.min-start.result c.min-held.result c.cell.result
           (λ h. omega arith)
           (λ h. omega arith)

@@ -10,7 +10,7 @@ pub returns-then-block-eq0 : goal.returns-then-block-eq0
 returns-then-block-eq0 c =
     let a = c.args in
     record {
-      by_index = none_oldest a.cells a.block.now c.if-block-eq0.true;
+      value = none_oldest a.cells a.block.now c.if-block-eq0.true;
       some = λ qs r. let n = r.count in let z = c.if-block-eq0.true in sym (le-ltb 0 (length qs) (omega arith));
     }
 
@@ -18,7 +18,7 @@ pub returns : goal.returns
 returns c =
     let a = c.args in
     record {
-      by_index =
+      value =
           some_oldest a.cells a.block.now c.min-start.result c.cell.result c.if-block-eq0.false
           (λ h. omega arith)
           (c.cell.ensures.2 (omega arith));

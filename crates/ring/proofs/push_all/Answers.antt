@@ -31,7 +31,7 @@ loop-i-init c =
       pushing_none a.cells (time_at a.window.now) a.right a.from a.block.now c.min-start.result c.min-count.result c.unwrap_or-newest.result
           (λ h. omega arith)
           (λ h. omega arith)
-          (λ qs r. c.unwrap_or-newest.ensures ∙ c.newest.ensures.by_index 4294967296 qs r),
+          (λ qs r. c.unwrap_or-newest.ensures ∙ c.newest.ensures.value 4294967296 qs r),
     )
 
 pub add-count-requires : goal.add-count-requires

@@ -10,7 +10,7 @@ take_inside-requires c =
 pub returns-then-saturating_sub-high : goal.returns-then-saturating_sub-high
 returns-then-saturating_sub-high c =
     let held = rw c.cells_for.ensures.0 at c.oldest-oldest.ensures in
-    c.take_inside.ensures (λ qs r. (held.by_index _ qs r, held.some qs r))
+    c.take_inside.ensures (λ qs r. (held.value _ qs r, held.some qs r))
 
 pub returns : goal.returns
 returns c = turns_take c.turn_all.ensures

@@ -20,21 +20,19 @@ loop-copy-preserved c =
     let l = c.loop-copy in
     let (few, inside) = fits (goal.at.loop-copy-preserved c).In-loop-copy in
     let g = c.copy_group-k in
-    gathering_group a.records.now a.from a.copy.now l.k l.at 8 g.result l.copy g.new.copy l.invariant few (omega arith) g.ensures
+    gathering_group a.records.now a.from l.k l.at 8 g.result l.copy g.new.copy l.invariant few (omega arith) g.ensures
 
 pub loop-copy-2-preserved : goal.loop-copy-2-preserved
 loop-copy-2-preserved c =
     let a = c.args in
-    let first = c.loop-copy in
     let l = c.loop-copy-2 in
     let (few, inside) = fits_2 (goal.at.loop-copy-2-preserved c).In-loop-copy-2 in
     let g = c.copy_mixed-k in
-    gathering_group a.records.now a.from first.copy l.k l.at 1 g.result l.copy g.new.copy l.invariant few (omega arith) g.ensures
+    gathering_group a.records.now a.from l.k l.at 1 g.result l.copy g.new.copy l.invariant few (omega arith) g.ensures
 
 pub returns : goal.returns
 returns c =
     let a = c.args in
-    let first = c.loop-copy in
     let l = c.loop-copy-2 in
-    gathered a.records.now a.from a.copy.now l.k l.at first.copy l.copy first.invariant.after l.invariant
+    gathered a.records.now a.from l.k l.at l.copy l.invariant
     (ended (c.can_take-in-loop-copy-2.ensures.1 c.loop-copy-2-test.false) (omega arith))

@@ -6,4 +6,4 @@ pub returns : goal.returns
 returns c =
     let hold = c.hold-held in
     let a = c.args in
-    let letters = c.letter_bits-bits in record { lettered = lettered_held a.records.now a.letter a.at a.n hold.new.copy hold.result letters.result c.behind_some-end.result c.requires.0 hold.ensures.held letters.ensures c.behind_some-end.ensures; keeps = hold.ensures.keeps }
+    let letters = c.letter_bits-bits in record { lettered = lettered_held a.records.now a.letter a.at a.n hold.new.copy.bytes hold.result letters.result c.behind_some-end.result c.requires.0 hold.ensures.held letters.ensures c.behind_some-end.ensures; keeps = hold.ensures.keeps }

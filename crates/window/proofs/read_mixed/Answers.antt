@@ -11,14 +11,6 @@ returns-then-is_clear c =
       keeps = c.requires.4;
     }
 
-pub returns-then-kept_of-eq0 : goal.returns-then-kept_of-eq0
-returns-then-kept_of-eq0 c =
-    let a = c.args in record {
-      lettered = lettered_mixed (skips a.view.now) a.records.now a.letter a.at a.n c.pick_letters.result
-          (c.is_clear.ensures.1 c.if-is_clear.false) c.pick_letters.ensures;
-      keeps = c.requires.4;
-    }
-
 pub returns : goal.returns
 returns c =
     let a = c.args in record {

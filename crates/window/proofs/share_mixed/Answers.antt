@@ -1,7 +1,6 @@
 -- `window::share_mixed` meets its contract, by the laws of proofs/Windows and proofs/Copies. Assumes nothing.
-use mathlib.Core.Bool.{false}
 use Rattle.window.specs.View.{skips}
-use Rattle.window.proofs.Windows.{opened_dense, opened_copied}
+use Rattle.window.proofs.Windows.{opened_dense}
 use Rattle.window.proofs.share_mixed.Goals as goal
 
 pub returns-then-is_clear : goal.returns-then-is_clear
@@ -10,14 +9,4 @@ returns-then-is_clear c =
       opened = rw c.own_part.ensures
           (opened_dense (skips a.view.now) a.records.now a.at a.n a.copy.now c.requires.2 (c.is_clear.ensures.0 c.if-is_clear.true));
       keeps = c.requires.2;
-    }
-
-pub returns : goal.returns
-returns c =
-    let a = c.args in
-    let hold = c.hold in record {
-      opened = rw c.copied-2.ensures
-          (opened_copied (skips a.view.now) a.records.now a.at a.n false hold.new.copy hold.result c.requires.0
-          (c.is_clear.ensures.1 c.if-is_clear.false) hold.ensures.keeps hold.ensures.held);
-      keeps = hold.ensures.keeps;
     }

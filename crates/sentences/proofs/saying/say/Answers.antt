@@ -2,11 +2,8 @@
 use mathlib.Core.Path.{ap}
 use native.Mathlib.Omega.{arith}
 use Rattle.rule.specs.Kinds.{number_of_kind}
-use Rattle.sentences.proofs.Sayings.{said_letter, said_connective, said_previous, said_next, said_search}
+use Rattle.sentences.proofs.Sayings.{said_letter, said_not, said_or, said_previous, said_next, said_search}
 use Rattle.sentences.proofs.saying.say.Goals as goal
-
-pub say_letter-requires : goal.say_letter-requires
-say_letter-requires c = let lent = c.requires.0 in omega (arith, (lent.rows c.args.k (omega arith)).letter, c.from-letter.ensures)
 
 pub returns-in-Letter-clause-saids : goal.returns-in-Letter-clause-saids
 returns-in-Letter-clause-saids c =
@@ -15,13 +12,11 @@ returns-in-Letter-clause-saids c =
 
 pub returns-in-Not-clause-saids : goal.returns-in-Not-clause-saids
 returns-in-Not-clause-saids c =
-    let a = c.args in
-    said_connective a.table.now a.view.now a.records.now a.k a.i c.say_connective.result 1 (ap number_of_kind c.in-Not.is) (λ e. absurd (omega arith)) (omega arith) c.say_connective.ensures
+    let a = c.args in said_not a.table.now a.view.now a.records.now a.k a.i c.say_connective.result (ap number_of_kind c.in-Not.is) c.say_connective.ensures
 
 pub returns-in-Or-clause-saids : goal.returns-in-Or-clause-saids
 returns-in-Or-clause-saids c =
-    let a = c.args in
-    said_connective a.table.now a.view.now a.records.now a.k a.i c.say_connective-in-Or.result 2 (ap number_of_kind c.in-Or.is) (λ e. absurd (omega arith)) (omega arith) c.say_connective-in-Or.ensures
+    let a = c.args in said_or a.table.now a.view.now a.records.now a.k a.i c.say_connective-in-Or.result (ap number_of_kind c.in-Or.is) c.say_connective-in-Or.ensures
 
 pub returns-in-Previous-clause-saids : goal.returns-in-Previous-clause-saids
 returns-in-Previous-clause-saids c =
