@@ -125,6 +125,8 @@ fn say_search(kind: Kind, holds: bool, j: u64, p: u64, by_left: bool) -> Saying
     }
 }
 
+// "the latest where left fails, or the first at most high before if none does from there on"; the earliest fitting j lies not before it,
+// and at least low before i.
 fn say_since(
     table: &[Row; 128],
     records: &[u8],
