@@ -1,12 +1,13 @@
 -- The table laid out for an accepted rule is the one that the engine's promise asks for.
 use Prim.Native.Nat.{ℕ, zero, suc, ◌+◌, ◌-◌, ◌≤◌, ◌<◌}
 use mathlib.Core.Bool.{Bool, true, false, cond}
-use mathlib.Core.Logic.{⊎_elim}
+use mathlib.Core.Logic.{◌⊎◌, inl, inr, ⊎_elim}
 use mathlib.Core.Path.{◌≡◌, refl, sym, ◌∙◌, ap, ap₂, subst}
-use mathlib.Core.List.{List}
+use mathlib.Core.List.{List, [], ◌∷◌}
+use native.Mathlib.Nat.{not-suc-le-zero}
 use native.Mathlib.Omega.{arith}
-use lib.ListN.{length, get_or, set, replicate}
-use lib.Seq.{get_or-set_same, get_or-set_other}
+use lib.ListN.{length, get_or, set, replicate, length-set}
+use lib.Seq.{sets, get_or-set_same, get_or-set_other}
 use Rattle.mtl.specs.Formula.{Formula}
 use Rattle.mtl.specs.Formula.Formula.{letter, not, or, previous, next, since, until}
 use Rattle.mtl.proofs.Bounded.{true_and_false, le_or_lt}
@@ -34,6 +35,24 @@ set_below f l k v h below e j g = ⊎_elim last earlier (le_or_lt k j)
 
     earlier : j < k → get_or (set l k v) j 0 ≡ f j
     earlier h' = get_or-set_other l k j v 0 (λ i. omega arith) ∙ below j h'
+
+-- several values stored one behind the other
+
+pub sets_out : (vs l : List ℕ) (i m : ℕ) → (m < i) ⊎ (i + length vs ≤ m) → get_or (sets l i vs) m 0 ≡ get_or l m 0
+sets_out [] l i m h = refl
+sets_out (a ∷ vs) l i m h =
+    sets_out vs (set l i a) (suc i) m (⊎_elim (λ b. inl (omega arith)) (λ b. inr (omega arith)) h) ∙
+    get_or-set_other l i m a 0 (⊎_elim (λ b e. omega arith) (λ b e. omega arith) h)
+
+pub sets_in : (vs l : List ℕ) (i j : ℕ) → i + length vs ≤ length l → j < length vs → get_or (sets l i vs) (i + j) 0 ≡ get_or vs j 0
+sets_in [] l i j h g = absurd (not-suc-le-zero g)
+sets_in (a ∷ vs) l i zero h g =
+    let e : i + 0 ≡ i = omega arith in
+    rw e (sets_out vs (set l i a) (suc i) i (inl (omega arith)) ∙ get_or-set_same l i a 0 (omega arith))
+sets_in (a ∷ vs) l i (suc j) h g =
+    let e : i + suc j ≡ suc i + j = omega arith in
+    let n = length-set l i a in
+    rw e (sets_in vs (set l i a) (suc i) j (omega arith) (omega arith))
 
 -- as many as there are, and behind them the same again
 pub repeated : {A : Type 0} (n i : ℕ) (x : A) → get_or (replicate n x) i x ≡ x

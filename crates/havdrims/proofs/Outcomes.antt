@@ -15,7 +15,8 @@ use Rattle.refusal.proofs.Numbers.{number_positive}
 use Rattle.rule.specs.Entries.{version}
 use Rattle.rule.specs.Postfix.{most_formulas}
 use Rattle.trace.specs.Making.{put}
-use Rattle.verdicts.specs.Tally.{first_or_kept}
+use Rattle.verdicts.specs.Tally.{first_or_kept, Tallies}
+use Rattle.verdicts.specs.Tally.{Answer as Tally, answer as tallied_of}
 use Rattle.checkpoint.specs.Checkpoint.{stored_noes}
 use Rattle.checks.specs.Refusal.{resume_refusal, trim_refusal, summary_refusal}
 use Rattle.meaning.specs.Verdicts.{formulas_of, columns}
@@ -31,7 +32,7 @@ use Rattle.explain.specs.Explain.{Answer as Explanation}
 use Rattle.text.specs.Parse.{Parses}
 use Rattle.worst.specs.Call.{WritesWorst}
 use Rattle.worst.specs.Call.{Answer as Making}
-use Rattle.havdrims.specs.Interface.{or_kept, flag, HandsOver, ResumeCall, TrimCall, ExplainCall, SummaryCall, ParseCall, WorstLogCall}
+use Rattle.havdrims.specs.Interface.{or_kept, flag, HandsOver, ResumeCall, TrimCall, ExplainCall, TallyCall, SummaryCall, ParseCall, WorstLogCall}
 
 -- a refusal's number keeps what stood behind the pointer
 kept : {A : Type 0} (refusal : Refusal) (old new : A) → old ≡ or_kept (number_of refusal) old new
@@ -127,6 +128,12 @@ module _ {low high n : ℕ} {log : List ℕ} {old : ℕ} {log' : List ℕ} where
       WorstLogCall low high n log old r log' old
   not_made refusal h is =
       rw is (record { number = ap (λ (a : Making). a.number) h.answer; bytes = h.bytes; written = kept refusal old _ })
+
+-- the counts stand in the first words where the number is 0, and all words are kept where it is not
+pub tallying : {formulas : ℕ} {s nos yeses : List ℕ} (o : Result (Unit {0}) Refusal) {nos' yeses' : List ℕ} {r : ℕ} →
+    Tallies formulas s nos yeses (tallied_of o) nos' yeses' → r ≡ number_in o → TallyCall formulas s nos yeses r nos' yeses'
+tallying (Ok done) h is = record { number = is ∙ ap (λ (a : Tally). a.number) h.outcome; no_counts = rw is h.no_counts; yes_counts = rw is h.yes_counts }
+tallying (Err refusal) h is = record { number = is ∙ ap (λ (a : Tally). a.number) h.outcome; no_counts = rw is h.no_counts; yes_counts = rw is h.yes_counts }
 
 -- the number of a summary, and what it tells: by whether its refusal's number n is 0
 summarized_by : (b : Bool) (n f : ℕ) (a : SummaryAnswer) → eqb n 0 ≡ b → a ≡ cond b (counted f) (not_counted_with n) → a.number ≡ n

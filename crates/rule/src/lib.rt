@@ -14,6 +14,7 @@ mod refusals;
 
 pub use bytes::byte_at;
 pub use decoding::Rule;
+pub use entries::entries_of;
 pub use kind::{Kind, UnknownKind};
 pub use measuring::{Ends, own_words};
 use refusal::Refusal;

@@ -42,6 +42,13 @@ impl Line {
         }
     }
 
+    // Begins the next line. What bytes the last one had stay: none of them is read again.
+    fn begin(&mut self) {
+        self.is_name = true;
+        self.len = 0;
+        self.first = None;
+    }
+
     fn push(&mut self, byte: u8) {
         if self.len < 4096 {
             self.rule[self.len] = byte;
@@ -80,7 +87,7 @@ fn run(rt: &impl Print, text: &[u8]) -> io::Result<()> {
     for c in text {
         if *c == b'\n' {
             show(rt, &line.rule[..line.len])?;
-            line = Line::new();
+            line.begin();
         } else {
             if line.is_name {
                 rt.write_all(&[*c])?;

@@ -60,6 +60,11 @@ module _ (s : List ℕ) where
       let next : m + suc n ≡ suc (m + n) = omega arith in
       rw next (omega arith)
 
+  -- those of the first n records are all before record n
+  pub count_first : (n found : ℕ) → positions s 0 + found ≡ positions s (0 + n) → found ≡ positions s n
+  unfolding positions
+  count_first n found e = let none : positions s 0 ≡ 0 = refl in let all : 0 + n ≡ n = omega arith in omega (arith, rw all at e)
+
   -- what passing n records from r on finds
   record Passing (n r p : ℕ) : Type 0 where
     low : r ≤ p
@@ -84,6 +89,9 @@ module _ (s : List ℕ) where
 
   seeks : (r : ℕ) → r ≤ all → Passing (all - r) r (seek s r)
   seeks r h = passes (all - r) r
+
+  pub seek_low : (r : ℕ) → r ≤ all → r ≤ seek s r
+  seek_low r h = (seeks r h).low
 
   pub seek_high : (r : ℕ) → r ≤ all → seek s r ≤ all
   seek_high r h = omega (arith, (seeks r h).high)

@@ -345,7 +345,6 @@ pub fn write_trimmed(dropped: u64, records: &[u8], log: &mut [u8]) -> usize
         (dropped / 4294967296) as u32,
         (dropped % 4294967296) as u32,
     );
-    let end = 16 + records.len();
-    log[16..end].copy_from_slice(records);
-    end
+    bits::bytes::copy(records, log, 16);
+    16 + records.len()
 }

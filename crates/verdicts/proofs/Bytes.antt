@@ -90,6 +90,14 @@ pub bit_of_verdict : (words : List ℕ) (i k : ℕ) → k < length words → bit
 bit_of_verdict words i k h =
     bit_of_byte (answers_at words i) k (omega (arith, length_answers words i)) ∙ answer_at words i k h
 
+-- answers that agree formula by formula
+pub answers_are : (words : List ℕ) (i : ℕ) (bs : List Bool) → length bs ≡ length words →
+    ((k : ℕ) → k < length words → bit (get_or words k 0) i ≡ get_or bs k false) → answers_at words i ≡ bs
+answers_are words i bs long same =
+    let size = length_answers words i in
+    ext_get_or false (answers_at words i) bs (size ∙ sym long)
+    (λ k h. answer_at words i k (omega arith) ∙ same k (omega arith))
+
 -- verdicts that agree position by position
 pub bytes_same : (words words' : List ℕ) (n : ℕ) → ((i : ℕ) → i < n → answers_at words i ≡ answers_at words' i) →
     bytes_of words n ≡ bytes_of words' n

@@ -71,3 +71,6 @@ all_right = refl
 pub spread_is : (b : ℕ) → b < 256 → by_product b ≡ spread_bits b
 unfolding right
 spread_is b h = eqb-true (by_product b) (spread_bits b) ((all_iff 256 right).0 all_right b h)
+
+pub spread_lt : (b : ℕ) → spread_bits b < 2 ^ 64
+spread_lt b = packed_lt (λ i. number (bit b i)) 8 (λ i h. omega (arith, number_lt (bit b i)))

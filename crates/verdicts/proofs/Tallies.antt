@@ -10,12 +10,14 @@ use lib.Bits.{bit_or, or_zero_l, or_add_and, and_le_r, or_shr}
 use lib.Dec.{ltb}
 use lib.ListN.{length, get_or, drop}
 use borrow.Author.Tests.{ltb-false, lt-ltb}
+use Rattle.std.specs.Prelude.{Err}
+use Rattle.refusal.specs.declared.Refusal.TheVariants.{SheetByte}
 use Rattle.mtl.specs.Satisfaction.{any}
 use Rattle.mtl.proofs.Bounded.{true_and_false}
 use Rattle.bits.specs.Packed.{bit, number}
 use Rattle.bits.proofs.Laws.{number_bit}
 use Rattle.verdicts.specs.Counts.{count_of, counts}
-use Rattle.verdicts.specs.Tally.{formulas_outside, beyond, Tallies}
+use Rattle.verdicts.specs.Tally.{formulas_outside, beyond, answer, Tallies}
 
 -- BITS BEYOND THE FORMULAS', of all bytes taken together
 
@@ -91,5 +93,5 @@ inside formulas e =
 
 -- 15, and nothing is written
 pub refuses : (formulas : ℕ) (s nos yeses : List ℕ) → formulas_outside formulas || any (length s) (beyond formulas s) ≡ true →
-    Tallies formulas s nos yeses 15 nos yeses
+    Tallies formulas s nos yeses (answer (Err SheetByte)) nos yeses
 refuses formulas s nos yeses e = record { outcome = rw e; no_counts = refl; yes_counts = refl }

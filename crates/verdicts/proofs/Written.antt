@@ -108,3 +108,8 @@ written_more from i m word words sheet sheet' sheet'' few most inside same store
 pub first_word : (answers : List ℕ) → 1 ≤ length answers → get_or answers 0 0 ∷ [] ≡ take 1 answers
 first_word [] some = absurd (omega arith)
 first_word (w ∷ answers) some = refl
+
+pub full_word : (columns n : ℕ) → eqb columns 1 && eqb n 64 ≡ true → (columns ≡ 1) × (n ≡ 64)
+full_word columns n e =
+    let both = (and_iff (eqb columns 1) (eqb n 64)).0 e in
+    (eqb-true columns 1 both.0, eqb-true n 64 both.1)

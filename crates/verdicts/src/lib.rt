@@ -3,9 +3,8 @@
 #![tactic(auto)]
 
 ghost use Rattle.std.specs.Prelude.{◌≡◌, ◌++◌, ◌+◌, ◌≤◌, length, take, drop};
-ghost use Rattle.refusal.specs.Number.{number};
 ghost use Rattle.verdicts.specs.Bytes.{bytes_of};
-ghost use Rattle.verdicts.specs.Tally.{Tallies};
+ghost use Rattle.verdicts.specs.Tally.{answer, Tallies};
 
 mod counting;
 mod eight;
@@ -41,7 +40,7 @@ pub fn tally(
     no: &mut [u64; 8],
     yes: &mut [u64; 8],
 ) -> Result<(), Refusal>
-    ensures { Tallies formulas sheet.now «no».old «yes».old (number result) «no».new «yes».new }
+    ensures { Tallies formulas sheet.now «no».old «yes».old (answer result) «no».new «yes».new }
 {
     if (formulas < 1) | (8 < formulas) {
         return Err(Refusal::SheetByte);

@@ -1,11 +1,12 @@
 -- PICKING: a letter at the positions among records, as a word of answers. Assumes nothing.
 use Prim.Native.Nat.{ℕ, ◌+◌, ◌-◌, ◌*◌, ◌%◌, ◌^◌, ◌≤◌, ◌<◌}
-use native.Mathlib.Nat.{zero-add, add-zero, mul-one, mul-zero}
+use native.Mathlib.Nat.{lt_of_lt_of_le, zero-add, add-zero, mul-one, mul-zero}
 use native.Mathlib.Omega.{arith}
 use mathlib.Core.Bool.{Bool, true, false}
 use mathlib.Core.List.{List}
 use mathlib.Core.Logic.{◌⊎◌}
 use mathlib.Core.Path.{◌≡◌, refl, ap}
+use lib.Pow.{pow_mono}
 use Rattle.mtl.specs.Satisfaction.{any}
 use Rattle.mtl.proofs.Bounded.{any_false_iff}
 use Rattle.bits.specs.Packed.{number, Packed}
@@ -97,3 +98,8 @@ module _ (s : List ℕ) (letter from : ℕ) where
         bounded = behind.bounded;
         end = behind.end;
       }
+
+  pub picks_fit : (n : ℕ) (r : Picked) → n ≤ 64 → Picks s letter from n r → r.bits < 2 ^ 64
+  picks_fit n r few picks =
+      let most : r.count ≤ 64 = omega (arith, picks.counted.few) in
+      lt_of_lt_of_le picks.small (pow_mono most)

@@ -591,6 +591,18 @@ module _ (skips : Bool) (s : List ℕ) (at : ℕ) where
           let room = here 0 (omega arith) in
           absurd (true_and_false ((and_iff (leb (at + 1) (record_count s)) true).1 ((leb_iff (at + 1) (record_count s)).1 (omega arith), refl)) f)
 
+  -- where the record at the head is not known to be a position, the first is the one before the record behind it
+  pub first_mixed : negate skips && leb (at + 1) (record_count s) ≡ false → (end : ℕ) → Behind s at 1 end → Inside skips s at 1 →
+      (0 < end) × (end ≤ record_count s) × (end - 1 ≡ place skips s at 0)
+  unfolding moved
+  first_mixed e end behind inside = by skips e inside
+    where
+      by : (b : Bool) → negate b && leb (at + 1) (record_count s) ≡ false → Inside b s at 1 → (0 < end) × (end ≤ record_count s) × (end - 1 ≡ place b s at 0)
+      by true f here = let is = behind.end here in let room = here 0 (omega arith) in (omega arith, omega arith, omega arith)
+      by false f here =
+          let room = here 0 (omega arith) in
+          absurd (true_and_false ((leb_iff (at + 1) (record_count s)).1 (omega arith)) f)
+
 -- THE FIRST RECORD WANTED
 
 -- of n positions counted from the end down all but `left`, and record p is the last one

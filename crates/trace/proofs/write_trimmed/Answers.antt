@@ -5,7 +5,7 @@ use mathlib.Core.List.{List}
 use Prim.Native.Nat.{ℕ, ◌/◌, ◌%◌}
 use native.Mathlib.Omega.{arith}
 use Rattle.trace.specs.Making.{log_header, record_bytes, put}
-use Rattle.trace.proofs.Making.{put_part, put_trimmed}
+use Rattle.trace.proofs.Making.{put_trimmed}
 use Rattle.trace.proofs.write_trimmed.Goals as goal
 
 pub returns : goal.returns
@@ -13,11 +13,11 @@ returns c =
     let a = c.args in
     let first = c.write_header in
     let count = c.write_record in
-    let rest = c.copy_from_slice in
+    let rest = c.copy in
     let n = a.dropped in
     let header_first : first.new.log ≡ put a.log.now 0 (log_header 3) = first.ensures in
     let count_behind : count.new.log ≡ put first.new.log 8 (record_bytes (n / 4294967296) (n % 4294967296)) = count.ensures in
-    let all = put_part count.new.log 16 _ rest.new.self a.records.now rest.ensures.after (omega arith) in record {
+    let all = rest.ensures in record {
       value = refl;
       log_after = all ∙
           ap (λ (l : List ℕ). put l 16 a.records.now) count_behind ∙
